@@ -1,3 +1,2 @@
 mod Shown
-mod Placed
 mod Kept

@@ -10,14 +10,5 @@ returns-then-not-give-clause-so_far c = grind (arith, common_steps, length-set, 
 
 pub loop-count-preserved : goal.loop-count-preserved
 loop-count-preserved c =
-    let loop = c.loop-count.invariant in
-    let frame = c.give.new.frame in
     let gives = c.give.ensures.found c.if-not-give.false in
-    record {
-      within = grind (arith, length-set);
-      onward = omega (arith, loop.onward);
-      untouched = grind (arith, common_steps, drop-set-lt, untouched_on);
-      tidy = grind (arith, tidy_more);
-      finished = cc (gives.finished);
-      history = grind (arith, shown_more, take_view, gives);
-    }
+    search (arith, length-set, drop-set-lt, untouched_on, tidy_more, shown_more, take_view, gives)

@@ -32,27 +32,12 @@ loop-taken-preserved c =
     let all : take (c.loop-taken.taken + 1) chars ≡ take c.loop-taken.taken chars ++ c.char_of.result ∷ [] =
     grind (arith, common_steps, take-map, map-append, take_more) in
     let history = rw (← all, ← c.push.ensures.heard) at (push _ _ _ c.char_of.result loop.history loop.going) in
-    record {
-      within = omega (arith, c.loop-taken-test.true);
-      room = fill.within;
-      untouched = grind (arith, common_steps, untouched_on);
-      tidy = fill.tidy loop.tidy;
-      going = fill.going going;
-      drained = λ fewer. fill.waits fewer going;
-      undecided = λ fewer. fill.undecided fewer going;
-      bits = loop.bits;
-      history = fill.so_far _ history (λ _. going);
-    }
+    search (arith, untouched_on, going, history, fill.tidy, fill.going, fill.waits, fill.undecided, fill.so_far)
 
 pub returns : goal.returns
 returns c =
-    let loop = c.loop-taken.invariant in
-    let heard = c.args.heard.now in
-    let n = c.loop-taken.taken in
-    let all = length-map heard char_of in
-    let whole : c.loop-taken.count < length c.loop-taken.frames → n ≡ length (map char_of heard) =
+    let chars = map char_of c.args.heard.now in
+    let all = sym (length-map c.args.heard.now char_of) in
+    let whole : c.loop-taken.count < length c.loop-taken.frames → c.loop-taken.taken ≡ length chars =
     grind (arith, common_steps, then-loop-taken-test+else-count-frames, else-loop-taken-test) in
-    inl (
-      grind (arith, common_steps),
-      c.settle.ensures n (map char_of heard) c.args.frames.now (sym all) (grind (arith, common_steps)),
-    )
+    inl (grind (arith, common_steps), c.settle.ensures c.loop-taken.taken chars c.args.frames.now all (grind (arith, common_steps)))

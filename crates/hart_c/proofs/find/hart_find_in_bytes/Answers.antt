@@ -1,4 +1,4 @@
-use Rattle.std.proofs.Common.{◌≡◌, ◌+◌, ◌<◌, ◌≤◌, ◌++◌, false, Bool, ℕ, IsTrue, List, All, arith, drop, length, refl, take}
+use Rattle.std.proofs.Common.{◌≡◌, ◌+◌, ◌<◌, ◌≤◌, ◌++◌, false, Bool, ℕ, IsTrue, List, All, arith, drop, length, take}
 use Rattle.std.proofs.lemmas.Grind.{common_steps}
 use Rattle.std.proofs.lemmas.List.{append-nil, drop-map, drop-set-lt, length-map, length-set}
 use Rattle.hart_frame.specs.heard.Character.{faultless}
@@ -19,18 +19,12 @@ finds_next : (bytes : List ℕ) (ended : Bool) (before after : List HartFrame) (
     × (ended ≡ false → IsUndecided (faultless (drop used bytes))))
     → Finds (faultless bytes) ended before after (record { used = used; count = count; fault = 0 })
 finds_next bytes ended before after used count room is_within untouched tidy leads left =
-    let within : used ≤ length (faultless bytes) = grind (arith, length-map) in
-    record {
-      within = room;
-      untouched = untouched;
-      tidy = tidy;
-      used = within;
-      are_next = λ more later. next_frames_are_all-rest (faultless bytes) more ended (found_in_first count after) later used within leads;
-      few = grind (arith, length-map);
-      all = grind (arith, length-map);
-      undecided = λ fewer going. rw drop-map ((left fewer).2 going);
-      fault = refl;
-    }
+    let long : length (faultless bytes) ≡ length bytes = rw length-map in
+    let few : count < length after → length bytes < used + 269 = λ fewer. (left fewer).0 in
+    let all : count < length after → IsTrue ended → used ≡ length bytes = λ fewer. (left fewer).1 in
+    let undecided : count < length after → ended ≡ false → IsUndecided (drop used (faultless bytes)) =
+    λ fewer going. rw drop-map ((left fewer).2 going) in
+    search (arith, next_frames_are_all-rest, undecided, few, all, long)
 
 pub loop-count-preserved : goal.loop-count-preserved
 loop-count-preserved c =

@@ -10,7 +10,6 @@ use Rattle.hart_c.specs.Data.{IsShown, RequestShown, StandsAt, kind_number, plac
 use Rattle.hart_c.specs.Names.{rows_for}
 use Rattle.hart_c.specs.declared.data.HartField.{HartField}
 use Rattle.hart_c.specs.declared.data.HartReading.{HartReading}
-use Rattle.hart_c.proofs.Placed.{parts_of}
 use Rattle.hart_c.proofs.laws.fields_stand_where_they_are_shown.Goals as goal
 
 -- the field whose place is shown, and where its bytes are among those of all fields
@@ -37,7 +36,7 @@ bytes_first : (rows : List Row) (bytes : List ℕ)
     → bytes_of (fields_of rows bytes) ++ drop (length (bytes_of (fields_of rows bytes))) bytes ≡ bytes
 bytes_first [] bytes = refl
 bytes_first (row ∷ rows) bytes =
-    grind (arith, bytes_first rows, parts_of, append_assoc, drop-append-add, length-append)
+    grind (arith, bytes_first rows, take-append-drop, append_assoc, drop-append-add, length-append)
 
 -- so the place of each index is that of the field of its row, if fields are shown
 stands : (is_reply : Bool) (command n : ℕ) (bytes before : List ℕ) (taken code status : ℕ) (old new : List HartField)
@@ -56,6 +55,7 @@ stands is_reply command n bytes before taken code status old new reading index s
     grind (arith, bytes_first rows (take n bytes), take-append-drop n bytes, append_assoc) in
     grind (arith, common_steps, length-append, drop-append_seam, take-append_seam)
 
+-- of a request that is read
 of_reading : (command index : ℕ) (bytes : List ℕ) (read : Reading) (old new : List HartField) (reading : HartReading) (shown : HartField)
     → RequestShown command bytes read old new reading → index < reading.count → slice_get new index ≡ Some shown
     → StandsAt false command 0 (request_fields command bytes read) bytes index shown
