@@ -1,4 +1,4 @@
-use Rattle.std.proofs.Common.{List, ℕ, ap, arith, length}
+use Rattle.std.proofs.Common.{arith}
 use Rattle.std.proofs.lemmas.Grind.{common_steps}
 use Rattle.std.proofs.lemmas.List.{length-take}
 use Rattle.hart_commands.proofs.lemmas.Laws.{written_payloads_are_read_again-kept}
@@ -6,6 +6,5 @@ use Rattle.hart_c.proofs.data.show_reply.Goals as goal
 
 pub slice_bounds-taken-end : goal.slice_bounds-taken-end
 slice_bounds-taken-end c =
-    let kept = ap (λ (xs : List ℕ). length xs)
-    (written_payloads_are_read_again-kept c.args.command c.args.payload.now c.args.reply.now c.requires) in
-    grind (arith, common_steps, length-take)
+    let kept = written_payloads_are_read_again-kept c.args.command c.args.payload.now c.args.reply.now c.requires in
+    grind (arith, common_steps, length-take, kept)

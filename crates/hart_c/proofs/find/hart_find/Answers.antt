@@ -1,13 +1,13 @@
-use Rattle.std.proofs.Common.{◌∙◌, ◌+◌, ◌++◌, ◌∷◌, take, arith, ap, length, map, sym, ◌<◌, ◌≡◌, inl, []}
+use Rattle.std.proofs.Common.{◌∙◌, ◌+◌, ◌++◌, ◌∷◌, take, arith, ap, length, map, sym, ◌<◌, ◌≡◌, inl, [], ◌-◌}
 use Rattle.std.proofs.lemmas.Grind.{common_steps}
-use Rattle.std.proofs.lemmas.List.{length-map, length-take, map-append, take-map, take_more}
+use Rattle.std.proofs.lemmas.List.{drop-drop, length-map, length-take, map-append, take-map, take_more}
 use Rattle.hart_frame.specs.heard.Frames.{AreFrames, IsUndecided, none}
 use Rattle.hart_frame.specs.scan.Scanner.{Scan}
 use Rattle.hart_frame.specs.scan.Streamed.{begin, push}
 use Rattle.hart_frame.proofs.lemmas.Laws.{frames_are_streamed-pushed, messages_have_their_frame_alone-nothing}
 use Rattle.hart_c.specs.Find.{char_of}
-use Rattle.hart_c.proofs.Shown.{untouched_on}
 use Rattle.hart_c.proofs.find.hart_find.Goals.{then-loop-taken-test+else-count-frames, else-loop-taken-test}
+use Rattle.hart_c.specs.declared.frame.HartFrame.{HartFrame}
 use Rattle.hart_c.proofs.find.hart_find.Goals as goal
 
 -- in nothing nothing is decided, since there is no frame
@@ -32,7 +32,8 @@ loop-taken-preserved c =
     let all : take (c.loop-taken.taken + 1) chars ≡ take c.loop-taken.taken chars ++ c.char_of.result ∷ [] =
     grind (arith, common_steps, take-map, map-append, take_more) in
     let history = rw (← all, ← c.push.ensures.heard) at (push _ _ _ c.char_of.result loop.history loop.going) in
-    search (arith, untouched_on, going, history, fill.tidy, fill.going, fill.waits, fill.undecided, fill.so_far)
+    let rest = drop-drop {A = HartFrame} (c.fill-count.result - c.loop-taken.count) c.loop-taken.count in
+    search (arith, rest c.loop-taken.frames, rest c.args.frames.now, going, history, fill.tidy, fill.going, fill.waits, fill.undecided, fill.so_far)
 
 pub returns : goal.returns
 returns c =

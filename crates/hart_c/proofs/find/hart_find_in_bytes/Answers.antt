@@ -1,14 +1,14 @@
-use Rattle.std.proofs.Common.{◌≡◌, ◌+◌, ◌<◌, ◌≤◌, ◌++◌, false, Bool, ℕ, IsTrue, List, All, arith, drop, length, take}
+use Rattle.std.proofs.Common.{◌≡◌, ◌+◌, ◌<◌, ◌≤◌, false, Bool, ℕ, IsTrue, List, All, arith, drop, length, take}
 use Rattle.std.proofs.lemmas.Grind.{common_steps}
-use Rattle.std.proofs.lemmas.List.{append-nil, drop-map, drop-set-lt, length-map, length-set}
+use Rattle.std.proofs.lemmas.List.{drop-drop, map-append, take_more_set, append-nil, drop-map, drop-set-lt, length-map, length-set}
+use Rattle.std.proofs.lemmas.List.Elements.{All-append}
 use Rattle.hart_frame.specs.heard.Character.{faultless}
 use Rattle.hart_frame.specs.heard.Frames.{IsUndecided}
-use Rattle.hart_frame.specs.scan.Next.{LeadsOn, frames_of}
+use Rattle.hart_frame.specs.scan.Next.{LeadsOn}
 use Rattle.hart_frame.proofs.lemmas.Laws.{next_frames_are_all-onward, next_frames_are_all-rest}
 use Rattle.hart_c.specs.Find.{Finds}
 use Rattle.hart_c.specs.Frames.{IsTidy, found_in_first}
 use Rattle.hart_c.specs.declared.frame.HartFrame.{HartFrame}
-use Rattle.hart_c.proofs.Shown.{untouched_on, shown_more, tidy_more}
 use Rattle.hart_c.proofs.find.hart_find_in_bytes.Goals as goal
 
 -- what a search comes to that has no more room, or finds no more frames, where few bytes are left, and nothing is decided in them
@@ -28,12 +28,7 @@ finds_next bytes ended before after used count room is_within untouched tidy lea
 
 pub loop-count-preserved : goal.loop-count-preserved
 loop-count-preserved c =
-    let loop = c.loop-count.invariant in
-    let next = c.next_in_bytes-next in
-    let given = found_in_first c.loop-count.count c.loop-count.frames in
-    let leads : LeadsOn (faultless c.args.bytes.now) c.args.ended 0 (given ++ frames_of next.result.frame) next.result.used =
-    grind (arith, common_steps, next_frames_are_all-onward) in
-    grind (arith, common_steps, length-set, drop-set-lt, untouched_on, tidy_more, shown_more, leads)
+    search (arith, common_steps, length-set, drop-set-lt, drop-drop, take_more_set, All-append, map-append, next_frames_are_all-onward)
 
 pub returns-in_default : goal.returns-in_default
 returns-in_default c =

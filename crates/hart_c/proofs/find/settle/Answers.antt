@@ -1,12 +1,11 @@
-use Rattle.std.proofs.Common.{◌∙◌, ◌<◌, arith, length, refl, take, ◌≡◌, ◌≤◌, ◌⊎◌, false, Bool, ℕ, IsTrue, List, All, append_assoc, drop, inl}
+use Rattle.std.proofs.Common.{◌<◌, arith, length, refl, take, ◌≡◌, ◌≤◌, ◌⊎◌, false, Bool, ℕ, IsTrue, List, All, append_assoc, drop, inl, ◌-◌, ◌∙◌}
 use Rattle.std.proofs.Math.Seq.{take-length, drop-length}
 use Rattle.hart_frame.specs.scan.Streamed.{IsHistory, finish}
 use Rattle.hart_frame.proofs.lemmas.Laws.{frames_are_streamed-all, frames_are_streamed-pushed, frames_are_unambiguous-one_list, held_characters_have_the_later_frames-held, held_characters_have_the_later_frames-later, messages_have_their_frame_alone-nothing}
 use Rattle.hart_c.specs.Frames.{found_in_first, IsTidy}
-use Rattle.hart_c.proofs.Shown.{untouched_on}
 use Rattle.std.proofs.lemmas.Bool.{false≢true}
 use Rattle.std.proofs.lemmas.Grind.{common_steps}
-use Rattle.std.proofs.lemmas.List.{append-nil, drop-append-le, length-take, take-append-drop}
+use Rattle.std.proofs.lemmas.List.{drop-drop, append-nil, drop-append-le, length-take, take-append-drop}
 use Rattle.hart_frame.specs.heard.Character.{Character}
 use Rattle.hart_frame.specs.heard.Frames.{IsUndecided}
 use Rattle.hart_frame.specs.scan.Scanner.{Scan}
@@ -14,6 +13,12 @@ use Rattle.hart_c.specs.Find.{AreNext, Finds}
 use Rattle.hart_c.specs.declared.find.HartSearch.{HartSearch}
 use Rattle.hart_c.specs.declared.frame.HartFrame.{HartFrame}
 use Rattle.hart_c.proofs.find.settle.Goals as goal
+
+-- what comes after so many is what it was, so what comes after more is
+untouched_on : (count more : ℕ) (after before : List HartFrame) → count ≤ more → drop count after ≡ drop count before
+    → drop more after ≡ drop more before
+untouched_on count more after before onward same =
+    grind (arith, drop-drop (more - count) count after, drop-drop (more - count) count before)
 
 -- what a search came to that goes on, since the scanner does, or since all was searched and nothing is to come
 finds_more : (n count : ℕ) (chars : List Character) (ended : Bool) (before after : List HartFrame)
@@ -27,10 +32,10 @@ finds_more n count chars ended before after scan result used_is count_is fault f
     let held = held_characters_have_the_later_frames-held (take n chars) scan given history in
     let pushed = frames_are_streamed-pushed (take n chars) scan given history in
     let long = length-take n chars in
-    let next : AreNext chars ended given scan.first = λ more later ends frames.
     let split = take-append-drop n chars in
     let later_is = held_characters_have_the_later_frames-later in
-    grind (arith, common_steps, frames_are_streamed-pushed, drop-append-le, append_assoc, later_is) in
+    let next : AreNext chars ended given scan.first =
+    λ more later ends frames. grind (arith, common_steps, frames_are_streamed-pushed, drop-append-le, append_assoc, later_is) in
     let left : count < length after → IsUndecided (drop scan.first chars) =
     λ fewer. rw (rw ((waits fewer).0, take-length) at held) (waits fewer).2 in
     let is : result ≡ record { used = scan.first; count = count; fault = 0 } = grind arith in

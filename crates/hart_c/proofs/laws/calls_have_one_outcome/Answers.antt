@@ -86,16 +86,13 @@ module _ (identity : HartIdentity) (process : HartProcess) (heard : List HartCha
       → fault ≡ other) (room : ℕ) (fault other : Fault) → IsHearFault identity process heard device room fault
       → IsHearFault identity process heard device room other → fault ≡ other
   one_hear_fault one room (Device fault) other why because = grind (arith, one, in_state (Device fault))
-  one_hear_fault one room NoRoom other why because = grind (arith, in_state other (why.0.state, why.0.kept), why.0.process_is.count)
   one_hear_fault one room fault other why because = grind (arith, in_state other)
 
   -- what a device heard, and said, has no fault
   not_heard : (after : HartDevice) (old new : List ℕ) (len : ℕ) (fault : Fault) → Hears identity process heard device after old new len
       → length new ≡ length old → IsHearFault identity process heard device (length old) fault → ⊥
-  not_heard after old new len NoRoom is same (hearing, none) =
-      grind (arith, common_steps, one_hearing hearing is.hearing, is.reply, one_message)
-  not_heard after old new len fault is same why =
-      grind (arith, in_state fault (is.hearing.state, is.hearing.kept), is.hearing.process_is.count, is.hearing.delivery)
+  not_heard after old new len NoRoom is same none = grind (arith, common_steps, one_hearing none.0 is.hearing, one_message)
+  not_heard after old new len fault is same why = grind (arith, in_state fault (is.hearing.state, is.hearing.kept))
 
 pub returns-clause-hear : goal.returns-clause-hear
 returns-clause-hear c identity process heard before after other old new newer outcome another long longer =
@@ -116,7 +113,7 @@ no_frame numbers fault why is = grind (arith, why 5 0, why 0 0)
 -- a request that was sent has no fault
 not_sent : (numbers : HartFrame) (request : Request) (fault : Fault) → IsSent numbers request → IsSendFault numbers fault → ⊥
 not_sent numbers request NoRequest is why = why.1 request is.asked
-not_sent numbers request WrongAddress is why = grind (arith, common_steps)
+not_sent numbers request WrongAddress is why = grind arith
 not_sent numbers request fault is why = no_frame numbers fault why is.is_frame
 
 one_accept_fault : (numbers : HartFrame) (heard : List HartChar) (fault other : Fault) → IsAcceptFault numbers heard fault
