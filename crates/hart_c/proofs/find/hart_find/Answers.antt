@@ -17,8 +17,7 @@ nothing_undecided (none from nothing) = inl nothing
 pub loop-taken-init : goal.loop-taken-init
 loop-taken-init c =
     let bits = c.have_fault_bits.ensures.0 c.if-not-have_fault_bits.false in
-    rw c.new-scanner.ensures
-    (grind (arith, common_steps, begin, nothing_undecided messages_have_their_frame_alone-nothing, bits))
+    rw c.new-scanner.ensures (grind (arith, common_steps, begin, nothing_undecided messages_have_their_frame_alone-nothing, bits))
 
 pub push-requires-clause-room : goal.push-requires-clause-room
 push-requires-clause-room c = grind (arith, common_steps, frames_are_streamed-pushed, length-take, length-map)

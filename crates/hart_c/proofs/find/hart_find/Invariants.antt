@@ -1,5 +1,4 @@
 use Rattle.std.proofs.Common.{◌≡◌, ◌<◌, ◌≤◌, ◌-◌, false, IsTrue, All, drop, length, map, take}
-use Rattle.hart_frame.specs.heard.Character.{AreFaultBits}
 use Rattle.hart_frame.specs.heard.Frames.{IsUndecided}
 use Rattle.hart_frame.specs.scan.Streamed.{IsHistory}
 use Rattle.hart_c.specs.Find.{char_of}
@@ -15,7 +14,6 @@ invariant-loop-taken l = record {
   going : l.scanner.finished ≡ false;
   drained : l.count < length l.frames → IsTrue l.scanner.drained;
   undecided : l.count < length l.frames → IsUndecided l.scanner.held;
-  bits : All (λ given. AreFaultBits given.faults) l.heard;
   history : IsHistory (take l.taken (map char_of l.heard)) l.scanner (found_in_first l.count l.frames);
 }
 

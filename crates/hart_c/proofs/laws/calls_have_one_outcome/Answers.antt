@@ -5,9 +5,7 @@ use Rattle.hart_frame.specs.wire.Message.{IsMessage}
 use Rattle.hart_frame.proofs.lemmas.Laws.{bodies_are_unambiguous-one_body, bodies_are_unambiguous-one_prefix, frames_are_unambiguous-one_list}
 use Rattle.hart_commands.specs.declared.reply.Reply.{Reply}
 use Rattle.hart_commands.specs.declared.request.Request.{Request}
-use Rattle.hart_device.specs.declared.fault.DeviceFault.{DeviceFault}
 use Rattle.hart_device.specs.declared.identity_parts.IdentityParts.{IdentityParts}
-use Rattle.hart_device.specs.image.Image.{IsImageFault}
 use Rattle.hart_device.proofs.lemmas.Laws.{deliveries_bring_one-one, images_have_no_fault}
 use Rattle.hart_master.proofs.lemmas.Laws.{replies_are_decided-one_reply}
 use Rattle.hart_c.specs.Device.{Hears, IsHearFault, IsHearing, IsInState, IsSaid, IsStateFault, image_in}
@@ -24,6 +22,7 @@ use Rattle.hart_c.specs.declared.frame.HartFrame.{HartFrame}
 use Rattle.hart_c.specs.declared.identity.HartIdentity.{HartIdentity}
 use Rattle.hart_c.specs.declared.process.HartProcess.{HartProcess}
 use Rattle.hart_c.proofs.Kept.{devices_are_kept-one_state}
+use Rattle.hart_c.proofs.laws.calls_have_one_outcome.Goals.{After-bytes_have_one_image_fault}
 use Rattle.hart_c.proofs.laws.calls_have_one_outcome.Goals as goal
 
 -- an outcome is one if success is, and the fault, and there are not both
@@ -82,11 +81,10 @@ module _ (identity : HartIdentity) (process : HartProcess) (heard : List HartCha
   in_state : (fault : Fault) → IsInState identity device → IsStateFault identity device fault → ⊥
   in_state fault is why = grind (arith, images_have_no_fault is.0 (image_in device))
 
-  one_hear_fault : (one : (image : List ℕ) (fault other : DeviceFault) → IsImageFault image fault → IsImageFault image other
-      → fault ≡ other) (room : ℕ) (fault other : Fault) → IsHearFault identity process heard device room fault
-      → IsHearFault identity process heard device room other → fault ≡ other
-  one_hear_fault one room (Device fault) other why because = grind (arith, one, in_state (Device fault))
-  one_hear_fault one room fault other why because = grind (arith, in_state other)
+  one_hear_fault : (c : After-bytes_have_one_image_fault) (room : ℕ) (fault other : Fault)
+      → IsHearFault identity process heard device room fault → IsHearFault identity process heard device room other → fault ≡ other
+  one_hear_fault c room (Device fault) other why because = grind (arith, c.bytes_have_one_image_fault.ensures, in_state (Device fault))
+  one_hear_fault c room fault other why because = grind (arith, in_state other)
 
   -- what a device heard, and said, has no fault
   not_heard : (after : HartDevice) (old new : List ℕ) (len : ℕ) (fault : Fault) → Hears identity process heard device after old new len
@@ -102,8 +100,7 @@ returns-clause-hear c identity process heard before after other old new newer ou
     grind (arith, one_said, state, measured, brought, is.1.reply, again.1.reply, is.1.state, again.1.state))
     (λ is why. not_heard identity process heard before after old new outcome.len why.0 is.1 long why.1)
     (λ why is. not_heard identity process heard before other old newer another.len why.0 is.1 longer why.1)
-    (λ why again.
-    grind (arith, one_hear_fault identity process heard before c.bytes_have_one_image_fault.ensures (length old) why.0 again.0))
+    (λ why again. grind (arith, one_hear_fault identity process heard before c (length old) why.0 again.0))
 
 -- numbers that are refused as no frame, whatever the number of preamble bytes and the room, are none
 no_frame : (numbers : HartFrame) (fault : Fault) → ((preambles room : ℕ) → IsEncodeFault numbers preambles room fault)

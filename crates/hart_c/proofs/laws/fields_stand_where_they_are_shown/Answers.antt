@@ -35,8 +35,7 @@ row_of (row ∷ rows) bytes (suc index) field is = grind (arith, row_of rows)
 bytes_first : (rows : List Row) (bytes : List ℕ)
     → bytes_of (fields_of rows bytes) ++ drop (length (bytes_of (fields_of rows bytes))) bytes ≡ bytes
 bytes_first [] bytes = refl
-bytes_first (row ∷ rows) bytes =
-    grind (arith, bytes_first rows, take-append-drop, append_assoc, drop-append-add, length-append)
+bytes_first (row ∷ rows) bytes = grind (arith, bytes_first rows, take-append-drop, append_assoc, drop-append-add, length-append)
 
 -- so the place of each index is that of the field of its row, if fields are shown
 stands : (is_reply : Bool) (command n : ℕ) (bytes before : List ℕ) (taken code status : ℕ) (old new : List HartField)

@@ -30,11 +30,10 @@ flagged parts device state is long =
 
 pub returns-clause-protects : goal.returns-clause-protects
 returns-clause-protects c parts device state on long is =
-    let flags = flagged parts device state is long in grind (arith, common_steps, append_assoc, flat_map)
+    grind (arith, common_steps, flagged parts device state is long, append_assoc, flat_map)
 
 pub returns-clause-protected : goal.returns-clause-protected
-returns-clause-protected c parts device state long is =
-    rw (flagged parts device state is long).2 (grind arith)
+returns-clause-protected c parts device state long is = rw (flagged parts device state is long).2 (grind arith)
 
 -- a list of one byte
 one_byte : (xs : List ℕ) → length xs ≡ 1 → xs ≡ slice_index xs 0 ∷ []

@@ -1,7 +1,6 @@
-use Rattle.std.proofs.Common.{◌≡◌, List, ◌∙◌, arith, map, refl}
+use Rattle.std.proofs.Common.{List, ◌∙◌, arith, refl}
 use Rattle.std.proofs.lemmas.Grind.{common_steps}
 use Rattle.hart_master.proofs.lemmas.Laws.{acceptance_is_decided-by_its_frame}
-use Rattle.hart_c.specs.Find.{char_of}
 use Rattle.hart_c.specs.Master.{IsAcceptFault, IsSendFault}
 use Rattle.hart_c.specs.declared.fault.Fault.{Fault}
 use Rattle.hart_c.specs.declared.fault.Fault.TheVariants.{BadFaultBits, TooLong}
@@ -22,7 +21,7 @@ returns-in_err-master-clause-refused c = grind (arith, common_steps, send_fault)
 pub returns-in_default-receive : goal.returns-in_default-receive
 returns-in_default-receive c =
     let awaits = c.in_ok-master.ensures.awaits in
-    let all : c.as_slice.result.now ≡ map char_of c.args.heard.now = c.as_slice.ensures ∙ c.in_ok-delivery.ensures.same in
+    let all = c.as_slice.ensures ∙ c.in_ok-delivery.ensures.same in
     record {
       accepted = record {
         request = awaits.request;
@@ -41,7 +40,7 @@ returns-in_default-receive c =
 pub returns-clause-accepted : goal.returns-clause-accepted
 returns-clause-accepted c =
     let awaits = c.in_ok-master.ensures.awaits in
-    let all : c.as_slice.result.now ≡ map char_of c.args.heard.now = c.as_slice.ensures ∙ c.in_ok-delivery.ensures.same in
+    let all = c.as_slice.ensures ∙ c.in_ok-delivery.ensures.same in
     record {
       request = awaits.request;
       sent = awaits.sent;
