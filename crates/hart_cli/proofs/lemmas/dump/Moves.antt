@@ -1,9 +1,7 @@
 -- A scanner that moves past frames.
-use Rattle.std.proofs.Common.{◌≡◌, ◌≤◌, ◌+◌, ℕ, zero, suc, List, [], ◌∷◌, ◌++◌, false, length, inl, refl, ap}
-use Rattle.std.proofs.Common.{append_assoc, arith, length-append, replicate, drop}
-use Rattle.std.proofs.lemmas.Bool.{false≢true}
+use Rattle.std.proofs.Common.{◌≡◌, ◌≤◌, ◌+◌, ℕ, zero, suc, List, [], ◌∷◌, ◌++◌, false, length, inl, refl, ap, append_assoc, arith}
+use Rattle.std.proofs.Common.{length-append, replicate, drop}
 use Rattle.std.proofs.lemmas.Grind.{common_steps}
-use Rattle.std.proofs.lemmas.List.{append-nil, length-replicate, drop_at}
 use Rattle.hart_frame.specs.declared.heard.found.Found.{Found}
 use Rattle.hart_frame.specs.heard.Character.{Character}
 use Rattle.hart_frame.specs.heard.Frames.{AreFrames, HasNoFrame, IsUndecided, first, none}
@@ -25,9 +23,9 @@ pub moves_hearing : (a b : Scan) (xs ys : List Character) (given : List Found) �
     → MovesPast (hearing a xs) b given → MovesPast (hearing a (xs ++ ys)) (hearing b ys) given
 moves_hearing a b xs ys given going on moves =
     let before : (more chars : List Character) → CanHear (hearing a (xs ++ ys)) more chars → CanHear (hearing a xs) (ys ++ more) chars =
-    grind (arith, common_steps, append_assoc, false≢true) in
+    grind (arith, append_assoc) in
     record {
-      heard = grind (arith, common_steps, append_assoc, false≢true);
+      heard = grind (arith, append_assoc);
       frames = λ more chars later can are. moves.frames (ys ++ more) chars later (before more chars can) are;
     }
 
@@ -40,7 +38,7 @@ abbrev heard : Scan → ℕ → List Character
 heard scan byte = replicate scan.first (faultless_of byte) ++ (scan.held ++ [])
 
 can_hear : (scan : Scan) (byte : ℕ) → CanHear scan [] (heard scan byte)
-can_hear scan byte = grind (arith, common_steps, length-replicate)
+can_hear scan byte = grind (arith, common_steps)
 
 -- two lists that end alike, and of which one begins with characters 00 and the other with as many characters 01, end so after those
 no_earlier : (count : ℕ) (held end xs ys : List Character) → replicate count (faultless_of 0) ++ held ≡ xs ++ end
@@ -55,14 +53,13 @@ pub moves_on : (old new : Scan) (given : List Found) → MovesPast old new given
 moves_on old new given moves =
     let zero = moves.heard [] (heard old 0) (can_hear old 0) in
     let one = moves.heard [] (heard old 1) (can_hear old 1) in
-    let all = simp length-append at (ap (λ (cs : List Character). length cs) zero.split) in
     let least = no_earlier old.first (old.held ++ []) (new.held ++ []) zero.prefix one.prefix zero.split one.split in
-    grind (arith, all, least, length-replicate)
+    grind (arith, common_steps, ap (λ (cs : List Character). length cs) zero.split)
 
 -- the first of some frames takes up so many characters
 first_long : (chars : List Character) (from : ℕ) (found : Found) (later : List Found) → AreFrames chars from (found ∷ later)
     → from + 6 + length found.frame.expansion + length found.frame.payload ≤ found.stop
-first_long chars from found later are = grind (arith, common_steps, length-append)
+first_long chars from found later are = grind (arith, common_steps)
 
 -- a scanner that gives a frame lets so many characters go
 pub gives_long : (old new : Scan) (found : Found) → Gives old new found
@@ -78,7 +75,7 @@ all_heard chars more = grind (arith, common_steps)
 -- it holds the last of those that it heard
 pub holds_last : (chars : List Character) (scan : Scan) (given : List Found) → MovesPast (hearing new_scan chars) scan given
     → CanHear scan [] chars
-holds_last chars scan given moves = grind (arith, common_steps, all_heard, append-nil)
+holds_last chars scan given moves = grind (arith, common_steps, all_heard)
 
 -- the frames that it moved past come first
 pub first_frames : (chars more : List Character) (scan : Scan) (given later : List Found) → MovesPast (hearing new_scan chars) scan given
@@ -88,17 +85,17 @@ first_frames chars more scan given later moves are = moves.frames more (chars ++
 -- once nothing is decided in what it holds, they are those that are decided
 pub are_decided : (chars : List Character) (scan : Scan) (given : List Found) → MovesPast (hearing new_scan chars) scan given
     → IsUndecided scan.held → AreDecided chars given
-are_decided chars scan given moves undecided = grind (arith, common_steps, append-nil, first_frames, holds_last)
+are_decided chars scan given moves undecided = grind (arith, common_steps, first_frames, holds_last)
 
 -- with those that it moved past after the finish, until it ended, they are all frames
 pub all_frames : (chars : List Character) (scan last after : Scan) (given more : List Found) → MovesPast (hearing new_scan chars) scan given
-    → MovesPast (finishing scan) last more → Ends last after → AreFrames chars 0 (given ++ (more ++ []))
+    → MovesPast (finishing scan) last more → Ends last after → AreFrames chars 0 (given ++ more)
 all_frames chars scan last after given more moves on ends =
     let can : CanHear (finishing scan) [] chars = grind (arith, common_steps, holds_last) in
     let end = on.heard [] chars can in
-    let rest : drop last.first chars ≡ last.held = grind (arith, common_steps, append-nil, drop_at) in
+    let rest : drop last.first chars ≡ last.held = grind (arith, common_steps) in
     let none = (the_rest_has_the_later_frames last.first chars []).0 (rw rest (AreFrames.none 0 ends.none)) in
-    let are = on.frames [] chars [] can none in grind (arith, common_steps, append-nil, first_frames)
+    grind (arith, common_steps, first_frames, on.frames [] chars [] can none)
 
 -- a new scanner waits for what it is to hear
 pub new_waits : IsWaiting new_scan

@@ -12,7 +12,7 @@ WritesAll-on a b c xs ys h k = grind (arith, common_steps, Appends-trans)
 
 -- a write failed in a text after another
 pub FailsToWrite-on : (a b c : Stream) (xs ys : List ℕ) → WritesAll a b xs → FailsToWrite b c ys → FailsToWrite a c (xs ++ ys)
-FailsToWrite-on a b c xs ys h k = grind (arith, common_steps, Appends-trans, append_assoc)
+FailsToWrite-on a b c xs ys h k = grind (arith, common_steps, Appends-trans)
 
 -- what was not written is not empty
 rest_stays : (rest more : List ℕ) → rest ≢ [] → rest ++ more ≢ []
@@ -21,10 +21,10 @@ rest_stays (byte ∷ rest) more some none = absurd cc
 
 -- a prefix of a text is one of a longer text
 pub FailsToWrite-longer : (old new : Stream) (text more : List ℕ) → FailsToWrite old new text → FailsToWrite old new (text ++ more)
-FailsToWrite-longer old new text more fails = grind (arith, common_steps, append_assoc, rest_stays)
+FailsToWrite-longer old new text more fails = grind (arith, common_steps, rest_stays)
 
 -- what is written later takes nothing back
 pub in_time_on : (input : List ℕ) (w now later : Stream) (text : List ℕ) → WroteInTime input w now
     → Appends now.bytes later.bytes text → WroteInTime input w later
 in_time_on input w now later text before on =
-    let all = rw append_assoc at (Appends-trans w.bytes now.bytes later.bytes _ text before.written on) in grind arith
+    let all = rw append_assoc at (Appends-trans _ _ _ _ text before.written on) in grind arith

@@ -1,22 +1,18 @@
 -- Upper case hex, and one more byte in a line of it.
-use Rattle.std.proofs.Common.{◌≡◌, ℕ, ◌<◌, ◌+◌, List, [], ◌∷◌, ◌++◌, length, take, map, get_or, refl, sym, append_assoc, arith}
+use Rattle.std.proofs.Common.{◌≡◌, ℕ, ◌<◌, ◌+◌, List, [], ◌∷◌, ◌++◌, length, take, map, get_or, refl, append_assoc, arith}
 use Rattle.std.proofs.Math.ListN.{get_or-map}
 use Rattle.std.proofs.lemmas.Grind.{common_steps}
 use Rattle.std.proofs.lemmas.List.{map_more}
 use Rattle.std.specs.Char.{to_ascii_uppercase}
 use Rattle.std.specs.List.{join_with_byte}
-use Rattle.hex.specs.Hex.{encode_lower, encode_upper, encode_with, lower_digits, upper_digits}
+use Rattle.hex.specs.Hex.{encode_lower, encode_upper, encode_with, lower_digits}
 use Rattle.hart_cli.specs.text.HexText.{hex_items}
-
--- a digit in upper case
-upper_digit : (n : ℕ) → to_ascii_uppercase (get_or lower_digits n 0) ≡ get_or upper_digits n 0
-upper_digit n = sym (get_or-map to_ascii_uppercase lower_digits n 0)
 
 -- lower case digits in upper case
 pub upper-encode_lower : (bytes : List ℕ) → map to_ascii_uppercase (encode_lower bytes) ≡ encode_upper bytes
 unfolding encode_with
 upper-encode_lower [] = refl
-upper-encode_lower (byte ∷ bytes) = grind (arith, upper_digit, upper-encode_lower bytes)
+upper-encode_lower (byte ∷ bytes) = simp (← get_or-map to_ascii_uppercase lower_digits, upper-encode_lower bytes)
 
 -- one more part after the last of one or more
 join_with_byte-push : (c : ℕ) (x : List ℕ) (xs : List (List ℕ)) (y : List ℕ)
@@ -27,7 +23,7 @@ join_with_byte-push c x (z ∷ zs) y = grind (arith, append_assoc, join_with_byt
 -- a further byte, after a space
 pub hex_items-more : (bytes : List ℕ) (i d : ℕ) → i < length bytes → 0 < i
     → hex_items (take (i + 1) bytes) ≡ hex_items (take i bytes) ++ 32 ∷ encode_upper (get_or bytes i d ∷ [])
-hex_items-more bytes i d within more = grind (arith, common_steps, append_assoc, join_with_byte-push, map_more)
+hex_items-more bytes i d within more = grind (arith, common_steps, join_with_byte-push, map_more)
 
 -- the digits of bytes and of more bytes
 pub encode_upper-append : (bytes more : List ℕ) → encode_upper (bytes ++ more) ≡ encode_upper bytes ++ encode_upper more

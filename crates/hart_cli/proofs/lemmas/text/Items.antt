@@ -1,13 +1,12 @@
 -- Texts of items: a text reads in one way, and what follows a text leaves what was read.
-use Rattle.std.proofs.Common.{◌≡◌, ℕ, ◌+◌, ◌<◌, ◌≤◌, ◌-◌, List, [], ◌∷◌, ◌++◌, length, take, drop, Option, refl, ◌*◌}
-use Rattle.std.proofs.Common.{arith}
+use Rattle.std.proofs.Common.{◌≡◌, ℕ, ◌+◌, ◌<◌, ◌≤◌, ◌-◌, List, [], ◌∷◌, ◌++◌, length, take, drop, Option, refl, ◌*◌, arith, append-nil}
+use Rattle.std.proofs.Common.{append_assoc}
 use Rattle.std.proofs.Math.Seq.{drop-append_seam}
 use Rattle.std.proofs.lemmas.Grind.{common_steps}
-use Rattle.std.proofs.lemmas.List.{append-nil, append_assoc, drop-drop, take_rest}
+use Rattle.std.proofs.lemmas.List.{take_rest}
 use Rattle.std.specs.Option.{option_to_list}
 use Rattle.hart_frame.specs.heard.Character.{Character}
-use Rattle.hart_cli.specs.text.Items.{BeginsAs, BeginsWith, IsWholeBefore, NoPieceBegins, nothing, Piece, piece}
-use Rattle.hart_cli.specs.text.Items.{ReadsUpTo, spelling}
+use Rattle.hart_cli.specs.text.Items.{BeginsAs, BeginsWith, IsWholeBefore, NoPieceBegins, nothing, Piece, piece, ReadsUpTo, spelling}
 
 -- two pieces that begin one text are one piece
 pub same_piece : (text : List ℕ) (p q : Piece) (s t : List ℕ) → BeginsWith text p s → BeginsWith text q t → (p ≡ q) × (s ≡ t)
@@ -20,7 +19,7 @@ whole_before_more (n ∷ tail) more p w = grind arith
 
 -- a text begins with its piece, whatever follows
 BeginsWith-more : (text tail more : List ℕ) (p : Piece) → BeginsWith text p tail → BeginsWith (text ++ more) p (tail ++ more)
-BeginsWith-more text tail more p h = grind (arith, common_steps, append_assoc, whole_before_more)
+BeginsWith-more text tail more p h = grind (arith, common_steps, whole_before_more)
 
 -- a text reads up to its rest, whatever follows
 pub ReadsUpTo-more : (text : List ℕ) (chars : List Character) (rest more : List ℕ) → ReadsUpTo text chars rest
@@ -40,7 +39,7 @@ ReadsUpTo-on _ _ _ ys last (piece text first tail chars rest h r) k =
 pub read_on : (text : List ℕ) (chars more : List Character) (place len : ℕ) → ReadsUpTo text chars (drop place text)
     → ReadsUpTo (take (length text - place) (drop place text)) more (drop len (take (length text - place) (drop place text)))
     → ReadsUpTo text (chars ++ more) (drop (place + len) text)
-read_on text chars more place len r h = grind (arith, common_steps, ReadsUpTo-on, drop-drop, take_rest)
+read_on text chars more place len r h = grind (arith, common_steps, ReadsUpTo-on, take_rest)
 
 -- a reading goes on after a shorter one
 pub record GoesOn (xs : List Character) (rest : List ℕ) (ys : List Character) (last : List ℕ) : Type 0 where
@@ -54,8 +53,7 @@ pub goes_on : (text : List ℕ) (xs : List Character) (rest : List ℕ) (ys : Li
 goes_on _ _ _ ys last (nothing rest) k n = record { between = ys; reads = k; chars = refl }
 goes_on _ _ _ _ _ (piece text p s cs rest h r) (nothing last) n = absurd (n p s h)
 goes_on _ _ _ _ _ (piece text p s cs rest h r) (piece _ q t ds last k l) n =
-    let same = same_piece text p q s t h k in
-    grind (arith, common_steps, append_assoc, goes_on s cs rest ds last r (rw (← same.1) at l) n)
+    let same = same_piece text p q s t h k in grind (arith, append_assoc, goes_on s cs rest ds last r (rw (← same.1) at l) n)
 
 -- nothing is read if no piece begins
 pub stays : (rest : List ℕ) (chars : List Character) (last : List ℕ) → ReadsUpTo rest chars last → NoPieceBegins rest

@@ -1,6 +1,6 @@
 use Rattle.std.proofs.Common.{arith}
 use Rattle.std.proofs.lemmas.Grind.{common_steps}
-use Rattle.std.proofs.lemmas.List.{length-append, length-drop, length-map, map-append, take_rest}
+use Rattle.std.proofs.lemmas.List.{take_rest}
 use Rattle.hart_cli.specs.text.Items.{nothing}
 use Rattle.hart_cli.proofs.lemmas.text.Items.{read_on, ReadsUpTo-few}
 use Rattle.hart_cli.proofs.text.chunk.read_chunk.Goals as goal
@@ -9,7 +9,7 @@ pub loop-len-init : goal.loop-len-init
 loop-len-init c = grind (arith, nothing)
 
 pub loop-len-preserved : goal.loop-len-preserved
-loop-len-preserved c = grind (arith, common_steps, length-append, length-drop, map-append, read_on, take_rest)
+loop-len-preserved c = grind (arith, common_steps, read_on, take_rest)
 
 pub returns-clause-few : goal.returns-clause-few
-returns-clause-few c = grind (arith, common_steps, ReadsUpTo-few, length-drop, length-map)
+returns-clause-few c = grind (arith, common_steps, ReadsUpTo-few)

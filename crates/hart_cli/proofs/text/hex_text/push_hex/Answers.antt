@@ -1,8 +1,8 @@
 use Rattle.std.proofs.Common.{arith}
 use Rattle.std.proofs.lemmas.Grind.{common_steps}
 use Rattle.hex.specs.Hex.{encode_with}
-use Rattle.hart_cli.proofs.lemmas.text.HexText.{encode_upper-append}
 use Rattle.hex.proofs.HexLemmas.{length-encode_with}
+use Rattle.hart_cli.proofs.lemmas.text.HexText.{encode_upper-append}
 use Rattle.hart_cli.proofs.text.hex_text.push_hex.Goals as goal
 
 pub loop-byte-init : goal.loop-byte-init

@@ -7,24 +7,14 @@ use Rattle.hart_cli.proofs.text.items.leading_piece.Goals as goal
 
 -- a separator begins a text
 begins_as_separator : (text : List ℕ) → 0 < length text → IsSeparator (get_or text 0 0) → BeginsAs text None 1
-begins_as_separator text some s = record {
-  piece = Separator _;
-  tail = drop 1 text;
-  begins = record { valid = s; spelled = grind (arith, common_steps); whole = tt };
-  long = refl;
-  means = refl;
-}
+begins_as_separator text some s =
+    record { piece = Separator (get_or text 0 0); tail = drop 1 text; begins = grind (arith, common_steps); long = refl; means = refl }
 
 -- an item short of the end of a text is a piece
 begins_as_piece : (text : List ℕ) (char : Character) (len : ℕ) → BeginsAsItem text char len → len ≢ length text
     → BeginsAs text (Some char) len
-begins_as_piece text char len b short = record {
-  piece = Item b.item;
-  tail = b.tail;
-  begins = grind (arith, common_steps);
-  long = b.long;
-  means = cc (b.means);
-}
+begins_as_piece text char len b short =
+    record { piece = Item b.item; tail = b.tail; begins = grind (arith, common_steps); long = b.long; means = cc b.means }
 
 pub returns-then-is_separator : goal.returns-then-is_separator
 returns-then-is_separator c = grind (arith, begins_as_separator c.args.text.now, c.in_ok-first.ensures.item)

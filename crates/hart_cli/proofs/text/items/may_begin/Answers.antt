@@ -1,5 +1,5 @@
-use Rattle.std.proofs.Common.{◌≡◌, ◌≢◌, ℕ, ◌+◌, ◌*◌, ◌<◌, ◌≤◌, List, [], ◌∷◌, ◌++◌, length, drop, Option, Bool}
-use Rattle.std.proofs.Common.{is_some, IsTrue, MatchOption, refl, arith}
+use Rattle.std.proofs.Common.{◌≡◌, ◌≢◌, ℕ, ◌+◌, ◌*◌, ◌<◌, ◌≤◌, List, [], ◌∷◌, ◌++◌, length, drop, Option, Bool, is_some, IsTrue}
+use Rattle.std.proofs.Common.{MatchOption, refl, arith}
 use Rattle.std.proofs.lemmas.Grind.{common_steps}
 use Rattle.std.specs.Int.{bit_at}
 use Rattle.hart_frame.specs.heard.Character.{AreFaultBits}
@@ -40,15 +40,15 @@ begins_filled text x y d e = begins_faulty text x y 48 50 d (refl, refl) (omega 
 filled : (text more tail : List ℕ) (p : Piece) → NoPieceBegins text → BeginsWith (text ++ more) p tail
     → NoPieceBegins (text ++ filling text) → ⊥
 filled [] more tail p n h m = m _ _ (begins_filled _ 48 48 (refl, refl) refl)
-filled (a ∷ []) more tail (Item i) n h m = m _ _ (begins_filled _ a 48 (grind (arith, common_steps), refl) refl)
-filled (a ∷ b ∷ []) more tail (Item i) n h m = m _ _ (begins_filled _ a b (grind (arith, common_steps)) refl)
-filled (a ∷ b ∷ c ∷ []) more tail (Item (Faulty x y v w)) n h m = m _ _ (begins_filled _ x y h.valid.0 (cc (h.spelled)))
+filled (a ∷ []) more tail (Item i) n h m = m _ _ (begins_filled _ a 48 (grind arith, refl) refl)
+filled (a ∷ b ∷ []) more tail (Item i) n h m = m _ _ (begins_filled _ a b (grind arith) refl)
+filled (a ∷ b ∷ c ∷ []) more tail (Item (Faulty x y v w)) n h m = m _ _ (begins_filled _ x y h.valid.0 (cc h.spelled))
 filled (a ∷ b ∷ c ∷ d ∷ []) more tail (Item (Faulty x y v w)) n h m =
     let small : hex_value v < 8 = grind (arith, h.valid.3.byte, h.valid.3.only 7) in
-    m _ _ (begins_faulty _ x y v 50 h.valid.0 (h.valid.1.0, refl) (omega arith) (fault_bits (hex_value v) small) (cc (h.spelled)))
+    m _ _ (begins_faulty _ x y v 50 h.valid.0 (h.valid.1.0, refl) (omega arith) (fault_bits (hex_value v) small) (cc h.spelled))
 filled (a ∷ b ∷ c ∷ d ∷ f ∷ []) more tail (Item (Faulty x y v w)) n h m =
-    m _ _ (begins_faulty _ x y v w h.valid.0 h.valid.1 h.valid.2 h.valid.3 (cc (h.spelled)))
-filled text more tail p n h m = n _ _ (stands text more tail p h (grind (arith, common_steps)))
+    m _ _ (begins_faulty _ x y v w h.valid.0 h.valid.1 h.valid.2 h.valid.3 (cc h.spelled))
+filled text more tail p n h m = n _ _ (stands text more tail p h (grind arith))
 
 -- a piece was found if and only if one may begin
 found_if : (text text' : List ℕ) (found : Option LeadingPiece) (result : Bool) → result ≡ is_some found → text' ≡ text → NoPieceBegins text
@@ -57,10 +57,9 @@ found_if : (text text' : List ℕ) (found : Option LeadingPiece) (result : Bool)
 found_if text text' found result e f n h = grind (arith, common_steps, filled)
 
 pub returns-then-text-gt6-clause-may : goal.returns-then-text-gt6-clause-may
-returns-then-text-gt6-clause-may c = (
-  λ t. cc t,
-  λ may. absurd (c.requires _ _ (stands c.args.text.now may.more may.tail may.piece may.begins (grind (arith, common_steps)))),
-)
+returns-then-text-gt6-clause-may c =
+    let text = c.args.text.now in
+    grind (arith, common_steps, λ (may : MayBegin text). stands text may.more may.tail may.piece may.begins)
 
 pub returns-clause-may : goal.returns-clause-may
 returns-clause-may c = found_if _ _ _ _ c.is_some.ensures c.copy_from_slice.ensures.after c.requires c.leading_piece.ensures

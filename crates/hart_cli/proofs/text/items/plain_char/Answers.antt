@@ -1,25 +1,20 @@
-use Rattle.std.proofs.Common.{◌≡◌, ◌≢◌, ◌≤◌, ℕ, List, length, get_or, drop, IfSome, None, Option, Some, refl, arith}
+use Rattle.std.proofs.Common.{◌≢◌, ◌≤◌, ℕ, List, length, get_or, drop, Some, refl, arith}
 use Rattle.std.proofs.lemmas.Grind.{common_steps}
-use Rattle.hart_frame.specs.heard.Character.{Character}
 use Rattle.hart_line.specs.script.Digits.{AreDigitsOf}
 use Rattle.hart_line.specs.script.Items.{Plain}
 use Rattle.hart_cli.specs.text.Items.{BeginsAs, Item}
 use Rattle.hart_cli.proofs.text.items.plain_char.Goals as goal
 
 -- two digits begin a text as a faultless character if no `!` follows them
-begins_as_plain : (text : List ℕ) (byte : ℕ) (char : Option Character) → 3 ≤ length text → get_or text 2 0 ≢ 33
-    → AreDigitsOf byte (get_or text 0 0) (get_or text 1 0) → IfSome char (λ c. c ≡ record { byte = byte; faults = 0 })
-    → IfSome char (λ c. BeginsAs text (Some c) 2)
-begins_as_plain text byte None long none digits is = tt
-begins_as_plain text byte (Some char) long none digits is = record {
+begins_as_plain : (text : List ℕ) (byte : ℕ) → 3 ≤ length text → get_or text 2 0 ≢ 33
+    → AreDigitsOf byte (get_or text 0 0) (get_or text 1 0) → BeginsAs text (Some (record { byte = byte; faults = 0 })) 2
+begins_as_plain text byte long none digits = record {
   piece = Item (Plain (get_or text 0 0) (get_or text 1 0));
   tail = drop 2 text;
   begins = grind (arith, common_steps);
   long = refl;
-  means = rw (is, digits.1) refl;
+  means = rw digits.1 refl;
 }
 
 pub returns : goal.returns
-returns c =
-    begins_as_plain c.args.text.now _ _ c.in-len3-up.len_at_least (λ mark. c.if-next-eq33.false mark) c.in_ok-byte.ensures
-    c.new.ensures.kept
+returns c = grind (arith, begins_as_plain c.args.text.now, c.if-next-eq33.false)

@@ -1,6 +1,5 @@
 use Rattle.std.proofs.Common.{◌∙◌, ◌∷◌, [], arith}
 use Rattle.std.proofs.lemmas.Grind.{common_steps}
-use Rattle.std.proofs.lemmas.List.{append-nil}
 use Rattle.hart_frame.specs.scan.View.{found_of}
 use Rattle.hart_cli.proofs.lemmas.dump.FrameLines.{keeps_then}
 use Rattle.hart_cli.proofs.lemmas.dump.Moves.{gives_long, moves_on}
@@ -19,7 +18,7 @@ loop-found-preserved c =
       keeps = keeps_then _ _ _ _ _ _ c.loop-found.invariant.keeps (record {
         given = found_of c.in-Some.found ∷ [];
         moves = gives.moves;
-        lines = grind (arith, common_steps, append-nil);
+        lines = grind (arith, common_steps);
         few = omega (arith, c.push_frame_line.ensures.few, gives_long _ _ _ gives, moves_on _ _ _ gives.moves);
       });
       same_finish = gives.finished ∙ c.loop-found.invariant.same_finish;
