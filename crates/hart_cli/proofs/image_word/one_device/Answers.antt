@@ -1,14 +1,12 @@
-use Rattle.std.proofs.Common.{◌⊎◌, ◌≡◌, ℕ, ◌<◌, true, List, length, take, slice_index, Some, None, subst, inl, inr, arith, refl, false, ◌%◌}
+use Rattle.std.proofs.Common.{◌⊎◌, ◌≡◌, ℕ, ◌<◌, true, List, length, take, slice_index, Some, None, inl, inr, arith, refl, false, ◌%◌}
 use Rattle.std.proofs.lemmas.Grind.{common_steps}
 use Rattle.std.proofs.lemmas.List.{get_or-take, length-take}
 use Rattle.std.proofs.lemmas.List.Elements.{All-get_or}
 use Rattle.std.specs.List.{AllPass}
 use Rattle.hex.specs.Hex.{is_hex_digit}
 use Rattle.hex.proofs.HexLemmas.{decode_of-ok, decode_of-same}
-use Rattle.hart_device.specs.image.Image.{IsImageOf}
 use Rattle.hart_device.proofs.lemmas.Laws.{images_have_no_fault}
 use Rattle.hart_cli.specs.ImageWord.{IsBadHexWord, IsImageWord}
-use Rattle.hart_cli.specs.declared.fault.CliFault.TheVariants.{BadHex, Image}
 use Rattle.hart_cli.proofs.image_word.one_device.Goals as goal
 
 -- what makes a word bad hex at a place
@@ -30,20 +28,15 @@ IsBadHexWord-one word place other p q =
 
 -- a word that is bad hex is that of no image
 bad_is_no_word : (word : List ℕ) (place : ℕ) (bytes : List ℕ) → IsBadHexWord word place → IsImageWord word bytes → ⊥
-bad_is_no_word word place bytes bad writes = grind (arith, bad_parts, All-get_or, decode_of-ok word bytes writes)
+bad_is_no_word word place bytes bad writes = grind (arith, All-get_or, decode_of-ok word bytes writes)
 
 pub returns-clause-one : goal.returns-clause-one
 returns-clause-one c None device other p q = cc
 returns-clause-one c (Some word) device other p q =
-    c.images_have_one_state.ensures.one_state device other q.2 (rw (decode_of-same word p.2 q.2 p.3 q.3) at p.4) q.4 (cc (p.0, q.0))
-    (cc (p.1, q.1))
+    c.images_have_one_state.ensures.one_state device other q.2 (rw (decode_of-same word p.2 q.2 p.3 q.3) at p.4) q.4 (cc) (cc)
 
 pub returns-clause-one_fault : goal.returns-clause-one_fault
 returns-clause-one_fault c = grind (arith, common_steps, IsBadHexWord-one, bad_is_no_word, decode_of-same)
 
 pub returns-clause-no_fault : goal.returns-clause-no_fault
-returns-clause-no_fault c (Some word) device (BadHex place) p q = bad_is_no_word word place p.2 q p.3
-returns-clause-no_fault c (Some word) device (Image fault) p q =
-    let same = decode_of-same word p.2 q.0 p.3 q.1 in
-    images_have_no_fault device q.0 fault (subst (λ (image : List ℕ). IsImageOf device image) same p.4) q.2
-returns-clause-no_fault c _ device _ p q = absurd q
+returns-clause-no_fault c image device fault p q = grind (arith, bad_is_no_word, decode_of-same, images_have_no_fault device)

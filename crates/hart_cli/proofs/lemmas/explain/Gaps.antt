@@ -1,10 +1,9 @@
 -- The places that no message holds: which of them have a miss, and the lines of these.
 use Rattle.std.proofs.Common.{◌≡◌, ◌≢◌, ◌≤◌, ◌<◌, ◌+◌, ◌-◌, ℕ, zero, suc, Bool, true, false, List, [], ◌∷◌, ◌++◌, length, get_or, drop}
-use Rattle.std.proofs.Common.{take, Option, None, Some, inl, inr, refl, sym, ap, append_assoc, arith, length-append, length-drop}
-use Rattle.std.proofs.lemmas.Bool.{cases_lt}
+use Rattle.std.proofs.Common.{take, Option, None, Some, refl, append_assoc, arith, length-append, length-drop}
 use Rattle.std.proofs.lemmas.Bool.Decides.{nat_tests}
 use Rattle.std.proofs.lemmas.Grind.{common_steps, flat_map-append}
-use Rattle.std.proofs.lemmas.List.{append-nil, get_or_past, length-take-le, take-append-drop}
+use Rattle.std.proofs.lemmas.List.{take-append-drop}
 use Rattle.std.proofs.lemmas.List.Elements.{Contains-append_cases, Contains-append_left, Contains-append_right, Contains-get_or}
 use Rattle.std.proofs.lemmas.List.Folds.{list_all-append, list_all_at}
 use Rattle.std.proofs.lemmas.List.Kept.{AllPairs-cons}
@@ -16,28 +15,13 @@ use Rattle.std.specs.Prelude.{◌/◌, ◌%◌, ◌==◌, All, AllPairs, Contain
 use Rattle.hex.specs.Hex.{encode_with, upper_digits}
 use Rattle.hart_frame.specs.declared.heard.found.Found.{Found}
 use Rattle.hart_frame.specs.declared.heard.miss.Miss.{Miss}
-use Rattle.hart_frame.specs.declared.heard.miss.Miss.TheVariants.{Burst, EndsBeforeByteCount, OnePreamble}
-use Rattle.hart_frame.specs.heard.Character.{Character}
+use Rattle.hart_frame.specs.declared.heard.miss.Miss.TheVariants.{Burst}
+use Rattle.hart_frame.specs.heard.Character.{Character, faultless}
 use Rattle.hart_frame.specs.heard.Frames.{AreFrames, first, moved, none}
 use Rattle.hart_frame.specs.heard.Miss.{HasFrameAt, miss_of}
 use Rattle.hart_frame.specs.heard.Place.{StandsIn}
 use Rattle.hart_cli.specs.explain.Gaps.{IsGap, missed, missed_at, MissedPlace}
 use Rattle.hart_cli.specs.explain.Misses.{byte_digits, characters_word, miss_line, miss_words, place_text}
-
--- what is said of places is the lines of their misses
-said_of : (from place : ℕ) (found : Option Miss) → miss_line from place found
-    ≡ flat_map (λ (told : MissedPlace). miss_line from told.place (Some told.miss))
-    (option_map_or (λ miss. record { place = place; miss = miss } ∷ []) found [])
-said_of from place None = refl
-said_of from place (Some miss) = sym (append-nil (miss_line from place (Some miss)))
-
-pub said_of_places : (chars : List Character) (from : ℕ) (places : List ℕ)
-    → flat_map (λ place. place_text chars from place) places
-    ≡ flat_map (λ told. miss_line from told.place (Some told.miss)) (flat_map (λ place. missed_at chars from place) places)
-unfolding place_text
-said_of_places chars from [] = refl
-said_of_places chars from (place ∷ places) =
-    simp (flat_map-append, ← said_of, said_of_places chars from places)
 
 -- places that have something, each with it
 abbrev pub told_at : (ℕ → Option Miss) → ℕ → List MissedPlace
@@ -46,22 +30,31 @@ told_at f place = option_map_or (λ miss. record { place = place; miss = miss } 
 abbrev pub told_from : (ℕ → Option Miss) → ℕ → ℕ → List MissedPlace
 told_from f a n = flat_map (λ place. told_at f place) (range_with_len a n)
 
+-- what is said of places is the lines of their misses
+said_of : (from place : ℕ) (found : Option Miss) → miss_line from place found
+    ≡ flat_map (λ (told : MissedPlace). miss_line from told.place (Some told.miss))
+    (option_map_or (λ miss. record { place = place; miss = miss } ∷ []) found [])
+said_of from place found = grind (arith, common_steps)
+
+pub said_of_places : (chars : List Character) (from : ℕ) (places : List ℕ)
+    → flat_map (λ place. place_text chars from place) places
+    ≡ flat_map (λ told. miss_line from told.place (Some told.miss)) (flat_map (λ place. missed_at chars from place) places)
+unfolding place_text
+said_of_places chars from [] = refl
+said_of_places chars from (place ∷ places) = simp (flat_map-append, ← said_of, said_of_places chars from places)
+
 -- what stands among places
 told_is : (f : ℕ → Option Miss) (a n : ℕ) (x : MissedPlace) → Contains (told_from f a n) x
     → (a ≤ x.place) × (x.place < a + n) × (f x.place ≡ Some x.miss)
-told_is f a zero x (k, within, is) = absurd (omega arith)
-told_is f a (suc n) x has =
-    grind (arith, common_steps, Contains-append_cases (told_at f a) (told_from f (a + 1) n) x has, told_is f (a + 1) n x)
+told_is f a zero x has = grind arith
+told_is f a (suc n) x has = grind (arith, common_steps, Contains-append_cases, told_is f (a + 1) n x)
 
 -- every place that has something is among them
-pub told_has : (f : ℕ → Option Miss) (a n place : ℕ) (miss : Miss) → a ≤ place → place < a + n → f place ≡ Some miss
-    → Contains (told_from f a n) (record { place = place; miss = miss })
-told_has f a zero place miss from below has = absurd (omega arith)
-told_has f a (suc n) place miss from below has =
-    elim (cases_lt a place) [
-      | inl after ↦ grind (arith, common_steps, Contains-append_right, told_has f (a + 1) n place miss (omega arith) (omega arith) has)
-      | inr upto ↦ grind (arith, common_steps, Contains-append_left, Contains-get_or)
-    ]
+pub told_has : (f : ℕ → Option Miss) (a n : ℕ) (x : MissedPlace) → a ≤ x.place → x.place < a + n → f x.place ≡ Some x.miss
+    → Contains (told_from f a n) x
+told_has f a zero x from below has = absurd (omega arith)
+told_has f a (suc n) x from below has =
+    grind (arith, Contains-append_right, Contains-append_left, Contains-get_or (told_at f a) 0 x, told_has f (a + 1) n x)
 
 -- they stand in the order of their places
 pub told_in_order : (f : ℕ → Option Miss) (a n : ℕ) → AllPairs (λ told later. told.place < later.place) (told_from f a n)
@@ -96,55 +89,46 @@ pub unbroken-decimal : (n : ℕ) → unbroken (decimal n) ≡ true
 unfolding digits
 unbroken-decimal n = unbroken-onto 64 n [] refl
 
--- an element of a text, or 0 past its end
-unbroken-get_or : (text : List ℕ) (k : ℕ) → unbroken text ≡ true → no_line_feed (get_or text k 0) ≡ true
-unbroken-get_or text k test = grind (arith, common_steps, list_all_at, get_or_past)
+-- a digit of a byte is none
+unbroken-digit : (k : ℕ) → no_line_feed (get_or upper_digits k 0) ≡ true
+unbroken-digit k = grind (arith, common_steps, list_all_at no_line_feed upper_digits)
 
 unbroken-byte_digits : (byte : ℕ) → unbroken (byte_digits byte) ≡ true
 unfolding encode_with
-unbroken-byte_digits byte = grind (arith, unbroken-get_or upper_digits (byte / 16) refl, unbroken-get_or upper_digits (byte % 16) refl)
+unbroken-byte_digits byte = simp unbroken-digit
 
 unbroken-characters_word : (count : ℕ) → unbroken (characters_word count) ≡ true
 unbroken-characters_word count = grind (arith, common_steps)
 
 pub unbroken-miss_words : (from : ℕ) (miss : Miss) → unbroken (miss_words from miss) ≡ true
 unbroken-miss_words from Burst = refl
-unbroken-miss_words from EndsBeforeByteCount = refl
-unbroken-miss_words from OnePreamble = refl
-unbroken-miss_words from _ = simp (list_all-append, unbroken-decimal, unbroken-byte_digits, unbroken-characters_word)
+unbroken-miss_words from _ = grind (arith, list_all-append, unbroken-decimal, unbroken-byte_digits, unbroken-characters_word)
+
+-- a frame in some characters is one of those with others before them
+stands_after : (before chars : List Character) (found : Found) (at : ℕ) → at ≤ length before → StandsIn found chars 0
+    → StandsIn (moved (length before) found) (before ++ chars) at
+stands_after before chars found at few stands =
+    let split : before ++ chars ≡ (before ++ stands.prefix) ++ faultless (255 ∷ 255 ∷ stands.body) ++ stands.rest =
+    grind (arith, append_assoc) in
+    grind (arith, length-append before stands.prefix)
 
 -- a frame in the rest of characters is one of the characters
 pub stands_in_rest : (chars : List Character) (from at : ℕ) (found : Found) → at ≤ from → StandsIn found (drop from chars) 0
     → StandsIn (moved from found) chars at
 stands_in_rest chars from at found before stands =
-    let long = simp (length-append, length-drop) at (ap (λ (xs : List Character). length xs) stands.split) in
-    let first : length (take from chars) ≡ from = length-take-le from chars (omega arith) in
-    let size = length-append (take from chars) stands.prefix in
-    record {
-      prefix = take from chars ++ stands.prefix;
-      body = stands.body;
-      rest = stands.rest;
-      split = grind (arith, common_steps, take-append-drop, append_assoc);
-      is_body = stands.is_body;
-      after = omega arith;
-      start = omega (arith, stands.start);
-      stop = omega (arith, stands.stop);
-    }
+    let first : length (take from chars) ≡ from = grind (arith, common_steps, length-drop from chars) in
+    rw (first, take-append-drop) at (stands_after (take from chars) (drop from chars) found at (omega arith) stands)
 
 -- no frame stands in a gap
 pub no_frame_in_gap : (chars : List Character) (at : ℕ) (frames : List Found) → AreFrames chars at frames → (from stop place : ℕ)
     → IsGap chars at frames from stop → from ≤ place → place < stop → HasFrameAt (drop from chars) (place - from) → ⊥
-no_frame_in_gap chars _ _ (none at without) from stop place gap after below has =
-    without (moved from has.0) (stands_in_rest chars from at has.0 (omega arith) has.1)
-no_frame_in_gap chars _ _ (first at found later is are) from stop place (inl gap) after below has =
-    omega (arith, is.least (moved from has.0) (stands_in_rest chars from at has.0 (omega arith) has.1))
-no_frame_in_gap chars _ _ (first at found later is are) from stop place (inr gap) after below has =
-    no_frame_in_gap chars found.stop later are from stop place gap after below has
+no_frame_in_gap chars _ _ (none at without) from stop place gap after below has = grind (arith, stands_in_rest chars from at has.0)
+no_frame_in_gap chars _ _ (first at found later is are) from stop place gap after below has =
+    grind (arith, stands_in_rest chars from at has.0, no_frame_in_gap chars found.stop later are from stop place)
 
 -- the places of a gap that have a miss
 pub missed_are : (chars : List Character) (from stop place : ℕ) (miss : Miss)
     → Contains (missed chars from stop) (record { place = place; miss = miss })
     → (from ≤ place) × (place < stop) × (miss_of (drop from chars) (place - from) ≡ Some miss)
 missed_are chars from stop place miss has =
-    let is = told_is (λ at. miss_of (drop from chars) (at - from)) from (stop - from) (record { place = place; miss = miss }) has in
-    (is.0, omega arith, is.2)
+    grind (arith, told_is (λ at. miss_of (drop from chars) (at - from)) from (stop - from) (record { place = place; miss = miss }) has)

@@ -30,9 +30,8 @@ not_decided : (text : List ℕ) (xs ys : List Character) (place : ℕ) → Reads
 not_decided text xs ys place h k =
     let now = as_it_stands text ys place k in
     let later = k h.open_end.more in
-    let same = one_reading text xs h.rest ys now.rest h.reads now.reads h.no_piece now.no_piece in
     let on = goes_on (text ++ h.open_end.more) xs (h.rest ++ h.open_end.more) ys later.rest in
-    grind (arith, common_steps, length-append, reads_nothing, ReadsUpTo-more)
+    grind (arith, common_steps, length-append, reads_nothing, ReadsUpTo-more, one_reading)
 
 -- an input that came to an end is not heard otherwise than if it had been left
 one_heard : (text : List ℕ) (end : InputEnd) (xs ys : List Character) (f g : Option CliFault)

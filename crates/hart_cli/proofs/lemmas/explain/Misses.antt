@@ -1,14 +1,13 @@
 -- What is said of the places between two messages.
-use Rattle.std.proofs.Common.{◌≡◌, ◌≤◌, ◌+◌, ◌-◌, ℕ, Option, drop, zero, suc, List, [], ◌∷◌, ◌++◌, refl, sym, ap, arith, false, None}
+use Rattle.std.proofs.Common.{◌≡◌, ◌≤◌, ◌+◌, ◌-◌, ℕ, drop, zero, suc, List, [], ◌∷◌, ◌++◌, arith, false}
 use Rattle.std.proofs.lemmas.Grind.{common_steps, flat_map-append}
 use Rattle.std.proofs.lemmas.List.{append-nil}
 use Rattle.std.specs.List.{flat_map, range_with_len}
 use Rattle.std.specs.Option.{option_map_or}
 use Rattle.std.specs.Prelude.{is_none, not, slice_get}
-use Rattle.hart_frame.specs.declared.heard.miss.Miss.{Miss}
 use Rattle.hart_frame.specs.heard.Character.{Character}
-use Rattle.hart_frame.specs.heard.Miss.{body_miss, is_preamble, miss_of}
-use Rattle.hart_cli.specs.explain.Misses.{ArePlacesBelow, gap_text, is_asked, miss_line, place_text}
+use Rattle.hart_frame.specs.heard.Miss.{body_miss, is_preamble}
+use Rattle.hart_cli.specs.explain.Misses.{gap_text, is_asked, place_text}
 
 -- numbers in a row are some and then others
 range_parts : (a n m : ℕ) → range_with_len a (n + m) ≡ range_with_len a n ++ range_with_len (a + n) m
@@ -30,30 +29,16 @@ pub gap_more : (chars : List Character) (from place : ℕ) → from ≤ place
     → gap_text chars from (place + 1) ≡ gap_text chars from place ++ place_text chars from place
 gap_more chars from place after = grind (arith, append-nil, gap_begins chars from place (place + 1) after (omega arith))
 
--- the text of a place is the line of its miss
-pub place_text-miss : (chars : List Character) (from place : ℕ) (miss : Option Miss) → miss ≡ miss_of (drop from chars) (place - from)
-    → place_text chars from place ≡ miss_line from place miss
-unfolding place_text
-place_text-miss chars from place miss is = ap (λ (found : Option Miss). miss_line from place found) (sym is)
-
 -- no body begins with a preamble byte, or where nothing stands
 no_body_at : (start at : ℕ) (chars : List Character)
     → option_map_or (λ first. not (is_preamble first)) (slice_get chars at) false ≡ false
     → is_none (body_miss start (drop at chars)) ≡ false
-no_body_at start zero [] none = refl
-no_body_at start (suc at) [] none = refl
-no_body_at start zero (first ∷ rest) none = grind (arith, common_steps)
+no_body_at start zero chars none = grind (arith, common_steps)
+no_body_at start (suc at) [] none = grind (arith, common_steps)
 no_body_at start (suc at) (first ∷ rest) none = no_body_at start at rest none
 
--- where nothing is asked, there is no miss
-no_miss : (chars : List Character) (place : ℕ) → is_asked chars place ≡ false → miss_of chars place ≡ None
-no_miss chars place none = grind (arith, common_steps, no_body_at place place chars)
-
--- so nothing is said of it
+-- where nothing is asked, nothing is said
 pub no_text : (chars : List Character) (from place : ℕ) → is_asked (drop from chars) (place - from) ≡ false
     → place_text chars from place ≡ []
-no_text chars from place none = place_text-miss chars from place None (sym (no_miss (drop from chars) (place - from) none))
-
--- places below one number are below a greater one
-pub below_more : (count more : ℕ) (miss : Miss) → ArePlacesBelow count miss → count ≤ more → ArePlacesBelow more miss
-below_more count more miss below few = grind arith
+unfolding place_text
+no_text chars from place none = grind (arith, common_steps, no_body_at (place - from) (place - from) (drop from chars))

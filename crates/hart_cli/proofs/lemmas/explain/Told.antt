@@ -1,35 +1,26 @@
 -- A text that is told piece by piece.
-use Rattle.std.proofs.Common.{◌≡◌, ℕ, List, [], ◌++◌, Result, refl, sym, append_assoc, arith, subst}
+use Rattle.std.proofs.Common.{◌≡◌, ℕ, List, [], ◌++◌, Result, refl, append_assoc, arith}
 use Rattle.std.proofs.KnownBytes.{Appends-nil}
 use Rattle.std.proofs.lemmas.Grind.{common_steps}
-use Rattle.std.proofs.lemmas.List.{append-nil}
 use Rattle.std.specs.Result.{IsErrAnd}
 use Rattle.hart_cli.specs.declared.stream.Failed.{Failed}
 use Rattle.hart_cli.specs.explain.Told.{AddsText, Tells}
 use Rattle.hart_cli.specs.stream.Stream.{FailsToWrite, Stream, Writes}
 use Rattle.hart_cli.proofs.lemmas.dump.Writes.{FailsToWrite-longer, FailsToWrite-on, WritesAll-on}
 
--- a text is kept
-pub adds_kept : (s : Stream) (before text : List ℕ) → AddsText s s before (before ++ text) text
-adds_kept s before text = record { written = []; wrote = (Appends-nil _, refl); whole = refl }
-
--- nothing is added
-pub adds_nothing : (s : Stream) (kept : List ℕ) → AddsText s s kept kept []
-adds_nothing s kept = record { written = []; wrote = (Appends-nil _, refl); whole = sym (append-nil kept) }
+-- a text is kept, or nothing is added
+pub adds_kept : (s : Stream) (before after text : List ℕ) → after ≡ before ++ text → AddsText s s before after text
+adds_kept s before after text is = record { written = []; wrote = (Appends-nil _, refl); whole = is }
 
 -- a text is added after another
 pub adds_then : (a b c : Stream) (p q r x y : List ℕ) → AddsText a b p q x → AddsText b c q r y → AddsText a c p r (x ++ y)
-adds_then a b c p q r x y h k = record {
-  written = h.written ++ k.written;
-  wrote = WritesAll-on a b c h.written k.written h.wrote k.wrote;
-  whole = grind (arith, common_steps, append_assoc);
-}
+adds_then a b c p q r x y h k =
+    let wrote = WritesAll-on a b c h.written k.written h.wrote k.wrote in grind (arith, common_steps, append_assoc)
 
 -- a write failed in the second of two texts
 pub fails_then : (a b c : Stream) (p q x y : List ℕ) → AddsText a b p q x → FailsToWrite b c (q ++ y) → FailsToWrite a c (p ++ (x ++ y))
 fails_then a b c p q x y h fails =
-    let same : h.written ++ (q ++ y) ≡ p ++ (x ++ y) = grind (arith, common_steps, append_assoc) in
-    subst (λ (xs : List ℕ). FailsToWrite a c xs) same (FailsToWrite-on a b c h.written (q ++ y) h.wrote fails)
+    grind (arith, common_steps, append_assoc, FailsToWrite-on a b c h.written (q ++ y) h.wrote fails)
 
 -- a write failed in the first of two texts
 pub fails_first : (a b : Stream) (p x y : List ℕ) → FailsToWrite a b (p ++ x) → FailsToWrite a b (p ++ (x ++ y))

@@ -1,5 +1,4 @@
-use Rattle.std.proofs.Common.{◌≡◌, List, ◌∷◌, sym, ◌∙◌, arith}
-use Rattle.std.proofs.lemmas.Grind.{common_steps}
+use Rattle.std.proofs.Common.{◌≡◌, List, ◌∷◌, arith}
 use Rattle.hart_frame.proofs.lemmas.Laws.{bodies_are_unambiguous-one_body}
 use Rattle.hart_line.specs.declared.line.report.Spoken.{Spoken}
 use Rattle.hart_line.specs.world.Spoken.{AreSpoken, SpokenFrame}
@@ -12,8 +11,7 @@ use Rattle.hart_cli.proofs.sim.one_simulation.Goals as goal
 -- frames are spoken in one way
 AreSpoken-one : (frames : List SpokenFrame) (xs ys : List Spoken) → AreSpoken frames xs → AreSpoken frames ys → xs ≡ ys
 AreSpoken-one (said ∷ frames) (x ∷ xs) (y ∷ ys) p q =
-    let body = bodies_are_unambiguous-one_body said.frame x.bytes y.bytes p.0.body q.0.body in
-    grind (arith, common_steps, AreSpoken-one frames xs ys p.1 q.1)
+    grind (arith, bodies_are_unambiguous-one_body said.frame x.bytes y.bytes, AreSpoken-one frames xs ys)
 AreSpoken-one _ xs ys p q = grind arith
 
 pub returns-clause-one_text : goal.returns-clause-one_text
@@ -22,13 +20,10 @@ returns-clause-one_text c device input xs ys p q =
 
 pub returns-clause-one_fault : goal.returns-clause-one_fault
 returns-clause-one_fault c device input (line_faults.Undetected number leg) (line_faults.Undetected other another) p q =
-    let same = scripts_have_one_last_world-one_fault (start_with device) q.events number other leg another
-    (rw (p.script.1 ∙ sym q.script.1) at p.is_fault) q.is_fault in
-    cc (same.0, same.1)
+    grind (arith, scripts_have_one_last_world-one_fault (start_with device) q.events number other leg another)
 returns-clause-one_fault c device input _ other p q = grind arith
 
 pub returns-clause-no_fault : goal.returns-clause-no_fault
 returns-clause-no_fault c device input text (line_faults.Undetected number leg) p damage =
-    scripts_have_one_last_world-no_fault (start_with device) damage.events p.world number leg
-    (rw (p.script.1 ∙ sym damage.script.1) at p.last) damage.is_fault
+    grind (arith, scripts_have_one_last_world-no_fault (start_with device) damage.events p.world number leg)
 returns-clause-no_fault c device input text _ p bad = grind arith

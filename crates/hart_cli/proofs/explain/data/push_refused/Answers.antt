@@ -1,9 +1,9 @@
-use Rattle.std.proofs.Common.{append_assoc}
-use Rattle.hart_cli.proofs.lemmas.explain.Fields.{request_rows-shown}
+use Rattle.std.proofs.Common.{append_assoc, arith}
+use Rattle.hart_cli.proofs.lemmas.explain.Fields.{rows-shown}
 use Rattle.hart_cli.proofs.explain.data.push_refused.Goals as goal
 
 pub push_fields-rest-requires-clause-shown : goal.push_fields-rest-requires-clause-shown
-push_fields-rest-requires-clause-shown c = rw c.request_rows.ensures (request_rows-shown c.args.command)
+push_fields-rest-requires-clause-shown c = grind (arith, rows-shown)
 
 pub returns : goal.returns
 returns c = record {

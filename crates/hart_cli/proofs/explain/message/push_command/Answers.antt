@@ -1,6 +1,6 @@
 use Rattle.std.proofs.Common.{arith}
 use Rattle.std.proofs.lemmas.Grind.{common_steps}
-use Rattle.hart_cli.proofs.lemmas.explain.Message.{command_name-short}
+use Rattle.hart_cli.proofs.lemmas.explain.Fields.{command_name-short}
 use Rattle.hart_cli.proofs.explain.message.push_command.Goals as goal
 
 pub push_text-requires-in-Some-2 : goal.push_text-requires-in-Some-2
