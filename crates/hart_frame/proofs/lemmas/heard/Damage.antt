@@ -65,18 +65,13 @@ stood left body chars found from delimiter heard stands =
     sent_there (replicate left 255 ++ body) (255 ∷ 255 ∷ stands.body) stands.prefix stands.rest (rw stands.split at heard) in
     grind (arith, two_there left (length stands.prefix) (delimiter_of found.frame) body (others ++ after))
 
--- what damage is heard of: so many preamble bytes, and bytes that begin with none
-record IsHeard (left : ℕ) (body : List ℕ) (chars : List Character) : Type 0 where
-  pub delimiter : delimiter_in body ≢ 255
-  pub heard : AllZip IsHeardOrMarked (replicate left 255 ++ body) chars
-  pub no_two_preambles : HasNoTwoPreambles (after_delimiter left chars)
-
--- so a frame starts at the delimiter
-stands_there : (left : ℕ) (body : List ℕ) (chars : List Character) (found : Found) (from : ℕ) → IsHeard left body chars
+-- so it starts at the delimiter if no two preamble bytes are heard after that
+stands_there : (left : ℕ) (body : List ℕ) (chars : List Character) (found : Found) (from : ℕ) → delimiter_in body ≢ 255
+    → AllZip IsHeardOrMarked (replicate left 255 ++ body) chars → HasNoTwoPreambles (after_delimiter left chars)
     → (stands : StandsIn found chars from) → (rest : List ℕ) × (length stands.prefix + 2 ≡ left) × (body ≡ stands.body ++ rest)
-stands_there left body chars found from is stands =
-    let none = is.no_two_preambles (drop (left + 1) stands.prefix) (faultless stands.body ++ stands.rest) in
-    let (rest, place) = stood left body chars found from is.delimiter is.heard stands in
+stands_there left body chars found from delimiter heard no_two_preambles stands =
+    let none = no_two_preambles (drop (left + 1) stands.prefix) (faultless stands.body ++ stands.rest) in
+    let (rest, place) = stood left body chars found from delimiter heard stands in
     grind (arith, common_steps, stands.split, drop-append-le, append_assoc)
 
 -- MARKED DAMAGE
@@ -94,8 +89,8 @@ marked_own : BodyLaws → (frame : FrameParts) (preambles : ℕ) (chars : List C
     → (found : Found) (from : ℕ) → StandsIn found chars from → found ≡ own frame damage.left chars
 marked_own laws frame preambles chars damage found from stands =
     let (others, begins, low) = head_of frame damage.body damage.is_body in
-    let is : IsHeard damage.left damage.body chars = grind arith in
-    let (rest, start, same) = stands_there damage.left damage.body chars found from is stands in
+    let (rest, start, same) =
+    stands_there damage.left damage.body chars found from (grind arith) damage.heard damage.no_two_preambles stands in
     let whole : rest ≡ [] = grind (arith, laws.no_proper_prefix found.frame frame stands.body rest) in
     let long = AllZip-long IsHeardOrMarked (replicate damage.left 255 ++ damage.body) chars damage.heard in
     grind (arith, laws.one_frame found.frame frame stands.body, append-nil, length-append, length-replicate)
@@ -126,8 +121,8 @@ pub AreFrames-check : (frame : FrameParts) (preambles : ℕ) (chars : List Chara
     → AreFrames chars 0 []
 AreFrames-check frame preambles chars damage = none 0 (λ found stands.
     let (others, begins, low) = head_of frame damage.body damage.is_body in
-    let is : IsHeard damage.left damage.bytes chars = grind (arith, heard_faultless) in
-    let (rest, start, same) = stands_there damage.left damage.bytes chars found 0 is stands in
+    let (rest, start, same) =
+    stands_there damage.left damage.bytes chars found 0 (grind arith) (grind (arith, heard_faultless)) damage.no_two_preambles stands in
     let sent = says_of frame damage.body damage.is_body in
     let said = says (stands.body ++ rest) found.frame (length stands.body)
     (BeginsWithBody-append found.frame stands.body rest stands.is_body) in

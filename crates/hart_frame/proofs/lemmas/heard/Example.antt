@@ -1,5 +1,5 @@
 -- The request that shows what damage is.
-use Rattle.std.proofs.Common.{◌⊎◌, ◌≡◌, ℕ, zero, suc, ◌<◌, inl, List, [], ◌∷◌, ◌++◌, length, drop, get_or, replicate, refl, ap, ◌∙◌, arith}
+use Rattle.std.proofs.Common.{◌⊎◌, ◌≡◌, ℕ, ◌<◌, inl, List, [], ◌∷◌, ◌++◌, length, drop, replicate, refl, ap, ◌∙◌, arith}
 use Rattle.std.proofs.Common.{length-append, subst}
 use Rattle.std.proofs.lemmas.List.{drop_at, length-replicate}
 use Rattle.std.proofs.lemmas.List.Elements.{All-from_recursion}
@@ -17,6 +17,7 @@ use Rattle.hart_frame.proofs.lemmas.heard.Damage.{clear_is}
 use Rattle.hart_frame.proofs.lemmas.heard.Place.{preamble}
 use Rattle.hart_frame.proofs.lemmas.wire.Body.{IsBody-push}
 use Rattle.hart_frame.proofs.lemmas.wire.Parity.{IsCheckByte-fold, even-check}
+use Rattle.hart_frame.proofs.lemmas.wire.Truncated.{fits_at}
 
 -- the body that is sent
 abbrev request_body : List ℕ
@@ -25,32 +26,22 @@ request_body = 2 ∷ 128 ∷ 0 ∷ 0 ∷ 130 ∷ []
 abbrev IsByte : ℕ → Type 0
 IsByte byte = byte < 256
 
-bytes_fit : (bytes : List ℕ) → AllByRecursion IsByte bytes → (i : ℕ) → get_or bytes i 0 < 256
-bytes_fit [] fit i = omega arith
-bytes_fit (byte ∷ bytes) fit zero = fit.0
-bytes_fit (byte ∷ bytes) fit (suc i) = bytes_fit bytes fit.1 i
-
-checked_fits : AllByRecursion IsByte (2 ∷ 128 ∷ 0 ∷ 0 ∷ [])
-checked_fits = (omega arith, (omega arith, (omega arith, (omega arith, tt))))
-
 request_is : IsBody identity_request request_body
 request_is =
     let checked : List ℕ = 2 ∷ 128 ∷ 0 ∷ 0 ∷ [] in
+    let fits = All-from_recursion IsByte checked (grind arith) in
     IsBody-push identity_request checked 130
     (record { address = 128 ∷ []; address_bytes = (omega arith, refl); parts = refl; expansion_fits = omega arith; payload_fits = tt })
-    (All-from_recursion IsByte checked checked_fits)
-    (IsCheckByte-fold checked 130 (bytes_fit checked checked_fits) refl)
+    fits (IsCheckByte-fold checked 130 (fits_at checked fits) refl)
 
 -- characters of which none is FF have no two in a row
 abbrev IsOther : Character → Type 0
 IsOther character = character.byte < 255
 
 none_in_row : (chars : List Character) → AllByRecursion IsOther chars → HasNoTwoPreambles chars
-none_in_row [] others [] rest same = cc
+none_in_row chars others [] rest same = grind (arith, preamble)
 none_in_row [] others (character ∷ prefix) rest same = cc
-none_in_row (character ∷ chars) others [] rest same = grind (arith, preamble)
-none_in_row (character ∷ chars) others (other ∷ prefix) rest same =
-    none_in_row chars others.1 prefix rest (ap (drop 1) same)
+none_in_row (character ∷ chars) others (other ∷ prefix) rest same = none_in_row chars others.1 prefix rest (ap (drop 1) same)
 
 -- a vertical parity fault
 parity_bit : (bit : ℕ) → bit < 8 → bit_at 64 bit ≡ 1 → IsFaultBit bit
@@ -68,15 +59,12 @@ faulty_is_marked = record {
   body = request_body;
   is_body = request_is;
   heard = (inl refl, (inl refl, (inl refl, (faulty, (inl refl, (inl refl, (inl refl, tt)))))));
-  no_two_preambles = none_in_row _ (omega arith, (omega arith, (omega arith, (omega arith, tt))));
+  no_two_preambles = none_in_row _ (grind arith);
 }
 
 -- the bytes with another address
 abbrev other_bytes : ℕ → List ℕ
 other_bytes check = 2 ∷ 129 ∷ 0 ∷ 0 ∷ check ∷ []
-
-other_fits : (check : ℕ) → check < 256 → AllByRecursion IsByte (other_bytes check)
-other_fits check fits = (omega arith, (omega arith, (omega arith, (omega arith, (fits, tt)))))
 
 pub other_is_check : IsCheckDamage identity_request 5 other_address
 other_is_check = record {
@@ -85,10 +73,10 @@ other_is_check = record {
   body = request_body;
   is_body = request_is;
   bytes = other_bytes 130;
-  replaces = grind (arith, bytes_fit, All-from_recursion, other_fits);
+  replaces = let fits = All-from_recursion IsByte (other_bytes 130) (grind arith) in grind arith;
   heard = refl;
   parity = λ even. omega (arith, even.even 0 (omega arith));
-  no_two_preambles = none_in_row _ (omega arith, (omega arith, (omega arith, (omega arith, tt))));
+  no_two_preambles = none_in_row _ (grind arith);
 }
 
 -- a frame has one body
@@ -112,7 +100,8 @@ request_is_not_check one_body damage =
     let two : length prefix ≡ 2 = length-replicate damage.left 255 ∙ two_left one_body row refl damage in
     let bytes : other_bytes 131 ≡ damage.bytes =
     ap (drop 2) (faultless-one row (prefix ++ damage.bytes) damage.heard) ∙ drop_at prefix damage.bytes 2 two in
-    let check = IsCheckByte-fold (other_bytes 131) 0 (bytes_fit (other_bytes 131) (other_fits 131 (omega arith))) refl in
+    let fits = fits_at (other_bytes 131) (All-from_recursion IsByte (other_bytes 131) (grind arith)) in
+    let check = IsCheckByte-fold (other_bytes 131) 0 fits refl in
     damage.parity (subst HasEvenParity bytes (even-check (other_bytes 131) check))
 
 pub preamble_is_not_check : OneBody → IsCheckDamage identity_request 5 preamble_in_body → ⊥

@@ -12,8 +12,7 @@ use Rattle.std.specs.Option.{IsSome, is_some}
 use Rattle.hart_frame.specs.declared.heard.miss.Miss.TheVariants.{BadCheck, Faulty, Missing, OnePreamble}
 use Rattle.hart_frame.specs.heard.Character.{Character, faultless, faultless_bytes}
 use Rattle.hart_frame.specs.heard.InTheWay.{bytes_from, FollowsOnePreamble, HasBodyAt}
-use Rattle.hart_frame.specs.heard.Miss.{HasFrameAt, HasFrameUpTo, body_miss, check_byte_in, fitting_check_byte, follows_one_preamble}
-use Rattle.hart_frame.specs.heard.Miss.{miss_of, is_start}
+use Rattle.hart_frame.specs.heard.Miss.{HasFrameAt, HasFrameUpTo, body_miss, check_byte_in, fitting_check_byte, miss_of}
 use Rattle.hart_frame.specs.heard.Start.{IsStart}
 use Rattle.hart_frame.specs.wire.Body.{IsBody, BeginsWithBody}
 use Rattle.hart_frame.specs.wire.FrameParts.{FrameParts}
@@ -22,7 +21,7 @@ use Rattle.hart_frame.specs.wire.Parity.{IsCheckByte}
 use Rattle.hart_frame.specs.wire.Refusal.{HasCheckByte}
 use Rattle.hart_frame.proofs.lemmas.heard.FramesFound.{body_at, body_frame, frame_up_to, starts}
 use Rattle.hart_frame.proofs.lemmas.heard.Front.{after_faultless, faultless_fit, length-faultless_bytes, heard_parts, take_heard}
-use Rattle.hart_frame.proofs.lemmas.heard.InTheWay.{way_of, rest_at, fits-is}
+use Rattle.hart_frame.proofs.lemmas.heard.InTheWay.{in_the_way, way_of, rest_at, fits-is}
 use Rattle.hart_frame.proofs.lemmas.heard.Missed.{miss_of-some, miss_of-start, good_prefix, one_preamble-is, one_preamble-yes, none_of}
 use Rattle.hart_frame.proofs.lemmas.heard.Place.{preamble}
 use Rattle.hart_frame.proofs.lemmas.wire.Parity.{IsCheckByte-fold}
@@ -55,16 +54,10 @@ body_or_miss chars start fit =
     let fits = faultless_fit (drop start chars) (All-drop (λ (c : Character). c.byte < 256) start chars fit) in
     grind (arith, nat_tests, heard_body chars start fits)
 
-pub never_one_preamble : (start : ℕ) (heard : List Character) → body_miss start heard ≡ Some OnePreamble → ⊥
-never_one_preamble start heard miss = grind (arith, nat_tests)
-
 pub frame_or_miss : (place : ℕ) (chars : List Character) → All (λ c. c.byte < 256) chars → IsStart place chars
     → HasFrameAt chars place ⊎ IsSome (miss_of chars place)
 frame_or_miss place chars fit is =
     grind (arith, body_or_miss chars place fit, body_frame chars place is, miss_of-start chars (drop place chars) place refl is)
-
-never_both : (chars : List Character) (start : ℕ) → follows_one_preamble chars start ≡ true → is_start chars start ≡ true → ⊥
-never_both chars start one is = grind arith
 
 -- after one preamble byte alone a whole body stands
 pub one_alone : (start : ℕ) (chars : List Character) → All (λ c. c.byte < 256) chars
@@ -73,11 +66,11 @@ one_alone start chars fit = (
   λ is. grind (
     arith,
     miss_of-some chars start OnePreamble is,
-    never_one_preamble start (drop start chars),
+    in_the_way start chars OnePreamble fit,
     body_or_miss chars start fit,
     one_preamble-is chars start,
   ),
-  λ both. grind (arith, one_preamble-yes chars start both.0, never_both chars start, none_of chars start both.1),
+  λ both. grind (arith, one_preamble-yes chars start both.0, none_of chars start both.1),
 )
 
 -- with another preamble byte before the one a frame stands there

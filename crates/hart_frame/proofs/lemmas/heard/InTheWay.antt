@@ -70,10 +70,6 @@ stops chars start at_end within =
 pub fits-is : (bytes : List ℕ) (fits : ℕ) → All (λ byte. byte < 256) bytes → IsCheckByte bytes fits → fits ≡ fold bit_xor 0 bytes
 fits-is bytes fits fit is = even-is bytes fits (fits_at bytes fit) is.byte (HasEvenParity-push bytes fits is)
 
--- a body starts within the list
-start_within : (chars : List Character) (start : ℕ) → IsStart start chars → start ≤ length chars
-start_within chars start is = grind (arith, common_steps, length-append, preamble)
-
 -- what is said stands in the way
 said : (chars : List Character) (start : ℕ) (miss : Miss) → All (λ byte. byte < 256) (bytes_from chars start) → start ≤ length chars
     → body_miss start (drop start chars) ≡ Some miss → IsInTheWay chars start miss
@@ -102,7 +98,7 @@ pub in_the_way : (start : ℕ) (chars : List Character) (miss : Miss) → All (�
 in_the_way start chars miss fit is =
     let heard = drop start chars in
     let fits = faultless_fit heard (All-drop (λ (c : Character). c.byte < 256) start chars fit) in
-    let within = start_within chars start is in
+    let within : start ≤ length chars = grind (arith, common_steps, length-append, preamble) in
     rw (sym (miss_of-start chars heard start refl is)) (said chars start miss fits within, only chars start miss fits within)
 
 -- a miss but that of one preamble byte is of a place where a body may start

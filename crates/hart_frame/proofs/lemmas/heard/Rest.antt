@@ -27,37 +27,26 @@ stands_in prefix cs found n long stands = grind (arith, length-drop n stands.pre
 -- the same from any place of the list on
 stands_moved : (before rest : List Character) (found : Found) (n from : ℕ) → length before ≡ n → StandsIn found rest from
     → StandsIn (moved n found) (before ++ rest) (n + from)
-stands_moved before rest found n from long stands =
-    let lies = StandsIn-within found rest from stands in
-    let low = StandsIn-from found rest from 0 stands (omega (arith, lies.after)) in
-    let here = rw (append-nil rest) at (stands_after before rest [] found n long low) in grind (arith, common_steps, StandsIn-from)
-
--- what stands after others, as it stands in the rest
-abbrev StandsMoved : Found → List Character → ℕ → ℕ → Type 0
-StandsMoved found rest n from = (own : Found) × (found ≡ moved n own) × StandsIn own rest from
+stands_moved before rest found n from long stands = grind (arith, append_assoc, length-append before stands.prefix)
 
 stands_back : (before rest : List Character) (found : Found) (n from : ℕ) → length before ≡ n
-    → StandsIn found (before ++ rest) (n + from) → StandsMoved found rest n from
+    → StandsIn found (before ++ rest) (n + from)
+    → StandsIn (record { start = found.start - n; stop = found.stop - n; frame = found.frame }) rest from
 stands_back before rest found n from long stands =
-    let lies = StandsIn-within found (before ++ rest) (n + from) stands in
-    let own : Found = record { start = found.start - n; stop = found.stop - n; frame = found.frame } in
-    let low = StandsIn-from found (before ++ rest) (n + from) n stands (omega (arith, lies.after)) in
-    (own, grind arith, StandsIn-from own rest 0 from (stands_in before rest found n long low) (omega (arith, lies.after)))
+    grind (arith, length-drop n stands.prefix, drop_at before rest n long, append_assoc, drop-append-le)
 
 pub first_moved : (before rest : List Character) (found : Found) (n from : ℕ) → length before ≡ n → IsFirst found rest from
     → IsFirst (moved n found) (before ++ rest) (n + from)
 first_moved before rest found n from long is = record {
   stands = stands_moved before rest found n from long is.stands;
-  least = λ other there.
-      let back = stands_back before rest other n from long there in
-      omega (arith, is.least back.0 back.2, ap (λ (f : Found). f.start) back.1);
+  least = λ other there. omega (arith, there.after, there.start, is.least _ (stands_back before rest other n from long there));
 }
 
 -- the frames of the rest, counted from its front, stand in the list so many places later
 frames_moved : (before rest : List Character) (n : ℕ) (long : length before ≡ n) (from : ℕ) (frames : List Found)
     → AreFrames rest from frames → AreFrames (before ++ rest) (n + from) (map (moved n) frames)
 frames_moved before rest n long from frames (none place empty) =
-    AreFrames.none (n + from) (λ found there. let back = stands_back before rest found n from long there in empty back.0 back.2)
+    AreFrames.none (n + from) (λ found there. empty _ (stands_back before rest found n from long there))
 frames_moved before rest n long from frames (first place found later is more) =
     AreFrames.first (n + from) (moved n found) (map (moved n) later) (first_moved before rest found n from long is)
     (frames_moved before rest n long found.stop later more)
@@ -65,9 +54,8 @@ frames_moved before rest n long from frames (first place found later is more) =
 -- moved frames come from the same frames
 all_moved_one : (n : ℕ) (xs ys : List Found) → map (moved n) xs ≡ map (moved n) ys → xs ≡ ys
 all_moved_one n [] [] same = refl
-all_moved_one n [] (y ∷ ys) same = absurd cc
-all_moved_one n (x ∷ xs) [] same = absurd cc
 all_moved_one n (x ∷ xs) (y ∷ ys) same = grind (arith, common_steps, all_moved_one n xs ys cc)
+all_moved_one n xs ys same = absurd cc
 
 -- from the end of a list on there are no frames
 frames_none : (chars : List Character) (place : ℕ) (frames : List Found) → length chars ≤ place → AreFrames chars place frames
