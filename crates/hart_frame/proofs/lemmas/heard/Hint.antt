@@ -1,13 +1,13 @@
 -- What a miss names is what stands in the way of a frame.
-use Rattle.std.proofs.Common.{◌≡◌, ◌≢◌, ℕ, fold, bit_xor, ◌+◌, ◌-◌, ◌<◌, ◌⊎◌, inl, inr, List, [], ◌∷◌, ◌++◌, length, take, drop, get_or}
+use Rattle.std.proofs.Common.{◌≡◌, ◌≢◌, ℕ, fold, bit_xor, ◌+◌, ◌-◌, ◌<◌, ◌⊎◌, List, [], ◌∷◌, ◌++◌, length, take, drop, get_or}
 use Rattle.std.proofs.Common.{set, true, Some, refl, ap, ◌∙◌, arith, append_assoc, length-append, ◌↔◌}
 use Rattle.std.proofs.lemmas.Bool.Decides.{nat_tests}
 use Rattle.std.proofs.lemmas.Grind.{common_steps}
-use Rattle.std.proofs.lemmas.List.{drop_all, length-drop, take_at, append-nil, drop_more, get_or-set_same, length-take-le, map-append}
-use Rattle.std.proofs.lemmas.List.{set_at, take-append-drop, take_more}
+use Rattle.std.proofs.lemmas.List.{length-set, drop_all, length-drop, take_at, append-nil, drop_more, get_or-set_same, length-take-le}
+use Rattle.std.proofs.lemmas.List.{map-append, set_at, take-append-drop, take_more}
 use Rattle.std.proofs.lemmas.List.Elements.{All-append, All-drop, All-take}
 use Rattle.std.proofs.lemmas.Option.{get_or_from_slice_get, slice_get_within}
-use Rattle.std.specs.List.{All, insert, slice_get}
+use Rattle.std.specs.List.{All, insert}
 use Rattle.std.specs.Option.{IsSome, is_some}
 use Rattle.hart_frame.specs.declared.heard.miss.Miss.TheVariants.{BadCheck, Faulty, Missing, OnePreamble}
 use Rattle.hart_frame.specs.heard.Character.{Character, faultless, faultless_bytes}
@@ -20,8 +20,8 @@ use Rattle.hart_frame.specs.wire.Layout.{body_length}
 use Rattle.hart_frame.specs.wire.Parity.{IsCheckByte}
 use Rattle.hart_frame.specs.wire.Refusal.{HasCheckByte}
 use Rattle.hart_frame.proofs.lemmas.heard.FramesFound.{body_at, body_frame, frame_up_to, starts}
-use Rattle.hart_frame.proofs.lemmas.heard.Front.{after_faultless, faultless_fit, length-faultless_bytes, heard_parts, take_heard}
-use Rattle.hart_frame.proofs.lemmas.heard.InTheWay.{in_the_way, way_of, rest_at, fits-is}
+use Rattle.hart_frame.proofs.lemmas.heard.Front.{faultless_fit, length-faultless_bytes, heard_parts, take_heard}
+use Rattle.hart_frame.proofs.lemmas.heard.InTheWay.{in_the_way, way_of, fits-is}
 use Rattle.hart_frame.proofs.lemmas.heard.Missed.{miss_of-some, miss_of-start, good_prefix, one_preamble-is, one_preamble-yes, none_of}
 use Rattle.hart_frame.proofs.lemmas.heard.Place.{preamble}
 use Rattle.hart_frame.proofs.lemmas.wire.Parity.{IsCheckByte-fold}
@@ -89,7 +89,7 @@ pub bad_check_fits : (start place byte fits : ℕ) (chars : List Character) → 
     → miss_of chars start ≡ Some (BadCheck place byte fits)
     → HasFrameUpTo (set chars place (record { byte = fits; faults = 0 })) start (place + 1)
 bad_check_fits start place byte fits chars fit is =
-    let way = way_of start chars (BadCheck place byte fits) fit is (λ same. cc) in
+    let way = way_of start chars (BadCheck place byte fits) (λ place byte fits same. fit) is (λ same. cc) in
     let at = starts chars start way.0 in
     let has = way.1.0 in
     let make = λ (byte : ℕ). let c : Character = record { byte = byte; faults = 0 } in c in
@@ -111,29 +111,14 @@ bad_check_fits start place byte fits chars fit is =
     frame_up_to (set chars place (make fits)) at.prefix others (checked ++ fitting_check_byte bytes ∷ []) body.0 start (place + 1)
     body.1 (grind arith) at.at (omega (arith, way.1.1, long, length-append checked (fitting_check_byte bytes ∷ [])))
 
--- the place of a fault is that of a character with fault bits
-told_faulty : (start place faults : ℕ) (heard : List Character) → body_miss start heard ≡ Some (Faulty place faults)
-    → (c : Character) × (slice_get heard (length (faultless_bytes heard)) ≡ Some c) × (place ≡ start + length (faultless_bytes heard))
-told_faulty start place faults heard miss = grind (arith, nat_tests)
-
-faulty_at : (start place faults : ℕ) (chars : List Character) → miss_of chars start ≡ Some (Faulty place faults)
-    → (place < length chars) × ((get_or chars place preamble).faults ≢ 0)
-faulty_at start place faults chars is =
-    let heard = drop start chars in
-    let n = length (faultless_bytes heard) in
-    elim (miss_of-some chars start (Faulty place faults) is) [
-      | inl (here, miss) ↦
-          let says = told_faulty start place faults heard miss in
-          let there : slice_get chars place ≡ Some says.0 = grind (arith, rest_at chars start n) in
-          (slice_get_within chars place says.0 there, grind (arith, get_or_from_slice_get, after_faultless heard says.0 says.1))
-      | inr (same, one, no_miss) ↦ absurd (grind arith)
-    ]
-
+-- with another character in the place of a fault none is said there
 pub fault_is_gone : (start place faults byte others : ℕ) (chars : List Character) → miss_of chars start ≡ Some (Faulty place faults)
     → miss_of (set chars place (record { byte = byte; faults = 0 })) start ≢ Some (Faulty place others)
 fault_is_gone start place faults byte others chars is again =
     let c : Character = record { byte = byte; faults = 0 } in
-    let still = faulty_at start place others (set chars place c) again in grind (arith, common_steps, get_or-set_same, preamble)
+    let (here, (early, at, (some, byte, there))) =
+    way_of start (set chars place c) (Faulty place others) (λ place byte fits same. absurd cc) again (λ same. cc) in
+    grind (arith, slice_get_within, get_or_from_slice_get, get_or-set_same chars place c preamble, length-set chars place c)
 
 -- with the bytes that are missing a frame stands there
 pub missing_fits : (start count : ℕ) (chars : List Character) (bytes : List ℕ) → All (λ c. c.byte < 256) chars
@@ -141,7 +126,7 @@ pub missing_fits : (start count : ℕ) (chars : List Character) (bytes : List �
     → (last : ℕ) × IsCheckByte (bytes_from chars start ++ bytes) last
     × HasFrameUpTo (chars ++ faultless (bytes ++ last ∷ [])) start (length chars + count)
 missing_fits start count chars more fit more_fit is long =
-    let way = way_of start chars (Missing count) fit is (λ same. cc) in
+    let way = way_of start chars (Missing count) (λ place byte fits same. fit) is (λ same. cc) in
     let at = starts chars start way.0 in
     let heard = drop start chars in
     let bytes = faultless_bytes heard in

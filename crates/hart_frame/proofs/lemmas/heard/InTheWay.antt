@@ -24,7 +24,7 @@ use Rattle.hart_frame.proofs.lemmas.wire.Parity.{HasEvenParity-push, IsCheckByte
 use Rattle.hart_frame.proofs.lemmas.wire.Truncated.{fits_at}
 
 -- a character of the rest of a list
-pub rest_at : (chars : List Character) (start n : ℕ) → slice_get (drop start chars) n ≡ slice_get chars (start + n)
+rest_at : (chars : List Character) (start n : ℕ) → slice_get (drop start chars) n ≡ slice_get chars (start + n)
 rest_at chars start n = grind (arith, common_steps, slice_get_cases, slice_get-get_or, get_or-drop, length-drop)
 
 -- a byte up to the first character with fault bits is that of the faultless character at its place
@@ -43,7 +43,7 @@ heard_at chars start i place is below =
     )
 
 -- where the bytes stop too early: at the end of the list, or at a character with fault bits
-stops : (chars : List Character) (start : ℕ) (at_end : Miss) → start ≤ length chars
+stops : (chars : List Character) (start : ℕ) (at_end : Miss) → IsStart start chars
     → (ComeToTheEnd chars start × (slice_get chars (start + length (bytes_from chars start)) ≡ None)
     × (faulty_or (slice_get (drop start chars) (length (bytes_from chars start))) (start + length (bytes_from chars start)) at_end
     ≡ at_end))
@@ -51,8 +51,9 @@ stops : (chars : List Character) (start : ℕ) (at_end : Miss) → start ≤ len
     × (faults : ℕ) × HasFaultsAt chars (start + length (bytes_from chars start)) faults
     × (faulty_or (slice_get (drop start chars) (length (bytes_from chars start))) (start + length (bytes_from chars start)) at_end
     ≡ Faulty (start + length (bytes_from chars start)) faults))
-stops chars start at_end within =
+stops chars start at_end is =
     let heard = drop start chars in
+    let within : start ≤ length chars = grind (arith, common_steps, length-append, preamble) in
     let n = length (faultless_bytes heard) in
     grind (
       arith,
@@ -71,40 +72,47 @@ pub fits-is : (bytes : List ℕ) (fits : ℕ) → All (λ byte. byte < 256) byte
 fits-is bytes fits fit is = even-is bytes fits (fits_at bytes fit) is.byte (HasEvenParity-push bytes fits is)
 
 -- what is said stands in the way
-said : (chars : List Character) (start : ℕ) (miss : Miss) → All (λ byte. byte < 256) (bytes_from chars start) → start ≤ length chars
-    → body_miss start (drop start chars) ≡ Some miss → IsInTheWay chars start miss
-said chars start miss fit within told =
+said : (chars : List Character) (start : ℕ) (miss : Miss)
+    → ((place byte fits : ℕ) → miss ≡ BadCheck place byte fits → All (λ byte. byte < 256) (bytes_from chars start))
+    → IsStart start chars → body_miss start (drop start chars) ≡ Some miss → IsInTheWay chars start miss
+said chars start miss fit is told =
     let bytes = bytes_from chars start in
     let n = body_length bytes - 1 in
-    let checked = fits_at (take n bytes) (All-take (λ byte. byte < 256) n bytes fit) in
-    let same = IsCheckByte-fold (take n bytes) (fitting_check_byte bytes) checked refl in
-    let missing = stops chars start (Missing (body_length bytes - length bytes)) within in
-    grind (arith, nat_tests, stops chars start EndsBeforeByteCount within, heard_at chars start n)
+    let same : (place byte fits : ℕ) → miss ≡ BadCheck place byte fits → IsCheckByte (take n bytes) (fitting_check_byte bytes) =
+    λ place byte fits is. IsCheckByte-fold (take n bytes) (fitting_check_byte bytes)
+    (fits_at (take n bytes) (All-take (λ byte. byte < 256) n bytes (fit place byte fits is))) refl in
+    let missing = stops chars start (Missing (body_length bytes - length bytes)) is in
+    grind (arith, nat_tests, stops chars start EndsBeforeByteCount is, heard_at chars start n, same (start + n))
 
 -- what stands in the way is said
-only : (chars : List Character) (start : ℕ) (miss : Miss) → All (λ byte. byte < 256) (bytes_from chars start) → start ≤ length chars
+only : (chars : List Character) (start : ℕ) (miss : Miss) → All (λ byte. byte < 256) (bytes_from chars start) → IsStart start chars
     → IsInTheWay chars start miss → body_miss start (drop start chars) ≡ Some miss
-only chars start (BadCheck place byte fits) fit within way =
+only chars start (BadCheck place byte fits) fit is way =
     let bytes = bytes_from chars start in
     let n = body_length bytes - 1 in
     grind (arith, nat_tests, heard_at chars start n place, fits-is (take n bytes) fits, All-take (λ byte. byte < 256) n bytes fit)
-only chars start miss fit within way =
+only chars start miss fit is way =
     let bytes = bytes_from chars start in
-    let missing = stops chars start (Missing (body_length bytes - length bytes)) within in
-    grind (arith, nat_tests, stops chars start EndsBeforeByteCount within)
+    let missing = stops chars start (Missing (body_length bytes - length bytes)) is in
+    grind (arith, nat_tests, stops chars start EndsBeforeByteCount is)
 
 pub in_the_way : (start : ℕ) (chars : List Character) (miss : Miss) → All (λ c. c.byte < 256) chars → IsStart start chars
     → (miss_of chars start ≡ Some miss) ↔ IsInTheWay chars start miss
 in_the_way start chars miss fit is =
     let heard = drop start chars in
     let fits = faultless_fit heard (All-drop (λ (c : Character). c.byte < 256) start chars fit) in
-    let within : start ≤ length chars = grind (arith, common_steps, length-append, preamble) in
-    rw (sym (miss_of-start chars heard start refl is)) (said chars start miss fits within, only chars start miss fits within)
+    rw (sym (miss_of-start chars heard start refl is))
+    (said chars start miss (λ place byte fit same. fits) is, only chars start miss fits is)
 
 -- a miss but that of one preamble byte is of a place where a body may start
-pub way_of : (start : ℕ) (chars : List Character) (miss : Miss) → All (λ c. c.byte < 256) chars → miss_of chars start ≡ Some miss
+pub way_of : (start : ℕ) (chars : List Character) (miss : Miss)
+    → ((place byte fits : ℕ) → miss ≡ BadCheck place byte fits → All (λ c. c.byte < 256) chars) → miss_of chars start ≡ Some miss
     → miss ≢ OnePreamble → IsStart start chars × IsInTheWay chars start miss
-way_of start chars miss fit is two = grind (arith, miss_of-some chars start miss is, in_the_way start chars miss fit)
+way_of start chars miss fit is two =
+    let fits : (place byte fits : ℕ) → miss ≡ BadCheck place byte fits → All (λ byte. byte < 256) (bytes_from chars start) =
+    λ place byte fits same.
+    faultless_fit (drop start chars) (All-drop (λ (c : Character). c.byte < 256) start chars (fit place byte fits same)) in
+    grind (arith, miss_of-some chars start miss is, said chars start miss fits)
 
 -- a miss has the fault with which the bytes are refused, but that of one preamble byte has none
 has_fault : (miss : Miss) → miss ≢ OnePreamble → (fault : FrameFault) × (fault_of miss ≡ Some fault)

@@ -36,6 +36,7 @@ open_begins becomes place chars all opened =
     let parts : faultless opened.bytes ++ faultless can.rest ≡ faultless body ++ rest =
     sym (map-append make opened.bytes can.rest) ∙ ap faultless (sym (take-append-drop can.count bytes))
     ∙ map-append make body (drop can.count bytes) in
-    let (found, stands, start, stop) = frame_up_to (chars ++ faultless can.rest) opened.prefix rest body can.frame place (place + length body)
-    can.begins.body (grind (arith, append_assoc, preamble)) opened.start refl in
+    let (found, stands, start, stop) =
+    frame_up_to (chars ++ faultless can.rest) opened.prefix rest body can.frame place (place + length body) can.begins.body
+    (grind (arith, append_assoc, preamble)) opened.start refl in
     record { more = faultless can.rest; found = found; stands = stands; start = start }

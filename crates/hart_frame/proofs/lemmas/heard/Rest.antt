@@ -1,15 +1,15 @@
 -- The frames of the rest of a list are those of the list from its place on, moved by as many places as stand before it.
-use Rattle.std.proofs.Common.{add-zero, ◌≡◌, ℕ, ◌+◌, ◌-◌, ◌<◌, ◌≤◌, ◌⊎◌, inl, inr, List, [], ◌∷◌, ◌++◌, length, map, take, drop, refl, ap}
+use Rattle.std.proofs.Common.{add-zero, ◌≡◌, ℕ, ◌+◌, ◌-◌, ◌<◌, ◌≤◌, ◌⊎◌, inl, inr, List, [], ◌∷◌, ◌++◌, length, map, take, drop, refl}
 use Rattle.std.proofs.Common.{arith, append_assoc, length-append, length-drop, take-append-drop}
 use Rattle.std.proofs.lemmas.Grind.{common_steps}
-use Rattle.std.proofs.lemmas.List.{append-nil, drop-append-le, drop_at, length-take-le}
+use Rattle.std.proofs.lemmas.List.{drop-append-le, drop_at, length-take-le}
 use Rattle.hart_frame.specs.declared.heard.found.Found.{Found}
 use Rattle.hart_frame.specs.heard.Character.{Character, faultless}
 use Rattle.hart_frame.specs.heard.Frames.{AreFrames, IsFirst, moved, none, first}
 use Rattle.hart_frame.specs.heard.Place.{StandsIn}
 use Rattle.hart_frame.proofs.lemmas.heard.Delivery.{OneList}
 use Rattle.hart_frame.proofs.lemmas.heard.FramesFound.{AreFrames-found}
-use Rattle.hart_frame.proofs.lemmas.heard.Place.{HasNoFrame-end, StandsIn-from, StandsIn-within}
+use Rattle.hart_frame.proofs.lemmas.heard.Place.{HasNoFrame-end}
 
 -- what stands in a list stands after others
 pub stands_after : (prefix cs rest : List Character) (found : Found) (n : ℕ) → length prefix ≡ n → StandsIn found cs 0

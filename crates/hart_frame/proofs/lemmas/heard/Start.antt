@@ -1,6 +1,6 @@
 -- Where a body may start in a list of characters.
-use Rattle.std.proofs.Common.{◌↔◌, true, false, not, ◌≡◌, ◌≢◌, ℕ, zero, suc, ◌-◌, ◌<◌, ◌≤◌, ◌⊎◌, inl, inr, List, [], ◌∷◌, ◌++◌, length, take, drop, get_or, sym}
-use Rattle.std.proofs.Common.{ap, ◌∙◌, arith, length-append, drop-cons, append_assoc}
+use Rattle.std.proofs.Common.{◌↔◌, true, false, not, ◌≡◌, ◌≢◌, ℕ, zero, suc, ◌-◌, ◌<◌, ◌≤◌, ◌⊎◌, inl, inr, List, [], ◌∷◌, ◌++◌, length, take, drop, get_or}
+use Rattle.std.proofs.Common.{arith, length-append, drop-cons, append_assoc}
 use Rattle.std.proofs.lemmas.Bool.Decides.{nat_tests}
 use Rattle.std.proofs.lemmas.Option.{slice_get-get_or, slice_get_cases}
 use Rattle.std.specs.List.{slice_get}
@@ -31,17 +31,11 @@ pub is_start_from : (chars : List Character) (place : ℕ) (d : Character) → S
 is_start_from chars place d at =
     let k : ℕ = place - 2 in
     let last : List Character = drop (suc (suc (suc k))) chars in
-    let dropped : drop k chars ≡ preamble ∷ preamble ∷ get_or chars place d ∷ last =
-    grind (arith, drop-cons, preamble) in
-    record {
-      prefix = take k chars;
-      first = get_or chars place d;
-      rest = last;
-      split = sym (take-append-drop k chars) ∙ ap (λ (xs : List Character). take k chars ++ xs) dropped
-          ∙ sym (append_assoc (take k chars) (preamble ∷ preamble ∷ []) (get_or chars place d ∷ last));
-      place_is = grind (arith, at.after_two, length-take-le);
-      other = at.other;
-    }
+    let dropped : drop k chars ≡ preamble ∷ preamble ∷ get_or chars place d ∷ last = grind (arith, drop-cons, preamble) in
+    let split : chars ≡ take k chars ++ (preamble ∷ preamble ∷ []) ++ get_or chars place d ∷ last =
+    grind (arith, common_steps, take-append-drop k chars, append_assoc) in
+    let long = length-take-le k chars (omega (arith, at.within)) in
+    grind (arith, at.after_two, at.other)
 
 -- what stands at a place: a preamble byte, another character, or nothing
 pub tested : (chars : List Character) (k : ℕ)

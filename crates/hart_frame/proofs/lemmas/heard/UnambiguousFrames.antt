@@ -17,9 +17,9 @@ OnePrefix = (f g : FrameParts) (bytes : List ℕ) (m n : ℕ) → BeginsWithBody
 StandsIn-one : OnePrefix → (f g : Found) (chars : List Character) (m n : ℕ) → StandsIn f chars m → StandsIn g chars n
     → f.start ≡ g.start → f ≡ g
 StandsIn-one law f g chars m n p q starts =
-    let same = law f.frame g.frame (bytes_from chars f.start) (length p.body) (length q.body) (begins_at chars f.start (body_of chars f m p))
-    (rw starts (begins_at chars g.start (body_of chars g n q))) in
-    grind arith
+    let one = begins_at chars f.start (body_of chars f m p) in
+    let same = law f.frame g.frame (bytes_from chars f.start) (length p.body) (length q.body) one
+    (rw starts (begins_at chars g.start (body_of chars g n q))) in grind arith
 
 pub IsFirst-one : OnePrefix → (f g : Found) (chars : List Character) (from : ℕ) → IsFirst f chars from → IsFirst g chars from → f ≡ g
 IsFirst-one law f g chars from p q =
