@@ -1,6 +1,6 @@
 -- What a miss names is what stands in the way of a frame.
 use Rattle.std.proofs.Common.{◌≡◌, ◌≢◌, ℕ, fold, bit_xor, ◌+◌, ◌-◌, ◌<◌, ◌⊎◌, List, [], ◌∷◌, ◌++◌, length, take, drop, get_or}
-use Rattle.std.proofs.Common.{set, true, Some, refl, ap, ◌∙◌, arith, append_assoc, length-append, ◌↔◌}
+use Rattle.std.proofs.Common.{set, true, Some, refl, arith, append_assoc, length-append, ◌↔◌}
 use Rattle.std.proofs.lemmas.Bool.Decides.{nat_tests}
 use Rattle.std.proofs.lemmas.Grind.{common_steps}
 use Rattle.std.proofs.lemmas.List.{length-set, drop_all, length-drop, take_at, append-nil, drop_more, get_or-set_same, length-take-le}
@@ -89,10 +89,10 @@ pub bad_check_fits : (start place byte fits : ℕ) (chars : List Character) → 
     → miss_of chars start ≡ Some (BadCheck place byte fits)
     → HasFrameUpTo (set chars place (record { byte = fits; faults = 0 })) start (place + 1)
 bad_check_fits start place byte fits chars fit is =
-    let way = way_of start chars (BadCheck place byte fits) (λ place byte fits same. fit) is (λ same. cc) in
-    let at = starts chars start way.0 in
-    let has = way.1.0 in
-    let make = λ (byte : ℕ). let c : Character = record { byte = byte; faults = 0 } in c in
+    let (here, (has, at, there, check, differ)) =
+    way_of start chars (BadCheck place byte fits) (λ place byte fits same. fit) is (λ same. cc) in
+    let begins = starts chars start here in
+    let c : Character = record { byte = fits; faults = 0 } in
     let heard = drop start chars in
     let bytes = faultless_bytes heard in
     let n = body_length bytes - 1 in
@@ -102,14 +102,15 @@ bad_check_fits start place byte fits chars fit is =
     let bytes_fit = faultless_fit heard (All-drop (λ (x : Character). x.byte < 256) start chars fit) in
     let parts : heard ≡ faultless checked ++ get_or heard n preamble ∷ others =
     grind (arith, take-append-drop n heard, take_heard heard n, drop_more heard n preamble, length-faultless_bytes) in
-    let front : List Character = at.prefix ++ (preamble ∷ preamble ∷ faultless checked) in
+    let front : List Character = begins.prefix ++ (preamble ∷ preamble ∷ faultless checked) in
     let split : chars ≡ front ++ get_or heard n preamble ∷ others = grind (arith, common_steps, preamble, append_assoc) in
     let body = whole_body bytes bytes_fit has in
-    let fits_is = fits-is checked fits (All-take (λ byte. byte < 256) n bytes bytes_fit) way.1.3 in
-    let changed : set chars place (make fits) ≡ at.prefix ++ faultless (255 ∷ 255 ∷ (checked ++ fits ∷ [])) ++ others =
+    let fits_is = fits-is checked fits (All-take (λ byte. byte < 256) n bytes bytes_fit) check in
+    let last = fitting_check_byte bytes in
+    let changed : set chars place c ≡ begins.prefix ++ faultless (255 ∷ 255 ∷ (checked ++ last ∷ [])) ++ others =
     grind (arith, common_steps, set_at, append_assoc, map-append) in
-    frame_up_to (set chars place (make fits)) at.prefix others (checked ++ fitting_check_byte bytes ∷ []) body.0 start (place + 1)
-    body.1 (grind arith) at.at (omega (arith, way.1.1, long, length-append checked (fitting_check_byte bytes ∷ [])))
+    frame_up_to (set chars place c) begins.prefix others (checked ++ last ∷ []) body.0 start (place + 1) body.1 changed begins.at
+    (omega (arith, at, long, length-append checked (last ∷ [])))
 
 -- with another character in the place of a fault none is said there
 pub fault_is_gone : (start place faults byte others : ℕ) (chars : List Character) → miss_of chars start ≡ Some (Faulty place faults)
@@ -126,25 +127,22 @@ pub missing_fits : (start count : ℕ) (chars : List Character) (bytes : List �
     → (last : ℕ) × IsCheckByte (bytes_from chars start ++ bytes) last
     × HasFrameUpTo (chars ++ faultless (bytes ++ last ∷ [])) start (length chars + count)
 missing_fits start count chars more fit more_fit is long =
-    let way = way_of start chars (Missing count) (λ place byte fits same. fit) is (λ same. cc) in
-    let at = starts chars start way.0 in
+    let (here, (good, some, whole, end)) = way_of start chars (Missing count) (λ place byte fits same. fit) is (λ same. cc) in
+    let at = starts chars start here in
     let heard = drop start chars in
     let bytes = faultless_bytes heard in
     let checked : List ℕ = bytes ++ more in
     let last = fold bit_xor 0 checked in
     let fits = faultless_fit heard (All-drop (λ (x : Character). x.byte < 256) start chars fit) in
     let checked_fit = All-append (λ byte. byte < 256) bytes more fits more_fit in
-    let good = HasGoodByteCount-more bytes more way.1.0 in
     let size = length-append bytes more in
-    let body = fitted checked checked_fit good (grind (arith, length_more, size, way.1.2, long)) in
+    let body = fitted checked checked_fit (HasGoodByteCount-more bytes more good)
+    (omega (arith, length_more bytes more good.0.1, size, whole, long)) in
     let all : heard ≡ faultless bytes = grind (arith, heard_parts heard, drop_all, append-nil, length-drop) in
-    let split : chars ≡ at.prefix ++ (preamble ∷ preamble ∷ faultless bytes) = grind (arith, common_steps, preamble) in
-    let regroup : (at.prefix ++ (preamble ∷ preamble ∷ faultless bytes)) ++ faultless (more ++ last ∷ [])
-    ≡ at.prefix ++ faultless (255 ∷ 255 ∷ (checked ++ last ∷ [])) ++ [] =
-    grind (arith, common_steps, append_assoc, append-nil, map-append) in (
+    let split : chars ≡ at.prefix ++ (preamble ∷ preamble ∷ faultless bytes) = grind (arith, common_steps, preamble) in (
       last,
       IsCheckByte-fold checked last (fits_at checked checked_fit) refl,
       frame_up_to (chars ++ faultless (more ++ last ∷ [])) at.prefix [] (checked ++ last ∷ []) body.0 start (length chars + count)
-          body.1 (ap (λ (cs : List Character). cs ++ faultless (more ++ last ∷ [])) split ∙ regroup) at.at
-          (omega (arith, way.1.2, way.1.3, length-append checked (last ∷ []), size, long)),
+          body.1 (grind (arith, common_steps, append_assoc, append-nil, map-append)) at.at
+          (omega (arith, whole, end, length-append checked (last ∷ []), size, long)),
     )
