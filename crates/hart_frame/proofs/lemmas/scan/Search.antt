@@ -50,36 +50,6 @@ pub joined : (Of : ℕ → Type 0) (from mid to : ℕ) → ((place : ℕ) → fr
     → ((place : ℕ) → mid ≤ place → place < to → Of place) → (place : ℕ) → from ≤ place → place < to → Of place
 joined Of from mid to before after place since below = grind arith
 
--- a search looks at more bytes if fewer than so many from its place on may begin a frame
-searching_more : (xs : List ℕ) (from seen place decided count more : ℕ) → IsSearching xs from seen place decided
-    → MayBeginBefore count (drop place xs) → count ≤ 269 → place + count ≤ length xs → more ≡ max decided (place + count)
-    → IsSearching xs from seen place more
-searching_more xs from seen place decided count more searching may few within is =
-    let none : (n : ℕ) → decided ≤ n → n ≤ more → NoneBegin (take n xs) from place = λ n late early.
-    none_more xs decided n from place searching.order late (omega (arith, early, is, within, searching.within)) searching.none in
-    let before : IsOpenBefore xs from seen more = joined _ seen decided more searching.before
-    (λ n late early. record {
-      place = place;
-      after = searching.after;
-      within = omega (arith, late, searching.order, early, is, within, searching.within, length-take-le n xs);
-      none = none n late (omega (arith, early));
-      may = rw (drop_take xs place n (omega (arith, late, searching.order))) (may (n - place) (omega (arith, late, early, is)));
-    }) in
-    let stays = none more (omega (arith, is)) (omega arith) in grind arith
-
--- a search goes on after a place at which no frame begins, as so many bytes show
-searching_never : (xs : List ℕ) (from seen place decided count more : ℕ) → IsSearching xs from seen place decided
-    → IsCandidate (drop place xs) (Never count) → 0 < count → count ≤ 269 → more ≡ max decided (place + count)
-    → IsSearching xs from seen (place + 1) more
-searching_never xs from seen place decided count more searching never some few is =
-    let on = searching_more xs from seen place decided count more searching never.2 few (omega (arith, length-drop place xs)) is in
-    let here : NeverBegin (drop place (take more xs)) =
-    rw (drop_take xs place more (omega arith), take_more (drop place xs) count (more - place) (omega (arith, is)))
-    (never_more (take count (drop place xs)) _ never.1) in
-    let none : NoneBegin (take more xs) from (place + 1) = joined _ from place (place + 1) on.none
-    (λ k late early. let same : k ≡ place = omega (arith, late, early) in rw same here) in
-    grind arith
-
 -- no frame begins with another byte than a preamble byte, nor with three preamble bytes
 passed_never : (xs : List ℕ) (here : ℕ) → here < length xs → (get_or xs here 0 ≢ 255) ⊎ HasThree xs here
     → (count : ℕ) × IsCandidate (drop here xs) (Never count) × (0 < count) × (count ≤ 3)
@@ -94,52 +64,11 @@ passed_never xs here within (inr (inside, first, second, third)) =
       omega arith,
     )
 
--- a search comes to a later place if no frame begins at those before it, and only so many bytes more are needed for that
-searching_run : (xs : List ℕ) (from seen place decided count start : ℕ) → start ≡ place + count → IsSearching xs from seen place decided
-    → start ≤ length xs → ((here : ℕ) → place ≤ here → here < start → (get_or xs here 0 ≢ 255) ⊎ HasThree xs here)
-    → (needed : ℕ) × IsSearching xs from seen start needed × (decided ≤ needed) × (needed ≤ max decided (start + 2))
-searching_run xs from seen place decided zero start is searching within passed =
-    (decided, grind (arith, add-zero), omega (arith, is), omega arith)
-searching_run xs from seen place decided (suc count) start is searching within passed =
-    let here = place + count in
-    let (needed, on, least, most) = searching_run xs from seen place decided count here refl searching (omega (arith, is, within))
-    (λ k since below. passed k since (omega (arith, is, below))) in
-    let (size, never, some, few) = passed_never xs here (omega (arith, is, within)) (passed here (omega arith) (omega (arith, is))) in
-    let next : start ≡ here + 1 = omega (arith, is) in (
-      max needed (here + size),
-      rw (← next) at (searching_never xs from seen here needed size (max needed (here + size)) on never some (omega (arith, few)) refl),
-      omega (arith, least),
-      omega (arith, is, most, few),
-    )
-
--- after a candidate that begins none the search goes on
-pub searching_on : (xs : List ℕ) (from seen place decided start count more : ℕ) → IsSearching xs from seen place decided
-    → IsNextCandidate xs place start → IsCandidate (slice_range xs start (length xs)) (Never count) → (2 ≤ count) × (count ≤ 269)
-    → more ≡ max decided (start + count) → IsSearching xs from seen (start + 1) more
-searching_on xs from seen place decided start count more searching next never (some, few) is =
-    let (needed, on, least, most) = searching_run xs from seen place decided (start - place) start (omega (arith, next.after)) searching
-    (omega (arith, next.within)) next.passed in
-    searching_never xs from seen start needed count more on (rw (take_rest xs start) at never) (omega (arith, some)) few
-    (omega (arith, is, least, most, some))
-
 -- the first of bytes that may begin a frame may
 may_take : (xs : List ℕ) (n : ℕ) → n ≤ length xs → MayBegin xs → MayBegin (take n xs)
 may_take xs zero within may = grind arith
 may_take xs (suc zero) within may = grind arith
 may_take xs (suc (suc n)) within may = grind (arith, length-take-le, truncated_count, truncated_check)
-
--- the search ends where the list ends, or where a frame may begin that has more bytes
-pub searched_open : (xs : List ℕ) (from seen place decided start : ℕ) → IsSearching xs from seen place decided → place ≤ start
-    → start ≤ length xs → ((here : ℕ) → place ≤ here → here < start → (get_or xs here 0 ≢ 255) ⊎ HasThree xs here)
-    → MayBegin (drop start xs) → length xs < start + 269
-    → IsSearched xs from seen (record { place = start; decided = length xs; layout = None })
-searched_open xs from seen place decided start searching after within passed may few =
-    let (needed, on, least, most) =
-    searching_run xs from seen place decided (start - place) start (omega (arith, after)) searching within passed in
-    let stays = searching_more xs from seen start needed (length xs - start) (length xs) on
-    (λ n below. may_take (drop start xs) n (omega (arith, below, length-drop start xs)) may)
-    (omega (arith, few)) (omega (arith, within)) (omega (arith, on.within, within)) in
-    grind arith
 
 -- a whole frame is one if as many bytes are there
 whole_take : (layout : Layout) (xs : List ℕ) (n : ℕ) → (whole : IsWhole layout xs) → 2 + layout_length layout ≤ n → n ≤ length xs
@@ -151,16 +80,82 @@ pub whole_append : (layout : Layout) (xs ys : List ℕ) (place : ℕ) → place 
     → IsWhole layout (drop place (xs ++ ys))
 whole_append layout xs ys place within whole = grind (arith, drop-append-le, append_assoc)
 
-pub searched_stands : (xs : List ℕ) (from seen place decided start more : ℕ) (layout : Layout) → IsSearching xs from seen place decided
-    → IsNextCandidate xs place start → IsCandidate (slice_range xs start (length xs)) (Whole layout) → layout_length layout ≤ 267
-    → more ≡ max decided (start + 2 + layout_length layout)
-    → IsSearched xs from seen (record { place = start; decided = more; layout = Some layout })
-searched_stands xs from seen place decided start more layout searching next candidate short is =
-    let (needed, on, least, most) = searching_run xs from seen place decided (start - place) start (omega (arith, next.after)) searching
-    (omega (arith, next.within)) next.passed in
-    let (whole, may) = rw (take_rest xs start) at candidate in
-    let long : start + (2 + layout_length layout) ≤ length xs =
-    omega (arith, simp length-append at (ap length whole.parts), whole.whole.exact, length-drop start xs, next.within) in
-    let stays = searching_more xs from seen start needed (2 + layout_length layout) more on may (omega (arith, short)) long
-    (omega (arith, is, least, most)) in
-    grind (arith, common_steps, drop_take, whole_take, length-drop)
+-- of one list, from one place on, of which so many bytes were seen
+module _ (xs : List ℕ) (from seen : ℕ) where
+  -- a search looks at more bytes if fewer than so many from its place on may begin a frame
+  searching_more : (place decided count more : ℕ) → IsSearching xs from seen place decided → MayBeginBefore count (drop place xs)
+      → count ≤ 269 → place + count ≤ length xs → more ≡ max decided (place + count) → IsSearching xs from seen place more
+  searching_more place decided count more searching may few within is =
+      let none : (n : ℕ) → decided ≤ n → n ≤ more → NoneBegin (take n xs) from place = λ n late early.
+      none_more xs decided n from place searching.order late (omega arith) searching.none in
+      let before : IsOpenBefore xs from seen more = joined _ seen decided more searching.before (λ n late early. record {
+        place = place;
+        after = searching.after;
+        within = omega (arith, length-take-le n xs);
+        none = none n late (omega arith);
+        may = rw (drop_take xs place n (omega arith)) (may (n - place) (omega arith));
+      }) in
+      let stays = none more (omega arith) (omega arith) in grind arith
+
+  -- a search goes on after a place at which no frame begins, as so many bytes show
+  searching_never : (place decided count more : ℕ) → IsSearching xs from seen place decided → IsCandidate (drop place xs) (Never count)
+      → 0 < count → count ≤ 269 → more ≡ max decided (place + count) → IsSearching xs from seen (place + 1) more
+  searching_never place decided count more searching never some few is =
+      let on = searching_more place decided count more searching never.2 few (omega (arith, length-drop place xs)) is in
+      let here : NeverBegin (drop place (take more xs)) =
+      rw (drop_take xs place more (omega arith), take_more (drop place xs) count (more - place) (omega arith))
+      (never_more (take count (drop place xs)) _ never.1) in
+      let none : NoneBegin (take more xs) from (place + 1) = joined _ from place (place + 1) on.none
+      (λ k late early. let same : k ≡ place = omega arith in rw same here) in
+      grind arith
+
+  -- a search comes to a later place if no frame begins at those before it, and only so many bytes more are needed for that
+  searching_run : (place decided count start : ℕ) → start ≡ place + count → IsSearching xs from seen place decided → start ≤ length xs
+      → ((here : ℕ) → place ≤ here → here < start → (get_or xs here 0 ≢ 255) ⊎ HasThree xs here)
+      → (needed : ℕ) × IsSearching xs from seen start needed × (decided ≤ needed) × (needed ≤ max decided (start + 2))
+  searching_run place decided zero start is searching within passed = (decided, grind (arith, add-zero), omega arith, omega arith)
+  searching_run place decided (suc count) start is searching within passed =
+      let here = place + count in
+      let (needed, on, least, most) = searching_run place decided count here refl searching (omega arith)
+      (λ k since below. passed k since (omega arith)) in
+      let (size, never, some, few) = passed_never xs here (omega arith) (passed here (omega arith) (omega arith)) in
+      let more = max needed (here + size) in
+      let next : start ≡ here + 1 = omega arith in
+      (more, rw (← next) at (searching_never here needed size more on never some (omega arith) refl), omega arith, omega arith)
+
+  -- after a candidate that begins none the search goes on
+  pub searching_on : (place decided start count more : ℕ) → IsSearching xs from seen place decided → IsNextCandidate xs place start
+      → IsCandidate (slice_range xs start (length xs)) (Never count) → (2 ≤ count) × (count ≤ 269)
+      → more ≡ max decided (start + count) → IsSearching xs from seen (start + 1) more
+  searching_on place decided start count more searching next never (some, few) is =
+      let (needed, on, least, most) = searching_run place decided (start - place) start (omega (arith, next.after)) searching
+      (omega (arith, next.within)) next.passed in
+      searching_never start needed count more on (rw (take_rest xs start) at never) (omega (arith, some)) few
+      (omega (arith, is, least, most, some))
+
+  -- the search ends where the list ends, or where a frame may begin that has more bytes
+  pub searched_open : (place decided start : ℕ) → IsSearching xs from seen place decided → place ≤ start → start ≤ length xs
+      → ((here : ℕ) → place ≤ here → here < start → (get_or xs here 0 ≢ 255) ⊎ HasThree xs here)
+      → MayBegin (drop start xs) → length xs < start + 269
+      → IsSearched xs from seen (record { place = start; decided = length xs; layout = None })
+  searched_open place decided start searching after within passed may few =
+      let (needed, on, least, most) = searching_run place decided (start - place) start (omega arith) searching within passed in
+      let stays = searching_more start needed (length xs - start) (length xs) on
+      (λ n below. may_take (drop start xs) n (omega (arith, length-drop start xs)) may) (omega arith) (omega arith)
+      (omega (arith, on.within)) in
+      grind arith
+
+  -- or where a frame stands
+  pub searched_stands : (place decided start more : ℕ) (layout : Layout) → IsSearching xs from seen place decided
+      → IsNextCandidate xs place start → IsCandidate (slice_range xs start (length xs)) (Whole layout) → layout_length layout ≤ 267
+      → more ≡ max decided (start + 2 + layout_length layout)
+      → IsSearched xs from seen (record { place = start; decided = more; layout = Some layout })
+  searched_stands place decided start more layout searching next candidate short is =
+      let n = layout_length layout in
+      let (needed, on, least, most) = searching_run place decided (start - place) start (omega (arith, next.after)) searching
+      (omega (arith, next.within)) next.passed in
+      let (whole, may) = rw (take_rest xs start) at candidate in
+      let long : start + (2 + n) ≤ length xs =
+      omega (arith, simp length-append at (ap length whole.parts), whole.whole.exact, length-drop start xs, next.within) in
+      let stays = searching_more start needed (2 + n) more on may (omega arith) long (omega (arith, is, least, most)) in
+      grind (arith, common_steps, drop_take, whole_take, length-drop)
