@@ -83,28 +83,25 @@ pub record IsCut (layout : Layout) (xs : List ℕ) (len : ℕ) : Type 0 where
   pub whole : body_length (take len xs) ≡ len
   pub fewer : (n : ℕ) → n < len → IsTruncated (take n xs)
 
-pub cut_off : (layout : Layout) (xs : List ℕ) (len : ℕ) → HasCheckByte xs → Describes layout xs → len ≡ layout_length layout
-    → IsCut layout xs len
-cut_off layout xs len has is same =
-    grind (arith, take-append-drop len xs, length-take-le, HasCheckByte-prefix, Describes-prefix, truncated_check)
+-- where a layout describes bytes that reach to their check byte
+module _ (layout : Layout) (xs : List ℕ) (len check : ℕ) (has : HasCheckByte xs) (is : Describes layout xs)
+    (same : len ≡ layout_length layout) (within : len ≤ length xs) (checks : IsCheckByte (take len xs) check) where
+  cut_off : IsCut layout xs len
+  cut_off = grind (arith, take-append-drop len xs, length-take-le, HasCheckByte-prefix, Describes-prefix, truncated_check)
 
--- they never become a body if their parity is odd
-pub odd_cut : (layout : Layout) (xs : List ℕ) (len check : ℕ) → HasCheckByte xs → Describes layout xs → len ≡ layout_length layout
-    → len ≤ length xs → IsCheckByte (take len xs) check → check ≢ 0 → IsBodyCandidate xs (Never len)
-odd_cut layout xs len check has is same within checks odd =
-    let cut = cut_off layout xs len has is same in
-    let even : HasEvenParity (take (body_length (take len xs)) (take len xs)) → ⊥ =
-    grind (arith, take_all, length-take, check-even (take len xs) check checks) in
-    (within, record { fault = BadCheck; refused = (cut.checked, even); decided = λ same. absurd cc }, cut.fewer)
+  -- they never become a body if their parity is odd
+  pub odd_cut : check ≢ 0 → IsBodyCandidate xs (Never len)
+  odd_cut odd =
+      let even : HasEvenParity (take (body_length (take len xs)) (take len xs)) → ⊥ =
+      grind (arith, cut_off, take_all, length-take, check-even (take len xs) check checks) in
+      (within, record { fault = BadCheck; refused = (cut_off.checked, even); decided = λ same. absurd cc }, cut_off.fewer)
 
--- and are a whole one if it is even
-pub whole_cut : (layout : Layout) (xs : List ℕ) (len check : ℕ) → HasCheckByte xs → Describes layout xs → len ≡ layout_length layout
-    → len ≤ length xs → IsCheckByte (take len xs) check → check ≡ 0 → ((i : ℕ) → get_or xs i 0 < 256) → IsBodyCandidate xs (Whole layout)
-whole_cut layout xs len check has is same within checks even fits =
-    let cut = cut_off layout xs len has is same in
-    let fit : (i : ℕ) → i < length (take len xs) → get_or (take len xs) i 0 < 256 = grind (arith, get_or-take, length-take) in
-    let all = All-from_get_or (λ byte. byte < 256) (take len xs) 0 fit in
-    grind (arith, even-check)
+  -- and are a whole one if it is even
+  pub whole_cut : check ≡ 0 → ((i : ℕ) → get_or xs i 0 < 256) → IsBodyCandidate xs (Whole layout)
+  whole_cut even fits =
+      let fit : (i : ℕ) → i < length (take len xs) → get_or (take len xs) i 0 < 256 = grind (arith, get_or-take, length-take) in
+      let all = All-from_get_or (λ byte. byte < 256) (take len xs) 0 fit in
+      grind (arith, cut_off, even-check)
 
 -- how two preamble bytes and others after them begin
 pub after_never : (xs : List ℕ) (count : ℕ) → 2 ≤ length xs → get_or xs 0 0 ≡ 255 → get_or xs 1 0 ≡ 255

@@ -18,27 +18,23 @@ use Rattle.hart_frame.specs.scan.Scanner.{Scan, CanHear, GivesNothing, MovesPast
 use Rattle.hart_frame.proofs.lemmas.heard.Front.{front_heard}
 use Rattle.hart_frame.proofs.lemmas.scan.Buffer.{drained_is, undecided_waiting, waits_drained}
 use Rattle.hart_frame.proofs.lemmas.scan.Decision.{holds_frame}
-use Rattle.hart_frame.proofs.lemmas.scan.Scan.{moves_none}
+use Rattle.hart_frame.proofs.lemmas.scan.Scan.{moves_then}
 use Rattle.hart_frame.proofs.lemmas.scan.Undecided.{moves_length, undecided_before, waits_only}
 
 append_none : (cs more : List Character) → cs ++ more ≡ [] → more ≡ []
 append_none [] more none = none
 append_none (c ∷ cs) more none = absurd cc
 
--- what is heard in two parts
-pub hearing_more : (a b c : Scan) (xs ys : List Character) → a.finished ≡ false → MovesPast (hearing a xs) b []
-    → MovesPast (hearing b ys) c []
-    → MovesPast (hearing a (xs ++ ys)) c []
-hearing_more a b c xs ys going p q =
-    let before : (more chars : List Character) → CanHear (hearing a (xs ++ ys)) more chars → CanHear (hearing a xs) (ys ++ more) chars =
+-- what a scanner moves past before it hears more, it moves past with that
+moves_hearing : (s t : Scan) (cs : List Character) → s.finished ≡ false → MovesPast s t [] → MovesPast (hearing s cs) (hearing t cs) []
+moves_hearing s t cs going moves =
+    let before : (more chars : List Character) → CanHear (hearing s cs) more chars → CanHear s (cs ++ more) chars =
     grind (arith, append_assoc) in
-    let after : (more chars : List Character) → CanHear b (ys ++ more) chars → CanHear (hearing b ys) more chars =
+    let after : (more chars : List Character) → CanHear t (cs ++ more) chars → CanHear (hearing t cs) more chars =
     grind (arith, append_assoc, append_none) in
     record {
-      heard = λ more chars hears. q.heard more chars (after more chars (p.heard (ys ++ more) chars (before more chars hears)));
-      frames = λ more chars later hears frames.
-          let mid = before more chars hears in
-          p.frames (ys ++ more) chars later mid (q.frames more chars later (after more chars (p.heard (ys ++ more) chars mid)) frames);
+      heard = λ more chars hears. after more chars (moves.heard (cs ++ more) chars (before more chars hears));
+      frames = λ more chars later hears. moves.frames (cs ++ more) chars later (before more chars hears);
     }
 
 -- so many characters of a chunk were heard, and nothing is decided of fewer
@@ -53,24 +49,23 @@ pub hearing_on : (old now new : Buffer) (chunk rest : List Character) (n r : ℕ
     → HearsPart (scan_of now) (scan_of new) rest r → IsHearing old new chunk (n + r)
 hearing_on old now new chunk rest n r so is whole =
     let part = rw is at whole in
-    let a = scan_of old in
-    let b = scan_of now in
+    let held = (scan_of old).held in
+    let xs = take n chunk in
+    let on = λ (ys : List Character). moves_hearing (hearing (scan_of old) xs) (scan_of now) ys so.going so.moves in
     record {
       going = so.going;
-      within = omega (arith, part.within, so.within, length-drop n chunk);
-      moves = rw (take-add n r chunk)
-          (hearing_more a b (scan_of new) (take n chunk) (take r (drop n chunk)) so.going so.moves part.moves);
+      within = omega (arith, part.within, length-drop n chunk);
+      moves = rw (take-add n r chunk, ← append_assoc held xs (take r (drop n chunk)))
+          (moves_then _ (hearing (scan_of now) (take r (drop n chunk))) (scan_of new) [] (on (take r (drop n chunk))) part.moves);
       before = λ fewer below.
           let cases : (fewer < n) ⊎ (n ≤ fewer) = grind arith in
           elim cases [
             | inl early ↦ so.before fewer early
             | inr late ↦
-                let ys = take (fewer - n) (drop n chunk) in
-                let whole : fewer ≡ n + (fewer - n) = omega (arith, late) in
-                rw (whole, take-add n (fewer - n) chunk)
-                (undecided_before (hearing a (take n chunk ++ ys)) (hearing b ys)
-                (hearing_more a b (hearing b ys) (take n chunk) ys so.going so.moves (moves_none _ _ refl refl refl))
-                (part.before (fewer - n) (omega (arith, below, late))))
+                let k = fewer - n in
+                let all : fewer ≡ n + k = omega arith in
+                rw (all, take-add n k chunk, ← append_assoc held xs (take k (drop n chunk)))
+                (undecided_before _ _ (on (take k (drop n chunk))) (part.before k (omega arith)))
           ];
     }
 

@@ -35,36 +35,34 @@ pub record IsKept (old new : Buffer) (part : List ℕ) (found : Sighting) : Type
   pub finished : new.finished ≡ old.finished
   pub state : new.state ≡ state_of found.layout
 
--- so it is what its state means
-pub sound_kept : (old new : Buffer) (part : List ℕ) (found : Sighting) → IsStored new → IsKept old new part found → IsSound new
-sound_kept old new part found stored kept = grind (arith, take-length, length-drop, length-append)
+module _ (old new : Buffer) (part : List ℕ) (found : Sighting) (kept : IsKept old new part found) where
+  -- so it is what its state means
+  pub sound_kept : IsStored new → IsSound new
+  sound_kept stored = grind (arith, take-length, length-drop, length-append)
 
--- and it stops where nothing more is decided, or where a frame stands
-stops_kept : (old new : Buffer) (part : List ℕ) (found : Sighting) (count : ℕ) → IsSound new → IsKept old new part found
-    → found.decided ≡ length (held_bytes old) + count → StopsAt (scan_of new) count (length part)
-stops_kept old new part found count sound kept counts = grind (arith, length-append, holds_frame, undecided_waiting)
+  -- and it stops where nothing more is decided, or where a frame stands
+  stops_kept : (count : ℕ) → IsSound new → found.decided ≡ length (held_bytes old) + count → StopsAt (scan_of new) count (length part)
+  stops_kept count sound counts = grind (arith, length-append, holds_frame, undecided_waiting)
 
--- so much of the part was heard
-pub hears_kept : (old new : Buffer) (part : List ℕ) (found : Sighting) (count : ℕ) → IsSound new → IsKept old new part found
-    → found.decided ≡ length (held_bytes old) + count → Hears (scan_of old) (scan_of new) (faultless part) count
-hears_kept old new part found count sound kept counts =
-    let n = length (held_bytes old) in
-    let total = held_bytes old ++ part in
-    let is = kept.searched in
-    let heard : (fewer : ℕ) → (scan_of old).held ++ take fewer (faultless part) ≡ faultless (take (n + fewer) total) =
-    λ fewer. grind (arith, held_clear old kept.waiting.clear, take-map, map-append, take-append-add (held_bytes old) part fewer) in
-    let before : (fewer : ℕ) → fewer < count → IsUndecided ((scan_of old).held ++ take fewer (faultless part)) =
-    λ fewer below.
-    let cases : (fewer ≡ 0) ⊎ (0 < fewer) = grind arith in
-    elim cases [
-      | inl none ↦ rw (none, append-nil) (undecided_waiting old kept.waiting)
-      | inr some ↦
-          rw (heard fewer)
-          (undecided_from (take (n + fewer) total) (is.before (n + fewer) (omega (arith, some)) (omega (arith, below, counts))))
-    ] in
-    let moves = moves_places (hearing (scan_of old) (take count (faultless part))) (scan_of new) (take found.decided total) found.place
-    (grind (arith, heard count)) (grind (arith, held_clear new kept.clear)) kept.firsts kept.finished
-    (omega (arith, length-take-le found.decided total is.within, is.order))
-    (λ here below more _. is.none here (omega arith) below more) in
-    let stops = stops_kept old new part found count sound kept counts in
-    grind (arith, length-map, length-append)
+  -- so much of the part was heard
+  pub hears_kept : (count : ℕ) → IsSound new → found.decided ≡ length (held_bytes old) + count
+      → Hears (scan_of old) (scan_of new) (faultless part) count
+  hears_kept count sound counts =
+      let n = length (held_bytes old) in
+      let total = held_bytes old ++ part in
+      let is = kept.searched in
+      let heard : (fewer : ℕ) → (scan_of old).held ++ take fewer (faultless part) ≡ faultless (take (n + fewer) total) =
+      λ fewer. grind (arith, held_clear old kept.waiting.clear, take-map, map-append, take-append-add (held_bytes old) part fewer) in
+      let before : (fewer : ℕ) → fewer < count → IsUndecided ((scan_of old).held ++ take fewer (faultless part)) =
+      λ fewer below.
+      let cases : (fewer ≡ 0) ⊎ (0 < fewer) = grind arith in
+      elim cases [
+        | inl none ↦ rw (none, append-nil) (undecided_waiting old kept.waiting)
+        | inr some ↦ rw (heard fewer) (undecided_from (take (n + fewer) total) (is.before (n + fewer) (omega arith) (omega arith)))
+      ] in
+      let moves = moves_places (hearing (scan_of old) (take count (faultless part))) (scan_of new) (take found.decided total) found.place
+      (grind (arith, heard count)) (grind (arith, held_clear new kept.clear)) kept.firsts kept.finished
+      (omega (arith, length-take-le found.decided total is.within, is.order))
+      (λ here below more _. is.none here (omega arith) below more) in
+      let stops = stops_kept count sound counts in
+      grind (arith, length-map, length-append)

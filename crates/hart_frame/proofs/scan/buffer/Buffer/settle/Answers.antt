@@ -12,7 +12,6 @@ returns-clause-sound c = grind (arith, sound_kept, kept)
 
 pub returns-clause-hears : goal.returns-clause-hears
 returns-clause-hears c =
-    let found = c.args.found in
     let is = kept c in
-    hears_kept c.args.self.now _ c.args.part.now found _ (returns-clause-sound c) is
+    hears_kept c.args.self.now _ c.args.part.now c.args.found is _ (returns-clause-sound c)
     (omega (arith, is.searched.late, ap length c.held-held.ensures.held))
