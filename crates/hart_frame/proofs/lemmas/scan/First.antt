@@ -29,15 +29,12 @@ first_in chars found later are =
 pub first_given : (chars : List Character) (count : ℕ) (mid new : Scan) (found : Found)
     → MovesPast (hearing new_scan (take count chars)) mid [] → Gives mid new found → IsFirstIn found chars
 first_given chars count mid new found moves gives =
-    let later = AreFrames-found chars new.first in
+    let (later, are) = AreFrames-found chars new.first in
     let given = moves_then (hearing new_scan (take count chars)) mid new (found ∷ []) moves gives.moves in
-    first_in chars found later.0 (given.frames (drop count chars) chars later.0
-    (rw (take-append-drop count chars) at (hears_new (take count chars) (drop count chars))) later.1)
+    let hears = rw (take-append-drop count chars) at (hears_new (take count chars) (drop count chars)) in
+    first_in chars found later (given.frames (drop count chars) chars later hears are)
 
--- or it heard all of it
-all_heard : (scan new : Scan) (count all : ℕ) → StopsAt scan count all → GivesNothing scan new → count ≡ all
-all_heard scan new count all stops nothing = grind (arith, holds_gives scan new)
-
+-- or it does once it is finished, or there is none
 last_given : (chars : List Character) (waiting new : Scan) (given : Option Found) → MovesPast (hearing new_scan chars) waiting []
     → MatchOption given (GivesNothing (finishing waiting) new) (Gives (finishing waiting) new)
     → MatchOption given (HasNoFrame chars 0) (λ found. IsFirstIn found chars)
@@ -46,20 +43,19 @@ last_given chars waiting new None moves (inr ends) = nothing_before (hearing new
 last_given chars waiting new (Some found) moves gives =
     let hears = rw (append-nil chars) at (hears_new chars []) in
     let ends : CanHear (finishing waiting) [] chars = grind (arith, moves.heard [] chars hears) in
-    let later = AreFrames-found chars new.first in
-    first_in chars found later.0
-    (moves.frames [] chars (found ∷ later.0) hears (gives.moves.frames [] chars later.0 ends later.1))
+    let (later, are) = AreFrames-found chars new.first in
+    first_in chars found later (moves.frames [] chars (found ∷ later) hears (gives.moves.frames [] chars later ends are))
 
--- and gives it once it is finished, or none if there is none
+-- as all of it was heard then
 pub first_finished : (chars : List Character) (count : ℕ) (mid waiting new : Scan) (given : Option Found)
     → MovesPast (hearing new_scan (take count chars)) mid [] → mid.finished ≡ false → StopsAt mid count (length chars)
     → GivesNothing mid waiting → MatchOption given (GivesNothing (finishing waiting) new) (Gives (finishing waiting) new)
     → MatchOption given (HasNoFrame chars 0) (λ found. IsFirstIn found chars)
 first_finished chars count mid waiting new given moves going stops nothing after =
-    let all = all_heard mid waiting count (length chars) stops nothing in
+    let all : count ≡ length chars = grind (arith, holds_gives mid waiting) in
     let waits = waits_only mid waiting going nothing in
-    let on = moves_then (hearing new_scan chars) mid waiting [] (rw (all, take-length) at moves) waits.moves in
-    last_given chars waiting new given on after
+    last_given chars waiting new given
+    (moves_then (hearing new_scan chars) mid waiting [] (rw (all, take-length) at moves) waits.moves) after
 
 -- what stands in the rest of a list stands in the list
 pub first_later : (chars rest : List Character) (from : ℕ) (found : Found) → from ≤ length chars → rest ≡ drop from chars

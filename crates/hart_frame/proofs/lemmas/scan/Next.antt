@@ -1,12 +1,12 @@
 -- The next frame of bytes, as that of a scanner that holds the rest of them.
-use Rattle.std.proofs.Common.{◌≡◌, ℕ, ◌+◌, ◌-◌, ◌≤◌, Bool, false, List, [], ◌∷◌, ◌++◌, length, take, drop, inl, ◌∙◌, ap, arith}
-use Rattle.std.proofs.Common.{append_assoc, length-append, length-drop, refl, sym, take-append-drop}
+use Rattle.std.proofs.Common.{◌≡◌, ℕ, ◌+◌, ◌-◌, ◌≤◌, Bool, false, List, [], ◌∷◌, ◌++◌, length, drop, inl, ap, arith}
+use Rattle.std.proofs.Common.{append_assoc, length-append, length-drop, refl, take-append-drop}
 use Rattle.std.proofs.lemmas.Grind.{common_steps}
 use Rattle.std.proofs.lemmas.List.{drop-drop, drop_at, length-map, length-take-le, map-append, take_at}
 use Rattle.std.specs.List.{slice_range}
 use Rattle.hart_frame.specs.declared.heard.found.Found.{Found}
 use Rattle.hart_frame.specs.declared.wire.layout.Layout.{Layout}
-use Rattle.hart_frame.specs.heard.Character.{Character, faultless}
+use Rattle.hart_frame.specs.heard.Character.{faultless}
 use Rattle.hart_frame.specs.scan.Candidate.{IsWhole}
 use Rattle.hart_frame.specs.scan.Next.{LeadsOn}
 use Rattle.hart_frame.specs.scan.Scanner.{CanHear, MovesPast, Scan}
@@ -16,10 +16,6 @@ use Rattle.hart_frame.specs.wire.FrameParts.{FrameParts}
 use Rattle.hart_frame.specs.wire.Layout.{layout_length}
 use Rattle.hart_frame.proofs.lemmas.scan.Scan.{moves_frame, moves_places, moves_then}
 
--- a byte that was heard without faults
-abbrev of_byte : ℕ → Character
-of_byte byte = record { byte = byte; faults = 0 }
-
 -- a scanner that holds the bytes from a place on
 abbrev pub scan_at : List ℕ → Bool → ℕ → Scan
 scan_at bytes ended place = record { first = place; held = faultless (drop place bytes); finished = ended; drained = false }
@@ -28,8 +24,7 @@ scan_at bytes ended place = record { first = place; held = faultless (drop place
 pub leads_on : (bytes : List ℕ) (ended : Bool) (from to : ℕ) (given : List Found) → from ≤ length bytes
     → MovesPast (scan_at bytes ended from) (scan_at bytes ended to) given → LeadsOn (faultless bytes) ended from given to
 leads_on bytes ended from to given within moves more later closed =
-    let all : faultless (take from bytes) ++ faultless (drop from bytes) ≡ faultless bytes =
-    sym (map-append of_byte (take from bytes) (drop from bytes)) ∙ ap faultless (take-append-drop from bytes) in
+    let all = rw map-append at (ap faultless (take-append-drop from bytes)) in
     let hears : CanHear (scan_at bytes ended from) more (faultless bytes ++ more) =
     grind (arith, common_steps, append_assoc, length-map, length-take-le) in
     moves.frames more (faultless bytes ++ more) later hears

@@ -1,4 +1,4 @@
-use Rattle.std.proofs.Common.{arith, ◌≡◌, ℕ, List, take}
+use Rattle.std.proofs.Common.{arith}
 use Rattle.std.proofs.lemmas.Grind.{common_steps}
 use Rattle.std.proofs.lemmas.List.{take-map}
 use Rattle.hart_frame.specs.heard.Character.{faultless}
@@ -10,15 +10,11 @@ use Rattle.hart_frame.proofs.scan.scanner.Scanner.push_bytes.Goals as goal
 hears : (c : goal.After-push_bytes) → Hears c.args.self.now (scan_of c.push_bytes.new.self) (faultless c.args.chunk.now) c.push_bytes.result
 hears c = grind arith
 
--- the first of a chunk's characters are those of its first bytes
-first_of : (chunk : List ℕ) (count : ℕ) → take count (faultless chunk) ≡ faultless (take count chunk)
-first_of chunk count = grind (arith, take-map)
-
 pub returns-clause-moves : goal.returns-clause-moves
-returns-clause-moves c = grind (arith, first_of)
+returns-clause-moves c = grind (arith, take-map)
 
 pub returns-clause-before : goal.returns-clause-before
-returns-clause-before c = simp first_of at (hears c).before
+returns-clause-before c = simp take-map at (hears c).before
 
 pub returns-clause-pushed : goal.returns-clause-pushed
 returns-clause-pushed c = grind (arith, common_steps, hears, heard_length)
