@@ -12,7 +12,7 @@ use Rattle.hart_frame.specs.heard.Character.{faultless}
 use Rattle.hart_frame.specs.heard.Frames.{IsUndecided}
 use Rattle.hart_frame.specs.scan.Buffer.{IsSound, IsWaiting, held_bytes, is_drained, scan_of}
 use Rattle.hart_frame.specs.scan.Decision.{IsHeldSearched}
-use Rattle.hart_frame.specs.scan.Scanner.{GivesNothing, Scan, MovesPast, Waits}
+use Rattle.hart_frame.specs.scan.Scanner.{Scan, MovesPast, Waits}
 use Rattle.hart_frame.proofs.lemmas.scan.Candidate.{undecided_open}
 use Rattle.hart_frame.proofs.lemmas.scan.Scan.{moves_none, moves_past}
 use Rattle.hart_frame.proofs.lemmas.scan.Search.{drop_take, take_both}
@@ -67,7 +67,3 @@ drained_is state is = grind arith
 -- a drained buffer waits
 pub waits_drained : (b : Buffer) → IsSound b → b.state ≡ Drained → IsWaiting b
 waits_drained b sound is = grind arith
-
--- so nothing is given
-pub still : (b : Buffer) → IsSound b → b.state ≡ Drained → GivesNothing (scan_of b) (scan_of b)
-still b sound is = grind (arith, waits, waits_drained)

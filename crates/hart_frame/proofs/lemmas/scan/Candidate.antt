@@ -11,7 +11,7 @@ use Rattle.hart_frame.specs.declared.wire.layout.Layout.{Layout}
 use Rattle.hart_frame.specs.heard.Body.{bytes_of, BeginsWithHeard}
 use Rattle.hart_frame.specs.heard.Character.{Character, faultless, faultless_bytes}
 use Rattle.hart_frame.specs.heard.Frames.{IsUndecided}
-use Rattle.hart_frame.specs.scan.Candidate.{BeginWithNone, IsBodyCandidate, IsCandidate, MayBegin, MayBeginBefore}
+use Rattle.hart_frame.specs.scan.Candidate.{BeginWithNone, IsBodyCandidate, IsCandidate, IsWhole, MayBegin, MayBeginBefore}
 use Rattle.hart_frame.specs.scan.Candidate.{NothingFollows, NeverBecomeBody, NeverBegin}
 use Rattle.hart_frame.specs.wire.Layout.{Describes, body_length, layout_length}
 use Rattle.hart_frame.specs.wire.Parity.{HasEvenParity, IsCheckByte}
@@ -103,27 +103,26 @@ module _ (layout : Layout) (xs : List ℕ) (len check : ℕ) (has : HasCheckByte
       let all = All-from_get_or (λ byte. byte < 256) (take len xs) 0 fit in
       grind (arith, cut_off, even-check)
 
--- how two preamble bytes and others after them begin
-pub after_never : (xs : List ℕ) (count : ℕ) → 2 ≤ length xs → get_or xs 0 0 ≡ 255 → get_or xs 1 0 ≡ 255
-    → IsBodyCandidate (slice_range xs 2 (length xs)) (Never count) → IsCandidate xs (Never (2 + count))
-after_never xs count long first second is =
-    let two : xs ≡ 255 ∷ 255 ∷ drop 2 xs = grind arith in
-    let (within, never, fewer) = rw (take_rest xs 2) at is in
-    let parts : take (2 + count) (255 ∷ 255 ∷ drop 2 xs) ≡ 255 ∷ 255 ∷ take count (drop 2 xs) =
-    take-append-add (255 ∷ 255 ∷ []) (drop 2 xs) count in
-    rw two
-    (omega (arith, within), rw parts (never_after 255 255 (take count (drop 2 xs)) never), may_begin_before count (drop 2 xs) fewer)
+-- how bytes begin of which the first two are preamble bytes
+module _ (xs : List ℕ) (long : 2 ≤ length xs) (first : get_or xs 0 0 ≡ 255) (second : get_or xs 1 0 ≡ 255) where
+  two : xs ≡ 255 ∷ 255 ∷ drop 2 xs
+  two = grind arith
 
-pub after_whole : (xs : List ℕ) (layout : Layout) → 2 ≤ length xs → get_or xs 0 0 ≡ 255 → get_or xs 1 0 ≡ 255
-    → IsBodyCandidate (slice_range xs 2 (length xs)) (Whole layout) → IsCandidate xs (Whole layout)
-after_whole xs layout long first second is =
-    let two : xs ≡ 255 ∷ 255 ∷ drop 2 xs = grind arith in
-    let (within, whole, fewer) = rw (take_rest xs 2) at is in
-    let body = take (layout_length layout) (drop 2 xs) in
-    let rest = drop (layout_length layout) (drop 2 xs) in (
-      record { body = body; rest = rest; parts = grind (arith, take-append-drop); whole = whole },
-      rw two (may_begin_before (layout_length layout) (drop 2 xs) fewer),
-    )
+  pub after_never : (count : ℕ) → IsBodyCandidate (slice_range xs 2 (length xs)) (Never count) → IsCandidate xs (Never (2 + count))
+  after_never count is =
+      let ys = drop 2 xs in
+      let (within, never, fewer) = rw (take_rest xs 2) at is in
+      let parts : take (2 + count) (255 ∷ 255 ∷ ys) ≡ 255 ∷ 255 ∷ take count ys = take-append-add (255 ∷ 255 ∷ []) ys count in
+      rw two (omega (arith, within), rw parts (never_after 255 255 (take count ys) never), may_begin_before count ys fewer)
+
+  pub after_whole : (layout : Layout) → IsBodyCandidate (slice_range xs 2 (length xs)) (Whole layout) → IsCandidate xs (Whole layout)
+  after_whole layout is =
+      let n = layout_length layout in
+      let ys = drop 2 xs in
+      let (within, whole, fewer) = rw (take_rest xs 2) at is in
+      let body : IsWhole layout xs =
+      record { body = take n ys; rest = drop n ys; parts = grind (arith, two, take-append-drop); whole = whole } in
+      (body, rw two (may_begin_before n ys fewer))
 
 -- bytes of which the second is another
 pub second_never : (xs : List ℕ) → 2 ≤ length xs → get_or xs 0 0 ≡ 255 → get_or xs 1 0 ≢ 255 → IsCandidate xs (Never 2)

@@ -1,12 +1,12 @@
 -- The first frame of a list, by what a scanner gave of it.
-use Rattle.std.proofs.Common.{inl, inr, add-zero, ◌≡◌, ℕ, ◌+◌, ◌≤◌, false, Option, Some, None, List, [], ◌∷◌, ◌++◌, length, take, drop}
+use Rattle.std.proofs.Common.{inl, inr, add-zero, ◌≡◌, ℕ, ◌≤◌, false, Option, Some, None, List, [], ◌∷◌, ◌++◌, length, take, drop}
 use Rattle.std.proofs.Common.{arith}
 use Rattle.std.proofs.Math.Seq.{take-length}
 use Rattle.std.proofs.lemmas.List.{append-nil, length-take-le, take-append-drop}
 use Rattle.std.specs.Option.{MatchOption}
 use Rattle.hart_frame.specs.declared.heard.found.Found.{Found}
 use Rattle.hart_frame.specs.heard.Character.{Character}
-use Rattle.hart_frame.specs.heard.Frames.{AreFrames, HasNoFrame, IsFirst}
+use Rattle.hart_frame.specs.heard.Frames.{AreFrames, HasNoFrame, IsFirst, moved}
 use Rattle.hart_frame.specs.scan.Chunk.{StopsAt}
 use Rattle.hart_frame.specs.scan.First.{IsFirstIn}
 use Rattle.hart_frame.specs.scan.Scanner.{CanHear, Scan, Gives, GivesNothing, MovesPast, finishing, hearing, new_scan}
@@ -59,12 +59,11 @@ first_finished chars count mid waiting new given moves going stops nothing after
 
 -- what stands in the rest of a list stands in the list
 pub first_later : (chars rest : List Character) (from : ℕ) (found : Found) → from ≤ length chars → rest ≡ drop from chars
-    → IsFirst found rest 0
-    → IsFirst (record { start = from + found.start; stop = from + found.stop; frame = found.frame }) chars from
+    → IsFirst found rest 0 → IsFirst (moved from found) chars from
 first_later chars rest from found within is least =
     grind (arith, take-append-drop, add-zero, length-take-le, first_moved (take from chars) (drop from chars) found from 0)
 
 pub no_later : (chars rest : List Character) (from : ℕ) → from ≤ length chars → rest ≡ drop from chars → HasNoFrame rest 0
     → HasNoFrame chars from
 no_later chars rest from within is empty found there =
-    empty _ (stands_in (take from chars) rest found from (length-take-le from chars within) (rw (is, take-append-drop from chars) there))
+    grind (arith, stands_in (take from chars) rest found from, length-take-le, take-append-drop)

@@ -1,13 +1,13 @@
 -- What a part of bytes is to a scanner that searches it together with what it holds.
 use Rattle.std.proofs.Common.{◌≡◌, ℕ, ◌+◌, ◌<◌, ◌⊎◌, inl, inr, false, List, ◌++◌, length, take, None, drop}
-use Rattle.std.proofs.Common.{arith, length-append, length-drop}
-use Rattle.std.proofs.Math.Seq.{take-append-add, take-length}
+use Rattle.std.proofs.Common.{arith, length-append}
+use Rattle.std.proofs.Math.Seq.{take-append-add}
 use Rattle.std.proofs.lemmas.List.{append-nil, map-append, take-map, length-map, length-take-le}
 use Rattle.hart_frame.specs.declared.scan.buffer.Buffer.{Buffer}
 use Rattle.hart_frame.specs.declared.scan.search.Sighting.{Sighting}
 use Rattle.hart_frame.specs.heard.Character.{faultless}
 use Rattle.hart_frame.specs.heard.Frames.{IsUndecided}
-use Rattle.hart_frame.specs.scan.Buffer.{IsSound, IsStored, IsWaiting, held_bytes, scan_of, state_of}
+use Rattle.hart_frame.specs.scan.Buffer.{IsSound, IsWaiting, held_bytes, scan_of, state_of}
 use Rattle.hart_frame.specs.scan.Chunk.{Hears, StopsAt}
 use Rattle.hart_frame.specs.scan.Scanner.{hearing}
 use Rattle.hart_frame.specs.scan.Search.{IsOpenFrom, IsSearched}
@@ -36,11 +36,7 @@ pub record IsKept (old new : Buffer) (part : List ℕ) (found : Sighting) : Type
   pub state : new.state ≡ state_of found.layout
 
 module _ (old new : Buffer) (part : List ℕ) (found : Sighting) (kept : IsKept old new part found) where
-  -- so it is what its state means
-  pub sound_kept : IsStored new → IsSound new
-  sound_kept stored = grind (arith, take-length, length-drop, length-append)
-
-  -- and it stops where nothing more is decided, or where a frame stands
+  -- it stops where nothing more is decided, or where a frame stands
   stops_kept : (count : ℕ) → IsSound new → found.decided ≡ length (held_bytes old) + count → StopsAt (scan_of new) count (length part)
   stops_kept count sound counts = grind (arith, length-append, holds_frame, undecided_waiting)
 

@@ -8,7 +8,7 @@ returns-then-bytes-clause-candidate c = grind (arith, second_never)
 pub returns-in-Never-clause-candidate : goal.returns-in-Never-clause-candidate
 returns-in-Never-clause-candidate c =
     let long : 2 ≤ length c.args.bytes.now = omega (arith, c.requires.some, c.if-bytes-eq1.false) in
-    after_never c.args.bytes.now c.in-Never.count long c.requires.preamble c.if-bytes.false c.in-Never.ensures.candidate
+    after_never c.args.bytes.now long c.requires.preamble c.if-bytes.false c.in-Never.count c.in-Never.ensures.candidate
 
 pub returns-in-Whole-clause-candidate : goal.returns-in-Whole-clause-candidate
-returns-in-Whole-clause-candidate c = grind (arith, after_whole c.args.bytes.now c.in-Whole.layout)
+returns-in-Whole-clause-candidate c = grind (arith, after_whole c.args.bytes.now)

@@ -1,6 +1,7 @@
-use Rattle.std.proofs.Common.{arith, ap, length}
+use Rattle.std.proofs.Common.{length-drop, length-append, arith, ap, length}
+use Rattle.std.proofs.Math.Seq.{take-length}
 use Rattle.hart_frame.proofs.lemmas.scan.Buffer.{waits_drained}
-use Rattle.hart_frame.proofs.lemmas.scan.Part.{IsKept, hears_kept, sound_kept}
+use Rattle.hart_frame.proofs.lemmas.scan.Part.{IsKept, hears_kept}
 use Rattle.hart_frame.proofs.scan.buffer.Buffer.settle.Goals as goal
 
 kept : (c : goal.After-struct_known-1) → IsKept c.args.self.now
@@ -8,7 +9,7 @@ kept : (c : goal.After-struct_known-1) → IsKept c.args.self.now
 kept c = grind (arith, waits_drained)
 
 pub returns-clause-sound : goal.returns-clause-sound
-returns-clause-sound c = grind (arith, sound_kept, kept)
+returns-clause-sound c = grind (arith, kept, take-length, length-drop, length-append)
 
 pub returns-clause-hears : goal.returns-clause-hears
 returns-clause-hears c =
