@@ -1,4 +1,4 @@
-use Rattle.std.proofs.Common.{inl, arith, length, length-drop}
+use Rattle.std.proofs.Common.{arith, length, length-drop}
 use Rattle.std.proofs.lemmas.List.{drop_all, take_rest}
 use Rattle.hart_frame.proofs.lemmas.scan.Search.{searched_open, searched_stands, searching_on}
 use Rattle.hart_frame.proofs.scan.search.search.Goals as goal
@@ -20,14 +20,10 @@ returns-in-Open c =
 
 pub returns-in-Whole : goal.returns-in-Whole
 returns-in-Whole c =
-    searched_stands c.args.bytes.now c.args.from c.args.seen c.loop-start.place c.loop-start.decided c.in-Some.start c.max.result
-    c.in-Whole.layout c.loop-start.invariant c.in-Some.ensures c.in-Whole.ensures.candidate c.in-Whole.ensures.few
-    (omega (arith, c.max.ensures, c.body_len.ensures.len))
+    let stands = searched_stands c.args.bytes.now c.args.from c.args.seen c.loop-start.place c.loop-start.decided in
+    grind (arith, stands c.in-Some.start c.max.result c.in-Whole.layout)
 
 pub returns : goal.returns
 returns c =
-    let bytes = c.args.bytes.now in
-    let end = length bytes in
-    rw c.open_at-2.ensures
-    (searched_open bytes c.args.from c.args.seen c.loop-start.place c.loop-start.decided end c.loop-start.invariant (omega arith)
-    (omega arith) (λ here since below. inl (c.in_default.ensures here since below)) (inl (drop_all end bytes (omega arith))) (omega arith))
+    let end = length c.args.bytes.now in
+    grind (arith, drop_all, searched_open c.args.bytes.now c.args.from c.args.seen c.loop-start.place c.loop-start.decided end)

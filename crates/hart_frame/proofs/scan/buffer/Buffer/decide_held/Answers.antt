@@ -4,11 +4,9 @@ use Rattle.hart_frame.proofs.scan.buffer.Buffer.decide_held.Goals as goal
 
 pub returns-in-Some-clause-seen : goal.returns-in-Some-clause-seen
 returns-in-Some-clause-seen c =
-    let b = c.args.self.now in
-    let found = c.search_held-found.result in
-    let layout = c.in-Some.layout in
     let is = c.search_held-found.ensures in
-    rw c.pass.ensures.passed (given_stands b found layout c.requires.busy is (rw c.in-Some.is at is.stands))
+    rw c.pass.ensures.passed
+    (given_stands c.args.self.now c.search_held-found.result c.in-Some.layout c.requires.busy is (rw c.in-Some.is at is.stands))
 
 pub returns-then-is_empty-clause-seen : goal.returns-then-is_empty-clause-seen
 returns-then-is_empty-clause-seen c = search (arith, given_nothing)
