@@ -1,6 +1,6 @@
 -- Whether bytes begin with a body is decided.
-use Rattle.std.proofs.Common.{◌≡◌, ℕ, fold, bit_xor, ◌+◌, ◌-◌, ◌*◌, ◌/◌, ◌%◌, ◌<◌, ◌≤◌, ◌⊎◌, ◌↔◌, inl, inr, Bool, List, [], ◌∷◌}
-use Rattle.std.proofs.Common.{length, take, get_or, ltb, refl, ◌∙◌, arith}
+use Rattle.std.proofs.Common.{◌≡◌, ℕ, fold, bit_xor, ◌+◌, ◌-◌, ◌*◌, ◌/◌, ◌%◌, ◌<◌, ◌≤◌, ◌⊎◌, inl, inr, Bool, List, [], ◌∷◌}
+use Rattle.std.proofs.Common.{length, take, get_or, ltb, ◌∙◌, arith}
 use Rattle.std.proofs.lemmas.Bool.Decides.{nat_tests}
 use Rattle.std.proofs.lemmas.Grind.{get_or_after_one}
 use Rattle.std.proofs.lemmas.List.{get_or-take, length-take-le, take-take}
@@ -18,7 +18,7 @@ use Rattle.hart_frame.specs.wire.Delimiter.{kind_code}
 use Rattle.hart_frame.specs.wire.FrameParts.{FrameParts, IsLongEnough}
 use Rattle.hart_frame.specs.wire.Layout.{delimiter_in, address_end, command_place, byte_count_in, body_length}
 use Rattle.hart_frame.specs.wire.Parity.{HasEvenParity}
-use Rattle.hart_frame.specs.wire.Refusal.{IsDelimiter, HasCheckByte}
+use Rattle.hart_frame.specs.wire.Refusal.{HasCheckByte}
 use Rattle.hart_frame.proofs.lemmas.wire.Body.{IsBody-whole}
 use Rattle.hart_frame.proofs.lemmas.wire.Layout.{IsCheckedPart-in, length-slice_range}
 use Rattle.hart_frame.proofs.lemmas.wire.Parity.{IsCheckByte-fold, check-even, even-check, fits_at}
@@ -94,20 +94,15 @@ fit_decided bytes =
     let cases : (run < length bytes) ⊎ (length bytes ≤ run) = grind arith in
     grind (arith, nat_tests, prefix_len_passes (λ byte. ltb byte 256) bytes, prefix_len_stops (λ byte. ltb byte 256) bytes 0)
 
--- their parity is even if their exclusive or is 0
-even_zero : (bytes : List ℕ) → All (λ byte. byte < 256) bytes → HasEvenParity bytes ↔ (fold bit_xor 0 bytes ≡ 0)
-even_zero bytes fit =
-    let is = IsCheckByte-fold bytes (fold bit_xor 0 bytes) (fits_at bytes fit) refl in
-    grind (arith, even-check bytes, check-even bytes (fold bit_xor 0 bytes) is)
-
 -- whether bytes begin with a body
 pub body_decided : (bytes : List ℕ) → BodyAhead bytes ⊎ HasNoBody bytes
 body_decided bytes =
     let prefix = take (body_length bytes) bytes in
-    let delimiter : IsDelimiter (delimiter_in bytes) ⊎ (IsDelimiter (delimiter_in bytes) → ⊥) = grind arith in
-    let parity : (fold bit_xor 0 prefix ≡ 0) ⊎ (0 < fold bit_xor 0 prefix) = grind arith in
+    let check = fold bit_xor 0 prefix in
+    let parity : (check ≡ 0) ⊎ (0 < check) = grind arith in
+    let is = IsCheckByte-fold prefix check in
     let cases : BodyAhead bytes ⊎ (HasCheckByte bytes → All (λ byte. byte < 256) prefix → HasEvenParity prefix → ⊥) =
-    grind (arith, fit_decided prefix, even_zero prefix, whole_body bytes) in
+    grind (arith, fit_decided prefix, fits_at prefix, even-check prefix, check-even prefix check, whole_body bytes) in
     elim cases [
       | inl ahead ↦ inl ahead
       | inr none ↦ inr (λ f len begins. grind (arith, says bytes f len begins, has_check bytes f len begins))

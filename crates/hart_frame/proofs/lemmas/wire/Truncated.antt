@@ -6,7 +6,7 @@ use Rattle.std.proofs.lemmas.List.{get_or_append_left, get_or-append_right, get_
 use Rattle.std.proofs.lemmas.List.{take_all, take_at, take-append-drop, take-append-le, take-take}
 use Rattle.std.proofs.lemmas.List.Elements.{All-append, All-push, All-replicate, All-take}
 use Rattle.std.specs.List.{All}
-use Rattle.hart_frame.specs.wire.Body.{IsBody, HasNoBody, CanBecomeBody}
+use Rattle.hart_frame.specs.wire.Body.{IsBody, BeginsWithBody, HasNoBody, CanBecomeBody}
 use Rattle.hart_frame.specs.wire.FrameParts.{FrameParts}
 use Rattle.hart_frame.specs.wire.Layout.{byte_count_place, body_length}
 use Rattle.hart_frame.specs.wire.Refusal.{HasCheckByte, HasDelimiter, HasGoodByteCount, IsTruncated}
@@ -53,12 +53,9 @@ CanBecomeBody-truncated bytes fit truncated =
     let (frame, is) = completed whole prefix fits filled.0 refl in
     let body = prefix ++ fold bit_xor 0 prefix ∷ [] in
     let begins : take (length bytes) body ≡ bytes = grind (arith, take-append-le, length-take-le, take-take, take-append_seam) in
-    record {
-      rest = drop (length bytes) body;
-      frame = frame;
-      count = length body;
-      begins = grind (arith, take-append-drop (length bytes) body, take_all (length body) body);
-    }
+    let begun : BeginsWithBody (bytes ++ drop (length bytes) body) frame (length body) =
+    grind (arith, take-append-drop (length bytes) body, take_all (length body) body) in
+    record { rest = drop (length bytes) body; frame = frame; count = length body; begins = begun }
 
 -- fewer bytes than go up to a byte count end too early
 pub truncated_count : (xs : List ℕ) (fewer : ℕ) → HasDelimiter xs → fewer ≤ byte_count_place xs → fewer ≤ length xs

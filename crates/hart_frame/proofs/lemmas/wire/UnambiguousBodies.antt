@@ -53,15 +53,13 @@ bodies_are_unambiguous-one_frame f g bytes p q = (same_bodies f g bytes bytes []
 
 pub bodies_are_unambiguous-no_proper_prefix : (f g : FrameParts) (bytes rest : List ℕ)
     → IsBody f bytes → IsBody g (bytes ++ rest) → rest ≡ []
-bodies_are_unambiguous-no_proper_prefix f g bytes rest p q =
-    grind (arith, append-nil, same_bodies f g bytes (bytes ++ rest) rest [])
+bodies_are_unambiguous-no_proper_prefix f g bytes rest p q = grind (arith, append-nil, same_bodies f g bytes (bytes ++ rest) rest [])
 
 pub bodies_are_unambiguous-one_prefix : (f g : FrameParts) (bytes : List ℕ) (m n : ℕ)
     → BeginsWithBody bytes f m → BeginsWithBody bytes g n → (f ≡ g) × (m ≡ n)
 bodies_are_unambiguous-one_prefix f g bytes m n p q =
-    let first = length-take-le m bytes p.within in
-    let second = length-take-le n bytes q.within in
-    grind (arith, same_bodies f g (take m bytes) (take n bytes) (drop m bytes) (drop n bytes), take-append-drop)
+    let same = same_bodies f g (take m bytes) (take n bytes) (drop m bytes) (drop n bytes) in
+    grind (arith, same, take-append-drop, length-take-le m bytes, length-take-le n bytes)
 
 -- the check byte of a body is the exclusive or of the bytes before it
 check_is : (f : FrameParts) (body : List ℕ) (is : IsBody f body) → is.check ≡ fold bit_xor 0 is.checked
