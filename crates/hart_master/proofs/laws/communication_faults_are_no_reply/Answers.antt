@@ -1,9 +1,6 @@
 use Rattle.hart_master.proofs.lemmas.Laws.{communication_faults_are_no_reply-frame}
 use Rattle.hart_master.proofs.laws.communication_faults_are_no_reply.Goals as goal
 
-pub returns-clause-frame : goal.returns-clause-frame
-returns-clause-frame c = communication_faults_are_no_reply-frame
-
 pub returns-clause-delivery : goal.returns-clause-delivery
 returns-clause-delivery c = λ id address request delivery found reply alone above accepted.
     communication_faults_are_no_reply-frame id address request found.frame reply above
