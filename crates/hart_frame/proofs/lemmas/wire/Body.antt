@@ -17,5 +17,4 @@ IsBody-push frame checked check part fits check_byte = grind (arith, common_step
 -- bytes of even parity, all but the last of which are what the check byte covers, are a body
 pub IsBody-whole : (bytes : List ℕ) (frame : FrameParts) → 1 ≤ length bytes → All (λ byte. byte < 256) bytes
     → IsCheckedPart frame (take (length bytes - 1) bytes) → HasEvenParity bytes → IsBody frame bytes
-IsBody-whole bytes frame some fits part even =
-    grind (arith, take_all (length bytes) bytes (omega arith), take_more bytes (length bytes - 1) 0 (omega arith))
+IsBody-whole bytes frame some fits part even = grind (arith, take_all, take_more bytes (length bytes - 1) 0)

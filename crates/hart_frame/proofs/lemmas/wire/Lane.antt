@@ -1,6 +1,6 @@
 -- An exclusive or lane by lane, and of all lanes at the end, is that of all bytes.
 use Rattle.std.proofs.Common.{◌≡◌, ℕ, zero, suc, ◌+◌, ◌*◌, ◌/◌, ◌<◌, ◌≤◌, List, [], ◌∷◌, refl, arith, fold, bit_xor, take, drop}
-use Rattle.std.proofs.Common.{length, get_or, mul_comm, mul-zero, take-add, take-append-drop}
+use Rattle.std.proofs.Common.{length, get_or, mul_comm, take-add, take-append-drop}
 use Rattle.std.proofs.lemmas.Grind.{common_steps}
 use Rattle.std.proofs.lemmas.List.{drop-drop}
 use Rattle.std.proofs.lemmas.List.Sums.{fold-append}
@@ -32,7 +32,7 @@ fold-zip2 start xs ys same = absurd (omega arith)
 -- a chunk is the elements from its place on
 first_chunks-at : {X : Type 0} (n count index : ℕ) (xs : List X) → index < count
     → slice_index_or (first_chunks n count xs) index [] ≡ take n (drop (n * index) xs)
-first_chunks-at n (suc count) zero xs below = rw (mul-zero n) refl
+first_chunks-at n (suc count) zero xs below = grind arith
 first_chunks-at n (suc count) (suc index) xs below = grind (arith, drop-drop, first_chunks-at n count index (drop n xs))
 first_chunks-at n count index xs below = absurd (omega arith)
 
@@ -42,7 +42,7 @@ pub xor_of-block : (width index : ℕ) (bytes lanes : List ℕ) (chunks : List (
     → length lanes ≡ width → xor_of lanes ≡ xor_of (take (width * index) bytes)
     → xor_of (zip2 bit_xor lanes (slice_index_or chunks index [])) ≡ xor_of (take (width * (index + 1)) bytes)
 xor_of-block width index bytes lanes chunks is below within full before =
-    grind (arith, first_chunks-at width (length bytes / width) index bytes, length-chunk, fold-zip2, fold-append, take-add)
+    grind (arith, first_chunks-at, length-chunk, fold-zip2, fold-append, take-add)
 
 -- the rest after the blocks
 pub IsCheckByte-rest : (width index : ℕ) (bytes lanes rest : List ℕ) (check : ℕ) → ((i : ℕ) → get_or bytes i 0 < 256)

@@ -1,5 +1,5 @@
 -- The exclusive or of bytes has a bit if an odd number of them have it.
-use Rattle.std.proofs.Common.{◌≡◌, ℕ, refl, ◌+◌, ◌%◌, ◌<◌, List, [], ◌∷◌, ◌++◌, arith, fold, bit_xor, get_or, suc}
+use Rattle.std.proofs.Common.{◌≡◌, ℕ, ◌+◌, ◌%◌, ◌<◌, List, [], ◌∷◌, ◌++◌, arith, fold, bit_xor, get_or, suc}
 use Rattle.std.proofs.lemmas.Bool.Decides.{nat_tests}
 use Rattle.std.proofs.lemmas.Grind.{common_steps}
 use Rattle.std.proofs.lemmas.List.{get_or_past}
@@ -28,7 +28,7 @@ xor_parity (byte ∷ bytes) start bit = grind (arith, common_steps, xor_parity b
 xor_fits : (bytes : List ℕ) (start : ℕ) → start < 256 → ((i : ℕ) → get_or bytes i 0 < 256) → fold bit_xor start bytes < 256
 xor_fits [] start first each = first
 xor_fits (byte ∷ bytes) start first each =
-    xor_fits bytes (bit_xor start byte) (xor_of_8 start byte first (each 0)) (λ i. each (suc i))
+    grind (arith, xor_fits bytes (bit_xor start byte), xor_of_8 start byte, each 0, λ (i : ℕ). each (suc i))
 
 pub IsCheckByte-fold : (bytes : List ℕ) (check : ℕ) → ((i : ℕ) → get_or bytes i 0 < 256) → check ≡ fold bit_xor 0 bytes
     → IsCheckByte bytes check
@@ -50,6 +50,5 @@ even-check bytes is = grind (arith, bit_at-zero)
 pub even-is : (bytes : List ℕ) (check : ℕ) → ((i : ℕ) → get_or bytes i 0 < 256) → check < 256 → HasEvenParity (bytes ++ check ∷ [])
     → check ≡ fold bit_xor 0 bytes
 even-is bytes check each small even =
-    let is = IsCheckByte-fold bytes (fold bit_xor 0 bytes) each refl in
-    same_from_bits_below 8 check (fold bit_xor 0 bytes) small is.byte
-    (λ bit below. grind (arith, bit_count-push, bit_at-lt, is.odd bit below, even.even bit below))
+    same_from_bits_below 8 check (fold bit_xor 0 bytes) small (xor_fits bytes 0 (omega arith) each)
+    (λ bit below. grind (arith, bit_count-push, xor_parity, bit_at-zero, bit_at-lt check bit, even.even bit below))
