@@ -6,11 +6,12 @@ use Rattle.std.proofs.lemmas.Grind.{common_steps}
 use Rattle.std.proofs.lemmas.List.{get_or_default}
 use Rattle.std.proofs.lemmas.Slice.{between_is, take-put_mid_below, drop-put_mid}
 use Rattle.std.specs.List.{slice_index_or, slice_range}
-use Rattle.hart_commands.specs.Registers.{registers}
+use Rattle.hart_commands.specs.Registers.{bytes_in, registers}
 use Rattle.hart_commands.specs.declared.register.Register.{Register}
 use Rattle.hart_commands.specs.declared.register.Register.TheVariants.{Polling}
 use Rattle.hart_commands.proofs.lemmas.Laws.{all_registers_are_listed_once-every, all_registers_are_listed_once-once}
-use Rattle.hart_device.specs.registers.Ranges.{standing_for}
+use Rattle.hart_device.specs.registers.Ranges.{contents_in, standing_for}
+use Rattle.hart_device.proofs.lemmas.registers.Registers.{bytes_in-contents_by}
 
 -- What is written in a range stays out of every range that lies apart from it.
 pub kept_apart : (array bytes : List ℕ) (start end other_start other_end : ℕ) → start ≤ end → end ≤ length array
@@ -44,6 +45,16 @@ one_more given old now new place within written others before k k_within =
 
 -- All of them have been written at the end of the list.
 pub all_written : (given : Register → Option (List ℕ)) (old now : List ℕ) (place : ℕ) → length registers ≤ place
-    → AreWrittenBefore place given old now → (register : Register) → standing_for register now ≡ given_to given old register
+    → AreWrittenBefore place given old now
+    → (register : Register) → bytes_in (contents_in now) register ≡ unwrap_or (given register) (bytes_in (contents_in old) register)
 all_written given old now place end before register =
-    let there = all_registers_are_listed_once-every register in grind (arith, nat_tests, get_or_default, before there.0 there.1, there.2)
+    let there = all_registers_are_listed_once-every register in
+    grind (
+      arith,
+      nat_tests,
+      get_or_default,
+      before there.0 there.1,
+      there.2,
+      bytes_in-contents_by (λ r. standing_for r now) register,
+      bytes_in-contents_by (λ r. standing_for r old) register,
+    )

@@ -15,9 +15,7 @@ asked : (identity : IdentityParts) (chars head : List Character) (master : Maste
     → command ≡ get_or chars 6 command → count ≡ get_or chars 7 count
     → garbled_request identity chars ≡ garbled_after chars (command ∷ count ∷ drop 8 chars) master
 asked identity chars head master found command count is asks some long sixth seventh =
-    let a = drop-cons chars 6 command (omega (arith, long)) in
-    let b = drop-cons chars 7 count long in
-    let rest : drop 6 chars ≡ command ∷ count ∷ drop 8 chars = cc in grind (arith, common_steps)
+    grind (arith, common_steps, drop-cons chars 6 command (omega (arith, long)), drop-cons chars 7 count long)
 
 pub returns : goal.returns
 returns c =

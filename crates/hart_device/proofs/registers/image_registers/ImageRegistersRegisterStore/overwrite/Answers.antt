@@ -1,19 +1,13 @@
-use Rattle.std.proofs.Common.{ℕ, List, refl, arith, ap, sym, option_map, unwrap_or, ◌∙◌}
+use Rattle.std.proofs.Common.{ℕ, List, refl, arith, ap, sym, option_map, ◌∙◌}
 use Rattle.std.proofs.lemmas.Bool.Decides.{nat_tests}
 use Rattle.hart_commands.specs.Registers.{named_in}
-use Rattle.hart_device.specs.registers.Ranges.{standing_for}
-use Rattle.hart_device.proofs.lemmas.registers.Registers.{bytes_in-contents_by}
 use Rattle.hart_device.proofs.lemmas.registers.Writing.{all_written, one_more}
 use Rattle.hart_device.proofs.registers.image_registers.ImageRegistersRegisterStore.overwrite.Goals.{in-Some, in_default}
 use Rattle.hart_device.proofs.registers.image_registers.ImageRegistersRegisterStore.overwrite.Goals as goal
 
 pub returns : goal.returns
-returns c = λ register.
-    bytes_in-contents_by (λ r. standing_for r c.loop-register.self.bytes) register
-    ∙ all_written (named_in c.args.overwrite.now) c.args.self.now.bytes c.loop-register.self.bytes c.loop-register.register-index
-    c.loop-register-test.false c.loop-register.invariant register
-    ∙ ap (unwrap_or (named_in c.args.overwrite.now register))
-    (sym (bytes_in-contents_by (λ r. standing_for r c.args.self.now.bytes) register))
+returns c = all_written (named_in c.args.overwrite.now) c.args.self.now.bytes c.loop-register.self.bytes c.loop-register.register-index
+    c.loop-register-test.false c.loop-register.invariant
 
 pub loop-register-preserved : goal.loop-register-preserved
 loop-register-preserved c =
