@@ -49,12 +49,5 @@ pub all_written : (given : Register → Option (List ℕ)) (old now : List ℕ) 
     → (register : Register) → bytes_in (contents_in now) register ≡ unwrap_or (given register) (bytes_in (contents_in old) register)
 all_written given old now place end before register =
     let there = all_registers_are_listed_once-every register in
-    grind (
-      arith,
-      nat_tests,
-      get_or_default,
-      before there.0 there.1,
-      there.2,
-      bytes_in-contents_by (λ r. standing_for r now) register,
-      bytes_in-contents_by (λ r. standing_for r old) register,
-    )
+    let at = λ (array : List ℕ). bytes_in-contents_by (λ r. standing_for r array) register in
+    grind (arith, nat_tests, get_or_default, before there.0 there.1, there.2, at now, at old)
