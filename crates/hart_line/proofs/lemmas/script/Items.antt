@@ -1,10 +1,8 @@
 -- Texts that are items end to end.
-use Rattle.std.proofs.Common.{◌≡◌, ◌≢◌, ℕ, ◌+◌, ◌-◌, ◌<◌, ◌≤◌, Bool, true, false, List, [], ◌∷◌, ◌++◌, get_or, length, take, drop, None}
+use Rattle.std.proofs.Common.{◌≡◌, ◌≢◌, ℕ, ◌<◌, ◌≤◌, Bool, true, false, List, [], ◌∷◌, ◌++◌, get_or, length, None}
 use Rattle.std.proofs.Common.{Option, Some, refl, arith}
-use Rattle.std.proofs.Math.Seq.{drop-append_seam}
 use Rattle.std.proofs.lemmas.Bool.Decides.{nat_tests}
 use Rattle.std.proofs.lemmas.Grind.{common_steps}
-use Rattle.std.proofs.lemmas.List.{append_assoc, length-append, take_rest}
 use Rattle.std.proofs.lemmas.Nat.Bits.{bit_at-lt}
 use Rattle.std.specs.Int.{bit_at}
 use Rattle.std.specs.Option.{option_map}
@@ -69,15 +67,6 @@ items_of-none text some none = grind arith
 -- a text reads as characters up to a rest of it: its items are theirs and those of the rest
 abbrev pub ReadsTo : List ℕ → List Character → List ℕ → Type 0
 ReadsTo text chars rest = items_of text ≡ option_map (λ more. chars ++ more) (items_of rest)
-
--- a text is read one item further
-pub item_read : (text : List ℕ) (chars new : List Character) (rest : List ℕ) (char : Character) (len : ℕ) → ReadsTo text chars rest
-    → BeginsAsItem rest char len → new ≡ chars ++ char ∷ []
-    → (2 ≤ len) × (len + length (take (length rest - len) (drop len rest)) ≡ length rest)
-    × ReadsTo text new (take (length rest - len) (drop len rest))
-item_read text chars new rest char len reads lead pushed =
-    let items = items_of-item rest lead.item lead.tail lead.begins in
-    grind (arith, common_steps, take_rest, drop-append_seam, length-append, append_assoc, lead.begins.spelled)
 
 -- an item without fault bits begins a text
 pub begins_as_plain : (text : List ℕ) (char : Character) (byte : ℕ) → 2 ≤ length text → AreDigits (get_or text 0 0) (get_or text 1 0)

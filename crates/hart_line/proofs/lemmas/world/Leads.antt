@@ -1,5 +1,5 @@
 -- A script leads to one world, if all damage is detected, and past no undetected damage; and detectable damage is detected.
-use Rattle.std.proofs.Common.{append-nil, ◌≡◌, ℕ, ◌<◌, ◌∙◌, sym, subst, arith, Option, None, Some, List, [], ◌∷◌, ◌++◌, suc, pred, take}
+use Rattle.std.proofs.Common.{append-nil, ◌≡◌, ℕ, ◌<◌, ◌∙◌, sym, arith, Option, None, Some, List, [], ◌∷◌, ◌++◌, suc, pred, take}
 use Rattle.std.proofs.Common.{drop, ◌≤◌, refl, inl, inr}
 use Rattle.std.proofs.lemmas.Grind.{common_steps}
 use Rattle.std.specs.List.{slice_get}
@@ -13,7 +13,7 @@ use Rattle.hart_frame.proofs.lemmas.Laws.{bodies_are_unambiguous-one_body, frame
 use Rattle.hart_frame.proofs.lemmas.Laws.{damaged_messages_have_no_other_frame-check, damaged_messages_have_no_other_frame-marked}
 use Rattle.hart_frame.proofs.lemmas.Laws.{messages_have_their_frame_alone-message, messages_have_their_frame_alone-nothing}
 use Rattle.hart_commands.specs.declared.reply.Reply.{Reply}
-use Rattle.hart_device.specs.answer.Delivery.{Brings, Brought, BringsBy}
+use Rattle.hart_device.specs.answer.Delivery.{Brings, Brought}
 use Rattle.hart_device.specs.declared.identity_parts.IdentityParts.{IdentityParts}
 use Rattle.hart_device.proofs.lemmas.Laws.{deliveries_bring_one-one, deliveries_bring_one-brings}
 use Rattle.hart_master.proofs.lemmas.Laws.{replies_are_decided-one_reply, replies_are_decided-decided}
@@ -50,8 +50,7 @@ pub Reaches-one : (identity : IdentityParts) (heard : Heard) (sent : Option Spok
     → Reaches identity heard sent a → Reaches identity heard sent b → a ≡ b
 Reaches-one identity heard sent a b s t =
     let same = AreHeard-one heard sent s.chars t.chars s.are_heard t.are_heard in
-    deliveries_bring_one-one identity t.chars a b (subst (λ chars. Brings identity chars a) same (brings_among s.among))
-    (brings_among t.among)
+    deliveries_bring_one-one identity t.chars a b (rw same at (brings_among s.among)) (brings_among t.among)
 
 -- Damage that is detected is not undetected.
 pub among_detected : (heard : Heard) (sent : Option SpokenFrame) (chars : List Character) (arrived : Option FrameParts)
@@ -169,7 +168,7 @@ reaches_one : (identity : IdentityParts) (heard : Heard) (sent : Option SpokenFr
 reaches_one identity heard sent brought a =
     let b = deliveries_bring_one-brings identity a.chars in
     let same = frames_are_unambiguous-one_list a.chars 0 b.1.frames a.among.frames b.1.are_frames a.among.are_frames in
-    let brings = subst (λ fs. BringsBy identity a.chars fs b.0) same b.1.by_frames in
+    let brings = rw same at b.1.by_frames in
     (b.0, record { chars = a.chars; are_heard = a.are_heard; among = record { frame = brought; arrives = a.among; brings = brings } })
 
 step_exists : (start : Start) (world : World) (event : LineEvent) → LegsAreDetected start world event

@@ -30,7 +30,7 @@ use Rattle.hart_line.specs.world.Step.{effect_on, executions_after, spoken_reque
 use Rattle.hart_line.specs.world.World.{Execution, Start, World, first_world, state_of, InHand, overwrites_of}
 use Rattle.hart_line.specs.world.Executions.{has_execution_of, last_executions}
 use Rattle.hart_line.proofs.lemmas.world.Basics.{some_one}
-use Rattle.hart_line.proofs.lemmas.world.Steps.{entered, turn_cases, Submits, Sends, Stays, along, step_cases, frame_in, no_effect}
+use Rattle.hart_line.proofs.lemmas.world.Steps.{entered, turn_cases, Submits, Sends, Stays, along, step_cases, frame_in}
 use Rattle.hart_line.proofs.lemmas.world.Submitted.{held_in, made_of, request_there}
 
 -- THE CODE OF A REPLY
@@ -104,11 +104,9 @@ arrived_executes : (state : DeviceState) (who : MasterId) (held : InHand) (reque
     → reading_of (spoken_request who held).frame ≡ Ok held.request
     → (frame_in brought ≡ None) ⊎ (brought ≡ OneFrame (spoken_request who held).frame) → effect_on state brought ≡ Executes overwrite
     → write_of requests held.submission ≡ Some overwrite
-arrived_executes state who held requests brought overwrite there reading (inl none) is =
-    let quiet = no_effect state brought none in cc
-arrived_executes state who held requests brought overwrite there reading (inr sent) is =
-    let asked = writes_execute_their_overwrite-only state (spoken_request who held).frame overwrite (rw sent at is) in
-    grind (arith, common_steps)
+arrived_executes state who held requests (OneFrame frame) overwrite there reading known is =
+    let asked = writes_execute_their_overwrite-only state frame overwrite is in grind (arith, common_steps)
+arrived_executes state who held requests brought overwrite there reading known is = cc
 
 effect_writes : (effect : Effect) (number : ℕ) (requests : List Request) (executions : List Execution)
     → ((overwrite : Overwrite) → effect ≡ Executes overwrite → write_of requests number ≡ Some overwrite)

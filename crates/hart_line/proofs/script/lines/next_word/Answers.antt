@@ -1,7 +1,7 @@
-use Rattle.std.proofs.Common.{arith, ◌≡◌, ℕ, ◌+◌, ◌<◌, suc, Bool, false, List, [], ◌∷◌, get_or, length, take, drop, refl}
+use Rattle.std.proofs.Common.{arith, ◌≡◌, ℕ, ◌+◌, suc, Bool, List, [], ◌∷◌, take, drop, refl}
 use Rattle.std.proofs.lemmas.Grind.{common_steps}
 use Rattle.std.specs.List.{filter, onto_first, position_or_len, slice_split}
-use Rattle.hart_line.specs.script.Lines.{has_bytes, is_blank, words_of}
+use Rattle.hart_line.specs.script.Lines.{has_bytes, is_blank}
 use Rattle.hart_line.proofs.script.lines.next_word.Goals as goal
 
 -- the first part stands before the first element that passes, and the other ones after it
@@ -13,12 +13,6 @@ first_part p (x ∷ xs) =
     let before = first_part p xs in let more : 1 + position_or_len p xs ≡ suc (position_or_len p xs) = omega arith in
     grind (arith, common_steps, onto_first)
 
--- the first word of a line that begins with no blank, and the words after it
-word_first : (line word tail : List ℕ) (len : ℕ) → 0 < length line → is_blank (get_or line 0 0) ≡ false
-    → len ≡ position_or_len is_blank line → length word ≡ len → word ≡ take len line → tail ≡ drop len line
-    → words_of line ≡ word ∷ words_of tail
-word_first line word tail len some no_blank counted long before after =
-    let part = first_part is_blank line in grind (arith, common_steps, slice_split)
-
 pub returns-then-not-is_blank : goal.returns-then-not-is_blank
-returns-then-not-is_blank c = grind (arith, common_steps, word_first)
+returns-then-not-is_blank c =
+    let part = first_part is_blank c.loop-rest.rest.now in grind (arith, common_steps, slice_split)
