@@ -36,12 +36,10 @@ pub among_none : (identity : IdentityParts) (chars : List Character) (sent : Opt
 among_none identity chars sent brought a brings = record { frame = None; arrives = a; brings = grind arith }
 
 -- What the code answers to characters without a frame is the reply to what they bring.
-abbrev pub IsReply : IdentityParts → List Character → Option FrameParts → Type 0
-IsReply identity chars answer = MatchOption answer ((request : GarbledRequest) → HasGarbled identity chars request → ⊥)
-    (λ reply. (request : GarbledRequest) × HasGarbled identity chars request × (reply ≡ garbled_reply identity request))
-
 pub answered_among : (chars : List Character) (sent : Option FrameParts) (device : DeviceState) (process : Process)
-    (answer : Option FrameParts) → ArrivesAmong chars sent None → IsReply device.identity chars answer
+    (answer : Option FrameParts) → ArrivesAmong chars sent None
+    → MatchOption answer ((request : GarbledRequest) → HasGarbled device.identity chars request → ⊥)
+    (λ reply. (request : GarbledRequest) × HasGarbled device.identity chars request × (reply ≡ garbled_reply device.identity request))
     → AnswersTo (ReachesAmong device.identity chars sent) device process answer device
 answered_among chars sent device process None a none = grind (arith, common_steps, among_none)
 answered_among chars sent device process (Some reply) a is = record {

@@ -18,6 +18,8 @@ use Rattle.hart_device.specs.answer.Delivery.{Brought, Garbled, OneFrame, answer
 use Rattle.hart_device.specs.declared.process.Process.{Process}
 use Rattle.hart_master.specs.Acceptance.{IsReplyTo}
 use Rattle.hart_master.proofs.lemmas.Laws.{communication_faults_are_no_reply-frame}
+use Rattle.hart_commands.proofs.lemmas.Laws.{overwrites_are_valid}
+use Rattle.hart_device.proofs.lemmas.Laws.{answers_are_replies-read, registers_of_lists-none, writes_execute_their_overwrite-well_made}
 use Rattle.hart_line.specs.declared.event.Heard.{Heard}
 use Rattle.hart_line.specs.declared.event.LineEvent.{LineEvent}
 use Rattle.hart_line.specs.declared.event.LineEvent.TheVariants.{Submit, Turn}
@@ -32,8 +34,6 @@ use Rattle.hart_line.specs.world.World.{InHand, Start, World, first_world, state
 use Rattle.hart_line.proofs.lemmas.world.Basics.{slice_get-append, slice_get-set, some_one}
 use Rattle.hart_line.proofs.lemmas.world.Steps.{along, turn_cases, entered, frame_in, contents-more}
 use Rattle.hart_line.proofs.lemmas.world.Submitted.{held_in}
-use Rattle.hart_commands.proofs.lemmas.Laws.{overwrites_are_valid}
-use Rattle.hart_device.proofs.lemmas.Laws.{answers_are_replies-read, registers_of_lists-none, writes_execute_their_overwrite-well_made}
 
 -- IN EVERY WORLD THE REGISTERS HOLD VALID BYTES
 -- An effect leaves valid bytes valid, as what is executed is a well-made request.

@@ -11,9 +11,11 @@ use Rattle.hart_values.specs.declared.master_id.MasterId.TheVariants.{Primary, S
 use Rattle.hart_commands.specs.declared.reply.Reply.{Reply}
 use Rattle.hart_commands.specs.Registers.{Contents, registers_of, overwritten}
 use Rattle.hart_device.specs.answer.Delivery.{Brought, OneFrame, Garbled, NoMessage}
-use Rattle.hart_device.specs.Device.{Effect, DeviceState, Nothing, Executes, after}
+use Rattle.hart_device.specs.Device.{Effect, DeviceState, Executes, after}
 use Rattle.hart_device.specs.declared.identity_parts.IdentityParts.{IdentityParts}
 use Rattle.hart_master.specs.declared.fault.MasterFault.{MasterFault}
+use Rattle.hart_frame.specs.wire.FrameParts.{FrameParts}
+use Rattle.hart_device.proofs.lemmas.Laws.{registers_of_lists-last}
 use Rattle.hart_line.specs.declared.event.Heard.{Heard}
 use Rattle.hart_line.specs.declared.event.LineEvent.{LineEvent}
 use Rattle.hart_line.specs.declared.event.LineEvent.TheVariants.{Submit, Turn, Protect, Noise, Restart}
@@ -24,8 +26,6 @@ use Rattle.hart_line.specs.world.Step.{marks_after}
 use Rattle.hart_line.specs.world.World.{state_of, InHand, Start, World, Execution, MarksWithin, overwrites_of}
 use Rattle.hart_line.specs.world.Damage.{Reaches}
 use Rattle.hart_line.proofs.lemmas.world.Basics.{none_or_some, with_master-cases}
-use Rattle.hart_frame.specs.wire.FrameParts.{FrameParts}
-use Rattle.hart_device.proofs.lemmas.Laws.{registers_of_lists-last}
 
 -- WHAT IS BROUGHT
 -- A frame that is brought to the device is the one that was sent.
@@ -42,10 +42,6 @@ reaches_sent identity heard said brought r = grind arith
 pub none_reaches : (identity : IdentityParts) (heard : Heard) (brought : Brought) → Reaches identity heard None brought
     → frame_in brought ≡ None
 none_reaches identity heard brought r = grind arith
-
--- What is no frame has no effect.
-pub no_effect : (state : DeviceState) (brought : Brought) → frame_in brought ≡ None → effect_on state brought ≡ Nothing
-no_effect state brought none = grind arith
 
 -- ONE STEP
 -- A turn with a request in hand, which brings the device the frame of this request or none.
@@ -105,7 +101,7 @@ pub entered : (start : Start) (world : World) (event : LineEvent) (next : World)
     (length world.executions) world.marks)
 entered start world (Turn who up down) next step = elim (turn_cases start world who up down next step) [
   | inl s ↦ (s.held.submission, ap (λ (w : World). w.executions) s.next_is, ap (λ (w : World). w.marks) s.next_is)
-  | inr silent ↦ (let quiet = no_effect (state_of start.device world) step.brought silent.0 in (0, grind arith, grind arith))
+  | inr silent ↦ (0, grind arith, grind arith)
 ]
 entered start world event next step = (0, grind arith, grind arith)
 

@@ -12,6 +12,7 @@ use Rattle.std.specs.List.{slice_get}
 use Rattle.hart_values.specs.EachMaster.{of_master}
 use Rattle.hart_values.specs.declared.master_id.MasterId.{MasterId}
 use Rattle.hart_commands.specs.RequestData.{IsRequest}
+use Rattle.hart_device.specs.Device.{Effect}
 use Rattle.hart_line.specs.declared.event.LineEvent.{LineEvent}
 use Rattle.hart_line.specs.declared.line.report.Outcome.{Outcome}
 use Rattle.hart_line.specs.declared.line.report.Outcome.TheVariants.{Unfinished}
@@ -21,7 +22,6 @@ use Rattle.hart_line.specs.world.World.{InHand, Start, World, first_world, Execu
 use Rattle.hart_line.specs.world.Executions.{times_executed}
 use Rattle.hart_line.proofs.lemmas.world.Basics.{slice_get-append, slice_get-set, some_one, with_master-cases}
 use Rattle.hart_line.proofs.lemmas.world.Steps.{StepCases, Submits, Sends, Stays, along, step_cases}
-use Rattle.hart_device.specs.Device.{Effect}
 
 -- EVENT BY EVENT
 pub record IsHeld (submissions : List Submission) (outcomes : List Outcome) (id : MasterId) (held : InHand) : Type 0 where
@@ -84,9 +84,6 @@ made_more events n unused here made one =
 
 -- HOW OFTEN
 -- A submission is executed at most as often as it is sent.
-abbrev IsCounted : World → Type 0
-IsCounted world = (number : ℕ) → times_executed number world.executions ≤ sendings_in (slice_get world.outcomes number)
-
 times_executed-more : (effect : Effect) (own number : ℕ) (executions : List Execution)
     → times_executed number (executions_after effect own executions) ≤ times_executed number executions + (if own == number then 1 else 0)
 times_executed-more effect own number executions = grind (arith, nat_tests, sum_by-append)
@@ -98,12 +95,14 @@ counts_by : (hand : InHand) (outcomes : List Outcome) (outcome : Outcome) (numbe
 counts_by hand outcomes outcome number before after there sent old more =
     grind (arith, nat_tests, slice_get-set)
 
-pub executed_at_most : (start : Start) (events : List LineEvent) (last : World) → IsLast start events last → IsCounted last
-executed_at_most start events = along start (first_world start) events (λ es. IsCounted) (λ before next event here c number.
+pub executed_at_most : (start : Start) (events : List LineEvent) (last : World) → IsLast start events last → (number : ℕ)
+    → times_executed number last.executions ≤ sendings_in (slice_get last.outcomes number)
+executed_at_most start events last run number = along start (first_world start) events
+    (λ es world. times_executed number world.executions ≤ sendings_in (slice_get world.outcomes number)) (λ before next event here c.
     elim (step_cases start before event next here.step) [
       | Submits said fault are is ↦ grind (arith, common_steps, slice_get-append)
       | Sends who brought accepted are s ↦ rw s.next_is (counts_by s.held before.outcomes _ number
-          (times_executed number before.executions) _ (held_in start events here who s.held s.in_hand).unfinished (grind arith) (c number)
+          (times_executed number before.executions) _ (held_in start events here who s.held s.in_hand).unfinished (grind arith) c
           (times_executed-more (effect_on (state_of start.device before) brought) s.held.submission number before.executions))
-      | Stays protected cold_start spoken are is ↦ rw is (c number)
-    ]) (λ number. omega arith)
+      | Stays protected cold_start spoken are is ↦ rw is c
+    ]) (omega arith) last run

@@ -1,7 +1,7 @@
 use Rattle.std.proofs.Common.{◌∷◌, codes, arith, ◌≡◌, ℕ, ◌<◌, List, [], get_or, length, Option, None, Err}
 use Rattle.std.proofs.lemmas.Result.{err_from_is_err_and}
 use Rattle.hart_line.specs.script.Lines.{words_of}
-use Rattle.hart_line.specs.script.Rows.{turn_of, leg_of, ReadsWords}
+use Rattle.hart_line.specs.script.Rows.{leg_of, ReadsWords}
 use Rattle.hart_line.specs.declared.event.LineEvent.{LineEvent}
 use Rattle.hart_line.specs.declared.script.rows.RowFault.{RowFault}
 use Rattle.hart_line.proofs.script.rows.read_turn.Goals as goal
@@ -15,13 +15,9 @@ leg_fault words k word fault said short here none reads = grind (arith)
 pub returns-in_err-read_leg : goal.returns-in_err-read_leg
 returns-in_err-read_leg c =
     let refused = err_from_is_err_and c.from_residual-in_err-read_leg.result c.from_residual-in_err-read_leg.ensures.1 in
-    rw (refused.1, refused.2)
-    (leg_fault (codes "turn" ∷ words_of c.args.rest.now) 2 c.in-Some.up.now _ (turn_of (words_of c.args.rest.now))
-    (grind arith) (grind arith) (grind arith) c.in_err-read_leg.ensures)
+    rw (refused.1, refused.2) (grind (arith, leg_fault (codes "turn" ∷ words_of c.args.rest.now) 2 c.in-Some.up.now))
 
 pub returns-in_err-read_leg-2 : goal.returns-in_err-read_leg-2
 returns-in_err-read_leg-2 c =
     let refused = err_from_is_err_and c.from_residual-in_err-read_leg-2.result c.from_residual-in_err-read_leg-2.ensures.1 in
-    rw (refused.1, refused.2)
-    (leg_fault (codes "turn" ∷ words_of c.args.rest.now) 3 c.in-Some.down.now _ (turn_of (words_of c.args.rest.now))
-    (grind arith) (grind arith) (grind arith) c.in_err-read_leg-2.ensures)
+    rw (refused.1, refused.2) (grind (arith, leg_fault (codes "turn" ∷ words_of c.args.rest.now) 3 c.in-Some.down.now))
