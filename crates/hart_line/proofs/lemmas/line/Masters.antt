@@ -6,11 +6,10 @@ use Rattle.hart_values.specs.declared.master_id.MasterId.{MasterId}
 use Rattle.hart_frame.specs.wire.FrameParts.{FrameParts}
 use Rattle.hart_commands.specs.declared.request.Request.{Request}
 use Rattle.hart_master.specs.Master.{hand_submitted, result_submitted}
-use Rattle.hart_master.specs.declared.fault.MasterFault.{MasterFault}
 use Rattle.hart_master.specs.declared.fault.Rejected.{Rejected}
 use Rattle.hart_line.specs.declared.line.report.Outcome.{Outcome}
 use Rattle.hart_line.specs.declared.line.report.Outcome.TheVariants.{Refused}
-use Rattle.hart_line.specs.line.Masters.{Concludes, Sends, Submits, hand_of}
+use Rattle.hart_line.specs.line.Masters.{Concludes, Submits, hand_of}
 use Rattle.hart_line.specs.world.Step.{submission_fault}
 use Rattle.hart_line.specs.world.World.{InHand}
 
@@ -20,16 +19,6 @@ pub refused_submits : (held : Option InHand) (place : ℕ) (address : Address) (
     → (hand_submitted (hand_of held) address request ≡ hand_of held → Left held)
     → Submits held place address request (submission_fault held address request) (Refused rejected.fault) Left
 refused_submits held place address request rejected Left is left = grind arith
-
-pub sends_more : {Silent Silent' : Type 0} {Sent Sent' : InHand → Type 0} (who : MasterId) (held : Option InHand)
-    (frame : Option FrameParts) → (Silent → Silent') → ((sent : InHand) → Sent sent → Sent' sent)
-    → Sends who held frame Silent Sent → Sends who held frame Silent' Sent'
-sends_more who held frame silent sent s = grind arith
-
-pub submits_more : {Left Left' : Option InHand → Type 0} (held : Option InHand) (place : ℕ) (address : Address) (request : Request)
-    (fault : Option MasterFault) (outcome : Outcome) → ((left : Option InHand) → Left left → Left' left)
-    → Submits held place address request fault outcome Left → Submits held place address request fault outcome Left'
-submits_more held place address request fault outcome more s = grind arith
 
 pub concludes_more : {Left Left' : Option InHand → Type 0} {who : MasterId} {retries : ℕ} {held : InHand} {returned : Option FrameParts}
     {outcomes outcomes' : List Outcome} → ((left : Option InHand) → Left left → Left' left)

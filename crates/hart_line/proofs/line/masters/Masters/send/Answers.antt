@@ -1,10 +1,13 @@
 use Rattle.std.proofs.Common.{arith}
 use Rattle.std.proofs.lemmas.Grind.{common_steps}
-use Rattle.hart_line.proofs.lemmas.line.Masters.{sends_more}
+use Rattle.hart_values.specs.declared.master_id.MasterId.TheVariants.{Primary, Secondary}
 use Rattle.hart_line.proofs.line.masters.Masters.send.Goals as goal
 
 pub returns-in-Primary : goal.returns-in-Primary
-returns-in-Primary c = grind (arith, common_steps, sends_more)
+returns-in-Primary c = λ retries hands held.
+    let sends = c.send.ensures Primary retries.primary hands.primary held.primary in rw c.in-Primary.is (grind (arith, common_steps))
 
 pub returns-in-Secondary : goal.returns-in-Secondary
-returns-in-Secondary c = grind (arith, common_steps, sends_more)
+returns-in-Secondary c = λ retries hands held.
+    let sends = c.send-in-Secondary.ensures Secondary retries.secondary hands.secondary held.secondary in
+    rw c.in-Secondary.is (grind (arith, common_steps))
