@@ -1,5 +1,4 @@
 -- The line: a device and two masters, as the code has them.
 pub mod Leg
-pub mod Masters
 pub mod Turn
 pub mod Reached

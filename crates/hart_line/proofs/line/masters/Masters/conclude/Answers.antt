@@ -1,15 +1,14 @@
 use Rattle.std.proofs.Common.{arith}
 use Rattle.std.proofs.lemmas.Grind.{common_steps}
 use Rattle.hart_values.specs.declared.master_id.MasterId.TheVariants.{Primary, Secondary}
-use Rattle.hart_line.proofs.lemmas.line.Masters.{concludes_more}
 use Rattle.hart_line.proofs.line.masters.Masters.conclude.Goals as goal
 
 pub returns-in-Primary-clause-concludes : goal.returns-in-Primary-clause-concludes
-returns-in-Primary-clause-concludes c = λ retries hands held.
-    rw c.in-Primary.is (λ turn. concludes_more (
-    grind (arith, common_steps)) (c.conclude.ensures.concludes Primary retries.primary held turn.0))
+returns-in-Primary-clause-concludes c = λ retries hands held. rw c.in-Primary.is (λ turn.
+    let done = c.conclude.ensures.concludes Primary retries.primary held turn.0 in
+    record { accepted = done.accepted; accepts = done.accepts; outcomes_are = done.outcomes_are; left = grind (arith, common_steps) })
 
 pub returns-in-Secondary-clause-concludes : goal.returns-in-Secondary-clause-concludes
-returns-in-Secondary-clause-concludes c = λ retries hands held.
-    rw c.in-Secondary.is (λ turn. concludes_more (
-    grind (arith, common_steps)) (c.conclude-in-Secondary.ensures.concludes Secondary retries.secondary held turn.0))
+returns-in-Secondary-clause-concludes c = λ retries hands held. rw c.in-Secondary.is (λ turn.
+    let done = c.conclude-in-Secondary.ensures.concludes Secondary retries.secondary held turn.0 in
+    record { accepted = done.accepted; accepts = done.accepts; outcomes_are = done.outcomes_are; left = grind (arith, common_steps) })

@@ -1,6 +1,20 @@
-use Rattle.std.proofs.Common.{arith}
-use Rattle.hart_line.proofs.lemmas.line.Masters.{refused_submits}
+use Rattle.std.proofs.Common.{arith, ◌≡◌, ℕ, Option, Err}
+use Rattle.hart_values.specs.declared.address.Address.{Address}
+use Rattle.hart_commands.specs.declared.request.Request.{Request}
+use Rattle.hart_master.specs.Master.{hand_submitted, result_submitted}
+use Rattle.hart_master.specs.declared.fault.Rejected.{Rejected}
+use Rattle.hart_line.specs.declared.line.report.Outcome.TheVariants.{Refused}
+use Rattle.hart_line.specs.line.Masters.{Submits, hand_of}
+use Rattle.hart_line.specs.world.Step.{submission_fault}
+use Rattle.hart_line.specs.world.World.{InHand}
 use Rattle.hart_line.proofs.line.masters.Submitter.submit.Goals as goal
+
+-- A submission that the master refuses is the one that the world refuses, and the hand stays.
+refused_submits : (held : Option InHand) (place : ℕ) (address : Address) (request : Request) (rejected : Rejected)
+    (Left : Option InHand → Type 0) → result_submitted (hand_of held) address request ≡ Err rejected
+    → (hand_submitted (hand_of held) address request ≡ hand_of held → Left held)
+    → Submits held place address request (submission_fault held address request) (Refused rejected.fault) Left
+refused_submits held place address request rejected Left is left = grind arith
 
 pub returns-in-Err-clause-submits : goal.returns-in-Err-clause-submits
 returns-in-Err-clause-submits c = grind (arith, refused_submits)
