@@ -1,8 +1,7 @@
-use Rattle.std.proofs.Common.{◌∙◌, ◌+◌, ◌++◌, ◌∷◌, take, arith, ap, length, map, sym, ◌<◌, ◌≡◌, inl, [], ◌-◌}
+use Rattle.std.proofs.Common.{◌+◌, ◌++◌, ◌∷◌, take, arith, length, map, sym, ◌<◌, ◌≡◌, inl, [], ◌-◌}
 use Rattle.std.proofs.lemmas.Grind.{common_steps}
 use Rattle.std.proofs.lemmas.List.{drop-drop, length-map, length-take, map-append, take-map, take_more}
 use Rattle.hart_frame.specs.heard.Frames.{AreFrames, IsUndecided, none}
-use Rattle.hart_frame.specs.scan.Scanner.{Scan}
 use Rattle.hart_frame.specs.scan.Streamed.{begin, push}
 use Rattle.hart_frame.proofs.lemmas.Laws.{frames_are_streamed-pushed, messages_have_their_frame_alone-nothing}
 use Rattle.hart_c.specs.Find.{char_of}
@@ -16,8 +15,7 @@ nothing_undecided (none from nothing) = inl nothing
 
 pub loop-taken-init : goal.loop-taken-init
 loop-taken-init c =
-    let bits = c.have_fault_bits.ensures.0 c.if-not-have_fault_bits.false in
-    rw c.new-scanner.ensures (grind (arith, common_steps, begin, nothing_undecided messages_have_their_frame_alone-nothing, bits))
+    rw c.new-scanner.ensures (grind (arith, common_steps, begin, nothing_undecided messages_have_their_frame_alone-nothing))
 
 pub push-requires-clause-room : goal.push-requires-clause-room
 push-requires-clause-room c = grind (arith, common_steps, frames_are_streamed-pushed, length-take, length-map)
@@ -25,14 +23,13 @@ push-requires-clause-room c = grind (arith, common_steps, frames_are_streamed-pu
 pub loop-taken-preserved : goal.loop-taken-preserved
 loop-taken-preserved c =
     let loop = c.loop-taken.invariant in
-    let fill = c.fill-count.ensures in
-    let going = ap (λ (scan : Scan). scan.finished) c.push.ensures.heard ∙ loop.going in
     let chars = map char_of c.args.heard.now in
     let all : take (c.loop-taken.taken + 1) chars ≡ take c.loop-taken.taken chars ++ c.char_of.result ∷ [] =
     grind (arith, common_steps, take-map, map-append, take_more) in
     let history = rw (← all, ← c.push.ensures.heard) at (push _ _ _ c.char_of.result loop.history loop.going) in
     let rest = drop-drop {A = HartFrame} (c.fill-count.result - c.loop-taken.count) c.loop-taken.count in
-    search (arith, rest c.loop-taken.frames, rest c.args.frames.now, going, history, fill.tidy, fill.going, fill.waits, fill.undecided, fill.so_far)
+    let fill = c.fill-count.ensures in
+    search (arith, rest c.loop-taken.frames, rest c.args.frames.now, history, fill.tidy, fill.going, fill.waits, fill.undecided, fill.so_far)
 
 pub returns : goal.returns
 returns c =

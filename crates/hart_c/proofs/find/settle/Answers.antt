@@ -3,7 +3,6 @@ use Rattle.std.proofs.Math.Seq.{take-length, drop-length}
 use Rattle.hart_frame.specs.scan.Streamed.{IsHistory, finish}
 use Rattle.hart_frame.proofs.lemmas.Laws.{frames_are_streamed-all, frames_are_streamed-pushed, frames_are_unambiguous-one_list, held_characters_have_the_later_frames-held, held_characters_have_the_later_frames-later, messages_have_their_frame_alone-nothing}
 use Rattle.hart_c.specs.Frames.{found_in_first, IsTidy}
-use Rattle.std.proofs.lemmas.Bool.{false≢true}
 use Rattle.std.proofs.lemmas.Grind.{common_steps}
 use Rattle.std.proofs.lemmas.List.{drop-drop, append-nil, drop-append-le, length-take, take-append-drop}
 use Rattle.hart_frame.specs.heard.Character.{Character}
@@ -55,8 +54,7 @@ pub returns-then-count-frames-2 : goal.returns-then-count-frames-2
 returns-then-count-frames-2 c n chars before len searched =
     let fill = c.fill-count.ensures in
     let whole = searched.whole (omega (arith, searched.room, c.if-count-frames.false)) in
-    let finished : IsHistory (take n chars) c.finish.new.self (found_in_first c.args.count c.args.frames.now) =
-    rw c.finish.ensures (finish _ _ _ searched.history) in
+    let finished = rw (← c.finish.ensures) at (finish _ _ _ searched.history) in
     let shown = fill.so_far (take n chars) finished (λ fewer. absurd (omega (arith, fewer, c.if-count-frames-2.true))) in
     let onward = fill.untouched ∙ untouched_on _ _ _ _ fill.onward searched.untouched in
     let more = finds_more n c.fill-count.result chars c.args.ended before c.fill-count.new.frames c.fill-count.new.scanner in
@@ -66,11 +64,10 @@ pub returns : goal.returns
 returns c n chars before len searched =
     let fill = c.fill-count.ensures in
     let whole = searched.whole (omega (arith, searched.room, c.if-count-frames.false)) in
-    let finished : IsHistory (take n chars) c.finish.new.self (found_in_first c.args.count c.args.frames.now) =
-    rw c.finish.ensures (finish _ _ _ searched.history) in
+    let finished = rw (← c.finish.ensures) at (finish _ _ _ searched.history) in
     let fewer : c.fill-count.result < length c.fill-count.new.frames = omega (arith, fill.within, c.if-count-frames-2.false) in
     let all = rw (whole, take-length) at (fill.all (take n chars) finished fewer (rw c.finish.ensures refl)) in
     let frames = frames_are_streamed-all chars _ all in
     let tidy = fill.tidy searched.tidy in
     let onward = fill.untouched ∙ untouched_on _ _ _ _ fill.onward searched.untouched in
-    rw len (grind (arith, drop-length, frames_are_unambiguous-one_list, messages_have_their_frame_alone-nothing, append-nil, false≢true))
+    rw len (grind (arith, drop-length, frames_are_unambiguous-one_list, messages_have_their_frame_alone-nothing, append-nil))

@@ -9,7 +9,7 @@ use Rattle.hart_device.specs.declared.identity_parts.IdentityParts.{IdentityPart
 use Rattle.hart_device.proofs.lemmas.Laws.{deliveries_bring_one-one, images_have_no_fault}
 use Rattle.hart_master.proofs.lemmas.Laws.{replies_are_decided-one_reply}
 use Rattle.hart_c.specs.Device.{Hears, IsHearFault, IsHearing, IsInState, IsSaid, IsStateFault, image_in}
-use Rattle.hart_c.specs.Encode.{IsEncodeFault, IsFrame, IsWritten}
+use Rattle.hart_c.specs.Encode.{IsEncodeFault, IsFrame}
 use Rattle.hart_c.specs.Find.{char_of}
 use Rattle.hart_c.specs.Frames.{found_in, frame_in}
 use Rattle.hart_c.specs.Identity.{parts_of}
@@ -40,22 +40,10 @@ one_message : (frame : FrameParts) (preambles : ℕ) (message other : List ℕ) 
     → IsMessage frame preambles other → message ≡ other
 one_message frame preambles message other is again = grind (arith, bodies_are_unambiguous-one_body frame)
 
-one_encode_fault : (frame : HartFrame) (preambles room : ℕ) (fault other : Fault) → IsEncodeFault frame preambles room fault
-    → IsEncodeFault frame preambles room other → fault ≡ other
-one_encode_fault frame preambles room fault other why again = grind arith
-
--- a frame whose message was written has no fault
-not_written : (frame : HartFrame) (preambles len : ℕ) (before after : List ℕ) (fault : Fault) → IsWritten frame preambles before after len
-    → length after ≡ length before → IsEncodeFault frame preambles (length before) fault → ⊥
-not_written frame preambles len before after fault is same why = grind (arith, common_steps, one_message)
-
 pub returns-clause-encode : goal.returns-clause-encode
 returns-clause-encode c frame preambles before after other outcome another long longer =
-    one_outcome
-    (λ is again. grind (arith, one_message (frame_in frame) preambles is.1.message again.1.message is.1.is_message again.1.is_message))
-    (λ is why. not_written frame preambles outcome.len before after why.0 is.1 long why.1)
-    (λ why is. not_written frame preambles another.len before other why.0 is.1 longer why.1)
-    (λ why again. grind (arith, one_encode_fault frame preambles (length before) why.0 again.0))
+    one_outcome (λ is again. grind (arith, one_message (frame_in frame) preambles is.1.message again.1.message))
+    (λ is why. grind (arith, common_steps, one_message)) (λ why is. grind (arith, common_steps, one_message)) (λ why again. grind arith)
 
 pub returns-clause-new_devices : goal.returns-clause-new_devices
 returns-clause-new_devices c given before after other outcome another =
@@ -95,9 +83,7 @@ module _ (identity : HartIdentity) (process : HartProcess) (heard : List HartCha
 pub returns-clause-hear : goal.returns-clause-hear
 returns-clause-hear c identity process heard before after other old new newer outcome another long longer =
     one_outcome
-    (λ is again.
-    let (state, measured, brought) = one_hearing identity process heard before is.1.hearing again.1.hearing in
-    grind (arith, one_said, state, measured, brought, is.1.reply, again.1.reply, is.1.state, again.1.state))
+    (λ is again. grind (arith, one_said, one_hearing identity process heard before is.1.hearing again.1.hearing))
     (λ is why. not_heard identity process heard before after old new outcome.len why.0 is.1 long why.1)
     (λ why is. not_heard identity process heard before other old newer another.len why.0 is.1 longer why.1)
     (λ why again. grind (arith, one_hear_fault identity process heard before c (length old) why.0 again.0))
@@ -127,13 +113,9 @@ one_accept_fault numbers heard NoRequest other why because = absurd (no_frame nu
 one_accept_fault numbers heard WrongAddress other why because = absurd (no_frame numbers other because why.0)
 one_accept_fault numbers heard fault NoRequest why because = absurd (no_frame numbers fault why because.0)
 one_accept_fault numbers heard fault WrongAddress why because = absurd (no_frame numbers fault why because.0)
-one_accept_fault numbers heard fault other why because = one_encode_fault numbers 5 0 fault other (why 5 0) (because 5 0)
+one_accept_fault numbers heard fault other why because = grind (arith, why 5 0, because 5 0)
 
--- what is accepted has no fault, and is one
-not_accepted : (numbers : HartFrame) (heard : List HartChar) (before after : HartFrame) (said : Option Reply) (fault : Fault)
-    → Accepts numbers heard before after said → IsAcceptFault numbers heard fault → ⊥
-not_accepted numbers heard before after said fault is why = grind (arith, not_sent numbers is.request fault is.sent, is.delivery)
-
+-- what is accepted is one
 same_accepted : (numbers : HartFrame) (heard : List HartChar) (before after other : HartFrame) (said tale : Option Reply)
     → Accepts numbers heard before after said → Accepts numbers heard before other tale
     → (said ≡ tale) × (found_in after ≡ found_in other)
@@ -147,6 +129,6 @@ pub returns-clause-accept : goal.returns-clause-accept
 returns-clause-accept c numbers heard before after other acceptance another =
     one_outcome
     (λ is again. grind (arith, same_accepted numbers heard before after other is.0 again.0 is.1 again.1))
-    (λ is why. not_accepted numbers heard before after is.0 why.0 is.1 why.1)
-    (λ why is. not_accepted numbers heard before other is.0 why.0 is.1 why.1)
+    (λ is why. grind (arith, not_sent numbers is.1.request why.0 is.1.sent, is.1.delivery))
+    (λ why is. grind (arith, not_sent numbers is.1.request why.0 is.1.sent, is.1.delivery))
     (λ why again. grind (arith, one_accept_fault numbers heard why.0 again.0))
