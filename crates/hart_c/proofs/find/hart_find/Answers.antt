@@ -5,8 +5,8 @@ use Rattle.hart_frame.specs.heard.Frames.{AreFrames, IsUndecided, none}
 use Rattle.hart_frame.specs.scan.Streamed.{begin, push}
 use Rattle.hart_frame.proofs.lemmas.Laws.{frames_are_streamed-pushed, messages_have_their_frame_alone-nothing}
 use Rattle.hart_c.specs.Find.{char_of}
-use Rattle.hart_c.proofs.find.hart_find.Goals.{then-loop-taken-test+else-count-frames, else-loop-taken-test}
 use Rattle.hart_c.specs.declared.frame.HartFrame.{HartFrame}
+use Rattle.hart_c.proofs.find.hart_find.Goals.{then-loop-taken-test+else-count-frames, else-loop-taken-test}
 use Rattle.hart_c.proofs.find.hart_find.Goals as goal
 
 -- in nothing nothing is decided, since there is no frame
@@ -29,7 +29,7 @@ loop-taken-preserved c =
     let history = rw (← all, ← c.push.ensures.heard) at (push _ _ _ c.char_of.result loop.history loop.going) in
     let rest = drop-drop {A = HartFrame} (c.fill-count.result - c.loop-taken.count) c.loop-taken.count in
     let fill = c.fill-count.ensures in
-    search (arith, rest c.loop-taken.frames, rest c.args.frames.now, history, fill.tidy, fill.going, fill.waits, fill.undecided, fill.so_far)
+    search (arith, rest, history, fill.tidy, fill.going, fill.waits, fill.undecided, fill.so_far)
 
 pub returns : goal.returns
 returns c =

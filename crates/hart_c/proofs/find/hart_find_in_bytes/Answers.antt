@@ -33,12 +33,9 @@ loop-count-preserved c =
 pub returns-in_default : goal.returns-in_default
 returns-in_default c =
     let loop = c.loop-count.invariant in
-    let next = c.next_in_bytes-next in
-    let given = found_in_first c.loop-count.count c.loop-count.frames in
-    let leads : LeadsOn (faultless c.args.bytes.now) c.args.ended 0 given next.result.used =
-    grind (arith, common_steps, append-nil, next_frames_are_all-onward) in
-    rw c.found_so_far.ensures
-    (finds_next _ _ _ _ _ _ loop.room next.ensures.within loop.untouched loop.tidy leads (grind (arith, common_steps)))
+    let next = c.next_in_bytes-next.ensures in
+    rw c.found_so_far.ensures (finds_next _ _ _ _ _ _ loop.room next.within loop.untouched loop.tidy
+    (grind (arith, common_steps, append-nil, next_frames_are_all-onward)) (grind (arith, common_steps)))
 
 pub returns : goal.returns
 returns c =

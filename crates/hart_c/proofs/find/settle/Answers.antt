@@ -1,32 +1,26 @@
-use Rattle.std.proofs.Common.{◌<◌, arith, length, refl, take, ◌≡◌, ◌≤◌, ◌⊎◌, false, Bool, ℕ, IsTrue, List, All, append_assoc, drop, inl, ◌-◌, ◌∙◌}
+use Rattle.std.proofs.Common.{◌<◌, arith, length, refl, take, ◌≡◌, ◌≤◌, ◌⊎◌, false, Bool, ℕ, IsTrue, List, All, append_assoc, drop, ◌-◌, inl}
 use Rattle.std.proofs.Math.Seq.{take-length, drop-length}
-use Rattle.hart_frame.specs.scan.Streamed.{IsHistory, finish}
-use Rattle.hart_frame.proofs.lemmas.Laws.{frames_are_streamed-all, frames_are_streamed-pushed, frames_are_unambiguous-one_list, held_characters_have_the_later_frames-held, held_characters_have_the_later_frames-later, messages_have_their_frame_alone-nothing}
-use Rattle.hart_c.specs.Frames.{found_in_first, IsTidy}
 use Rattle.std.proofs.lemmas.Grind.{common_steps}
 use Rattle.std.proofs.lemmas.List.{drop-drop, append-nil, drop-append-le, length-take, take-append-drop}
+use Rattle.hart_frame.specs.scan.Streamed.{IsHistory, finish}
 use Rattle.hart_frame.specs.heard.Character.{Character}
 use Rattle.hart_frame.specs.heard.Frames.{IsUndecided}
 use Rattle.hart_frame.specs.scan.Scanner.{Scan}
+use Rattle.hart_frame.proofs.lemmas.Laws.{frames_are_streamed-all, frames_are_streamed-pushed, frames_are_unambiguous-one_list, held_characters_have_the_later_frames-held, held_characters_have_the_later_frames-later, messages_have_their_frame_alone-nothing}
+use Rattle.hart_c.specs.Frames.{found_in_first, IsTidy}
 use Rattle.hart_c.specs.Find.{AreNext, Finds}
 use Rattle.hart_c.specs.declared.find.HartSearch.{HartSearch}
 use Rattle.hart_c.specs.declared.frame.HartFrame.{HartFrame}
 use Rattle.hart_c.proofs.find.settle.Goals as goal
-
--- what comes after so many is what it was, so what comes after more is
-untouched_on : (count more : ℕ) (after before : List HartFrame) → count ≤ more → drop count after ≡ drop count before
-    → drop more after ≡ drop more before
-untouched_on count more after before onward same =
-    grind (arith, drop-drop (more - count) count after, drop-drop (more - count) count before)
 
 -- what a search came to that goes on, since the scanner does, or since all was searched and nothing is to come
 finds_more : (n count : ℕ) (chars : List Character) (ended : Bool) (before after : List HartFrame)
     (scan : Scan) (result : HartSearch) → result.used ≡ scan.first → result.count ≡ count → result.fault ≡ 0 → n ≤ length chars
     → count ≤ length after → drop count after ≡ drop count before → All IsTidy (take count after)
     → (scan.finished ≡ false) ⊎ (IsTrue ended × (n ≡ length chars)) → IsHistory (take n chars) scan (found_in_first count after)
-    → length scan.held ≤ 269 → (count < length after → (n ≡ length chars) × (ended ≡ false) × IsUndecided scan.held)
-    → Finds chars ended before after result
-finds_more n count chars ended before after scan result used_is count_is fault fits room untouched tidy goes history few waits =
+    → length scan.held ≤ 269 → (count < length after → n ≡ length chars) → (count < length after → ended ≡ false)
+    → (count < length after → IsUndecided scan.held) → Finds chars ended before after result
+finds_more n count chars ended before after scan result used_is count_is fault fits room untouched tidy goes history few whole going waits =
     let given = found_in_first count after in
     let held = held_characters_have_the_later_frames-held (take n chars) scan given history in
     let pushed = frames_are_streamed-pushed (take n chars) scan given history in
@@ -36,15 +30,15 @@ finds_more n count chars ended before after scan result used_is count_is fault f
     let next : AreNext chars ended given scan.first =
     λ more later ends frames. grind (arith, common_steps, frames_are_streamed-pushed, drop-append-le, append_assoc, later_is) in
     let left : count < length after → IsUndecided (drop scan.first chars) =
-    λ fewer. rw (rw ((waits fewer).0, take-length) at held) (waits fewer).2 in
+    λ fewer. rw (rw (whole fewer, take-length) at held) (waits fewer) in
     let is : result ≡ record { used = scan.first; count = count; fault = 0 } = grind arith in
-    rw is (search (arith, next, left, pushed, long))
+    rw is (search (arith, next, left, going, pushed, long))
 
 pub returns-then-not-ended : goal.returns-then-not-ended
 returns-then-not-ended c n chars before len searched =
     let step = c.step.ensures in
     finds_more n _ _ _ _ _ _ _ step.used step.count step.fault searched.within searched.room searched.untouched searched.tidy
-    (inl searched.going) searched.history step.few (λ fewer. (searched.whole fewer, c.if-not-ended.true, searched.undecided fewer))
+    (inl searched.going) searched.history step.few searched.whole (λ _. c.if-not-ended.true) searched.undecided
 
 pub returns-then-count-frames : goal.returns-then-count-frames
 returns-then-count-frames c n chars before len searched =
@@ -56,9 +50,9 @@ returns-then-count-frames-2 c n chars before len searched =
     let whole = searched.whole (omega (arith, searched.room, c.if-count-frames.false)) in
     let finished = rw (← c.finish.ensures) at (finish _ _ _ searched.history) in
     let shown = fill.so_far (take n chars) finished (λ fewer. absurd (omega (arith, fewer, c.if-count-frames-2.true))) in
-    let onward = fill.untouched ∙ untouched_on _ _ _ _ fill.onward searched.untouched in
+    let rest = drop-drop {A = HartFrame} (c.fill-count.result - c.args.count) c.args.count in
     let more = finds_more n c.fill-count.result chars c.args.ended before c.fill-count.new.frames c.fill-count.new.scanner in
-    search (arith, more, fill.tidy, whole, shown, onward)
+    search (arith, more, fill.tidy, whole, shown, rest)
 
 pub returns : goal.returns
 returns c n chars before len searched =
@@ -69,5 +63,6 @@ returns c n chars before len searched =
     let all = rw (whole, take-length) at (fill.all (take n chars) finished fewer (rw c.finish.ensures refl)) in
     let frames = frames_are_streamed-all chars _ all in
     let tidy = fill.tidy searched.tidy in
-    let onward = fill.untouched ∙ untouched_on _ _ _ _ fill.onward searched.untouched in
+    let rest = drop-drop {A = HartFrame} (c.fill-count.result - c.args.count) c.args.count in
+    let onward : drop c.fill-count.result c.fill-count.new.frames ≡ drop c.fill-count.result before = grind (arith, rest) in
     rw len (grind (arith, drop-length, frames_are_unambiguous-one_list, messages_have_their_frame_alone-nothing, append-nil))

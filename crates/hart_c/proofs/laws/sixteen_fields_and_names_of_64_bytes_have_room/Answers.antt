@@ -1,8 +1,9 @@
-use Rattle.std.proofs.Common.{◌≤◌, ℕ, zero, suc, List, [], ◌∷◌, length, slice_get, arith, rules, IfSome}
+use Rattle.std.proofs.Common.{◌≤◌, ℕ, List, [], ◌∷◌, length, arith, rules, IfSome}
+use Rattle.std.proofs.lemmas.List.Elements.{All-from_recursion}
+use Rattle.std.proofs.lemmas.Option.{slice_get_cases}
 use Rattle.std.specs.List.{AllByRecursion, find}
 use Rattle.std.specs.Prelude.{◌==◌}
 use Rattle.hart_commands.specs.Fields.{CommandRows, Row, fields_of, rows}
-use Rattle.hart_c.specs.Names.{rows_for}
 use Rattle.hart_c.proofs.laws.sixteen_fields_and_names_of_64_bytes_have_room.Goals as goal
 
 -- a name of 64 bytes at most
@@ -39,12 +40,6 @@ returns-clause-replies c command payload before after told outcome = grind (arit
 pub returns-clause-command_names : goal.returns-clause-command_names
 returns-clause-command_names c command before after outcome room named = grind (arith, found rows command all_small)
 
--- of some rows with short names, that of an index has one
-at_index : (these : List Row) (index : ℕ) → AllByRecursion IsShort these → IfSome (slice_get these index) IsShort
-at_index [] index all = tt
-at_index (row ∷ these) zero all = all.0
-at_index (row ∷ these) (suc index) all = at_index these index all.1
-
 pub returns-clause-field_names : goal.returns-clause-field_names
 returns-clause-field_names c is_reply command index before after outcome room named =
-    grind (arith, at_index (rows_for is_reply command) index, found rows command all_small)
+    grind (arith, slice_get_cases, All-from_recursion, found rows command all_small)
