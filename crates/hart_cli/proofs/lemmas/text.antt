@@ -1,6 +1,5 @@
--- Texts: hex items, and lines of bytes.
+-- Texts: pieces of hex text, and lines of bytes.
 pub mod InputChars
-pub mod HexText
 pub mod Items
 pub mod MessageLine
 pub mod PlainItems

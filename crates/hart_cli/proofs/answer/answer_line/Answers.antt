@@ -6,8 +6,6 @@ use Rattle.hart_cli.proofs.answer.answer_line.Goals as goal
 pub returns-in-Some : goal.returns-in-Some
 returns-in-Some c =
     let brought = deliveries_bring_one-brings c.args.device.now.identity c.args.delivery.now in
-    let line = rw c.response_preambles-preambles.ensures.same at c.message_line.ensures in
-    let answered = c.in-Some.ensures.answer brought.0 brought.1 in
     record { brought = brought.0; brings = brought.1; answered = grind (arith, common_steps) }
 
 pub returns-in-None : goal.returns-in-None

@@ -6,9 +6,7 @@ use Rattle.hart_cli.proofs.lemmas.text.MessageLine.{IsMessageLine-one}
 use Rattle.hart_cli.proofs.answer.one_answer.Goals as goal
 
 pub returns : goal.returns
-returns c = λ device input xs ys p q.
+returns c device input xs ys p q =
     let same = (one_reading (closed input) p.delivery [] q.delivery [] p.reads q.reads NoPieceBegins-nil NoPieceBegins-nil).0 in
     let heard = rw same at p.text_for in
-    let brought =
-    deliveries_bring_one-one device.identity q.delivery heard.brought q.text_for.brought heard.brings q.text_for.brings in
-    grind (arith, IsMessageLine-one)
+    grind (arith, IsMessageLine-one, deliveries_bring_one-one device.identity q.delivery heard.brought q.text_for.brought)

@@ -1,4 +1,4 @@
-use Rattle.std.proofs.Common.{arith, ℕ, List, Option, Err, [], ◌++◌, Some}
+use Rattle.std.proofs.Common.{arith, ℕ, List, Option, Err, [], Some}
 use Rattle.std.proofs.lemmas.Result.{err_from_is_err_and}
 use Rattle.hart_frame.specs.heard.Character.{Character}
 use Rattle.hart_frame.specs.scan.Scanner.{Scan, finishing}
@@ -18,9 +18,8 @@ use Rattle.hart_cli.proofs.dump.dump.Goals as goal
 has_dump : {r r' w w1 : Stream} {frames : FrameLines} {fault : Option CliFault} {new : Scan} {lines : List ℕ} (w' : Stream)
     → ScansAll r r' w w1 frames fault → GivesAll (finishing frames.scanner) new [] lines → WritesAll w1 w' lines
     → (all : List ℕ) × HasDump r r' fault all × WritesAll w w' all
-has_dump {lines = lines} w' all gives wrote =
-    let are = all_lines all.chars _ _ all.text lines all.scans gives in
-    (all.text ++ lines, grind arith, WritesAll-on _ _ w' all.text lines all.wrote wrote)
+has_dump w' all gives wrote =
+    (_, grind (arith, all_lines all.chars _ _ all.text _ all.scans gives), WritesAll-on _ _ w' all.text _ all.wrote wrote)
 
 -- only these faults end an input
 ends_with : (r r' w w' : Stream) (input : List ℕ) (ending : Ending) (chars : List Character) (fault : CliFault)

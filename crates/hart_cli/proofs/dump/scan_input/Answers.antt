@@ -7,8 +7,7 @@ use Rattle.hart_cli.specs.dump.Dump.{WroteInTime}
 use Rattle.hart_cli.specs.text.Items.{MayBegin, nothing}
 use Rattle.hart_cli.proofs.dump.scan_input.Given.{Over}
 use Rattle.hart_cli.proofs.dump.scan_input.Goals.{After-scan_text-rest}
-use Rattle.hart_cli.proofs.lemmas.dump.FrameLines.{keeps_nothing, keeps_within}
-use Rattle.hart_cli.proofs.lemmas.dump.Moves.{new_waits}
+use Rattle.hart_cli.proofs.lemmas.dump.FrameLines.{keeps_nothing, keeps_within, new_waits}
 use Rattle.hart_cli.proofs.lemmas.dump.ScanInput.{ScannedUpTo, scanned_step, scans_all, stopped_writing}
 use Rattle.hart_cli.proofs.lemmas.dump.Writes.{WritesAll-on, in_time_on}
 use Rattle.hart_cli.proofs.lemmas.text.InputChars.{may_begin-nil}
@@ -73,8 +72,8 @@ returns-in-Stop g c =
 
 pub loop-frames-preserved : goal.loop-frames-preserved
 loop-frames-preserved g c =
-    let list : c.unwrap-open.result ≡ c.scan_text-rest.result.now = rw c.unwrap-open.ensures at c.from_slice.ensures.kept in
-    let kept : c.extend_from_slice.new.self ≡ c.scan_text-rest.result.now = grind (arith, common_steps) in
+    let kept : c.extend_from_slice.new.self ≡ c.scan_text-rest.result.now =
+    grind (arith, common_steps, c.unwrap-open.ensures, c.from_slice.ensures.kept) in
     let on : (c.read_ahead-end.result ≡ None) × MayBegin c.scan_text-rest.result.now = grind (arith, c.in-ReadOn.ensures.step) in
     let now = scanned g (goal.at.loop-frames-preserved g c).After-scan_text-rest in
     let wrote = rw c.as_slice-in-loop-frames.ensures.value at c.in_ok-write_all.ensures in

@@ -4,6 +4,5 @@ use Rattle.hart_cli.proofs.lemmas.text.MessageLine.{IsMessageLine-one}
 use Rattle.hart_cli.proofs.encode.one_encoding.Goals as goal
 
 pub returns : goal.returns
-returns c = λ words xs ys p q.
-    let frames : p.frame ≡ q.frame = grind (arith, common_steps) in
-    IsMessageLine-one p.frame q.frame words.preambles xs ys frames p.line q.line
+returns c words xs ys p q =
+    let frames : p.frame ≡ q.frame = grind (arith, common_steps) in IsMessageLine-one p.frame q.frame _ xs ys frames p.line q.line

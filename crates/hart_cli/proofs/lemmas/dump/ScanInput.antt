@@ -18,8 +18,7 @@ use Rattle.hart_cli.specs.input.Input.{CameTo, Ending, Left, Reads, ReadsPortion
 use Rattle.hart_cli.specs.stream.Stream.{FailsToWrite, Stream, WritesAll}
 use Rattle.hart_cli.specs.text.InputChars.{HasChars}
 use Rattle.hart_cli.specs.text.Items.{MayBegin, NoPieceBegins, ReadsUpTo}
-use Rattle.hart_cli.proofs.lemmas.dump.FrameLines.{keeps_on}
-use Rattle.hart_cli.proofs.lemmas.dump.Moves.{are_decided, first_frames}
+use Rattle.hart_cli.proofs.lemmas.dump.FrameLines.{keeps_on, are_decided, first_frames}
 use Rattle.hart_cli.proofs.lemmas.dump.Writes.{FailsToWrite-longer, FailsToWrite-on, in_time_on}
 use Rattle.hart_cli.proofs.lemmas.text.InputChars.{decided_rest}
 use Rattle.hart_cli.proofs.lemmas.text.Items.{ReadsUpTo-few, ReadsUpTo-more, ReadsUpTo-on, stays}
@@ -91,13 +90,12 @@ stops_in w2 input ending chars lines last reads scanned are in_time fails last_f
 pub stopped_writing : {r r2 w w1 : Stream} {scan : Scan} {end : Option InputEnd} {rest : List ℕ} {place : ℕ} (w2 : Stream)
     (text lines : List ℕ) (scanned : ScannedUpTo r r2 scan end rest place (text ++ lines)) → WritesAll w w1 text
     → WroteInTime scanned.input w w1 → FailsToWrite w1 w2 lines → StopsWriting r r2 w w2
-stopped_writing {w = w} {w1 = w1} {scan = scan} {end = end} w2 text lines scanned wrote in_time fails =
+stopped_writing {scan = scan} {end = end} w2 text lines scanned wrote in_time fails =
     let later = every_list_has_frames (scanned.chars ++ []) scan.first in
     let are = first_frames scanned.chars [] scan scanned.scans.given later.0 scanned.scans.moves later.1 in
-    let more = dump_text later.0 in
-    stops_in w2 scanned.input (ending_of end) scanned.chars ((text ++ lines) ++ more) lines (grind (arith, common_steps))
-    (record { rest = _; reads = scanned.reads; few = scanned.few }) (grind (arith, common_steps)) in_time
-    (FailsToWrite-longer w w2 (text ++ lines) more (FailsToWrite-on w w1 w2 text lines wrote fails)) fails
+    let all = FailsToWrite-longer _ w2 (text ++ lines) (dump_text later.0) (FailsToWrite-on _ _ w2 text lines wrote fails) in
+    stops_in w2 scanned.input (ending_of end) scanned.chars _ lines (grind (arith, common_steps)) (grind arith)
+    (grind (arith, common_steps)) in_time all fails
 
 -- an input that is read no further was scanned with its fault, or none
 scanned_to : {r r2 w w1 : Stream} {frames : FrameLines} {end : Option InputEnd} {rest : List ℕ} {place : ℕ} {text : List ℕ}

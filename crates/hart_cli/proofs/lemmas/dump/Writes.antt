@@ -1,5 +1,5 @@
 -- Texts that are written one after another, and lines that were written in time.
-use Rattle.std.proofs.Common.{arith, ◌≢◌, ℕ, List, [], ◌∷◌, ◌++◌, refl, append_assoc}
+use Rattle.std.proofs.Common.{length-append, arith, length-append, ℕ, List, ◌++◌, append_assoc}
 use Rattle.std.proofs.KnownBytes.{Appends-trans}
 use Rattle.std.proofs.lemmas.Grind.{common_steps}
 use Rattle.std.specs.Io.KnownBytes.{Appends}
@@ -14,17 +14,12 @@ WritesAll-on a b c xs ys h k = grind (arith, common_steps, Appends-trans)
 pub FailsToWrite-on : (a b c : Stream) (xs ys : List ℕ) → WritesAll a b xs → FailsToWrite b c ys → FailsToWrite a c (xs ++ ys)
 FailsToWrite-on a b c xs ys h k = grind (arith, common_steps, Appends-trans)
 
--- what was not written is not empty
-rest_stays : (rest more : List ℕ) → rest ≢ [] → rest ++ more ≢ []
-rest_stays [] more some none = some refl
-rest_stays (byte ∷ rest) more some none = absurd cc
-
 -- a prefix of a text is one of a longer text
 pub FailsToWrite-longer : (old new : Stream) (text more : List ℕ) → FailsToWrite old new text → FailsToWrite old new (text ++ more)
-FailsToWrite-longer old new text more fails = grind (arith, common_steps, rest_stays)
+FailsToWrite-longer old new text more fails =
+    let after = length-append fails.0.rest more in grind (arith, common_steps)
 
 -- what is written later takes nothing back
 pub in_time_on : (input : List ℕ) (w now later : Stream) (text : List ℕ) → WroteInTime input w now
     → Appends now.bytes later.bytes text → WroteInTime input w later
-in_time_on input w now later text before on =
-    let all = rw append_assoc at (Appends-trans _ _ _ _ text before.written on) in grind arith
+in_time_on input w now later text before on = grind (arith, rw append_assoc at (Appends-trans _ _ _ _ text before.written on))

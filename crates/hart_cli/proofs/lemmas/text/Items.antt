@@ -1,25 +1,18 @@
 -- Texts of items: a text reads in one way, and what follows a text leaves what was read.
-use Rattle.std.proofs.Common.{◌≡◌, ℕ, ◌+◌, ◌<◌, ◌≤◌, ◌-◌, List, [], ◌∷◌, ◌++◌, length, take, drop, Option, refl, ◌*◌, arith, append-nil}
-use Rattle.std.proofs.Common.{append_assoc}
-use Rattle.std.proofs.Math.Seq.{drop-append_seam}
+use Rattle.std.proofs.Common.{◌≡◌, ℕ, ◌+◌, ◌<◌, ◌≤◌, List, [], ◌∷◌, ◌++◌, length, drop, Option, refl, ◌*◌, arith, append-nil, append_assoc}
 use Rattle.std.proofs.lemmas.Grind.{common_steps}
-use Rattle.std.proofs.lemmas.List.{take_rest}
 use Rattle.std.specs.Option.{option_to_list}
 use Rattle.hart_frame.specs.heard.Character.{Character}
-use Rattle.hart_cli.specs.text.Items.{BeginsAs, BeginsWith, IsWholeBefore, NoPieceBegins, nothing, Piece, piece, ReadsUpTo, spelling}
+use Rattle.hart_cli.specs.text.Items.{BeginsAs, BeginsWith, NoPieceBegins, nothing, Piece, piece, ReadsUpTo, spelling}
 
 -- two pieces that begin one text are one piece
-pub same_piece : (text : List ℕ) (p q : Piece) (s t : List ℕ) → BeginsWith text p s → BeginsWith text q t → (p ≡ q) × (s ≡ t)
+same_piece : (text : List ℕ) (p q : Piece) (s t : List ℕ) → BeginsWith text p s → BeginsWith text q t → (p ≡ q) × (s ≡ t)
 same_piece text p q s t h k = grind (arith, common_steps)
-
--- a whole piece stays whole, whatever follows
-whole_before_more : (tail more : List ℕ) (p : Piece) → IsWholeBefore tail p → IsWholeBefore (tail ++ more) p
-whole_before_more [] more p w = grind arith
-whole_before_more (n ∷ tail) more p w = grind arith
 
 -- a text begins with its piece, whatever follows
 BeginsWith-more : (text tail more : List ℕ) (p : Piece) → BeginsWith text p tail → BeginsWith (text ++ more) p (tail ++ more)
-BeginsWith-more text tail more p h = grind (arith, common_steps, whole_before_more)
+BeginsWith-more text [] more p h = grind (arith, append_assoc)
+BeginsWith-more text (n ∷ tail) more p h = grind (arith, append_assoc)
 
 -- a text reads up to its rest, whatever follows
 pub ReadsUpTo-more : (text : List ℕ) (chars : List Character) (rest more : List ℕ) → ReadsUpTo text chars rest
@@ -34,12 +27,6 @@ pub ReadsUpTo-on : (text : List ℕ) (xs : List Character) (rest : List ℕ) (ys
 ReadsUpTo-on _ _ _ ys last (nothing rest) k = k
 ReadsUpTo-on _ _ _ ys last (piece text first tail chars rest h r) k =
     search (append_assoc, piece, ReadsUpTo-on tail chars rest ys last r k)
-
--- a text is read on from a place
-pub read_on : (text : List ℕ) (chars more : List Character) (place len : ℕ) → ReadsUpTo text chars (drop place text)
-    → ReadsUpTo (take (length text - place) (drop place text)) more (drop len (take (length text - place) (drop place text)))
-    → ReadsUpTo text (chars ++ more) (drop (place + len) text)
-read_on text chars more place len r h = grind (arith, common_steps, ReadsUpTo-on, take_rest)
 
 -- a reading goes on after a shorter one
 pub record GoesOn (xs : List Character) (rest : List ℕ) (ys : List Character) (last : List ℕ) : Type 0 where
@@ -77,8 +64,7 @@ NoPieceBegins-nil p tail h = grind (arith, common_steps)
 pub begins_reads : (text : List ℕ) (char : Option Character) (len : ℕ) → BeginsAs text char len
     → (0 < len) × (len ≤ length text) × ReadsUpTo text (option_to_list char) (drop len text)
 begins_reads text char len b =
-    let read = piece text b.piece b.tail [] b.tail b.begins (nothing b.tail) in
-    grind (arith, common_steps, append-nil, drop-append_seam (spelling b.piece) b.tail)
+    let read = piece text b.piece b.tail [] b.tail b.begins (nothing b.tail) in grind (arith, common_steps)
 
 -- a text has two bytes at least before its rest for each character
 pub ReadsUpTo-few : (text : List ℕ) (chars : List Character) (rest : List ℕ) → ReadsUpTo text chars rest

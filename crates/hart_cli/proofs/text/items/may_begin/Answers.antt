@@ -1,11 +1,9 @@
-use Rattle.std.proofs.Common.{◌≡◌, ◌≢◌, ℕ, ◌+◌, ◌*◌, ◌<◌, ◌≤◌, List, [], ◌∷◌, ◌++◌, length, drop, Option, Bool, is_some, IsTrue}
-use Rattle.std.proofs.Common.{MatchOption, refl, arith}
+use Rattle.std.proofs.Common.{◌≡◌, ◌≢◌, ℕ, ◌+◌, ◌*◌, ◌<◌, ◌≤◌, List, [], ◌∷◌, ◌++◌, length, drop, refl, arith}
 use Rattle.std.proofs.lemmas.Grind.{common_steps}
 use Rattle.std.specs.Int.{bit_at}
 use Rattle.hart_frame.specs.heard.Character.{AreFaultBits}
 use Rattle.hart_line.specs.script.Items.{AreDigits, byte_of, Faulty, hex_value}
-use Rattle.hart_cli.specs.declared.text.items.LeadingPiece.{LeadingPiece}
-use Rattle.hart_cli.specs.text.Items.{BeginsAs, BeginsWith, Item, MayBegin, meaning, NoPieceBegins, Piece, spelling}
+use Rattle.hart_cli.specs.text.Items.{BeginsWith, Item, MayBegin, meaning, NoPieceBegins, Piece, spelling}
 use Rattle.hart_cli.proofs.text.items.may_begin.Goals as goal
 
 -- what fills the beginning of an item up to an item: `00!02` and a space
@@ -17,7 +15,7 @@ fault_bits : (high : ℕ) → high < 8 → AreFaultBits (16 * high + 2)
 fault_bits high small = record {
   byte = omega arith;
   only = λ bit below set.
-      let differs : (other : ℕ) → bit_at (16 * high + 2) other ≡ 0 → bit ≢ other = λ other none same. grind (arith, common_steps) in
+      let differs : (other : ℕ) → bit_at (16 * high + 2) other ≡ 0 → bit ≢ other = grind (arith, common_steps) in
       grind (arith, differs 0 (omega arith), differs 2 (omega arith), differs 3 (omega arith), differs 7 (omega arith));
 }
 
@@ -50,16 +48,9 @@ filled (a ∷ b ∷ c ∷ d ∷ f ∷ []) more tail (Item (Faulty x y v w)) n h 
     m _ _ (begins_faulty _ x y v w h.valid.0 h.valid.1 h.valid.2 h.valid.3 (cc h.spelled))
 filled text more tail p n h m = n _ _ (stands text more tail p h (grind arith))
 
--- a piece was found if and only if one may begin
-found_if : (text text' : List ℕ) (found : Option LeadingPiece) (result : Bool) → result ≡ is_some found → text' ≡ text → NoPieceBegins text
-    → MatchOption found (NoPieceBegins (text' ++ filling text)) (λ lead. BeginsAs (text' ++ filling text) lead.char lead.len)
-    → (IsTrue result → MayBegin text) × (MayBegin text → IsTrue result)
-found_if text text' found result e f n h = grind (arith, common_steps, filled)
-
 pub returns-then-text-gt6-clause-may : goal.returns-then-text-gt6-clause-may
 returns-then-text-gt6-clause-may c =
-    let text = c.args.text.now in
-    grind (arith, common_steps, λ (may : MayBegin text). stands text may.more may.tail may.piece may.begins)
+    grind (arith, λ (may : MayBegin c.args.text.now). stands c.args.text.now may.more may.tail may.piece may.begins)
 
 pub returns-clause-may : goal.returns-clause-may
-returns-clause-may c = found_if _ _ _ _ c.is_some.ensures c.copy_from_slice.ensures.after c.requires c.leading_piece.ensures
+returns-clause-may c = grind (arith, filled)

@@ -1,29 +1,21 @@
-use Rattle.std.proofs.Common.{◌≡◌, ◌≤◌, ◌-◌, List, ℕ, take, drop, length, ◌∙◌, arith, take-add}
+use Rattle.std.proofs.Common.{take, ◌∙◌, arith, take-add, length-drop, length-take}
 use Rattle.std.proofs.lemmas.Grind.{common_steps}
-use Rattle.std.proofs.lemmas.List.{take_rest}
+use Rattle.std.proofs.lemmas.List.{length-map, take_rest}
 use Rattle.hart_frame.specs.heard.Character.{faultless}
-use Rattle.hart_cli.proofs.lemmas.dump.FrameLines.{keeps_no_frame, keeps_on, keeps_then, keeps_within, waits_for_more}
-use Rattle.hart_cli.proofs.lemmas.dump.Moves.{moves_on}
+use Rattle.hart_cli.proofs.lemmas.dump.FrameLines.{keeps_no_frame, keeps_on, keeps_then, keeps_within, waits_for_more, moves_on}
 use Rattle.hart_cli.proofs.dump.frame_lines.FrameLines.scan_chunk.Goals as goal
-
--- so much was heard of a chunk
-length-heard : (chunk : List ℕ) (n : ℕ) → n ≤ length chunk → length (faultless (take n chunk)) ≡ n
-length-heard chunk n within = grind (arith, common_steps)
-
--- the length of what is left, as a slice has it
-left : (chunk : List ℕ) (n : ℕ) → length (take (length chunk - n) (drop n chunk)) ≡ length chunk - n
-left chunk n = grind (arith, common_steps)
 
 pub push_bytes-taken-requires-clause-room : goal.push_bytes-taken-requires-clause-room
 push_bytes-taken-requires-clause-room c =
     let heard = faultless (take c.loop-taken.taken c.args.chunk.now) in
-    let within = keeps_within c.args.self.now.scanner _ heard _ _ c.loop-taken.invariant.scans in grind (arith, left, length-heard)
+    let within = keeps_within c.args.self.now.scanner _ heard _ _ c.loop-taken.invariant.scans in
+    grind (arith, length-drop, length-map, length-take, take_rest)
 
 pub take_frames-requires : goal.take_frames-requires
 take_frames-requires c =
     let heard = faultless (take c.loop-taken.taken c.args.chunk.now) in
     let within = keeps_within c.args.self.now.scanner _ heard _ _ c.loop-taken.invariant.scans in
-    grind (arith, left, length-heard, moves_on)
+    grind (arith, length-drop, length-map, length-take, moves_on, take_rest)
 
 pub loop-taken-preserved : goal.loop-taken-preserved
 loop-taken-preserved c =

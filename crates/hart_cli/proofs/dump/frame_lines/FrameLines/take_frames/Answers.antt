@@ -1,8 +1,7 @@
 use Rattle.std.proofs.Common.{◌∙◌, ◌∷◌, [], arith}
 use Rattle.std.proofs.lemmas.Grind.{common_steps}
 use Rattle.hart_frame.specs.scan.View.{found_of}
-use Rattle.hart_cli.proofs.lemmas.dump.FrameLines.{keeps_then}
-use Rattle.hart_cli.proofs.lemmas.dump.Moves.{gives_long, moves_on}
+use Rattle.hart_cli.proofs.lemmas.dump.FrameLines.{keeps_then, gives_long, moves_on}
 use Rattle.hart_cli.proofs.dump.frame_lines.FrameLines.take_frames.Goals as goal
 
 pub push_frame_line-requires : goal.push_frame_line-requires
