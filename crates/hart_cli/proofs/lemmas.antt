@@ -1,5 +1,4 @@
 -- Lemmas, in the rooms of the code and the definitions.
-pub mod program
 pub mod dump
 pub mod explain
 pub mod text

@@ -2,5 +2,4 @@
 pub mod Heard
 pub mod Told
 pub mod Fields
-pub mod Misses
 pub mod Gaps

@@ -1,8 +1,7 @@
-use Rattle.std.proofs.Common.{◌⊎◌, ◌≡◌, ℕ, ◌<◌, true, List, length, take, slice_index, Some, None, inl, inr, arith, refl, false, ◌%◌}
+use Rattle.std.proofs.Common.{◌⊎◌, ◌≡◌, ℕ, ◌<◌, true, List, length, slice_index, Some, None, inl, inr, arith, refl, false, ◌%◌}
 use Rattle.std.proofs.lemmas.Grind.{common_steps}
 use Rattle.std.proofs.lemmas.List.{get_or-take, length-take}
 use Rattle.std.proofs.lemmas.List.Elements.{All-get_or}
-use Rattle.std.specs.List.{AllPass}
 use Rattle.hex.specs.Hex.{is_hex_digit}
 use Rattle.hex.proofs.HexLemmas.{decode_of-ok, decode_of-same}
 use Rattle.hart_device.proofs.lemmas.Laws.{images_have_no_fault}
@@ -12,19 +11,14 @@ use Rattle.hart_cli.proofs.image_word.one_device.Goals as goal
 -- what makes a word bad hex at a place
 bad_parts : (word : List ℕ) (place : ℕ) → IsBadHexWord word place → ((length word % 2 ≡ 1) × (place ≡ length word))
     ⊎ ((length word % 2 ≡ 0) × (place < length word) × (is_hex_digit (slice_index word place) ≡ false)
-    × AllPass is_hex_digit (take place word))
+    × ((k : ℕ) → k < place → is_hex_digit (slice_index word k) ≡ true))
 bad_parts word _ (IsBadHexWord.odd is) = inl (is, refl)
-bad_parts word place (IsBadHexWord.no_digit _ even below none digits) = inr (even, below, none, digits)
-
--- an element of the first ones, all of which are digits, is a digit
-digit_before : (word : List ℕ) (place n : ℕ) → place < n → n < length word → AllPass is_hex_digit (take n word)
-    → is_hex_digit (slice_index word place) ≡ true
-digit_before word place n before below digits = grind (arith, All-get_or, get_or-take, length-take)
+bad_parts word place (IsBadHexWord.no_digit _ even below none digits) =
+    inr (even, below, none, λ k before. grind (arith, digits k 0, get_or-take, length-take))
 
 -- a word is bad hex at one place
 IsBadHexWord-one : (word : List ℕ) (place other : ℕ) → IsBadHexWord word place → IsBadHexWord word other → place ≡ other
-IsBadHexWord-one word place other p q =
-    grind (arith, bad_parts word place p, bad_parts word other q, digit_before word place other, digit_before word other place)
+IsBadHexWord-one word place other p q = grind (arith, bad_parts word place p, bad_parts word other q)
 
 -- a word that is bad hex is that of no image
 bad_is_no_word : (word : List ℕ) (place : ℕ) (bytes : List ℕ) → IsBadHexWord word place → IsImageWord word bytes → ⊥

@@ -21,7 +21,7 @@ use Rattle.hart_frame.specs.heard.Frames.{AreFrames, first, moved, none}
 use Rattle.hart_frame.specs.heard.Miss.{HasFrameAt, miss_of}
 use Rattle.hart_frame.specs.heard.Place.{StandsIn}
 use Rattle.hart_cli.specs.explain.Gaps.{IsGap, missed, missed_at, MissedPlace}
-use Rattle.hart_cli.specs.explain.Misses.{byte_digits, characters_word, miss_line, miss_words, place_text}
+use Rattle.hart_cli.specs.explain.Misses.{miss_line, miss_words, place_text}
 
 -- places that have something, each with it
 abbrev pub told_at : (ℕ → Option Miss) → ℕ → List MissedPlace
@@ -81,9 +81,7 @@ unbroken-all text test = grind (arith, common_steps, AllPass-from_list_all, nat_
 -- digits are none
 unbroken-onto : (k n : ℕ) (text : List ℕ) → unbroken text ≡ true → unbroken (digits_onto k 10 false n text) ≡ true
 unbroken-onto zero n text test = test
-unbroken-onto (suc k) n text test =
-    let more : unbroken (digit_glyph false (n % 10) ∷ text) ≡ true = grind (arith, nat_tests) in
-    grind (arith, common_steps, unbroken-onto k (n / 10) (digit_glyph false (n % 10) ∷ text) more)
+unbroken-onto (suc k) n text test = grind (arith, nat_tests, unbroken-onto k (n / 10) (digit_glyph false (n % 10) ∷ text))
 
 pub unbroken-decimal : (n : ℕ) → unbroken (decimal n) ≡ true
 unfolding digits
@@ -93,16 +91,11 @@ unbroken-decimal n = unbroken-onto 64 n [] refl
 unbroken-digit : (k : ℕ) → no_line_feed (get_or upper_digits k 0) ≡ true
 unbroken-digit k = grind (arith, common_steps, list_all_at no_line_feed upper_digits)
 
-unbroken-byte_digits : (byte : ℕ) → unbroken (byte_digits byte) ≡ true
-unfolding encode_with
-unbroken-byte_digits byte = simp unbroken-digit
-
-unbroken-characters_word : (count : ℕ) → unbroken (characters_word count) ≡ true
-unbroken-characters_word count = grind (arith, common_steps)
-
+-- the words of a miss have none
 pub unbroken-miss_words : (from : ℕ) (miss : Miss) → unbroken (miss_words from miss) ≡ true
+unfolding encode_with
 unbroken-miss_words from Burst = refl
-unbroken-miss_words from _ = grind (arith, list_all-append, unbroken-decimal, unbroken-byte_digits, unbroken-characters_word)
+unbroken-miss_words from _ = grind (arith, list_all-append, unbroken-decimal, unbroken-digit)
 
 -- a frame in some characters is one of those with others before them
 stands_after : (before chars : List Character) (found : Found) (at : ℕ) → at ≤ length before → StandsIn found chars 0

@@ -1,49 +1,42 @@
-use Rattle.std.proofs.Common.{◌≡◌, ℕ, List, ◌++◌, arith, inr}
-use Rattle.std.proofs.lemmas.Grind.{common_steps}
+use Rattle.std.proofs.Common.{◌≡◌, ◌++◌, List, ℕ, append_assoc, arith, inr}
 use Rattle.std.proofs.lemmas.Result.{err_from_is_err_and}
-use Rattle.std.specs.List.{enumerate_from, flat_map}
-use Rattle.hart_device.specs.Device.{DeviceState}
-use Rattle.hart_line.specs.declared.event.LineEvent.{LineEvent}
-use Rattle.hart_line.specs.declared.line.report.Outcome.{Outcome}
-use Rattle.hart_line.specs.declared.line.report.Spoken.{Spoken}
-use Rattle.hart_line.specs.script.Rows.{IsScript}
-use Rattle.hart_line.specs.world.Spoken.{AreSpoken}
-use Rattle.hart_line.specs.world.Step.{IsLast}
-use Rattle.hart_line.specs.world.World.{Start, World, state_of}
+use Rattle.hart_line.specs.world.Promises.{start_from}
+use Rattle.hart_cli.specs.sim.Kept.{Keeps}
 use Rattle.hart_cli.specs.sim.Sim.{IsSimulation, start_with}
-use Rattle.hart_cli.specs.sim.Text.{counter_line, image_line, outcome_line, spoken_line}
+use Rattle.hart_cli.specs.sim.Text.{counter_line, image_line}
+use Rattle.hart_cli.proofs.sim.simulation.Goals.{After-push_outcomes}
 use Rattle.hart_cli.proofs.sim.simulation.Goals as goal
 
--- the text of a script that was carried out
-IsSimulation-run : (first : DeviceState) (input : List ℕ) (start : Start) (events : List LineEvent) (device : DeviceState)
-    (outcomes : List Outcome) (world : World) (spoken : List Spoken) → start ≡ start_with first → IsScript input events
-    → IsLast start events world → device ≡ state_of start.device world → outcomes ≡ world.outcomes → AreSpoken world.spoken spoken
-    → IsSimulation first input ((flat_map spoken_line spoken ++ flat_map outcome_line (enumerate_from 1 outcomes))
-    ++ counter_line device ++ image_line device)
-IsSimulation-run first input start events device outcomes world spoken same script last device_is outcomes_are said =
-    grind (arith, common_steps)
+-- a text was kept that is that of the script once the lines of the device follow it
+simulated : (c : After-push_outcomes) → (text : List ℕ) × Keeps c.push_outcomes.new.self.kept text
+    × IsSimulation c.args.device c.args.input.now
+    (text ++ counter_line c.in_ok-ending.ending.device ++ image_line c.in_ok-ending.ending.device)
+simulated c =
+    let ending = c.in_ok-ending.ensures in
+    let world = ending.world.0 in
+    let noted = ending.noted world ending.world.1 in
+    let start : start_from c.args.device c.process.result c.unwrap-primary.result c.unwrap-secondary.result
+    ≡ start_with c.args.device = grind arith in
+    let outcomes = ending.outcomes world ending.world.1 in
+    let device = ending.device world ending.world.1 in (
+      _,
+      c.push_outcomes.ensures _ noted.2,
+      record {
+        events = c.as_slice.result.now;
+        script = rw c.as_slice.ensures.value c.in_ok-events.ensures.events;
+        world = world;
+        last = rw start at ending.world.1;
+        world_text = record { spoken = noted.0; are_spoken = noted.1; gives = grind (arith, append_assoc) };
+      },
+    )
 
 pub returns-clause-text : goal.returns-clause-text
 returns-clause-text c =
-    let ending = c.in_ok-ending.ensures in
-    let world = ending.world.0 in
-    let noted = ending.noted world ending.world.1 in
-    rw (c.in_ok-finish.ensures.text _ (c.push_outcomes.ensures _ noted.2), c.as_slice-2.ensures)
-    (IsSimulation-run c.args.device c.args.input.now _ c.as_slice.result.now c.in_ok-ending.ending.device c.in_ok-ending.ending.outcomes
-    world noted.0 (grind arith) (rw c.as_slice.ensures.value c.in_ok-events.ensures.events) ending.world.1
-    (ending.device world ending.world.1) (ending.outcomes world ending.world.1) noted.1)
+    let (text, keeps, is) = simulated (goal.at.returns-clause-text c).After-push_outcomes in
+    rw (c.in_ok-finish.ensures.text text keeps) is
 
 pub returns-in_err-finish-clause-fault : goal.returns-in_err-finish-clause-fault
 returns-in_err-finish-clause-fault c =
-    let ending = c.in_ok-ending.ensures in
-    let world = ending.world.0 in
-    let noted = ending.noted world ending.world.1 in
+    let (text, keeps, is) = simulated (goal.at.returns-in_err-finish-clause-fault c).After-push_outcomes in
     let stop = err_from_is_err_and c.from_residual-in_err-finish.result c.from_residual-in_err-finish.ensures.1 in
-    let simulation = IsSimulation-run c.args.device c.args.input.now _ c.as_slice.result.now c.in_ok-ending.ending.device
-    c.in_ok-ending.ending.outcomes world noted.0 (grind arith) (rw c.as_slice.ensures.value c.in_ok-events.ensures.events)
-    ending.world.1 (ending.device world ending.world.1) (ending.outcomes world ending.world.1) noted.1 in
-    rw (stop.1, stop.2) (inr (inr (
-      _,
-      simulation,
-      rw c.as_slice-2.ensures at (c.in_err-finish.ensures.refused _ (c.push_outcomes.ensures _ noted.2)),
-    )))
+    rw (stop.1, stop.2) (inr (inr (_, is, c.in_err-finish.ensures.refused text keeps)))

@@ -1,8 +1,8 @@
-use Rattle.std.proofs.Common.{◌≡◌, ◌≤◌, ◌<◌, ◌+◌, ℕ, true, List, ◌∷◌, drop, map, get_or, length, Some, arith, append_assoc, length-append}
+use Rattle.std.proofs.Common.{◌≡◌, ◌≤◌, ◌<◌, ◌+◌, ℕ, true, List, drop, map, get_or, length, Some, arith}
 use Rattle.std.proofs.Common.{length-drop}
 use Rattle.std.proofs.lemmas.Bool.Decides.{nat_tests}
 use Rattle.std.proofs.lemmas.Grind.{common_steps}
-use Rattle.std.proofs.lemmas.List.{drop-drop, length-take-le}
+use Rattle.std.proofs.lemmas.List.{length-take-le}
 use Rattle.std.proofs.lemmas.List.Folds.{list_all_at}
 use Rattle.hart_commands.specs.Fields.{seen, size_in, split}
 use Rattle.hart_commands.specs.declared.fields.FieldRow.{FieldRow}
@@ -27,11 +27,6 @@ row_at-suits : (rows : List FieldRow) (i : ℕ) (d : FieldRow) (bytes field afte
     → i < length rows → split (get_or rows i d).size bytes ≡ Some (field, after) → suits (get_or rows i d).kind (length field) ≡ true
 row_at-suits rows i d bytes field after all within is = grind (arith, common_steps, row_at-shown, split-is)
 
--- the rows from one on
-rows_from : (rows : List FieldRow) (i : ℕ) (d : FieldRow) → i < length rows
-    → map seen (drop i rows) ≡ seen (get_or rows i d) ∷ map seen (drop (i + 1) rows)
-rows_from rows i d within = grind (arith, common_steps)
-
 pub push_field-requires-clause-short : goal.push_field-requires-clause-short
 push_field-requires-clause-short c = grind (arith, common_steps, row_at-shown)
 
@@ -39,8 +34,4 @@ pub push_field-requires-clause-suits : goal.push_field-requires-clause-suits
 push_field-requires-clause-suits c = grind (arith, row_at-suits)
 
 pub loop-row-preserved : goal.loop-row-preserved
-loop-row-preserved c = record {
-  lines = grind (arith, common_steps, append_assoc, rows_from);
-  rest = grind (arith, common_steps, rows_from, split-is, length-append, drop-drop);
-  few = grind (arith, split-is);
-}
+loop-row-preserved c = grind (arith, common_steps, split-is)

@@ -4,13 +4,14 @@ use Rattle.std.proofs.lemmas.Grind.{common_steps}
 use Rattle.std.proofs.lemmas.List.{drop-append-le, drop-drop, drop-set-add}
 use Rattle.std.proofs.lemmas.List.Elements.{All-drop}
 use Rattle.std.proofs.lemmas.Option.{slice_get_cases, slice_get_within}
-use Rattle.std.specs.List.{slice_get}
+use Rattle.std.specs.List.{Contains, slice_get}
 use Rattle.hart_frame.specs.declared.heard.miss.Miss.{Miss}
 use Rattle.hart_frame.specs.declared.heard.miss.Miss.TheVariants.{BadCheck, Faulty, Missing, OnePreamble}
 use Rattle.hart_frame.specs.heard.Character.{Character}
 use Rattle.hart_frame.specs.heard.InTheWay.{HasBodyAt, IsInTheWay, bytes_from}
-use Rattle.hart_frame.specs.heard.Miss.{HasFrameUpTo}
+use Rattle.hart_frame.specs.heard.Miss.{HasFrameUpTo, miss_of}
 use Rattle.hart_frame.specs.heard.Start.{IsStart}
+use Rattle.hart_cli.specs.explain.Gaps.{missed}
 use Rattle.hart_cli.specs.explain.Misses.{miss_in_whole}
 use Rattle.hart_cli.proofs.lemmas.explain.Gaps.{missed_are, stands_in_rest}
 use Rattle.hart_cli.proofs.explain.laws.hints_of_explanations_are_right.Goals as goal
@@ -40,10 +41,13 @@ way_in_rest chars from start place miss is within way = grind (arith, bytes_in_r
 rest_is : (chars : List Character) (from start : ℕ) → IsStart start (drop from chars) → from ≤ length chars
 rest_is chars from start is = grind (arith, common_steps, length-drop from chars)
 
--- all bytes of the rest of characters are bytes
-bytes_small : (chars : List Character) (from : ℕ) → All (λ character. character.byte < 256) chars
-    → All (λ character. character.byte < 256) (drop from chars)
-bytes_small chars from small = All-drop (λ (character : Character). character.byte < 256) from chars small
+-- what is known of a place with a miss, in the rest of characters
+known : (chars : List Character) (from stop place : ℕ) (miss : Miss) → All (λ character. character.byte < 256) chars
+    → Contains (missed chars from stop) (record { place = place; miss = miss }) → All (λ character. character.byte < 256) (drop from chars)
+    × (place ≡ from + (place - from)) × (miss_of (drop from chars) (place - from) ≡ Some miss)
+known chars from stop place miss small has =
+    let is = missed_are chars from stop place miss has in
+    (All-drop (λ (character : Character). character.byte < 256) from chars small, omega (arith, is.0), is.2)
 
 -- another miss than that one preamble byte stands alone is told where a body may start
 started : (start : ℕ) (chars : List Character) (miss : Miss) → IsStart start chars ⊎ (miss ≡ OnePreamble) → miss ≢ OnePreamble
@@ -57,43 +61,38 @@ body_in_rest chars from start place is has = grind (arith, common_steps, drop-dr
 
 pub returns-clause-in_the_way : goal.returns-clause-in_the_way
 returns-clause-in_the_way c chars from stop place miss small has start =
-    let is = missed_are chars from stop place miss has in
-    way_in_rest chars from (place - from) place miss (omega (arith, is.0)) (rest_is chars from (place - from) start)
-    ((c.misses_are_in_the_way.ensures.in_the_way (place - from) (drop from chars) miss (bytes_small chars from small) start).0 is.2)
+    let (bytes, placed, is) = known chars from stop place miss small has in
+    way_in_rest chars from (place - from) place miss placed (rest_is chars from (place - from) start)
+    ((c.misses_are_in_the_way.ensures.in_the_way (place - from) (drop from chars) miss bytes start).0 is)
 
 pub returns-clause-fits : goal.returns-clause-fits
 returns-clause-fits c chars from stop place at byte fits small has =
-    let is = missed_are chars from stop place (BadCheck at byte fits) has in
-    let bytes = bytes_small chars from small in
-    frame_up_to _ from (place - from) (at + 1) place (from + at + 1)
-    (rw drop-set-add (c.misses_say_what_is_wrong.ensures.bad_check (place - from) at byte fits (drop from chars) bytes is.2))
-    (omega (arith, is.0)) (omega arith)
+    let (bytes, placed, is) = known chars from stop place (BadCheck at byte fits) small has in
+    let stands = c.misses_say_what_is_wrong.ensures.bad_check (place - from) at byte fits (drop from chars) bytes is in
+    frame_up_to _ from (place - from) (at + 1) place (from + at + 1) (rw drop-set-add stands) placed (omega arith)
 
 pub returns-clause-faulty : goal.returns-clause-faulty
 returns-clause-faulty c chars from stop place at faults small has =
-    let is = missed_are chars from stop place (Faulty at faults) has in
-    let either = c.every_start_has_a_frame_or_a_miss.ensures.only_there (place - from) (drop from chars) (Faulty at faults) is.2 in
+    let (bytes, placed, is) = known chars from stop place (Faulty at faults) small has in
+    let either = c.every_start_has_a_frame_or_a_miss.ensures.only_there (place - from) (drop from chars) (Faulty at faults) is in
     let start = started (place - from) (drop from chars) (Faulty at faults) either (λ same. absurd cc) in
     (returns-clause-in_the_way c chars from stop place (Faulty at faults) small has start).2
 
 pub returns-clause-missing : goal.returns-clause-missing
 returns-clause-missing c chars from stop place count bytes small fit has long =
-    let is = missed_are chars from stop place (Missing count) has in
-    let either = c.every_start_has_a_frame_or_a_miss.ensures.only_there (place - from) (drop from chars) (Missing count) is.2 in
-    let start = started (place - from) (drop from chars) (Missing count) either (λ same. absurd cc) in
-    let within = rest_is chars from (place - from) start in
-    let heard = bytes_small chars from small in
+    let (heard, placed, is) = known chars from stop place (Missing count) small has in
+    let either = c.every_start_has_a_frame_or_a_miss.ensures.only_there (place - from) (drop from chars) (Missing count) is in
+    let within = rest_is chars from (place - from) (started (place - from) (drop from chars) (Missing count) either (λ same. absurd cc)) in
     let (last, check, stands) =
-    c.misses_say_what_is_wrong.ensures.missing (place - from) count (drop from chars) bytes heard fit is.2 long in (
+    c.misses_say_what_is_wrong.ensures.missing (place - from) count (drop from chars) bytes heard fit is long in (
       last,
-      rw (bytes_in_rest chars from (place - from) place (omega (arith, is.0))) at check,
-      frame_up_to _ from (place - from) (length (drop from chars) + count) place _ (rw drop-append-le stands) (omega (arith, is.0))
+      rw (bytes_in_rest chars from (place - from) place placed) at check,
+      frame_up_to _ from (place - from) (length (drop from chars) + count) place _ (rw drop-append-le stands) placed
           (omega (arith, length-drop from chars)),
     )
 
 pub returns-clause-alone : goal.returns-clause-alone
 returns-clause-alone c chars from stop place small has =
-    let is = missed_are chars from stop place OnePreamble has in
-    let bytes = bytes_small chars from small in
-    let (alone, body) = (c.misses_are_in_the_way.ensures.one_alone (place - from) (drop from chars) bytes).0 is.2 in
-    (alone, body_in_rest chars from (place - from) place (omega (arith, is.0)) body)
+    let (bytes, placed, is) = known chars from stop place OnePreamble small has in
+    let (alone, body) = (c.misses_are_in_the_way.ensures.one_alone (place - from) (drop from chars) bytes).0 is in
+    (alone, body_in_rest chars from (place - from) place placed body)

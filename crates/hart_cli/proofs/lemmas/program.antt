@@ -1,2 +1,0 @@
--- The program: the commands that clap is given.
-pub mod Subcommand
