@@ -72,18 +72,15 @@ told_in_order f a (suc n) = elim (f a) as (λ miss. AllPairs (λ told later. tol
 abbrev pub no_line_feed : ℕ → Bool
 no_line_feed code = not (code == 10)
 
-abbrev pub unbroken : List ℕ → Bool
-unbroken text = list_all no_line_feed text
-
-pub unbroken-all : (text : List ℕ) → unbroken text ≡ true → All (λ code. code ≢ 10) text
+pub unbroken-all : (text : List ℕ) → list_all no_line_feed text ≡ true → All (λ code. code ≢ 10) text
 unbroken-all text test = grind (arith, common_steps, AllPass-from_list_all, nat_tests)
 
 -- digits are none
-unbroken-onto : (k n : ℕ) (text : List ℕ) → unbroken text ≡ true → unbroken (digits_onto k 10 false n text) ≡ true
+unbroken-onto : (k n : ℕ) (text : List ℕ) → list_all no_line_feed text ≡ true → list_all no_line_feed (digits_onto k 10 false n text) ≡ true
 unbroken-onto zero n text test = test
 unbroken-onto (suc k) n text test = grind (arith, nat_tests, unbroken-onto k (n / 10) (digit_glyph false (n % 10) ∷ text))
 
-pub unbroken-decimal : (n : ℕ) → unbroken (decimal n) ≡ true
+pub unbroken-decimal : (n : ℕ) → list_all no_line_feed (decimal n) ≡ true
 unfolding digits
 unbroken-decimal n = unbroken-onto 64 n [] refl
 
@@ -92,7 +89,7 @@ unbroken-digit : (k : ℕ) → no_line_feed (get_or upper_digits k 0) ≡ true
 unbroken-digit k = grind (arith, common_steps, list_all_at no_line_feed upper_digits)
 
 -- the words of a miss have none
-pub unbroken-miss_words : (from : ℕ) (miss : Miss) → unbroken (miss_words from miss) ≡ true
+pub unbroken-miss_words : (from : ℕ) (miss : Miss) → list_all no_line_feed (miss_words from miss) ≡ true
 unfolding encode_with
 unbroken-miss_words from Burst = refl
 unbroken-miss_words from _ = grind (arith, list_all-append, unbroken-decimal, unbroken-digit)

@@ -1,6 +1,7 @@
-use Rattle.std.proofs.Common.{◌≡◌, ◌-◌, ℕ, drop, zero, suc, List, [], ◌∷◌, arith, false}
+use Rattle.std.proofs.Common.{◌≡◌, ◌-◌, ℕ, drop, List, [], arith, false}
 use Rattle.std.proofs.lemmas.Grind.{common_steps}
 use Rattle.std.proofs.lemmas.List.{take_rest}
+use Rattle.std.proofs.lemmas.Option.{slice_get_cases}
 use Rattle.std.specs.Option.{option_map_or}
 use Rattle.std.specs.Prelude.{is_none, not, slice_get}
 use Rattle.hart_frame.specs.heard.Character.{Character}
@@ -13,9 +14,7 @@ use Rattle.hart_cli.proofs.explain.misses.tell_place.Goals as goal
 no_body_at : (start at : ℕ) (chars : List Character)
     → option_map_or (λ first. not (is_preamble first)) (slice_get chars at) false ≡ false
     → is_none (body_miss start (drop at chars)) ≡ false
-no_body_at start zero chars none = grind (arith, common_steps)
-no_body_at start (suc at) [] none = grind (arith, common_steps)
-no_body_at start (suc at) (first ∷ rest) none = no_body_at start at rest none
+no_body_at start at chars none = grind (arith, common_steps, slice_get_cases)
 
 -- where nothing is asked, nothing is said
 no_text : (chars : List Character) (from place : ℕ) → is_asked (drop from chars) (place - from) ≡ false

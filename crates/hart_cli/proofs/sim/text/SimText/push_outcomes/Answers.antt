@@ -19,7 +19,5 @@ outcomes_more : (outcomes : List Outcome) (i : ℕ) (d : Outcome) → i < length
 outcomes_more outcomes i d below = grind (arith, common_steps, length-take, numbered_on, take_more)
 
 pub loop-index-preserved : goal.loop-index-preserved
-loop-index-preserved c = λ text keeps.
-    let more = outcomes_more c.args.outcomes.now c.loop-index.index c.index-outcomes-index.result c.loop-index-test.true in
-    let kept = c.push.ensures _ (c.loop-index.invariant text keeps) in
-    grind (arith, append_assoc)
+loop-index-preserved c text keeps =
+    let kept = c.push.ensures _ (c.loop-index.invariant text keeps) in grind (arith, append_assoc, outcomes_more)
