@@ -1,4 +1,4 @@
--- Every list of characters has its frames.
+-- A frame stands where a body may start and its own stands, and every list of characters has its frames.
 use Rattle.std.proofs.Common.{append_assoc, ◌≡◌, ℕ, zero, suc, ◌+◌, ◌≤◌, ◌⊎◌, inl, inr, List, [], ◌∷◌, length, take, drop, arith, ◌++◌}
 use Rattle.std.proofs.Common.{length-append, refl}
 use Rattle.std.proofs.lemmas.Grind.{common_steps}
