@@ -55,7 +55,7 @@ gives_span old b layout sound holds =
     grind (arith, length-append, length-drop b.from b.bytes)
 
 -- nothing is given after some characters were let go
-pub gives_nothing_then : (old mid new : Scan) → MovesPast old mid [] → mid.finished ≡ old.finished → GivesNothing mid new
+gives_nothing_then : (old mid new : Scan) → MovesPast old mid [] → mid.finished ≡ old.finished → GivesNothing mid new
     → GivesNothing old new
 gives_nothing_then old mid new moves finished (inl waits) = grind (arith, waits, moves_then)
 gives_nothing_then old mid new moves finished (inr ends) = grind (arith, nothing_before old mid moves ends.none)

@@ -1,4 +1,4 @@
--- What is known of bytes while they are searched, and of a search that is joined of two.
+-- What is known of bytes while they are searched, and what a search then finds.
 use Rattle.std.proofs.Common.{Some, None, ◌≡◌, ◌≢◌, ℕ, zero, suc, ◌+◌, ◌-◌, ◌<◌, ◌≤◌, ◌⊎◌, inl, inr, List, [], ◌∷◌, ◌++◌, length, take}
 use Rattle.std.proofs.Common.{drop, get_or, refl, ap, ◌∙◌, max, arith, append_assoc, length-append, length-drop}
 use Rattle.std.proofs.Common.{add-zero}

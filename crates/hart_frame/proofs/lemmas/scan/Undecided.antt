@@ -25,7 +25,7 @@ hears_sample : (scan : Scan) → CanHear scan [] (sample scan)
 hears_sample scan = grind (arith, common_steps, length-replicate)
 
 -- the frames of a list are none if none stands in it, and begin with the first
-pub no_frames : (chars : List Character) (from : ℕ) → AreFrames chars from [] → HasNoFrame chars from
+no_frames : (chars : List Character) (from : ℕ) → AreFrames chars from [] → HasNoFrame chars from
 no_frames chars from (none n empty) = empty
 
 pub head_first : (chars : List Character) (from : ℕ) (g : Found) (later : List Found) → AreFrames chars from (g ∷ later)
@@ -40,7 +40,7 @@ same_first chars from to (g ∷ later) found old new stands =
     (g, (head_first chars to g later new).stands, (head_first chars from g later old).least found stands)
 
 -- what a scanner holds, stands in all that it heard
-pub held_stands : (s : Scan) (found : Found) → StandsIn found s.held 0
+held_stands : (s : Scan) (found : Found) → StandsIn found s.held 0
     → StandsIn (record { start = s.first + found.start; stop = s.first + found.stop; frame = found.frame }) (sample s) s.first
 held_stands s found stands = stands_after (replicate s.first other) s.held [] found s.first (length-replicate s.first other) stands
 
