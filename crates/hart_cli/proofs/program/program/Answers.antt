@@ -1,13 +1,13 @@
-use Rattle.std.proofs.Common.{◌≡◌, arith, codes, List, None, Option, option_map, map, string_bytes, Bool, Some, if◌then◌else◌}
+use Rattle.std.proofs.Common.{◌≡◌, arith, List, None, Option, option_map, map, string_bytes, Bool, Some, if◌then◌else◌}
 use Rattle.std.proofs.lemmas.Bool.Decides.{nat_tests}
 use Rattle.std.proofs.lemmas.Grind.{common_steps}
 use Rattle.std.specs.Option.{option_and_then}
-use Rattle.clap.specs.Words.{Row, Text, first_of, subcommand_of}
+use Rattle.clap.specs.Words.{Row, Text, subcommand_of}
 use Rattle.hart_frame.specs.wire.Message.{IsPreambleCount}
 use Rattle.hart_cli.specs.declared.program.command_line.Call.{Call}
 use Rattle.hart_cli.specs.declared.program.command_line.Call.TheVariants.{Answer, Dump, Encode, Explain, Sim}
 use Rattle.hart_cli.specs.encode.MessageWords.{MessageWords}
-use Rattle.hart_cli.specs.program.CommandLine.{call_of, hart_app, message_words, preambles_of, words_of}
+use Rattle.hart_cli.specs.program.CommandLine.{call_of, hart_app, message_words, preambles_of}
 use Rattle.hart_cli.specs.program.Program.{HasPreambleCount}
 use Rattle.hart_cli.proofs.program.program.Goals as goal
 
@@ -25,10 +25,7 @@ words_called answer dump explain sim encode image given words h = grind (arith, 
 
 -- a call of `encode` that words make has a number of preamble bytes that a sender puts
 call_counted : (met : Option (Text × List Row)) (call : Call) → call_of met ≡ Some call → HasPreambleCount call
-call_counted (Some found) (Encode words) gives =
-    words_counted (first_of (codes "preambles") found.1) _ _ _ _ words (words_called _ _ _ _ _ _ (words_of found.1) words gives)
-call_counted None (Encode words) gives = cc gives
-call_counted met _ gives = tt
+call_counted met call gives = grind (arith, words_counted, words_called)
 
 pub make_call-requires : goal.make_call-requires
 make_call-requires g c = call_counted (subcommand_of hart_app (map string_bytes c.args.words.now)) _ c.in-Ok.ensures.call.gives

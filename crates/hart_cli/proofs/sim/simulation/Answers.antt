@@ -1,8 +1,7 @@
-use Rattle.std.proofs.Common.{◌≡◌, ◌++◌, List, ℕ, append_assoc, arith, inr}
+use Rattle.std.proofs.Common.{◌++◌, List, ℕ, append_assoc, arith, inr}
 use Rattle.std.proofs.lemmas.Result.{err_from_is_err_and}
-use Rattle.hart_line.specs.world.Promises.{start_from}
 use Rattle.hart_cli.specs.sim.Kept.{Keeps}
-use Rattle.hart_cli.specs.sim.Sim.{IsSimulation, start_with}
+use Rattle.hart_cli.specs.sim.Sim.{IsSimulation}
 use Rattle.hart_cli.specs.sim.Text.{counter_line, image_line}
 use Rattle.hart_cli.proofs.sim.simulation.Goals.{After-push_outcomes}
 use Rattle.hart_cli.proofs.sim.simulation.Goals as goal
@@ -15,8 +14,6 @@ simulated c =
     let ending = c.in_ok-ending.ensures in
     let world = ending.world.0 in
     let noted = ending.noted world ending.world.1 in
-    let start : start_from c.args.device c.process.result c.unwrap-primary.result c.unwrap-secondary.result
-    ≡ start_with c.args.device = grind arith in
     let outcomes = ending.outcomes world ending.world.1 in
     let device = ending.device world ending.world.1 in (
       _,
@@ -25,7 +22,7 @@ simulated c =
         events = c.as_slice.result.now;
         script = rw c.as_slice.ensures.value c.in_ok-events.ensures.events;
         world = world;
-        last = rw start at ending.world.1;
+        last = grind (arith, ending.world.1);
         world_text = record { spoken = noted.0; are_spoken = noted.1; gives = grind (arith, append_assoc) };
       },
     )
