@@ -52,8 +52,7 @@ pub scanned_step : (r r1 r2 w w1 : Stream) (old new : FrameLines) (place : ℕ) 
 scanned_step r r1 r2 w w1 old new place ahead after rest text room end due none wrote may is_room more few stops scans waiting =
     let added = ended_text more.bytes (ending_of end) in
     let all : ended_text (due.input ++ more.bytes) (ending_of end) ≡ due.input ++ added = grind (arith, common_steps) in
-    let keeps : KeepsLines (hearing old.scanner scans.chars) new.scanner text (text ++ new.lines) = grind (arith, common_steps) in
-    (
+    let keeps : KeepsLines (hearing old.scanner scans.chars) new.scanner text (text ++ new.lines) = grind (arith, common_steps) in (
       record {
         input = due.input ++ more.bytes;
         chars = due.chars ++ scans.chars;

@@ -129,4 +129,3 @@ content_again state process valid is _ made =
       sized registers.Assembly,
       sized registers.LongTag,
     )
-

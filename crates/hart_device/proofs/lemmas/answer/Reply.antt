@@ -53,4 +53,3 @@ reply_read state process frame valid is known =
     (after_valid frame.master (effect_of state frame) state made valid) is known
     (judged_by (is_known frame.command) state.protected (needed_data frame.command) frame.command state.counter frame.payload
     (reading_of frame) (given frame.command frame.payload))
-

@@ -26,8 +26,14 @@ returns-in-Err-clause-fault g c =
     let (noted, has, reached) = c.loop-index.invariant.told in
     let stands = noted_stands start reached.world _ noted c.loop-index.invariant.room.nothing_spoken reached.stands in
     let here = slice_get-get_or c.args.events.now c.loop-index.index _ c.loop-index-test.true in
-    rw (c.from.ensures, c.at.ensures) (reached.world, _, reached.is_last, here, undetected_on start reached.world _ _
-    (rw c.index-events-index.is at (c.in-Err.ensures.stopped start (with_spoken [] reached.world) refl stands)))
+    rw (c.from.ensures, c.at.ensures) (
+      reached.world,
+      _,
+      reached.is_last,
+      here,
+      undetected_on start reached.world _ _
+          (rw c.index-events-index.is at (c.in-Err.ensures.stopped start (with_spoken [] reached.world) refl stands)),
+    )
 
 pub returns-in-Err-clause-detectable_damage_is_detected : goal.returns-in-Err-clause-detectable_damage_is_detected
 returns-in-Err-clause-detectable_damage_is_detected g c =

@@ -20,8 +20,13 @@ returns-in-Err-clause-fault g c =
     let start = start_from c.args.device c.args.process.now c.args.primary c.args.secondary in
     let reached = c.loop-index.invariant.reached in
     let here = slice_get-get_or c.args.events.now c.loop-index.index _ c.loop-index-test.true in
-    rw c.at.ensures (reached.world, _, reached.is_last, here,
-    rw c.index-events-index.is at (c.in-Err.ensures.stopped start reached.world refl reached.stands))
+    rw c.at.ensures (
+      reached.world,
+      _,
+      reached.is_last,
+      here,
+      rw c.index-events-index.is at (c.in-Err.ensures.stopped start reached.world refl reached.stands),
+    )
 
 pub loop-index-preserved : goal.loop-index-preserved
 loop-index-preserved g c =
