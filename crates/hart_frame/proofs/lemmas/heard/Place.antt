@@ -20,11 +20,6 @@ pub StandsIn-from : (found : Found) (chars : List Character) (place from : ℕ) 
     → StandsIn found chars from
 StandsIn-from found chars place from stands after = grind arith
 
--- a frame that does not stand right at a place stands later
-pub start-later : (found : Found) (chars : List Character) (from place : ℕ) → StandsIn found chars from → place + 2 ≤ found.start
-    → (StandsIn found chars place → found.start ≡ place + 2 → ⊥) → place + 1 + 2 ≤ found.start
-start-later found chars from place stands after not_here = grind (arith, StandsIn-from)
-
 -- a frame lies within the list
 pub record LiesWithin (found : Found) (chars : List Character) (from : ℕ) : Type 0 where
   pub after : from + 2 ≤ found.start
