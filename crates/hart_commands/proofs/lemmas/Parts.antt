@@ -1,4 +1,4 @@
--- What is read in parts of so many bytes is written as these bytes.
+-- A list of so many bytes, seen byte by byte.
 use Rattle.std.proofs.Common.{◌≡◌, ℕ, ◌≤◌, zero, suc, List, [], ◌∷◌, ◌++◌, take, drop, length, refl, subst, arith, slice_index}
 use Rattle.std.proofs.lemmas.Grind.{common_steps}
 use Rattle.std.proofs.lemmas.List.{take_all}

@@ -1,4 +1,4 @@
--- Whether a delivery is accepted is decided.
+-- Whether a frame is a reply, and whether a delivery is accepted, is decided.
 use Rattle.std.proofs.Common.{◌≡◌, ◌<◌, List, [], ◌∷◌, ◌⊎◌, inl, inr, length, Option, None, Some, refl, arith}
 use Rattle.std.proofs.lemmas.List.{nil_from_length}
 use Rattle.hart_values.specs.declared.address.Address.{Address}

@@ -1,4 +1,4 @@
--- A delivery brings a device one thing.
+-- A delivery brings a device one thing, and the reply to a garbled request is the answer to it.
 use Rattle.std.proofs.Common.{◌≡◌, inl, inr, List, [], ◌∷◌, ap, ◌∙◌, refl, Option, None, Some, arith}
 use Rattle.std.proofs.lemmas.Grind.{common_steps}
 use Rattle.std.specs.Option.{MatchOption}

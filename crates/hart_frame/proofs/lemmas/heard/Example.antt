@@ -16,8 +16,7 @@ use Rattle.hart_frame.proofs.lemmas.heard.Body.{faultless-one}
 use Rattle.hart_frame.proofs.lemmas.heard.Damage.{clear_is}
 use Rattle.hart_frame.proofs.lemmas.heard.Place.{preamble}
 use Rattle.hart_frame.proofs.lemmas.wire.Body.{IsBody-push}
-use Rattle.hart_frame.proofs.lemmas.wire.Parity.{IsCheckByte-fold, even-check}
-use Rattle.hart_frame.proofs.lemmas.wire.Truncated.{fits_at}
+use Rattle.hart_frame.proofs.lemmas.wire.Parity.{IsCheckByte-fold, even-check, fits_at}
 
 -- the body that is sent
 abbrev request_body : List ℕ

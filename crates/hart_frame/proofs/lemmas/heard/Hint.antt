@@ -1,4 +1,4 @@
--- What a miss names is what stands in the way of a frame.
+-- Where a body may start a frame stands or something is missed, and with what is missed put right a frame stands.
 use Rattle.std.proofs.Common.{◌≡◌, ◌≢◌, ℕ, fold, bit_xor, ◌+◌, ◌-◌, ◌<◌, ◌⊎◌, List, [], ◌∷◌, ◌++◌, length, take, drop, get_or}
 use Rattle.std.proofs.Common.{set, true, Some, refl, arith, append_assoc, length-append, ◌↔◌}
 use Rattle.std.proofs.lemmas.Bool.Decides.{nat_tests}
@@ -24,9 +24,9 @@ use Rattle.hart_frame.proofs.lemmas.heard.Front.{faultless_fit, length-faultless
 use Rattle.hart_frame.proofs.lemmas.heard.InTheWay.{in_the_way, way_of, fits-is}
 use Rattle.hart_frame.proofs.lemmas.heard.Missed.{miss_of-some, miss_of-start, good_prefix, one_preamble-is, one_preamble-yes, none_of}
 use Rattle.hart_frame.proofs.lemmas.heard.Place.{preamble}
-use Rattle.hart_frame.proofs.lemmas.wire.Parity.{IsCheckByte-fold}
+use Rattle.hart_frame.proofs.lemmas.wire.Parity.{IsCheckByte-fold, fits_at}
 use Rattle.hart_frame.proofs.lemmas.wire.Prefix.{HasGoodByteCount-more, length_more}
-use Rattle.hart_frame.proofs.lemmas.wire.Truncated.{fits_at, fitted}
+use Rattle.hart_frame.proofs.lemmas.wire.Truncated.{fitted}
 
 -- bytes up to a check byte that fits are a body
 whole_body : (bytes : List ℕ) → All (λ byte. byte < 256) bytes → HasCheckByte bytes

@@ -20,8 +20,7 @@ use Rattle.hart_frame.specs.wire.Refusal.{IsRefusedWith}
 use Rattle.hart_frame.proofs.lemmas.heard.Front.{char_at, after_faultless, faultless_fit, length-faultless_bytes}
 use Rattle.hart_frame.proofs.lemmas.heard.Missed.{odd, miss_of-some, miss_of-start}
 use Rattle.hart_frame.proofs.lemmas.heard.Place.{preamble}
-use Rattle.hart_frame.proofs.lemmas.wire.Parity.{HasEvenParity-push, IsCheckByte-fold, even-is}
-use Rattle.hart_frame.proofs.lemmas.wire.Truncated.{fits_at}
+use Rattle.hart_frame.proofs.lemmas.wire.Parity.{HasEvenParity-push, IsCheckByte-fold, even-is, fits_at}
 
 -- a character of the rest of a list
 rest_at : (chars : List Character) (start n : ℕ) → slice_get (drop start chars) n ≡ slice_get chars (start + n)

@@ -20,9 +20,8 @@ use Rattle.hart_frame.specs.wire.Refusal.{HasCheckByte, HasGoodByteCount}
 use Rattle.hart_frame.proofs.lemmas.heard.FramesFound.{begins_at, body_of, start_of}
 use Rattle.hart_frame.proofs.lemmas.heard.Place.{preamble}
 use Rattle.hart_frame.proofs.lemmas.heard.Start.{start_test, tested}
-use Rattle.hart_frame.proofs.lemmas.wire.Parity.{even-is}
+use Rattle.hart_frame.proofs.lemmas.wire.Parity.{even-is, fits_at}
 use Rattle.hart_frame.proofs.lemmas.wire.Refusal.{has_check, says}
-use Rattle.hart_frame.proofs.lemmas.wire.Truncated.{fits_at}
 
 -- what the miss of a place is where a body may start
 pub miss_of-start : (chars heard : List Character) (start : ℕ) → heard ≡ drop start chars → IsStart start chars

@@ -1,4 +1,4 @@
--- A buffer stays sound, and what it stands for then.
+-- What a buffer holds after it let bytes go or kept some, and when it waits.
 use Rattle.std.proofs.Common.{◌≡◌, ℕ, ◌+◌, ◌-◌, ◌≤◌, true, IsTrue, List, [], ◌++◌, length, take, drop, None, sym, refl, arith, append_assoc, length-append}
 use Rattle.std.proofs.Math.Seq.{drop-append-add, drop-append_seam}
 use Rattle.std.proofs.lemmas.Grind.{common_steps}

@@ -1,4 +1,4 @@
--- What a body consists of.
+-- Which bytes are a body: the checked part with its check byte, or bytes of even parity.
 use Rattle.std.proofs.Common.{ℕ, ◌-◌, ◌<◌, ◌≤◌, List, [], ◌∷◌, ◌++◌, length, take, arith}
 use Rattle.std.proofs.lemmas.Grind.{common_steps}
 use Rattle.std.proofs.lemmas.List.{take_more, take_all}

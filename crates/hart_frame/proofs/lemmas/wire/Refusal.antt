@@ -1,4 +1,4 @@
--- What begins with a body is not refused.
+-- What begins with a body is not refused, and what is decoded is that body.
 use Rattle.std.proofs.Common.{◌≡◌, ℕ, ◌+◌, ◌*◌, ◌≤◌, List, [], ◌∷◌, ◌++◌, length, take, drop, sym, ◌∙◌, arith}
 use Rattle.std.proofs.Common.{append_assoc, length-append, Result, Ok, Err}
 use Rattle.std.proofs.lemmas.Grind.{common_steps}

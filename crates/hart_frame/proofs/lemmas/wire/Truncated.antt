@@ -12,8 +12,7 @@ use Rattle.hart_frame.specs.wire.Layout.{byte_count_place, body_length}
 use Rattle.hart_frame.specs.wire.Refusal.{HasCheckByte, HasDelimiter, HasGoodByteCount, IsTruncated}
 use Rattle.hart_frame.proofs.lemmas.wire.BodiesFound.{held_frame}
 use Rattle.hart_frame.proofs.lemmas.wire.Body.{IsBody-push}
-use Rattle.hart_frame.proofs.lemmas.wire.Parity.{IsCheckByte-fold}
-pub use Rattle.hart_frame.proofs.lemmas.wire.Parity.{fits_at}
+use Rattle.hart_frame.proofs.lemmas.wire.Parity.{IsCheckByte-fold, fits_at}
 use Rattle.hart_frame.proofs.lemmas.wire.Prefix.{HasGoodByteCount-more, length_more}
 use Rattle.hart_frame.proofs.lemmas.wire.Refusal.{has_check, says}
 

@@ -1,4 +1,4 @@
--- How far a script has come.
+-- How far a script has come, also on a line that has let go what was spoken.
 use Rattle.std.proofs.Common.{◌∙◌, ◌∷◌, arith, ◌≡◌, ℕ, ◌+◌, ◌<◌, sym, refl, List, [], length, take, get_or, rules, append-nil, ◌++◌}
 use Rattle.std.proofs.lemmas.Grind.{common_steps}
 use Rattle.std.proofs.lemmas.List.{take_more}

@@ -1,4 +1,4 @@
--- A turn of the line is a turn of the world.
+-- A turn of the line is a turn of the world, and noise on it is noise there.
 use Rattle.std.proofs.Common.{◌≡◌, ◌&&◌, Bool, false, if◌then◌else◌, ◌∙◌, refl, Option, None, Some, List, ◌++◌, ◌⊎◌, append_assoc, arith}
 use Rattle.std.proofs.lemmas.Grind.{common_steps}
 use Rattle.std.specs.Option.{option_to_list}

@@ -1,4 +1,4 @@
--- What is brought to the device, and the steps of a script: what holds at first and is kept by every step holds of every world of it.
+-- What is brought to the device, the steps of a script and what each keeps, and the device after an effect.
 use Rattle.std.proofs.Common.{arith, ◌≡◌, Bool, ap, refl, subst, Option, None, Some, List, [], ◌∷◌, ◌++◌, ◌⊎◌, inl, inr, ℕ, length}
 use Rattle.std.proofs.lemmas.Grind.{common_steps}
 use Rattle.std.proofs.lemmas.List.{length-append, map-append}

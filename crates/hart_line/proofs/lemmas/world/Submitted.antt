@@ -83,7 +83,7 @@ made_more events n unused here made one =
     (All-append IsRequest (requests_of (take n events)) (requests_of (get_or events n unused ∷ [])) made one)
 
 -- HOW OFTEN
--- A submission is executed at most as often as it is sent.
+-- An effect adds one execution at most, of the submission that was sent.
 times_executed-more : (effect : Effect) (own number : ℕ) (executions : List Execution)
     → times_executed number (executions_after effect own executions) ≤ times_executed number executions + (if own == number then 1 else 0)
 times_executed-more effect own number executions = grind (arith, nat_tests, sum_by-append)
@@ -95,6 +95,7 @@ counts_by : (hand : InHand) (outcomes : List Outcome) (outcome : Outcome) (numbe
 counts_by hand outcomes outcome number before after there sent old more =
     grind (arith, nat_tests, slice_get-set)
 
+-- A submission is executed at most as often as it is sent.
 pub executed_at_most : (start : Start) (events : List LineEvent) (last : World) → IsLast start events last → (number : ℕ)
     → times_executed number last.executions ≤ sendings_in (slice_get last.outcomes number)
 executed_at_most start events last run number = along start (first_world start) events
