@@ -4,6 +4,7 @@
 #   make check                runs every proof and every test, and ends with the count of what passed and what failed
 #   make test                 proves every crate and runs every test and script, but tries no wrong body: the quick one of the two
 #   make refused-growths      refuses each allocation of ./hart in turn, as make check does to the program that it proves
+#   make runs                 runs ./hart on rows of words and inputs, with reads and writes cut short, as make check does
 #   make streams              runs ./hart on streams that fail and for its texts, as make check does
 #   make examples             runs the examples of help and pages on ./hart, as make check does
 #   make vectors              makes docs/vectors.tsv of what ./hart replies; make check holds it against the program
@@ -22,7 +23,7 @@ CLI := crates/hart_cli
 GUIDE := docs/GUIDE.md docs/COMMANDS.md docs/PROTOCOL.md docs/vectors.tsv
 SOURCES := crates.txt $(shell find crates -name out -prune -o \( -name '*.rt' -o -name '*.antt' \) -print)
 
-.PHONY: all check test refused-growths streams examples vectors manual held-view library library-examples fuzz bench install install-library clean
+.PHONY: all check test runs refused-growths streams examples vectors manual held-view library library-examples fuzz bench install install-library clean
 
 all: hart
 
@@ -36,6 +37,7 @@ check:
 
 test: hart
 	rt all test
+	sh tools/runs.sh
 	sh tools/refused-growths.sh
 	sh tools/streams.sh
 	sh tools/examples.sh
@@ -47,7 +49,7 @@ test: hart
 held-view:
 	sh tools/held-view.sh
 
-refused-growths streams examples manual library-examples: hart
+runs refused-growths streams examples manual library-examples: hart
 	sh tools/$@.sh
 
 vectors: hart

@@ -22,7 +22,7 @@ count=$(grep -xE '[0-9]+ passed, [0-9]+ failed' "$log" | tail -n 1)
 read -r passed _ failed _ <<<"${count:-0 passed, 1 failed}"
 
 if [ -f "$program" ]; then
-    for script in refused-growths streams examples vectors manual held-view library-examples; do
+    for script in runs refused-growths streams examples vectors manual held-view library-examples; do
         script=tools/$script.sh
         if ! sh "$script" "$program"; then
             echo "$script: FAILED"

@@ -1,0 +1,103 @@
+"""`hart explain`: what was heard, and what is said of it."""
+
+IDENTIFY = "2-7: request of the primary master to the device at polling address 0, Command 0, read unique identifier\n"
+
+# What was heard, what is said of it, and the line of its fault, if it has one.
+ROWS = (
+    ("", "", ""),
+    ("FF FF", "", ""),
+    ("02 80 00 00 82", "", ""),
+    ("FF FF!40 02 80 00 00 82", "", ""),
+    ("FF FF 02 80 00 00 82", IDENTIFY, ""),
+    (
+        "FF FF E2 80 00 00 00 00 AA BB CC 0B 01 FF 4A",
+        "2-15: request of the primary master to all devices, Command 11, read unique identifier associated with tag\n"
+        "    expansion bytes: AA BB CC\n"
+        "    data: FF\n"
+        "    too few data: 1 of 6\n",
+        "",
+    ),
+    (
+        "FF FF 82 B7 42 0A 1B 2C 12 15 41 53 50 B7 1C 31 DA 28 10 25 01 60 82 08 20 82 08 20 05 01 7E 49",
+        "2-32: request of the primary master to device 37420A1B2C, Command 18, write tag, descriptor, date\n"
+        "    tag: \"PUMP-101\"\n"
+        "    descriptor: \"6\" PIPE         \"\n"
+        "    date: 2026-01-05\n",
+        "",
+    ),
+    (
+        "FF FF 82 B7 42 0A 1B 2C 06 03 40 02 55 58",
+        "2-14: request of the primary master to device 37420A1B2C, Command 6, write polling address\n"
+        "    polling address: 64\n"
+        "    loop current mode: 2\n"
+        "    refused: 2, invalid selection\n"
+        "    ignored: 55\n",
+        "",
+    ),
+    (
+        "FF FF 86 B7 42 0A 1B 2C 13 05 00 60 01 23 45 5F",
+        "2-16: reply of device 37420A1B2C to the primary master, Command 19, write final assembly number\n"
+        "    response code: 0, success\n"
+        "    device status: configuration changed, cold start\n"
+        "    final assembly number: 01 23 45\n",
+        "",
+    ),
+    (
+        "FF FF 86 B7 42 0A 1B 2C 09 17 00 00 00 F5 00 27 41 40 00 00 C0 09 00 FA 7F A0 00 00 30 00 00 00 00 5F",
+        "2-34: reply of device 37420A1B2C to the primary master, Command 9, read device variables with status\n"
+        "    response code: 0, success\n"
+        "    device status: none\n"
+        "    extended device status: 00\n"
+        "    device variables: code 245, classification 0, unit 39, value 41 40 00 00, status C0; "
+        "code 9, classification 0, unit 250, value 7F A0 00 00, status 30\n"
+        "    time stamp: 00 00 00 00\n",
+        "",
+    ),
+    (
+        "FF FF 86 B7 42 0A 1B 2C 07 02 00 00 4B",
+        "2-13: reply of device 37420A1B2C to the primary master, Command 7, read loop configuration\n"
+        "    response code: 0, success\n"
+        "    device status: none\n"
+        "    data that are no reply to Command 7: none\n",
+        "",
+    ),
+    (
+        "FF FF 86 B7 42 0A 1B 2C 13 03 88 00 01 D7",
+        "2-14: reply of device 37420A1B2C to the primary master, Command 19, write final assembly number\n"
+        "    communication faults: longitudinal parity\n"
+        "    ignored: 01\n",
+        "",
+    ),
+    (
+        "FF FF 02 80 7D 00 FF FF 02 00 00 00 02",
+        "2-7: request of the primary master to the device at polling address 0, Command 125\n"
+        "8: no message: only one FF stands before it\n",
+        "",
+    ),
+    ("FF FF 02 80 00 00 83", "2: no message: the check byte is 83 at 6, and 82 would fit\n", ""),
+    (
+        "55 FF FF 82 B7 42 0A 1B 2C 13 FF FF FF FF FF FF 02 80 00 00 82",
+        "3: no message: it ends 246 characters before its check byte\n"
+        "16-21: request of the primary master to the device at polling address 0, Command 0, read unique identifier\n",
+        "",
+    ),
+    (
+        "FF FF 02 80 00 00 82 FF FF 06 80 0G",
+        "2-7: request of the primary master to the device at polling address 0, Command 0, read unique identifier\n"
+        "9: no message: it ends before its byte count\n",
+        "bad hex at 33\n",
+    ),
+    ("FF FF 02 80 00 00 82!08", "2: no message: it ends 1 character before its check byte\n", "bad hex at 18\n"),
+    ("FF FF 0G", "", "bad hex at 6\n"),
+    ("02!08", "", "bad hex at 0\n"),
+)
+
+# An input that cannot be read further, what is said of it, and its fault: an item is whole only once a byte follows it, and bad hex
+# before comes first.
+FAILED_READS = (
+    ("", "", "read fault\n"),
+    ("FF FF 02 80 00 00 82 ", IDENTIFY, "read fault\n"),
+    ("FF FF 02 80 00 00 82", "2: no message: it ends 1 character before its check byte\n", "read fault\n"),
+    ("FF FF 02 80 00 00 82 G", IDENTIFY, "bad hex at 21\n"),
+    ("FF FF 02 80 00 00 82 8", IDENTIFY, "read fault\n"),
+)

@@ -1,0 +1,70 @@
+"""The items of an input: which characters they are, and where bad hex stands."""
+
+# A text, the bytes of its characters, and their fault bits together.
+WHOLE = (
+    (" ", "", 0),
+    (" \t\r\n ", "", 0),
+    ("8282 ", "8282", 0),
+    ("\tfF Ff\r\n aB0c  ", "FFFFAB0C", 0),
+    ("FF!40  ", "FF", 0x40),
+    ("ff!72 ", "FF", 0x72),
+    ("02!4080!0200 ", "028000", 0x42),
+)
+
+# A text that ends, the items of it before its bad hex, and the place of that.
+BAD = (
+    ("! ", "", 0),
+    ("0 ", "", 0),
+    ("0!40 ", "", 0),
+    ("82!0 ", "", 0),
+    ("82!8 ", "", 0),
+    ("82!4  ", "", 0),
+    ("02!08 ", "", 0),
+    ("02!00 ", "", 0),
+    ("FF0G ", "FF", 2),
+    ("82 8 ", "82", 3),
+    ("82 !40 ", "82", 3),
+    ("FF FF 0G ", "FF FF", 6),
+    ("FF!40!40 ", "FF!40", 5),
+    ("FF\n\n!FF ", "FF", 4),
+    ("FF,FF ", "FF", 2),
+    ("FF\vFF ", "FF", 2),
+)
+
+# A text that a failed read broke off, its items that are whole, and the place of its bad hex, or None if it may go on.
+BROKEN_OFF = (
+    ("", "", None),
+    ("8", "", None),
+    ("82", "", None),
+    ("82!", "", None),
+    ("82!0", "", None),
+    ("82!7", "", None),
+    ("82!40", "", None),
+    ("82 ", "82", None),
+    ("82 8", "82", None),
+    ("8282", "82", None),
+    ("82!40 ", "82!40", None),
+    ("82!408", "82!40", None),
+    ("FF!40 82!02", "FF!40", None),
+    ("!", "", 0),
+    ("0G", "", 0),
+    ("0!", "", 0),
+    ("82!8", "", 0),
+    ("82!G", "", 0),
+    ("02!08", "", 0),
+    ("02!00", "", 0),
+    ("82 !", "82", 3),
+    ("FF!40!40", "FF!40", 5),
+)
+
+# A message that ends before its 15 data bytes and its check byte.
+BEGUN = "FFFF82B7420A1B2C7D0F "
+
+
+def said_of(read):
+    """What `hart explain` says of that message, with these items as the first of those that it lacks."""
+    chars = read.split()
+    for number, item in enumerate(chars):
+        if "!" in item:
+            return f"2: no message: the character at {10 + number} has the fault bits {item[3:]}\n"
+    return f"2: no message: it ends {16 - len(chars)} characters before its check byte\n"
