@@ -161,6 +161,3 @@ fn read_ahead<R: Source>(
     }
     portion.end
 }
-
-#[cfg(test)]
-mod tests;

@@ -111,6 +111,3 @@ fn read_request(words: &EncodeWords<'_>) -> Result<Frame, CliFault>
     };
     Ok(Frame::request(master, address, command, payload))
 }
-
-#[cfg(test)]
-mod tests;

@@ -120,6 +120,3 @@ impl From<LineFault> for CliFault {
         }
     }
 }
-
-#[cfg(test)]
-mod tests;

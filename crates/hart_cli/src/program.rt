@@ -126,6 +126,3 @@ impl<E: Sink> Write for Text<'_, E> {
         write_all(self.sink, text.as_bytes()).map_err(|_| fmt::Error)
     }
 }
-
-#[cfg(test)]
-mod tests;

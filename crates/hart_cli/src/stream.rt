@@ -5,8 +5,6 @@ ghost use Rattle.std.specs.Io.{ReadsAtMost, WritesAtMost};
 ghost use Rattle.std.specs.Io.KnownBytes.{ReadConsumes, WriteAppends};
 ghost use Rattle.hart_cli.specs.stream.Stream.{CountsFailure, Stream};
 
-#[cfg(test)]
-pub mod fakes;
 pub mod plain;
 
 /// A read or a write failed.

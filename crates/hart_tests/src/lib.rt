@@ -1,6 +1,6 @@
 //! The tests of the library's crates, a module for each: what no clause says, as vectors from outside, texts, and rooms that are refused.
 //!
-//! They use what a crate shows to every other. hart_cli is a program and shows nothing, so its tests stand beside its code.
+//! They use what a crate shows to every other. hart_cli is a program and shows nothing: it is tested as it is built (`tools/runs.py`).
 //! The calls of hart_c are tested from C (`tools/library_calls.c`).
 #![tactic(auto)]
 

@@ -54,6 +54,18 @@ fn faults_have_their_texts(rt: HostRuntime) -> Result<(), Fail> {
     Ok(())
 }
 
+/// Each leg and its word.
+const LEGS: &[(Leg, &str)] = &[(Leg::Up, "up"), (Leg::Down, "down"), (Leg::Noise, "noise")];
+
+#[test]
+fn a_leg_is_displayed_by_its_word(rt: HostRuntime) -> Result<(), Fail> {
+    for (leg, word) in LEGS {
+        let display = format!(in rt.alloc(); "{leg}")?;
+        assert!(rt; display.as_str() == *word, "{word}");
+    }
+    Ok(())
+}
+
 /// Whether the address of each kind is read.
 fn addresses_are_read() -> Result<bool, Fail> {
     let polling = Address::polling(7)?;

@@ -26,13 +26,6 @@ impl<T> Plain<T> {
         Plain { inner, failures: 0 }
     }
 
-    /// The reader or writer inside.
-    pub fn into_inner(self) -> T
-        ensures { result ≡ plain_inner self }
-    {
-        self.inner
-    }
-
     /// Counts a failure.
     fn fail(&mut self) -> Failed
         ensures inner { plain_inner self.new ≡ plain_inner self.old }
@@ -69,6 +62,3 @@ impl<W: Write> Sink for Plain<W> {
         }
     }
 }
-
-#[cfg(test)]
-mod tests;

@@ -100,6 +100,3 @@ fn faultless_char(byte: u8) -> Char
 {
     Char::new(byte, 0).unwrap()
 }
-
-#[cfg(test)]
-mod tests;
