@@ -14,7 +14,7 @@ use std::fmt;
 use thiserror::Error;
 
 /// Why a call ended early.
-#[derive(Clone, Copy, Debug, PartialEq, Eq, Error)]
+#[derive(Clone, Copy, Debug, Error)]
 pub enum CliFault {
     /// Fault 1: the reader failed.
     Read,

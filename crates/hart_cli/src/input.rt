@@ -18,7 +18,7 @@ const INPUT_ROOM: usize = INPUT_LIMIT + 1;
 pub const PORTION_LEN: usize = 16_384;
 
 /// How an input came to its end.
-#[derive(Clone, Copy, Debug, PartialEq, Eq)]
+#[derive(Clone, Copy, PartialEq, Eq)]
 pub enum InputEnd {
     /// There was nothing more to read.
     Ended,
@@ -29,7 +29,7 @@ pub enum InputEnd {
 }
 
 /// What one read gave: bytes at the beginning of its buffer, and how the input came to its end with them, if it did.
-#[derive(Clone, Copy, Debug, PartialEq, Eq)]
+#[derive(Clone, Copy)]
 pub struct Portion {
     /// The number of bytes that are still within [`INPUT_LIMIT`].
     pub len: usize,
