@@ -24,8 +24,10 @@ is_prefix() {
 is_right() {
     if [ "$1" -eq 0 ]; then
         cmp -s "$work/output" "$work/wanted" && [ ! -s "$work/errors" ]
-    elif [ "$1" -eq 1 ] || [ "$1" -eq 2 ]; then
-        is_prefix && grep -q 'out of memory' "$work/errors"
+    elif [ "$1" -eq 1 ]; then
+        is_prefix && [ "$(cat "$work/errors")" = 'out of memory' ]
+    elif [ "$1" -eq 2 ]; then
+        is_prefix && grep -q 'out of memory$' "$work/errors"
     else
         false
     fi
