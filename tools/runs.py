@@ -98,7 +98,7 @@ class Runner:
     def hold(self, condition, call, note):
         """Ends if a run was not what is wanted of it."""
         if not condition:
-            sys.exit(f"runs: {' '.join(call)}: not as its row says, {note}")
+            sys.exit(f"runs: {' '.join(call)}: not as it has to be, {note}")
 
     def check_row(self, call, row, after, portion):
         """Runs a call on the input of a row, after which this comes. The last read is the one that finds the end, or that fails; at
@@ -191,21 +191,8 @@ def a_bad_image_is_named_before_anything_is_read(runner):
 
 
 def items_are_read_up_to_what_is_open_or_bad(runner):
-    for text, data, faults in items.WHOLE:
-        check = 0
-        body = bytes.fromhex(f"82 B7 42 0A 1B 2C 7D {len(data) // 2:02X} {data}")
-        for byte in body:
-            check ^= byte
-        heard = f"FFFF{body[:8].hex()}{text}{check:02X}"
-        if faults == 0:
-            line = f"2 {len(body) + 3} STX P 0 37420A1B2C - 125 {data or '-'}\n"
-            runner.check_rows(["dump"], [(heard, line, "")])
-        else:
-            reply = bytes.fromhex(f"86 B7 42 0A 1B 2C 7D 02 {0x80 | faults:02X} 00")
-            check = 0
-            for byte in reply:
-                check ^= byte
-            runner.check_rows(["answer"], [(heard, f"{'FF ' * 5}{reply.hex(' ').upper()} {check:02X}\n", "")])
+    runner.check_rows(["dump"], items.WHOLE)
+    runner.check_rows(["answer"], items.DAMAGED)
     for after, rows in (("end", items.BAD), ("failure", items.BROKEN_OFF)):
         for text, read, place in rows:
             for call, begun, wanted in ((["dump"], "", ""), (["explain"], items.BEGUN, items.said_of(read))):
@@ -214,10 +201,12 @@ def items_are_read_up_to_what_is_open_or_bad(runner):
 
 
 def each_failed_read_is_named(runner):
-    for word, interrupted in itertools.product(("answer", "dump", "sim"), (None, 1)):
+    for word, interrupted in itertools.product(("answer", "dump", "explain", "sim"), (None, 1)):
         for read in range(len(IDENTIFY) + 1):
             run = runner.run([word], IDENTIFY[:read], most_read=1, after="failure", interrupted=interrupted)
-            runner.hold(run.gave(FAULT, "", "read fault\n") and run.reads == read + 1, [word], f"at read {read}: {run}")
+            is_named = (run.status, run.errors, run.reads) == (FAULT, b"read fault\n", read + 1)
+            # What `explain` says of what it read before stands in its rows.
+            runner.hold(is_named and (run.output == b"" or word == "explain"), [word], f"at read {read}: {run}")
 
 
 def each_failed_write_is_named(runner):

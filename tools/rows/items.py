@@ -1,14 +1,18 @@
 """The items of an input: which characters they are, and where bad hex stands."""
 
-# A text, the bytes of its characters, and their fault bits together.
+# Items as the data of a message, and its line in `hart dump`, which has their bytes.
 WHOLE = (
-    (" ", "", 0),
-    (" \t\r\n ", "", 0),
-    ("8282 ", "8282", 0),
-    ("\tfF Ff\r\n aB0c  ", "FFFFAB0C", 0),
-    ("FF!40  ", "FF", 0x40),
-    ("ff!72 ", "FF", 0x72),
-    ("02!4080!0200 ", "028000", 0x42),
+    ("FFFF82B7420A1B2C7D00 37", "2 11 STX P 0 37420A1B2C - 125 -\n", ""),
+    ("FFFF82B7420A1B2C7D00 \t\r\n 37", "2 11 STX P 0 37420A1B2C - 125 -\n", ""),
+    ("FFFF82B7420A1B2C7D028282 35", "2 13 STX P 0 37420A1B2C - 125 8282\n", ""),
+    ("FFFF82B7420A1B2C7D04\tfF Ff\r\n aB0c  94", "2 15 STX P 0 37420A1B2C - 125 FFFFAB0C\n", ""),
+)
+
+# Damaged items as the data of a request, and the reply to it, which has their fault bits together.
+DAMAGED = (
+    ("FFFF82B7420A1B2C7D01FF!40  C9", "FF FF FF FF FF 86 B7 42 0A 1B 2C 7D 02 C0 00 F1\n", ""),
+    ("FFFF82B7420A1B2C7D01ff!72 C9", "FF FF FF FF FF 86 B7 42 0A 1B 2C 7D 02 F2 00 C3\n", ""),
+    ("FFFF82B7420A1B2C7D0302!4080!0200 B6", "FF FF FF FF FF 86 B7 42 0A 1B 2C 7D 02 C2 00 F3\n", ""),
 )
 
 # A text that ends, the items of it before its bad hex, and the place of that.
