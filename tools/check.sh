@@ -13,6 +13,16 @@ note() {
     [ "$1" -le "$worst" ] || worst=$1
 }
 
+# Each task of the gate gets one job. Else a proof takes the processors that nothing waits for just then, and each job more takes time of
+# its own to read the libraries. So many tasks run at once as there are processors, and as there are 4 GB of memory for each.
+if [ -z "${RT_JOBS:-}" ]; then
+    tasks=$(nproc)
+    room=$(awk '/^MemAvailable:/ { print int($2 / 4000000) }' /proc/meminfo)
+    [ "$room" -ge "$tasks" ] || tasks=$room
+    [ "$tasks" -ge 1 ] || tasks=1
+    export RT_JOBS="$tasks"
+fi
+
 # What stands there after the gate was built by it.
 rm -f "$program"
 rt ci | tee "$log"
