@@ -157,39 +157,40 @@ impl Request {
         ensures few { length result.1.now + length result.2.now + length result.3.now ≤ 32 }
         ensures well_made { IsRequest self.now }
     {
+        let none: &[u8] = &[];
         match self {
-            Request::Identify => (0, &[], &[], &[]),
-            Request::ReadPrimary => (1, &[], &[], &[]),
-            Request::ReadCurrent => (2, &[], &[], &[]),
-            Request::ReadDynamic => (3, &[], &[], &[]),
+            Request::Identify => (0, none, none, none),
+            Request::ReadPrimary => (1, none, none, none),
+            Request::ReadCurrent => (2, none, none, none),
+            Request::ReadDynamic => (3, none, none, none),
             Request::SetPolling { address, mode } => {
-                (6, address.as_bytes(), mode_bytes(*mode), &[])
+                (6, address.as_bytes(), mode_bytes(*mode), none)
             }
-            Request::ReadPolling => (7, &[], &[], &[]),
-            Request::ReadClasses => (8, &[], &[], &[]),
-            Request::ReadVariables(codes) => (9, codes.as_slice(), &[], &[]),
-            Request::IdentifyByTag(tag) => (11, tag.as_bytes(), &[], &[]),
-            Request::ReadMessage => (12, &[], &[], &[]),
-            Request::ReadTag => (13, &[], &[], &[]),
-            Request::ReadSensor => (14, &[], &[], &[]),
-            Request::ReadOutput => (15, &[], &[], &[]),
-            Request::ReadAssembly => (16, &[], &[], &[]),
-            Request::WriteMessage(message) => (17, message.as_bytes(), &[], &[]),
+            Request::ReadPolling => (7, none, none, none),
+            Request::ReadClasses => (8, none, none, none),
+            Request::ReadVariables(codes) => (9, codes.as_slice(), none, none),
+            Request::IdentifyByTag(tag) => (11, tag.as_bytes(), none, none),
+            Request::ReadMessage => (12, none, none, none),
+            Request::ReadTag => (13, none, none, none),
+            Request::ReadSensor => (14, none, none, none),
+            Request::ReadOutput => (15, none, none, none),
+            Request::ReadAssembly => (16, none, none, none),
+            Request::WriteMessage(message) => (17, message.as_bytes(), none, none),
             Request::WriteTag {
                 tag,
                 descriptor,
                 date,
             } => (18, tag.as_bytes(), descriptor.as_bytes(), date.as_bytes()),
-            Request::WriteAssembly(assembly) => (19, assembly, &[], &[]),
-            Request::ReadLongTag => (20, &[], &[], &[]),
-            Request::IdentifyByLongTag(long_tag) => (21, long_tag, &[], &[]),
-            Request::WriteLongTag(long_tag) => (22, long_tag, &[], &[]),
-            Request::ResetChanged(None) => (38, &[], &[], &[]),
+            Request::WriteAssembly(assembly) => (19, assembly, none, none),
+            Request::ReadLongTag => (20, none, none, none),
+            Request::IdentifyByLongTag(long_tag) => (21, long_tag, none, none),
+            Request::WriteLongTag(long_tag) => (22, long_tag, none, none),
+            Request::ResetChanged(None) => (38, none, none, none),
             Request::ResetChanged(Some(given)) => {
                 *counter = given.to_be_bytes();
-                (38, counter, &[], &[])
+                (38, counter, none, none)
             }
-            Request::ReadMore => (48, &[], &[], &[]),
+            Request::ReadMore => (48, none, none, none),
         }
     }
 }
