@@ -6,6 +6,7 @@ use crate::content::reading::{
     read_current, read_dynamic, read_identity, read_more, read_polling, read_tag, read_variables,
 };
 use crate::content::writing::{push_current, push_dynamic, push_tag, push_variables};
+use crate::first_bytes::first_bytes;
 use crate::{IdentityContent, OutputContent, SensorContent, ShortList, UnitValue, VariableReading};
 use hart_values::{Bits32, ByteList, PackedText, Payload};
 
@@ -76,19 +77,19 @@ impl ReplyContent {
     {
         match command {
             0 | 11 | 21 => read_identity(bytes),
-            1 => Some(ReplyContent::Primary(UnitValue::from_bytes(*bytes.first_chunk()?))),
+            1 => Some(ReplyContent::Primary(UnitValue::from_bytes(first_bytes(bytes)?))),
             2 => read_current(bytes),
             3 => read_dynamic(bytes),
             6 | 7 => read_polling(bytes),
-            8 => Some(ReplyContent::Classes(*bytes.first_chunk()?)),
+            8 => Some(ReplyContent::Classes(first_bytes(bytes)?)),
             9 => read_variables(bytes),
-            12 | 17 => Some(ReplyContent::Message(PackedText::from_bytes(*bytes.first_chunk()?))),
+            12 | 17 => Some(ReplyContent::Message(PackedText::from_bytes(first_bytes(bytes)?))),
             13 | 18 => read_tag(bytes),
-            14 => Some(ReplyContent::Sensor(SensorContent::from_bytes(*bytes.first_chunk()?))),
-            15 => Some(ReplyContent::Output(OutputContent::from_bytes(*bytes.first_chunk()?))),
-            16 | 19 => Some(ReplyContent::Assembly(*bytes.first_chunk()?)),
-            20 | 22 => Some(ReplyContent::LongTag(*bytes.first_chunk()?)),
-            38 => Some(ReplyContent::Counter(*bytes.first_chunk()?)),
+            14 => Some(ReplyContent::Sensor(SensorContent::from_bytes(first_bytes(bytes)?))),
+            15 => Some(ReplyContent::Output(OutputContent::from_bytes(first_bytes(bytes)?))),
+            16 | 19 => Some(ReplyContent::Assembly(first_bytes(bytes)?)),
+            20 | 22 => Some(ReplyContent::LongTag(first_bytes(bytes)?)),
+            38 => Some(ReplyContent::Counter(first_bytes(bytes)?)),
             48 => read_more(bytes),
             _ => None,
         }

@@ -30,6 +30,7 @@
 mod code_list;
 mod content;
 mod fields;
+mod first_bytes;
 mod identity;
 mod laws;
 mod output;

@@ -1,6 +1,8 @@
 ghost use Rattle.std.specs.Prelude.{◌≡◌, ◌≤◌, ◌↔◌, length, IsSome, IfSome};
 ghost use Rattle.hart_commands.specs.TagBytes.{tag_in, descriptor_in, date_in};
 
+use crate::first_bytes::first_bytes;
+
 /// The tag, the descriptor and the date with which these bytes begin, or `None` if the bytes are too few.
 pub fn tag_parts(bytes: &[u8]) -> Option<([u8; 6], [u8; 12], [u8; 3])>
     ensures accepted { IsSome result ↔ (21 ≤ length bytes.now) }
@@ -10,5 +12,5 @@ pub fn tag_parts(bytes: &[u8]) -> Option<([u8; 6], [u8; 12], [u8; 3])>
 {
     let (tag, rest) = bytes.split_first_chunk::<6>()?;
     let (descriptor, rest) = rest.split_first_chunk::<12>()?;
-    Some((*tag, *descriptor, *rest.first_chunk()?))
+    Some((*tag, *descriptor, first_bytes(rest)?))
 }

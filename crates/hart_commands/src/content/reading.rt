@@ -4,6 +4,7 @@ ghost use Rattle.hart_commands.specs.ReplyReading.{saying, current_of, polling_o
 ghost use Rattle.hart_commands.specs.ReplyReading.{variables_reading, more_reading};
 ghost use Rattle.hart_commands.specs.Values.{unit_value_of, variable_of};
 
+use crate::first_bytes::first_bytes;
 use crate::identity::FIRST_BYTE;
 use crate::tag_bytes::tag_parts;
 use crate::{IdentityContent, ReplyContent, ShortList, UnitValue, VariableReading};
@@ -13,18 +14,18 @@ use hart_values::{Bits32, ByteList, PackedText};
 pub fn read_identity(bytes: &[u8]) -> Option<ReplyContent>
     ensures { result ≡ identity_reading bytes.now }
 {
-    let identity = bytes.first_chunk::<22>()?;
+    let identity = first_bytes::<22>(bytes)?;
     if identity[0] != FIRST_BYTE {
         return None;
     }
-    Some(ReplyContent::Identity(IdentityContent::from_bytes(*identity)))
+    Some(ReplyContent::Identity(IdentityContent::from_bytes(identity)))
 }
 
 /// Command 2: the loop current and the percent of range.
 pub fn read_current(bytes: &[u8]) -> Option<ReplyContent>
     ensures { result ≡ saying 8 current_of bytes.now }
 {
-    let [a, b, c, d, e, f, g, h] = *bytes.first_chunk::<8>()?;
+    let [a, b, c, d, e, f, g, h] = first_bytes::<8>(bytes)?;
     Some(ReplyContent::Current {
         loop_current: Bits32([a, b, c, d]),
         percent_of_range: Bits32([e, f, g, h]),
@@ -62,7 +63,7 @@ fn values_in(groups: &[[u8; 5]]) -> ShortList<UnitValue, 4>
 pub fn read_polling(bytes: &[u8]) -> Option<ReplyContent>
     ensures { result ≡ saying 2 polling_of bytes.now }
 {
-    let [address, mode] = *bytes.first_chunk::<2>()?;
+    let [address, mode] = first_bytes::<2>(bytes)?;
     Some(ReplyContent::Polling { address, mode })
 }
 
@@ -78,7 +79,7 @@ pub fn read_variables(bytes: &[u8]) -> Option<ReplyContent>
     Some(ReplyContent::Variables {
         extended_device_status: *extended_device_status,
         variables: variables_in(groups),
-        time_stamp: *time_stamp.first_chunk()?,
+        time_stamp: first_bytes(time_stamp)?,
     })
 }
 
