@@ -1,5 +1,6 @@
 //! The rows of the table of requests whose data have parts.
-ghost use Rattle.std.specs.Prelude.{◌≡◌, ◌≤◌, ◌↔◌, length, take, IsOk, IfOk, IfErr};
+ghost use Rattle.std.specs.Prelude.{◌≡◌, ◌≤◌, ◌↔◌, if◌then◌else◌, length, take, IsOk, IfOk, IfErr, Ok, Err};
+ghost use Rattle.hart_values.specs.hart_date.Calendar.{is_date};
 ghost use Rattle.hart_commands.specs.RequestReading.{polling_reading, codes_reading, tag_reading, reset_reading};
 
 use crate::tag_bytes::tag_parts;
@@ -53,12 +54,20 @@ pub fn read_tag(bytes: &[u8]) -> Result<Request, ResponseCode>
 {
     let parts = tag_parts(bytes).ok_or(ResponseCode::TOO_FEW_DATA_BYTES)?;
     let (tag, descriptor, date) = parts;
-    match HartDate::from_bytes(date) {
-        Ok(date) => Ok(Request::WriteTag {
-            tag: PackedText::from_bytes(tag),
-            descriptor: PackedText::from_bytes(descriptor),
-            date,
-        }),
+    let date = read_date(date)?;
+    Ok(Request::WriteTag {
+        tag: PackedText::from_bytes(tag),
+        descriptor: PackedText::from_bytes(descriptor),
+        date,
+    })
+}
+
+/// A date, or the code of a bad one.
+fn read_date(bytes: [u8; 3]) -> Result<HartDate, ResponseCode>
+    ensures { result ≡ if is_date bytes then Ok bytes else Err 9 }
+{
+    match HartDate::from_bytes(bytes) {
+        Ok(date) => Ok(date),
         Err(_) => Err(ResponseCode::INVALID_DATE),
     }
 }
