@@ -1,3 +1,4 @@
+use crate::rows::hold;
 use hart_commands::*;
 use hart_values::Payload;
 
@@ -68,17 +69,13 @@ fn request_is(command: u8, bytes: &[u8], want: Result<&[u8], u8>) -> bool {
 
 /// Whether a payload holds a reply to a command that is written as so many of its bytes, or holds none.
 fn reply_is(command: u8, payload: &[u8], want: Option<usize>) -> bool {
-    match (Reply::read(command, payload), want) {
-        (Some(reply), Some(len)) => {
-            let mut written = Payload::new();
-            reply.write(&mut written);
-            reply.command == command
-                && Some(written.as_slice()) == payload.get(..len)
-                && 2 + reply.data_len() == len
-        }
-        (None, None) => true,
-        _ => false,
-    }
+    let Some(reply) = Reply::read(command, payload) else {
+        return want.is_none();
+    };
+    let mut written = Payload::new();
+    reply.write(&mut written);
+    let len = 2 + reply.data_len();
+    reply.command == command && Some(written.as_slice()) == payload.get(..len) && Some(len) == want
 }
 
 /// Whether a command needs so many bytes.
@@ -104,10 +101,8 @@ fn is_replied_with(command: u8, len: usize) -> bool {
 #[test]
 fn each_command_needs_its_bytes(rt: HostRuntime) {
     for (command, needed, len) in COMMANDS {
-        assert!(rt;
-            needs(*command, *needed) && is_replied_with(*command, *len),
-            "of {command}"
-        );
+        let holds = needs(*command, *needed) && is_replied_with(*command, *len);
+        hold(&rt, holds, "Command", usize::from(*command));
     }
 }
 
@@ -122,7 +117,8 @@ fn is_unknown(command: u8) -> bool {
 fn every_other_command_is_unknown(rt: HostRuntime) {
     for command in 0..=255u8 {
         let known = matches!(command, 0..=3 | 6..=9 | 11..=22 | 38 | 48);
-        assert!(rt; is_unknown(command) != known, "of {command}");
+        let holds = is_unknown(command) != known;
+        hold(&rt, holds, "Command", usize::from(command));
     }
 }
 
@@ -158,7 +154,7 @@ const REQUESTS: &[(u8, &[u8], Result<&[u8], u8>)] = &[
 #[test]
 fn requests_are_read_and_written(rt: HostRuntime) {
     for (row, (command, bytes, want)) in REQUESTS.iter().enumerate() {
-        assert!(rt; request_is(*command, bytes, *want), "of row {row}");
+        hold(&rt, request_is(*command, bytes, *want), "row", row);
     }
 }
 
@@ -200,7 +196,7 @@ const REPLIES: &[(u8, &[u8], Option<usize>)] = &[
 #[test]
 fn replies_are_read_and_written(rt: HostRuntime) {
     for (row, (command, payload, want)) in REPLIES.iter().enumerate() {
-        assert!(rt; reply_is(*command, payload, *want), "of row {row}");
+        hold(&rt, reply_is(*command, payload, *want), "row", row);
     }
 }
 
@@ -271,7 +267,7 @@ fn writes(command: u8, bytes: &[u8], register: Register, want: Option<&[u8]>) ->
 #[test]
 fn a_write_names_its_registers(rt: HostRuntime) {
     for (row, (register, want)) in NAMED.iter().enumerate() {
-        assert!(rt; writes(18, &TAG, *register, *want), "of row {row}");
+        hold(&rt, writes(18, &TAG, *register, *want), "row", row);
     }
 }
 
@@ -294,6 +290,6 @@ fn is_long_tag(long_tag: [u8; 32]) -> bool {
 #[test]
 fn a_long_tag_has_any_bytes(rt: HostRuntime) {
     for byte in 0..=255u8 {
-        assert!(rt; is_long_tag([byte; 32]), "of {byte}");
+        hold(&rt, is_long_tag([byte; 32]), "byte", usize::from(byte));
     }
 }

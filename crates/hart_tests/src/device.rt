@@ -1,8 +1,10 @@
+use crate::rows::{has_text, hold, hold_ok};
 use hart_commands::Request;
 use hart_device::*;
 use hart_frame::{Char, Frame, Payload};
 use hart_values::{Address, MasterId, ResponseCode};
 use images::image_fault;
+use std::process::Abort;
 use std::test::Fail;
 
 mod addresses;
@@ -66,10 +68,20 @@ fn request(command: u8, data: &[u8]) -> Result<Frame, Fail> {
     Ok(Frame::request(MasterId::Primary, own, command, payload))
 }
 
-/// The reply of a device to this request.
+/// The reply of a device to this request, with the measured values of the bench device.
 fn asked(device: &mut Device<FieldRegisters>, command: u8, data: &[u8]) -> Result<Frame, Fail> {
-    let reply = device.receive(&request(command, data)?, &bench::process());
-    Ok(reply.ok_or("silence")?)
+    asked_at(device, command, data, &bench::process())
+}
+
+/// The reply of a device to this request, with these measured values.
+fn asked_at(
+    device: &mut Device<FieldRegisters>,
+    command: u8,
+    data: &[u8],
+    process: &Process,
+) -> Result<Frame, Fail> {
+    let request = request(command, data)?;
+    Ok(device.receive(&request, process).ok_or("silence")?)
 }
 
 /// Whether a device replies as a row says.
@@ -78,19 +90,22 @@ fn replies(device: &mut Device<FieldRegisters>, row: &Row) -> Result<bool, Fail>
     Ok(asked(device, *command, data)?.payload() == *payload)
 }
 
+/// Whether a bench device under protection replies as a row says, and stays as it is.
+fn replies_protected(row: &Row) -> Result<bool, Fail> {
+    let mut device = bench_device();
+    device.protect(true);
+    let replied = replies(&mut device, row)?;
+    Ok(replied && device.counter() == 0 && device.is_protected())
+}
+
 #[test]
-fn requests_are_answered(rt: HostRuntime) -> Result<(), Fail> {
+fn requests_are_answered(rt: HostRuntime) {
     for (number, row) in BENCH.iter().enumerate() {
-        assert!(rt; replies(&mut bench_device(), row)?, "of row {number}");
+        hold_ok(&rt, replies(&mut bench_device(), row), "row", number);
     }
     for (number, row) in PROTECTED.iter().enumerate() {
-        let mut device = bench_device();
-        device.protect(true);
-        let replied = replies(&mut device, row)?;
-        let stays = device.counter() == 0 && device.is_protected();
-        assert!(rt; replied && stays, "of row {number} under protection");
+        hold_ok(&rt, replies_protected(row), "protected row", number);
     }
-    Ok(())
 }
 
 /// Whether a command is unknown: whether no request has it.
@@ -98,31 +113,38 @@ fn is_unknown(command: u8) -> bool {
     Request::read(command, &[]).err() == Some(ResponseCode::COMMAND_NOT_IMPLEMENTED)
 }
 
-#[test]
-fn unknown_commands_are_refused(rt: HostRuntime) -> Result<(), Fail> {
-    for command in 0..=255u8 {
-        let mut device = bench_device();
-        device.protect(command % 2 == 0);
-        let refused = replies(&mut device, &(command, &[], &[0x40, 0x00]))?;
-        assert!(rt; refused == is_unknown(command), "of {command}");
-    }
-    Ok(())
+/// Whether a bench device, under protection or not, refuses a command as one that is not known if it is not.
+fn is_met_by_number(command: u8) -> Result<bool, Fail> {
+    let mut device = bench_device();
+    device.protect(command % 2 == 0);
+    let refused = replies(&mut device, &(command, &[], &[0x40, 0x00]))?;
+    Ok(refused == is_unknown(command))
 }
 
-/// The device status of the reply to Command 48, where this byte of the additional status is 1.
-fn status_with(place: usize) -> Result<Option<u8>, Fail> {
+#[test]
+fn unknown_commands_are_refused(rt: HostRuntime) {
+    for command in 0..=255u8 {
+        let is_met = is_met_by_number(command);
+        hold_ok(&rt, is_met, "command", usize::from(command));
+    }
+}
+
+/// Whether the device status of the reply to Command 48 is this, where a byte of the additional status is 1.
+fn status_is(place: usize, status: u8) -> Result<bool, Fail> {
     let mut process = bench::process();
     *process.additional_status.get_mut(place).ok_or("a place")? = 1;
-    let reply = bench_device().receive(&request(48, &[])?, &process);
-    Ok(reply.ok_or("silence")?.payload().get(1).copied())
+    let reply = asked_at(&mut bench_device(), 48, &[], &process)?;
+    Ok(reply.payload().get(1) == Some(&status))
 }
 
+/// Bytes of the additional status, and the device status with each.
+const STATUSES: &[(usize, u8)] = &[(0, 0x10), (5, 0x10), (6, 0x00), (7, 0x10), (24, 0x10)];
+
 #[test]
-fn additional_status_is_shown(rt: HostRuntime) -> Result<(), Fail> {
-    for (place, status) in [(0, 0x10), (5, 0x10), (6, 0x00), (7, 0x10), (24, 0x10)] {
-        assert!(rt; status_with(place)? == Some(status), "of byte {place}");
+fn additional_status_is_shown(rt: HostRuntime) {
+    for (place, status) in STATUSES {
+        hold_ok(&rt, status_is(*place, *status), "byte", *place);
     }
-    Ok(())
 }
 
 /// The parts of an identity that are at the ends of their ranges.
@@ -230,14 +252,15 @@ fn fault_of(refused: &Refused) -> Option<DeviceFault> {
 }
 
 #[test]
-fn what_is_refused_has_a_fault_with_a_text(rt: HostRuntime) -> Result<(), Fail> {
+fn what_is_refused_has_a_fault_with_a_text(rt: HostRuntime) {
     assert!(rt; Identity::new(PARTS).is_ok());
     for (row, (refused, fault, text)) in REFUSED.iter().enumerate() {
-        let written = fault.to_string(rt.alloc())?;
-        assert!(rt;
-            fault_of(refused) == Some(*fault) && written.as_str() == *text,
-            "of row {row}"
+        hold(&rt, fault_of(refused) == Some(*fault), "row", row);
+        hold_ok(
+            &rt,
+            has_text(rt.alloc(), fault, text),
+            "the text of row",
+            row,
         );
     }
-    Ok(())
 }

@@ -2,6 +2,7 @@ mod line;
 mod start;
 mod stream;
 
+use crate::rows::{has_text, hold, hold_ok, write_chars};
 use hart_frame::*;
 use hart_values::{Address, MasterId};
 use std::test::Fail;
@@ -68,11 +69,10 @@ fn begin_with(bytes: &[u8], read: &Read) -> Result<bool, Fail> {
 }
 
 #[test]
-fn bodies_are_read(rt: HostRuntime) -> Result<(), Fail> {
+fn bodies_are_read(rt: HostRuntime) {
     for (row, (bytes, read)) in BODIES.iter().enumerate() {
-        assert!(rt; begin_with(bytes, read)?, "of row {row}");
+        hold_ok(&rt, begin_with(bytes, read), "row", row);
     }
-    Ok(())
 }
 
 const REFUSED: &[(&[u8], FrameFault)] = &[
@@ -106,7 +106,7 @@ const REFUSED: &[(&[u8], FrameFault)] = &[
 #[test]
 fn bodies_are_refused(rt: HostRuntime) {
     for (row, (bytes, want)) in REFUSED.iter().enumerate() {
-        assert!(rt; decode(bytes).err() == Some(*want), "of row {row}");
+        hold(&rt, decode(bytes).err() == Some(*want), "row", row);
     }
 }
 
@@ -175,28 +175,38 @@ const CHECKED_LENGTHS: &[usize] = &[0, 1, 31, 32, 33, 63, 64, 65, 255, 267, MOST
 
 const MOST_CHECKED: usize = 1000;
 
-/// The exclusive or of so many first bytes, taken one after another, or `None` if there are fewer.
-fn exclusive_or(bytes: &[u8], len: usize) -> Option<u8> {
+/// The exclusive or of bytes, taken one after another.
+fn exclusive_or(bytes: &[u8]) -> u8 {
     let mut all = 0;
-    for byte in bytes.get(..len)? {
+    for byte in bytes {
         all ^= *byte;
     }
-    Some(all)
+    all
+}
+
+/// Bytes of many values.
+fn checked_bytes() -> [u8; MOST_CHECKED] {
+    let mut bytes = [0; MOST_CHECKED];
+    for (place, byte) in bytes.iter_mut().enumerate() {
+        *byte = (place * 37 % 251) as u8;
+    }
+    bytes
+}
+
+/// Whether the check byte of so many first bytes is their exclusive or.
+fn is_checked(bytes: &[u8], len: usize) -> bool {
+    match bytes.get(..len) {
+        Some(part) => check_byte(part) == exclusive_or(part),
+        None => false,
+    }
 }
 
 #[test]
 fn a_check_byte_is_the_exclusive_or(rt: HostRuntime) {
     assert!(rt; check_byte(&[0x02, 0x80, 0x00, 0x00]) == 0x82);
-    let mut bytes = [0; MOST_CHECKED];
-    for (place, byte) in bytes.iter_mut().enumerate() {
-        *byte = (place * 37 % 251) as u8;
-    }
+    let bytes = checked_bytes();
     for len in CHECKED_LENGTHS {
-        let check = bytes.get(..*len).map(|part| check_byte(part));
-        assert!(rt;
-            check.is_some() && check == exclusive_or(&bytes, *len),
-            "of {len} bytes"
-        );
+        hold(&rt, is_checked(&bytes, *len), "length", *len);
     }
 }
 
@@ -210,10 +220,8 @@ const TEXTS: &[(FrameFault, &str)] = &[
 ];
 
 #[test]
-fn faults_have_texts(rt: HostRuntime) -> Result<(), Fail> {
-    for (fault, want) in TEXTS {
-        let text = fault.to_string(rt.alloc())?;
-        assert!(rt; text.as_str() == *want, "of {want}");
+fn faults_have_texts(rt: HostRuntime) {
+    for (row, (fault, want)) in TEXTS.iter().enumerate() {
+        hold_ok(&rt, has_text(rt.alloc(), fault, want), "row", row);
     }
-    Ok(())
 }

@@ -4,6 +4,7 @@ mod scripts;
 mod texts;
 mod undetected;
 
+use crate::rows::{has_text, hold, hold_ok};
 use hart_commands::Request;
 use hart_line::*;
 use hart_values::{Address, MasterId};
@@ -36,21 +37,15 @@ const FAULTS: &[(LineFault, &str)] = &[
     (LineFault::BadLine { number: 1 }, "bad line 1"),
 ];
 
-/// Whether a fault has this text.
-fn is_written(alloc: Global, fault: &LineFault, text: &str) -> Result<bool, AllocError> {
-    let written = format!(in alloc; "{fault}")?;
-    Ok(written.as_str() == text)
-}
-
 #[test]
 fn faults_have_their_texts(rt: HostRuntime) -> Result<(), Fail> {
-    for (fault, text) in FAULTS {
-        assert!(rt; is_written(rt.alloc(), fault, text)?, "of {text}");
+    for (row, (fault, text)) in FAULTS.iter().enumerate() {
+        hold_ok(&rt, has_text(rt.alloc(), fault, text), "row", row);
     }
     // No room is as large as that.
     let none = reserved::<u8>(rt.alloc(), usize::MAX).err().ok_or("room")?;
     assert!(rt; none.items() == usize::MAX);
-    assert!(rt; is_written(rt.alloc(), &LineFault::Memory(none), "out of memory")?);
+    assert!(rt; has_text(rt.alloc(), &LineFault::Memory(none), "out of memory")?);
     Ok(())
 }
 
@@ -58,12 +53,10 @@ fn faults_have_their_texts(rt: HostRuntime) -> Result<(), Fail> {
 const LEGS: &[(Leg, &str)] = &[(Leg::Up, "up"), (Leg::Down, "down"), (Leg::Noise, "noise")];
 
 #[test]
-fn a_leg_is_displayed_by_its_word(rt: HostRuntime) -> Result<(), Fail> {
-    for (leg, word) in LEGS {
-        let display = format!(in rt.alloc(); "{leg}")?;
-        assert!(rt; display.as_str() == *word, "{word}");
+fn a_leg_is_displayed_by_its_word(rt: HostRuntime) {
+    for (row, (leg, word)) in LEGS.iter().enumerate() {
+        hold_ok(&rt, has_text(rt.alloc(), leg, word), "row", row);
     }
-    Ok(())
 }
 
 /// Whether the address of each kind is read.
@@ -148,9 +141,15 @@ fn is_read_as(alloc: Global, text: &[u8], want: Result<&str, usize>) -> Result<b
     Ok(match read_script(alloc, text) {
         Ok(events) => {
             let found = letters(alloc, events.as_slice())?;
-            want.is_ok_and(|want| found.as_slice() == want.as_bytes())
+            match want {
+                Ok(want) => found.as_slice() == want.as_bytes(),
+                Err(_number) => false,
+            }
         }
-        Err(fault) => want.is_err_and(|number| fault == LineFault::BadLine { number }),
+        Err(fault) => match want {
+            Ok(_want) => false,
+            Err(number) => fault == LineFault::BadLine { number },
+        },
     })
 }
 
@@ -166,16 +165,13 @@ fn is_read_if_asked(alloc: Global, command: u8) -> Result<bool, Fail> {
 }
 
 #[test]
-fn scripts_are_read_up_to_a_bad_line(rt: HostRuntime) -> Result<(), Fail> {
-    for (text, want) in SCRIPTS {
-        let is_read = is_read_as(rt.alloc(), text.as_bytes(), *want)?;
-        assert!(rt; is_read, "at {text}");
+fn scripts_are_read_up_to_a_bad_line(rt: HostRuntime) {
+    for (row, (text, want)) in SCRIPTS.iter().enumerate() {
+        let is_read = is_read_as(rt.alloc(), text.as_bytes(), *want);
+        hold_ok(&rt, is_read, "row", row);
     }
     for command in 0..=u8::MAX {
-        assert!(rt;
-            is_read_if_asked(rt.alloc(), command)?,
-            "at Command {command}"
-        );
+        let is_read = is_read_if_asked(rt.alloc(), command);
+        hold_ok(&rt, is_read, "Command", usize::from(command));
     }
-    Ok(())
 }

@@ -1,3 +1,4 @@
+use crate::rows::{has_text, hold, hold_ok};
 use hart_commands::{Reply, ReplyContent, Request};
 use hart_frame::{Char, Frame, decode};
 use hart_master::*;
@@ -12,12 +13,10 @@ const TEXTS: &[(MasterFault, &str)] = &[
 ];
 
 #[test]
-fn faults_have_texts(rt: HostRuntime) -> Result<(), Fail> {
-    for (fault, text) in TEXTS {
-        let written = format!(in rt.alloc(); "{fault}")?;
-        assert!(rt; written.as_str() == *text, "of {text}");
+fn faults_have_texts(rt: HostRuntime) {
+    for (row, (fault, text)) in TEXTS.iter().enumerate() {
+        hold_ok(&rt, has_text(rt.alloc(), fault, text), "row", row);
     }
-    Ok(())
 }
 
 /// Retries and reply limits, and the fault that they are refused with.
@@ -30,9 +29,9 @@ const LIMITS: &[(u8, u8, Option<MasterFault>)] = &[
 
 #[test]
 fn masters_have_limits(rt: HostRuntime) {
-    for (retries, reply_limit, want) in LIMITS {
+    for (row, (retries, reply_limit, want)) in LIMITS.iter().enumerate() {
         let made = Master::new(MasterId::Primary, *retries, *reply_limit);
-        assert!(rt; made.err() == *want, "of {retries} and {reply_limit}");
+        hold(&rt, made.err() == *want, "row", row);
     }
 }
 
@@ -44,7 +43,9 @@ const DEVICE: &[u8] = &[0xB7, 0x42, 0x0A, 0x1B, 0x2C];
 const ALL: &[u8] = &[0x80, 0x00, 0x00, 0x00, 0x00];
 
 /// Address bytes, a command and its data, and the fault that an idle master refuses the submission with.
-const SUBMISSIONS: &[(&[u8], u8, &[u8], Option<MasterFault>)] = &[
+type Submission<'a> = (&'a [u8], u8, &'a [u8], Option<MasterFault>);
+
+const SUBMISSIONS: &[Submission] = &[
     (POLLING, 0, &[], None),
     (POLLING, 1, &[], Some(MasterFault::WrongAddress)),
     (DEVICE, 0, &[], None),
@@ -76,20 +77,24 @@ fn refuses_another(master: &mut Master) -> Result<bool, Fail> {
     Ok(rejected.fault == MasterFault::Pending && rejected.request == Request::ReadPrimary)
 }
 
+/// Whether an idle master takes a submission, and then no other, or refuses it with its fault, and is idle then.
+fn is_taken_or_refused(submission: &Submission) -> Result<bool, Fail> {
+    let (address, command, data, want) = *submission;
+    let mut master = Master::new(MasterId::Secondary, 3, 41)?;
+    let fault = match master.submit(address_of(address)?, request_of(command, data)?) {
+        Ok(()) => None,
+        Err(rejected) => Some(rejected.fault),
+    };
+    let is_idle = master.is_idle();
+    let refuses = is_idle || refuses_another(&mut master)?;
+    Ok(fault == want && is_idle == want.is_some() && refuses)
+}
+
 #[test]
-fn one_request_is_taken(rt: HostRuntime) -> Result<(), Fail> {
-    for (row, (address, command, data, want)) in SUBMISSIONS.iter().enumerate() {
-        let mut master = Master::new(MasterId::Secondary, 3, 41)?;
-        let submitted = master.submit(address_of(address)?, request_of(*command, data)?);
-        let fault = submitted.err().map(|rejected| rejected.fault);
-        let is_idle = master.is_idle();
-        let refuses = is_idle || refuses_another(&mut master)?;
-        assert!(rt;
-            fault == *want && is_idle == want.is_some() && refuses,
-            "of row {row}"
-        );
+fn one_request_is_taken(rt: HostRuntime) {
+    for (row, submission) in SUBMISSIONS.iter().enumerate() {
+        hold_ok(&rt, is_taken_or_refused(submission), "row", row);
     }
-    Ok(())
 }
 
 /// A call, and what it gives.
@@ -122,7 +127,7 @@ const CALLS: &[Call] = &[
 /// Whether a call gives what it says; what is sent has to be this request.
 fn gives(master: &mut Master, call: &Call, request: &Frame) -> bool {
     match call {
-        Call::Sends => master.send().is_some_and(|sent| sent == *request),
+        Call::Sends => master.send().as_ref() == Some(request),
         Call::StaysSilent => master.send().is_none(),
         Call::Waits(times) => master.tick(*times) == MasterEvent::Nothing,
         Call::Retries(times) => master.tick(*times) == MasterEvent::Retry,
@@ -137,7 +142,7 @@ fn a_request_is_sent_twice_and_given_up(rt: HostRuntime) -> Result<(), Fail> {
     let submitted = master.submit(address_of(POLLING)?, Request::Identify);
     assert!(rt; submitted.is_ok());
     for (row, call) in CALLS.iter().enumerate() {
-        assert!(rt; gives(&mut master, call, &request), "of row {row}");
+        hold(&rt, gives(&mut master, call, &request), "row", row);
     }
     assert!(rt; master.is_idle() && master.sendings() == 0);
     Ok(())
@@ -177,7 +182,9 @@ const WRITTEN: &[u8] = &[
 ];
 
 /// Address bytes, a command and its data, what is heard in two parts, and the payload of the reply that is accepted.
-const HEARD: &[(&[u8], u8, &[u8], &[u8], &[u8], Option<&[u8]>)] = &[
+type Heard<'a> = (&'a [u8], u8, &'a [u8], &'a [u8], &'a [u8], Option<&'a [u8]>);
+
+const HEARD: &[Heard] = &[
     (POLLING, 0, &[], TO_SECONDARY, &[], None),
     (POLLING, 0, &[], TO_PRIMARY, TO_PRIMARY, None),
     (POLLING, 0, &[], TO_PRIMARY, TO_SECONDARY, None),
@@ -226,18 +233,26 @@ fn event_of(command: u8, payload: Option<&[u8]>) -> Result<MasterEvent, Fail> {
     Ok(answered.ok_or("either a code or content")?)
 }
 
+/// Whether a master accepts nothing before it sends, and then what is wanted.
+fn accepts(row: &Heard) -> Result<(bool, bool), Fail> {
+    let (address, command, data, first, second, want) = *row;
+    let chars = heard(first, second).ok_or("characters")?;
+    let mut master = with_request(address, request_of(command, data)?)?;
+    let early = master.hear(&chars) == MasterEvent::Nothing;
+    let sends = master.send().is_some();
+    let accepted = master.hear(&chars) == event_of(command, want)?;
+    Ok((
+        early && sends,
+        accepted && master.is_idle() == want.is_some(),
+    ))
+}
+
 #[test]
 fn replies_are_accepted(rt: HostRuntime) -> Result<(), Fail> {
-    for (row, (address, command, data, first, second, want)) in HEARD.iter().enumerate() {
-        let chars = heard(first, second).ok_or("characters")?;
-        let mut master = with_request(address, request_of(*command, data)?)?;
-        let early = master.hear(&chars) == MasterEvent::Nothing;
-        assert!(rt; early && master.send().is_some(), "of row {row}");
-        let accepted = master.hear(&chars) == event_of(*command, *want)?;
-        assert!(rt;
-            accepted && master.is_idle() == want.is_some(),
-            "of row {row}"
-        );
+    for (number, row) in HEARD.iter().enumerate() {
+        let (before, after) = accepts(row)?;
+        hold(&rt, before, "the sending of row", number);
+        hold(&rt, after, "row", number);
     }
     Ok(())
 }
@@ -266,7 +281,9 @@ const NOWHERE: &[u8] = &[
 ];
 
 /// A command, the payload of a reply, and the type and the id of the address that it gives.
-const IDENTITIES: &[(u8, &[u8], Option<(u16, u32)>)] = &[
+type Given<'a> = (u8, &'a [u8], Option<(u16, u32)>);
+
+const IDENTITIES: &[Given] = &[
     (0, IDENTITY, Some((0x3742, 0x0A1B2C))),
     (11, IDENTITY, Some((0x3742, 0x0A1B2C))),
     (21, IDENTITY, Some((0x3742, 0x0A1B2C))),
@@ -276,12 +293,20 @@ const IDENTITIES: &[(u8, &[u8], Option<(u16, u32)>)] = &[
     (19, &[0x00, 0x40, 0x01, 0x23, 0x45], None),
 ];
 
+/// Whether a reply gives the address of its row.
+fn gives_address(given: &Given) -> Result<bool, Fail> {
+    let (command, payload, want) = *given;
+    let reply = Reply::read(command, payload).ok_or("a reply")?;
+    let want = match want {
+        Some((expanded_type, id)) => Some(Address::unique(expanded_type, id)?),
+        None => None,
+    };
+    Ok(unique_of(&reply) == want)
+}
+
 #[test]
-fn identities_give_addresses(rt: HostRuntime) -> Result<(), Fail> {
-    for (row, (command, payload, want)) in IDENTITIES.iter().enumerate() {
-        let reply = Reply::read(*command, payload).ok_or("a reply")?;
-        let want = want.and_then(|(expanded_type, id)| Address::unique(expanded_type, id).ok());
-        assert!(rt; unique_of(&reply) == want, "of row {row}");
+fn identities_give_addresses(rt: HostRuntime) {
+    for (row, given) in IDENTITIES.iter().enumerate() {
+        hold_ok(&rt, gives_address(given), "row", row);
     }
-    Ok(())
 }

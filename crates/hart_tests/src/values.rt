@@ -1,25 +1,30 @@
+use crate::rows::{has_text, hold, hold_ok};
 use hart_values::*;
 use std::test::Fail;
+
+/// The address bytes of a device, from the primary master.
+const UNIQUE: &[u8] = &[0xB7, 0x42, 0x0A, 0x1B, 0x2C];
+
+/// Whether an address has these bytes, from this master and with this burst bit.
+fn has_bytes(address: &Address, master: MasterId, burst: bool, want: &[u8]) -> bool {
+    address.bytes(master, burst).as_slice() == want
+}
 
 #[test]
 fn addresses_have_their_bytes(rt: HostRuntime) -> Result<(), Fail> {
     let unique = Address::unique(0x3742, 0x0A1B2C)?;
-    let bytes = unique.bytes(MasterId::Primary, false);
-    assert!(rt; bytes.as_slice() == [0xB7, 0x42, 0x0A, 0x1B, 0x2C].as_slice());
+    assert!(rt; has_bytes(&unique, MasterId::Primary, false, UNIQUE));
     let polling = Address::polling(5)?;
-    let bytes = polling.bytes(MasterId::Secondary, true);
-    assert!(rt; bytes.as_slice() == [0x45].as_slice());
+    assert!(rt; has_bytes(&polling, MasterId::Secondary, true, &[0x45]));
     Ok(())
 }
 
 #[test]
 fn addresses_are_read(rt: HostRuntime) -> Result<(), Fail> {
-    let bytes = [0xB7, 0x42, 0x0A, 0x1B, 0x2C];
-    let (master, burst, address) = Address::read(&bytes).ok_or("five bytes")?;
     let device = Address::unique(0x3742, 0x0A1B2C)?;
-    assert!(rt; master == MasterId::Primary && !burst && address == device);
-    let (master, burst, address) = Address::read(&[0x45]).ok_or("one byte")?;
-    assert!(rt; master == MasterId::Secondary && burst && address == Address::polling(5)?);
+    assert!(rt; Address::read(UNIQUE) == Some((MasterId::Primary, false, device)));
+    let polling = Address::polling(5)?;
+    assert!(rt; Address::read(&[0x45]) == Some((MasterId::Secondary, true, polling)));
     assert!(rt; Address::read(&[0x45, 0x00]).is_none());
     Ok(())
 }
@@ -33,16 +38,21 @@ fn only_both_numbers_zero_are_broadcast(rt: HostRuntime) -> Result<(), Fail> {
     Ok(())
 }
 
+/// Whether a list has these bytes.
+fn keeps(list: &ByteList<3>, want: &[u8]) -> bool {
+    list.as_slice() == want
+}
+
 #[test]
 fn a_list_keeps_its_bytes(rt: HostRuntime) -> Result<(), Fail> {
     let mut list = ByteList::<3>::from_slice(&[1, 2]).ok_or("two of three bytes")?;
     assert!(rt; list.len() == 2);
     list.push(3);
-    assert!(rt; list.as_slice() == [1, 2, 3].as_slice());
+    assert!(rt; keeps(&list, &[1, 2, 3]));
     list.clear();
     assert!(rt; list.is_empty());
     list.extend_from_slice(&[7]);
-    assert!(rt; list.as_slice() == [7].as_slice());
+    assert!(rt; keeps(&list, &[7]));
     Ok(())
 }
 
@@ -82,9 +92,9 @@ const BAD_TEXTS: &[(&str, ValueFault)] = &[
 
 #[test]
 fn bad_texts_are_refused(rt: HostRuntime) {
-    for (text, want) in BAD_TEXTS {
+    for (row, (text, want)) in BAD_TEXTS.iter().enumerate() {
         let packed = PackedText::<6>::from_text(text.as_bytes());
-        assert!(rt; packed.err() == Some(*want), "of {text}");
+        hold(&rt, packed.err() == Some(*want), "row", row);
     }
 }
 
@@ -105,7 +115,7 @@ const DATES: &[([u8; 3], bool)] = &[
 fn dates_are_those_of_the_calendar(rt: HostRuntime) {
     for (row, (bytes, good)) in DATES.iter().enumerate() {
         let date = HartDate::from_bytes(*bytes);
-        assert!(rt; date.is_ok() == *good, "of row {row}");
+        hold(&rt, date.is_ok() == *good, "row", row);
     }
 }
 
@@ -170,10 +180,8 @@ const TEXTS: &[(ValueFault, &str)] = &[
 ];
 
 #[test]
-fn faults_have_texts(rt: HostRuntime) -> Result<(), Fail> {
-    for (fault, want) in TEXTS {
-        let text = fault.to_string(rt.alloc())?;
-        assert!(rt; text.as_str() == *want, "of {want}");
+fn faults_have_texts(rt: HostRuntime) {
+    for (row, (fault, want)) in TEXTS.iter().enumerate() {
+        hold_ok(&rt, has_text(rt.alloc(), fault, want), "row", row);
     }
-    Ok(())
 }

@@ -1,11 +1,15 @@
 //! The names of fields, as worked messages show them.
+use crate::rows::hold;
 use hart_commands::{FieldRow, reply_rows, request_rows};
 
 /// Fields of data, each with its name and its bytes.
 type Named = &'static [(&'static str, &'static [u8])];
 
-/// Commands, whether the data are those of a reply, the data, and their fields: those of worked messages, and one byte more.
-const FIELDS: &[(u8, bool, &[u8], Named)] = &[
+/// A command, whether the data are those of a reply, the data, and their fields.
+type Data = (u8, bool, &'static [u8], Named);
+
+/// Those of worked messages, and one byte more.
+const FIELDS: &[Data] = &[
     (
         0,
         true,
@@ -95,14 +99,20 @@ fn fall_into(rows: &[FieldRow], data: &[u8], fields: Named) -> bool {
     found == fields.len()
 }
 
+/// Whether data have their fields.
+fn have_fields(row: &Data) -> bool {
+    let (command, replies, data, fields) = *row;
+    let rows = if replies {
+        reply_rows(command)
+    } else {
+        request_rows(command)
+    };
+    fall_into(rows, data, fields)
+}
+
 #[test]
 fn fields_have_their_names(rt: HostRuntime) {
-    for (row, (command, replies, data, fields)) in FIELDS.iter().enumerate() {
-        let rows = if *replies {
-            reply_rows(*command)
-        } else {
-            request_rows(*command)
-        };
-        assert!(rt; fall_into(rows, data, fields), "of row {row}");
+    for (number, row) in FIELDS.iter().enumerate() {
+        hold(&rt, have_fields(row), "row", number);
     }
 }

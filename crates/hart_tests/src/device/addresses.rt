@@ -114,29 +114,27 @@ const ROWS: &[Row] = &[
     (Values::New, Asked::Own, 21, LAST_IS_ANOTHER, None),
 ];
 
+/// Whether a device replies as its row says, protected and not.
+fn answers_in_both(row: &Row) -> Result<bool, Fail> {
+    Ok(answers(row, false)? && answers(row, true)?)
+}
+
 /// Whether a device, protected or not, replies as its row says, with the address of the request, and counts nothing.
 fn answers(row: &Row, protected: bool) -> Result<bool, Fail> {
-    let (values, asked, command, data, payload) = row;
-    let frame = request_to(*asked, MasterId::Secondary, *command, data)?;
-    let mut device = device_of(*values)?;
+    let (values, asked, command, data, payload) = *row;
+    let frame = request_to(asked, MasterId::Secondary, command, data)?;
+    let mut device = device_of(values)?;
     device.protect(protected);
-    let replied = match (device.receive(&frame, &bench::process()), payload) {
-        (Some(reply), Some(payload)) => {
-            reply.payload() == *payload && reply.address() == frame.address()
-        }
-        (None, None) => true,
-        _ => false,
+    let replied = match device.receive(&frame, &bench::process()) {
+        Some(reply) => { Some(reply.payload()) == payload && reply.address() == frame.address() }
+        None => payload.is_none(),
     };
     Ok(replied && device.counter() == 0)
 }
 
 #[test]
-fn who_is_asked_answers(rt: HostRuntime) -> Result<(), Fail> {
+fn who_is_asked_answers(rt: HostRuntime) {
     for (number, row) in ROWS.iter().enumerate() {
-        assert!(rt;
-            answers(row, false)? && answers(row, true)?,
-            "of row {number}"
-        );
+        hold_ok(&rt, answers_in_both(row), "row", number);
     }
-    Ok(())
 }

@@ -121,18 +121,21 @@ fn is_met_at(exchange: &Exchange, place: usize, byte: u8, faults: u8) -> Result<
     leads_to(delivery, &[], UNCHANGED)
 }
 
+/// Whether so many first characters of a request lead to a reply, and to this in the image.
+fn lead_to(request: &[u8], len: usize, reply: &[u8], held: Held) -> Result<bool, Fail> {
+    let chars = chars_of(request)?;
+    leads_to(chars.get(..len).ok_or("too long")?, reply, held)
+}
+
 /// Whether a request that ends before a place is met with silence.
 fn is_silent_before(exchange: &Exchange, place: usize) -> Result<bool, Fail> {
-    let chars = chars_of(exchange.request)?;
-    let delivery = chars.get(..place).ok_or("too long")?;
-    leads_to(delivery, &[], UNCHANGED)
+    lead_to(exchange.request, place, &[], UNCHANGED)
 }
 
 /// Whether a request is replied to as it stands.
 fn is_met_whole(exchange: &Exchange) -> Result<bool, Fail> {
-    let chars = chars_of(exchange.request)?;
-    let delivery = chars.get(..exchange.request.len()).ok_or("too long")?;
-    leads_to(delivery, exchange.reply, exchange.held)
+    let len = exchange.request.len();
+    lead_to(exchange.request, len, exchange.reply, exchange.held)
 }
 
 /// Whether a request is met, as `is_met_at` says, with each other byte at a place.
@@ -153,18 +156,28 @@ fn is_met_with_fault_bits(exchange: &Exchange, place: usize, byte: u8) -> Result
     Ok(met)
 }
 
-#[test]
-fn damage_is_borne_in_the_spare_preamble_alone(rt: HostRuntime) -> Result<(), Fail> {
-    for exchange in EXCHANGES {
-        assert!(rt; is_met_whole(exchange)?);
-        for (place, byte) in exchange.request.iter().enumerate() {
-            let cut = is_silent_before(exchange, place)?;
-            let other = is_met_with_other_bytes(exchange, place, *byte)?;
-            let faulty = is_met_with_fault_bits(exchange, place, *byte)?;
-            assert!(rt; cut && other && faulty, "at {place}");
-        }
+/// Whether a request is met as it has to be that ends before a place, where this byte stands, or has another character there.
+fn is_met_with_damage(exchange: &Exchange, place: usize, byte: u8) -> Result<bool, Fail> {
+    let cut = is_silent_before(exchange, place)?;
+    let other = is_met_with_other_bytes(exchange, place, byte)?;
+    let faulty = is_met_with_fault_bits(exchange, place, byte)?;
+    Ok(cut && other && faulty)
+}
+
+/// Holds each place of a request to that.
+fn hold_places(rt: &(impl Abort + Eprint), exchange: &Exchange) {
+    for (place, byte) in exchange.request.iter().enumerate() {
+        let met = is_met_with_damage(exchange, place, *byte);
+        hold_ok(rt, met, "place", place);
     }
-    Ok(())
+}
+
+#[test]
+fn damage_is_borne_in_the_spare_preamble_alone(rt: HostRuntime) {
+    for (row, exchange) in EXCHANGES.iter().enumerate() {
+        hold_ok(&rt, is_met_whole(exchange), "row", row);
+        hold_places(&rt, exchange);
+    }
 }
 
 /// The writing with another check byte.
@@ -311,14 +324,16 @@ fn chars_of_noise(alloc: Global, noise: Noise) -> Result<Vec<Char>, Fail> {
     Ok(chars)
 }
 
+/// Whether a new bench device replies so to noise, and nothing changes in its image.
+fn noise_leads_to(alloc: Global, noise: Noise, reply: &[u8]) -> Result<bool, Fail> {
+    let chars = chars_of_noise(alloc, noise)?;
+    leads_to(chars.as_slice(), reply, UNCHANGED)
+}
+
 #[test]
-fn noise_hides_no_request(rt: HostRuntime) -> Result<(), Fail> {
+fn noise_hides_no_request(rt: HostRuntime) {
     for (row, (noise, reply)) in NOISES.iter().enumerate() {
-        let chars = chars_of_noise(rt.alloc(), noise)?;
-        assert!(rt;
-            leads_to(chars.as_slice(), reply, UNCHANGED)?,
-            "of row {row}"
-        );
+        let met = noise_leads_to(rt.alloc(), noise, reply);
+        hold_ok(&rt, met, "row", row);
     }
-    Ok(())
 }

@@ -93,13 +93,11 @@ fn is_refused(row: &BadImage) -> bool {
 #[test]
 fn bad_images_are_refused(rt: HostRuntime) {
     for (number, row) in BAD_IMAGES.iter().enumerate() {
-        assert!(rt; is_refused(row), "of row {number}");
+        hold(&rt, is_refused(row), "row", number);
     }
     for (number, (bytes, fault)) in BAD_LENGTHS.iter().enumerate() {
-        assert!(rt;
-            image_fault(bytes) == Some(*fault),
-            "of length row {number}"
-        );
+        let is_refused = image_fault(bytes) == Some(*fault);
+        hold(&rt, is_refused, "length row", number);
     }
 }
 
@@ -142,12 +140,11 @@ fn goes_on<S: RegisterStore + Drop>(row: &GoesOn) -> Result<bool, Fail> {
 }
 
 #[test]
-fn devices_go_on_from_their_images(rt: HostRuntime) -> Result<(), Fail> {
+fn devices_go_on_from_their_images(rt: HostRuntime) {
     for (number, row) in GOES_ON.iter().enumerate() {
-        assert!(rt; goes_on::<FieldRegisters>(row)?, "of row {number}");
-        assert!(rt; goes_on::<ImageRegisters>(row)?, "of row {number}");
+        hold_ok(&rt, goes_on::<FieldRegisters>(row), "row", number);
+        hold_ok(&rt, goes_on::<ImageRegisters>(row), "image row", number);
     }
-    Ok(())
 }
 
 /// Whether a device that goes on from one image has another.
@@ -162,7 +159,9 @@ fn have_image(image: &[u8], other: &[u8]) -> Result<bool, Fail> {
 }
 
 /// Bytes that stand in an image of version 1 from a place on, and the first eight characters of the long tag after it.
-const MIGRATED: &[(usize, &[u8], &[u8; 8])] = &[
+type Migrated<'a> = (usize, &'a [u8], &'a [u8; 8]);
+
+const MIGRATED: &[Migrated] = &[
     (1, &[0x3F], b"        "),
     (2, &[0x00], b"        "),
     (3, &[0xFF; 24], b"        "),
@@ -194,18 +193,25 @@ fn long_tag_of(group: u8) -> [u8; 32] {
     long_tag
 }
 
+/// Whether devices that go on from an image with the long tag of a group have that image.
+fn keep_long_tag(group: u8) -> Result<bool, Fail> {
+    let image = image_with(IMAGE_2, LONG_TAG, &long_tag_of(group));
+    have_image(&image, &image)
+}
+
+/// Whether devices that go on from the image of version 1 of a row have that of version 2.
+fn migrate(row: &Migrated) -> Result<bool, Fail> {
+    let (place, bytes, text) = *row;
+    let image = image_with(IMAGE_1, place, bytes);
+    have_image(&image, &migrated(&image, text))
+}
+
 #[test]
-fn images_of_both_versions_are_gone_on_from(rt: HostRuntime) -> Result<(), Fail> {
+fn images_of_both_versions_are_gone_on_from(rt: HostRuntime) {
     for group in 0..8u8 {
-        let image = image_with(IMAGE_2, LONG_TAG, &long_tag_of(group));
-        assert!(rt; have_image(&image, &image)?, "of group {group}");
+        hold_ok(&rt, keep_long_tag(group), "group", usize::from(group));
     }
-    for (row, (place, bytes, text)) in MIGRATED.iter().enumerate() {
-        let image = image_with(IMAGE_1, *place, bytes);
-        assert!(rt;
-            have_image(&image, &migrated(&image, text))?,
-            "of row {row}"
-        );
+    for (number, row) in MIGRATED.iter().enumerate() {
+        hold_ok(&rt, migrate(row), "row", number);
     }
-    Ok(())
 }

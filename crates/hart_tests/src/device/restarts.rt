@@ -3,7 +3,6 @@ use super::addresses::{Asked, request_to};
 use super::deliveries::garbled_write;
 use super::*;
 use hart_values::EachMaster;
-use std::process::Abort;
 
 /// Whether a device is protected, whom requests are for, their first and last command and their data, and the status bytes of its
 /// first reply to each after a restart.
@@ -86,9 +85,9 @@ fn restarted_device(rt: &impl Abort, protected: bool) -> Result<Device<FieldRegi
     device.restart();
     device.restart();
     assert!(rt; device.image() == image);
-    for (asked, command, data) in SILENT {
+    for (row, (asked, command, data)) in SILENT.iter().enumerate() {
         let silence = status_bytes(&mut device, MasterId::Primary, *asked, *command, data)?;
-        assert!(rt; silence.is_none());
+        hold(rt, silence.is_none(), "silent row", row);
     }
     assert!(rt; replies_with_faults(&mut device)?);
     Ok(device)
@@ -145,9 +144,8 @@ fn is_shown_after_restart(rt: &impl Abort, row: &Row) -> Result<bool, Fail> {
 }
 
 #[test]
-fn a_cold_start_is_shown_once_to_each_master(rt: HostRuntime) -> Result<(), Fail> {
+fn a_cold_start_is_shown_once_to_each_master(rt: HostRuntime) {
     for (number, row) in FIRST_REPLIES.iter().enumerate() {
-        assert!(rt; is_shown_after_restart(&rt, row)?, "of row {number}");
+        hold_ok(&rt, is_shown_after_restart(&rt, row), "row", number);
     }
-    Ok(())
 }

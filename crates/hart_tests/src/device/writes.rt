@@ -108,7 +108,7 @@ fn writes_are_counted(rt: HostRuntime) -> Result<(), Fail> {
     let mut device = device_gone_round()?;
     assert!(rt; device.counter() == 0);
     for (place, step) in STEPS.iter().enumerate() {
-        assert!(rt; takes(&mut device, step)?, "at step {place}");
+        hold(&rt, takes(&mut device, step)?, "step", place);
     }
     assert!(rt; is_silent_to_former(&mut device, 21)? && is_silent_to_former(&mut device, 22)?);
     assert!(rt; device.registers().get(Register::LongTag) == [0xFF; 32].as_slice());

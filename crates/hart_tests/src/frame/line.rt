@@ -31,7 +31,7 @@ fn fault_bits_are_four(rt: HostRuntime) {
             Some(character) => *known && has_its_parts(character, *faults),
             None => !*known,
         };
-        assert!(rt; holds, "of {faults}");
+        hold(&rt, holds, "fault bits", usize::from(*faults));
     }
 }
 
@@ -57,7 +57,9 @@ const INSIDE: &[u16] = &[
 /// Characters, how many are heard, the place to search from, and where the first frame starts and stops.
 ///
 /// The high byte of a character is its fault bits. After those of a row faultless characters 00 are heard.
-const HEARD: &[(&[u16], usize, usize, Option<(usize, usize)>)] = &[
+type Heard<'a> = (&'a [u16], usize, usize, Option<(usize, usize)>);
+
+const HEARD: &[Heard] = &[
     (&[], 0, 0, None),
     (&[0xFF], 1, 0, None),
     (&[0xFF, 0xFF], 2, 0, None),
@@ -96,21 +98,25 @@ const HEARD: &[(&[u16], usize, usize, Option<(usize, usize)>)] = &[
 /// The characters of a row and of what is heard after them.
 fn heard(row: &[u16]) -> Option<[Char; 300]> {
     let mut chars = [Char::new(0, 0)?; 300];
-    for (place, both) in chars.iter_mut().zip(row) {
-        *place = Char::new((both % 256) as u8, (both / 256) as u8)?;
-    }
+    write_chars(&mut chars, row)?;
     Some(chars)
 }
 
+/// Whether the first frame of a row is found where it is.
+fn is_found((bytes, count, from, want): &Heard) -> Result<bool, Fail> {
+    let chars = heard(bytes).ok_or("characters")?;
+    let chars = chars.get(..*count).ok_or("at most 300 characters")?;
+    Ok(match first_frame(chars, *from) {
+        Some(found) => *want == Some((found.start, found.stop)),
+        None => want.is_none(),
+    })
+}
+
 #[test]
-fn the_first_frame_is_found(rt: HostRuntime) -> Result<(), Fail> {
-    for (row, (bytes, count, from, want)) in HEARD.iter().enumerate() {
-        let chars = heard(bytes).ok_or("characters")?;
-        let chars = chars.get(..*count).ok_or("at most 300 characters")?;
-        let places = first_frame(chars, *from).map(|found| (found.start, found.stop));
-        assert!(rt; places == *want, "of row {row}");
+fn the_first_frame_is_found(rt: HostRuntime) {
+    for (number, row) in HEARD.iter().enumerate() {
+        hold_ok(&rt, is_found(row), "row", number);
     }
-    Ok(())
 }
 
 /// Which frames a delivery has.
@@ -121,8 +127,10 @@ enum Frames {
     Alone(usize, usize),
 }
 
-/// Deliveries, and which frames each has.
-const DELIVERIES: &[(&[u16], Frames)] = &[
+/// A delivery, and which frames it has.
+type Delivery<'a> = (&'a [u16], Frames);
+
+const DELIVERIES: &[Delivery] = &[
     (&[], Frames::NoFrame),
     (ONE, Frames::Alone(2, 7)),
     (TWO, Frames::Several),
@@ -141,14 +149,18 @@ fn are_frames_of(delivery: &[Char], want: &Frames) -> bool {
     }
 }
 
+/// Whether a delivery has its frames.
+fn has_its_frames((bytes, want): &Delivery) -> Result<bool, Fail> {
+    let chars = heard(bytes).ok_or("characters")?;
+    let delivery = chars.get(..bytes.len()).ok_or("at most 300 characters")?;
+    Ok(are_frames_of(delivery, want))
+}
+
 #[test]
-fn a_lone_frame_is_given(rt: HostRuntime) -> Result<(), Fail> {
-    for (row, (bytes, want)) in DELIVERIES.iter().enumerate() {
-        let chars = heard(bytes).ok_or("characters")?;
-        let delivery = chars.get(..bytes.len()).ok_or("at most 300 characters")?;
-        assert!(rt; are_frames_of(delivery, want), "of row {row}");
+fn a_lone_frame_is_given(rt: HostRuntime) {
+    for (row, delivery) in DELIVERIES.iter().enumerate() {
+        hold_ok(&rt, has_its_frames(delivery), "row", row);
     }
-    Ok(())
 }
 
 /// The first characters of the longest message, in which all others are 00, also the check byte.
@@ -157,7 +169,9 @@ const LONGEST: &[u16] = &[
 ];
 
 /// Characters, how many are heard, a place, and why no frame stands there.
-const MISSES: &[(&[u16], usize, usize, Option<Miss>)] = &[
+type Missed<'a> = (&'a [u16], usize, usize, Option<Miss>);
+
+const MISSES: &[Missed] = &[
     (&[], 0, 0, None),
     (ONE, 7, 0, None),
     (ONE, 7, 1, None),
@@ -347,12 +361,16 @@ const MISSES: &[(&[u16], usize, usize, Option<Miss>)] = &[
     ),
 ];
 
+/// Whether no frame stands at a place for its reason.
+fn has_its_reason((bytes, count, start, want): &Missed) -> Result<bool, Fail> {
+    let chars = heard(bytes).ok_or("characters")?;
+    let chars = chars.get(..*count).ok_or("at most 300 characters")?;
+    Ok(why_none(chars, *start) == *want)
+}
+
 #[test]
-fn no_frame_has_its_reason(rt: HostRuntime) -> Result<(), Fail> {
-    for (row, (bytes, count, start, want)) in MISSES.iter().enumerate() {
-        let chars = heard(bytes).ok_or("characters")?;
-        let chars = chars.get(..*count).ok_or("at most 300 characters")?;
-        assert!(rt; why_none(chars, *start) == *want, "of row {row}");
+fn no_frame_has_its_reason(rt: HostRuntime) {
+    for (row, missed) in MISSES.iter().enumerate() {
+        hold_ok(&rt, has_its_reason(missed), "row", row);
     }
-    Ok(())
 }

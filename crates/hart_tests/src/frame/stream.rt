@@ -256,11 +256,9 @@ fn stops_at(chars: &[Char], stop: usize) -> bool {
 fn a_scanner_gives_the_frames(rt: HostRuntime) -> Result<(), Fail> {
     for (row, (parts, want)) in HEARD.iter().enumerate() {
         let chars = heard(rt.alloc(), parts)?;
-        assert!(rt; stops_at(&chars, *want), "of row {row}");
-        assert!(rt;
-            stops_by_chunks_at(&chars, *want, Chunks::Chars),
-            "of row {row}"
-        );
+        hold(&rt, stops_at(&chars, *want), "row", row);
+        let by_chars = stops_by_chunks_at(&chars, *want, Chunks::Chars);
+        hold(&rt, by_chars, "the chunks of row", row);
     }
     Ok(())
 }
@@ -284,10 +282,9 @@ fn first_view(chars: &[Char]) -> Option<(usize, u64, u64)> {
 #[test]
 fn a_view_waits_for_the_false_message_around_it(rt: HostRuntime) -> Result<(), Fail> {
     let chars = heard(rt.alloc(), &[(INSIDE, 1), (&[0x00], 300)])?;
-    let after_the_false_one = first_view(&chars);
-    assert!(rt; after_the_false_one == Some((266, 15, 20)));
-    let after_the_finish = first_view(chars.get(..20).ok_or("20 characters")?);
-    assert!(rt; after_the_finish == Some((20, 15, 20)));
+    assert!(rt; first_view(&chars) == Some((266, 15, 20)));
+    let finished = chars.get(..20).ok_or("20 characters")?;
+    assert!(rt; first_view(finished) == Some((20, 15, 20)));
     Ok(())
 }
 
@@ -323,16 +320,20 @@ fn at_once(chars: &[Char], bytes: &[u8]) -> Option<usize> {
     last_taken(&mut scanner, chars, 0)
 }
 
+/// Whether the frame that is wanted is the one of the characters, however they and their bytes are pushed.
+fn is_passed(chars: &[Char], bytes: &[u8], want: &Option<(usize, Read)>) -> bool {
+    match noise_stop(chars, want) {
+        Some(stop) => stops_at(chars, stop) && at_once(chars, bytes) == Some(stop),
+        None => false,
+    }
+}
+
 #[test]
 fn noise_is_passed(rt: HostRuntime) -> Result<(), Fail> {
     for (row, (parts, want)) in NOISE.iter().enumerate() {
         let chars = heard(rt.alloc(), parts)?;
         let bytes = bytes_of(rt.alloc(), &chars)?;
-        let passed = match noise_stop(&chars, want) {
-            Some(stop) => stops_at(&chars, stop) && at_once(&chars, &bytes) == Some(stop),
-            None => false,
-        };
-        assert!(rt; passed, "of row {row}");
+        hold(&rt, is_passed(&chars, &bytes, want), "row", row);
     }
     Ok(())
 }

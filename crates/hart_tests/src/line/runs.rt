@@ -274,7 +274,7 @@ const ROWS: &[Row] = &[
 ];
 
 /// What comes of a script on a device, with a primary master that sends so often again.
-fn run_on<S: RegisterStore + Drop>(
+pub fn run_on<S: RegisterStore + Drop>(
     alloc: Global,
     device: Device<S>,
     retries: u8,
@@ -297,16 +297,6 @@ fn run_on<S: RegisterStore + Drop>(
 pub fn fault_of<S: RegisterStore + Drop>(alloc: Global, script: &str) -> Result<LineFault, Fail> {
     let device = Device::<S>::new(bench::identity(), &bench::register_values());
     Ok(run_on(alloc, device, 3, script)?.err().ok_or("a report")?)
-}
-
-/// What comes of a script on the bench device, with a primary master that sends so often again.
-pub fn run_of(
-    alloc: Global,
-    retries: u8,
-    script: &str,
-) -> Result<Result<Report<FieldRegisters>, LineFault>, Fail> {
-    let device = Device::new(bench::identity(), &bench::register_values());
-    run_on(alloc, device, retries, script)
 }
 
 /// What a row's script leads to, on a device with this store that goes on from the row's image.
@@ -345,14 +335,11 @@ fn outcomes_of(alloc: Global, fates: &[Fate]) -> Result<Vec<Outcome>, Fail> {
     Ok(outcomes)
 }
 
-/// Whether a report has the outcomes, the number of spoken frames and the counter of a row.
-fn is_led_to<S: RegisterStore>(alloc: Global, report: &Report<S>, row: &Row) -> Result<bool, Fail> {
-    let outcomes = outcomes_of(alloc, row.fates)?;
-    Ok(
-        report.outcomes.as_slice() == outcomes.as_slice()
-            && report.spoken.as_slice().len() == row.spoken
-            && report.device.counter() == row.counter,
-    )
+/// Whether a report has these outcomes, and the number of spoken frames and the counter of a row.
+fn is_led_to<S: RegisterStore>(report: &Report<S>, outcomes: &[Outcome], row: &Row) -> bool {
+    report.outcomes.as_slice() == outcomes
+        && report.spoken.as_slice().len() == row.spoken
+        && report.device.counter() == row.counter
 }
 
 /// Whether registers hold what a row says.
@@ -371,16 +358,19 @@ fn are_alike(report: &Report<FieldRegisters>, other: &Report<ImageRegisters>) ->
 
 /// Whether a row's script leads to what the row says, with a store of each kind.
 fn is_as_said(alloc: Global, row: &Row) -> Result<bool, Fail> {
+    let outcomes = outcomes_of(alloc, row.fates)?;
     let report = report_of(alloc, row)?;
     let other = report_of(alloc, row)?;
-    let is_led_to = is_led_to(alloc, &report, row)?;
-    Ok(is_led_to && are_held(report.device.registers(), row) && are_alike(&report, &other))
+    Ok(
+        is_led_to(&report, outcomes.as_slice(), row)
+            && are_held(report.device.registers(), row)
+            && are_alike(&report, &other),
+    )
 }
 
 #[test]
-fn scripts_lead_to_reports(rt: HostRuntime) -> Result<(), Fail> {
-    for row in ROWS {
-        assert!(rt; is_as_said(rt.alloc(), row)?, "of {}", row.script);
+fn scripts_lead_to_reports(rt: HostRuntime) {
+    for (number, row) in ROWS.iter().enumerate() {
+        hold_ok(&rt, is_as_said(rt.alloc(), row), "row", number);
     }
-    Ok(())
 }

@@ -129,14 +129,17 @@ const LONG: &[Long] = &[
     },
 ];
 
+/// Whether a long text is read as its script.
+fn is_long_read(alloc: Global, long: &Long) -> Result<bool, Fail> {
+    let text = text_of(alloc, long.prefix, long.part, long.times, long.suffix)?;
+    is_read_as(alloc, text.as_bytes(), long.want)
+}
+
 #[test]
-fn long_texts_are_read(rt: HostRuntime) -> Result<(), Fail> {
-    for long in LONG {
-        let text = text_of(rt.alloc(), long.prefix, long.part, long.times, long.suffix)?;
-        let is_read = is_read_as(rt.alloc(), text.as_bytes(), long.want)?;
-        assert!(rt; is_read, "at {}{}..", long.prefix, long.part);
+fn long_texts_are_read(rt: HostRuntime) {
+    for (row, long) in LONG.iter().enumerate() {
+        hold_ok(&rt, is_long_read(rt.alloc(), long), "row", row);
     }
-    Ok(())
 }
 
 /// Texts with a byte zero, which is part of a word like any other.
@@ -157,22 +160,21 @@ const WITH_ZEROS: &[(&str, Result<&str, usize>)] = &[
 ];
 
 #[test]
-fn a_byte_zero_is_part_of_a_word(rt: HostRuntime) -> Result<(), Fail> {
-    for (text, want) in WITH_ZEROS {
-        let is_read = is_read_as(rt.alloc(), text.as_bytes(), *want)?;
-        assert!(rt; is_read, "at {text}");
+fn a_byte_zero_is_part_of_a_word(rt: HostRuntime) {
+    for (row, (text, want)) in WITH_ZEROS.iter().enumerate() {
+        let is_read = is_read_as(rt.alloc(), text.as_bytes(), *want);
+        hold_ok(&rt, is_read, "row", row);
     }
-    Ok(())
 }
 
 /// The bytes that make a script alone: of blanks, of a line's end, or of a comment.
 const LONE: &[u8] = b" \t\n\r#";
 
 #[test]
-fn few_bytes_alone_are_scripts(rt: HostRuntime) -> Result<(), Fail> {
+fn few_bytes_alone_are_scripts(rt: HostRuntime) {
     for byte in 0..=u8::MAX {
         let want = if LONE.contains(&byte) { Ok("") } else { Err(1) };
-        assert!(rt; is_read_as(rt.alloc(), &[byte], want)?, "at byte {byte}");
+        let is_read = is_read_as(rt.alloc(), &[byte], want);
+        hold_ok(&rt, is_read, "byte", usize::from(byte));
     }
-    Ok(())
 }
