@@ -233,8 +233,11 @@ const OVERRUN: &[u8] = &[
     0xFF, 0xFF, 0xFF, 0xFF, 0xFF, 0x86, 0xB7, 0x42, 0x0A, 0x1B, 0x2C, 0x13, 0x02, 0xA8, 0x00, 0xF7,
 ];
 
-/// Noise and damaged messages, and the message of the reply to each, if any.
-const NOISES: &[(Noise, &[u8])] = &[
+/// What is delivered, and the message of the reply to it, if any.
+type Delivered<'a> = (Noise<'a>, &'a [u8]);
+
+/// Noise, and requests after it.
+const NOISES: &[Delivered] = &[
     (&[(&[0xFF], 100_000, 0)], &[]),
     (
         &[(&[0xFF], 100_000, 0), (IDENTIFY, 1, 0), (&[0x55], 1, 0)],
@@ -258,7 +261,10 @@ const NOISES: &[(Noise, &[u8])] = &[
         ],
         FOUND,
     ),
-    // A garbled request, with fault bits after its address and in it.
+];
+
+/// Garbled requests, with fault bits after their address and in it, and the longest one and one character less.
+const GARBLED: &[Delivered] = &[
     (&[(BAD_CHECK, 1, 0)], FAULTY),
     (&[(BAD_CHECK_OF_SECONDARY, 1, 0)], FAULTY_TO_SECONDARY),
     (
@@ -291,7 +297,15 @@ const NOISES: &[(Noise, &[u8])] = &[
         ],
         &[],
     ),
-    // A garbled request after noise, and before it; after another start; and beside a whole frame.
+    (
+        &[(FALSE_START, 1, 0), (&[0x00], 255, 0), (&[0x01], 1, 0)],
+        FAULTY,
+    ),
+    (&[(FALSE_START, 1, 0), (&[0x00], 255, 0)], &[]),
+];
+
+/// A garbled request after noise, and before it; after another start; and beside a whole frame.
+const BESIDE: &[Delivered] = &[
     (&[(&[0x55, 0xFF, 0x00], 1, 0), (BAD_CHECK, 1, 0)], FAULTY),
     (&[(BAD_CHECK, 1, 0), (&[0x55], 100, 0)], FAULTY),
     (&[(&[0xFF, 0xFF, 0x00], 1, 0), (BAD_CHECK, 1, 0)], &[]),
@@ -303,12 +317,6 @@ const NOISES: &[(Noise, &[u8])] = &[
         &[(&[0xFF, 0xFF], 1, 0), (IDENTIFY, 1, 0), (BAD_CHECK, 1, 0)],
         FOUND,
     ),
-    // The longest garbled request, and one character less.
-    (
-        &[(FALSE_START, 1, 0), (&[0x00], 255, 0), (&[0x01], 1, 0)],
-        FAULTY,
-    ),
-    (&[(FALSE_START, 1, 0), (&[0x00], 255, 0)], &[]),
 ];
 
 /// The characters of noise.
@@ -330,10 +338,17 @@ fn noise_leads_to(alloc: Global, noise: Noise, reply: &[u8]) -> Result<bool, Fai
     leads_to(chars.as_slice(), reply, UNCHANGED)
 }
 
+/// Holds each row of a table to its reply.
+fn hold_replies(rt: &(impl Abort + Eprint), alloc: Global, word: &str, rows: &[Delivered]) {
+    for (row, (noise, reply)) in rows.iter().enumerate() {
+        let met = noise_leads_to(alloc, noise, reply);
+        hold_ok(rt, met, word, row);
+    }
+}
+
 #[test]
 fn noise_hides_no_request(rt: HostRuntime) {
-    for (row, (noise, reply)) in NOISES.iter().enumerate() {
-        let met = noise_leads_to(rt.alloc(), noise, reply);
-        hold_ok(&rt, met, "row", row);
-    }
+    hold_replies(&rt, rt.alloc(), "row", NOISES);
+    hold_replies(&rt, rt.alloc(), "garbled row", GARBLED);
+    hold_replies(&rt, rt.alloc(), "row beside others", BESIDE);
 }

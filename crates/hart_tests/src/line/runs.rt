@@ -4,6 +4,7 @@ use super::*;
 use hart_commands::{Register, Reply};
 use hart_device::{Device, FieldRegisters, Image, ImageRegisters, RegisterStore, bench};
 use hart_master::{Master, MasterFault};
+use std::process::Abort;
 
 /// What becomes of a submission.
 enum Fate<'a> {
@@ -28,7 +29,7 @@ struct Row<'a> {
     /// What the registers of the polling address and of the final assembly number hold in the end; the loop current mode is
     /// enabled in each.
     polling: u8,
-    assembly: &'a [u8],
+    assembly: [u8; 3],
 }
 
 /// The empty script, of which nothing comes.
@@ -40,7 +41,7 @@ const NOTHING: Row = Row {
     spoken: 0,
     counter: 0,
     polling: 0,
-    assembly: &[0x00, 0x00, 0x00],
+    assembly: [0x00, 0x00, 0x00],
 };
 
 /// The payload of the reply by which the bench device is found.
@@ -64,7 +65,7 @@ const ROWS: &[Row] = &[
         fates: &[Fate::Answered(19, 2, &[0x00, 0x40, 0x01, 0x23, 0x45])],
         spoken: 4,
         counter: 2,
-        assembly: &[0x01, 0x23, 0x45],
+        assembly: [0x01, 0x23, 0x45],
         ..NOTHING
     },
     Row {
@@ -75,7 +76,7 @@ const ROWS: &[Row] = &[
         ],
         spoken: 6,
         counter: 3,
-        assembly: &[0x01, 0x23, 0x45],
+        assembly: [0x01, 0x23, 0x45],
         ..NOTHING
     },
     Row {
@@ -86,7 +87,7 @@ const ROWS: &[Row] = &[
         ],
         spoken: 6,
         counter: 2,
-        assembly: &[0x0A, 0x0B, 0x0C],
+        assembly: [0x0A, 0x0B, 0x0C],
         ..NOTHING
     },
     Row {
@@ -98,7 +99,7 @@ const ROWS: &[Row] = &[
         ],
         spoken: 6,
         counter: 2,
-        assembly: &[0x0A, 0x0B, 0x0C],
+        assembly: [0x0A, 0x0B, 0x0C],
         ..NOTHING
     },
     Row {
@@ -106,7 +107,7 @@ const ROWS: &[Row] = &[
         script: WRITTEN,
         fates: &[Fate::Answered(19, 1, &[0x00, 0x40, 0x01, 0x23, 0x45])],
         spoken: 2,
-        assembly: &[0x01, 0x23, 0x45],
+        assembly: [0x01, 0x23, 0x45],
         ..NOTHING
     },
     Row {
@@ -139,7 +140,7 @@ const ROWS: &[Row] = &[
         fates: &[Fate::NoReply(2)],
         spoken: 4,
         counter: 2,
-        assembly: &[0x01, 0x23, 0x45],
+        assembly: [0x01, 0x23, 0x45],
         ..NOTHING
     },
     Row {
@@ -151,6 +152,21 @@ const ROWS: &[Row] = &[
         ],
         ..NOTHING
     },
+    Row {
+        script: LONG_TAG_WRITTEN,
+        fates: &[
+            Fate::Answered(21, 1, IDENTITY),
+            Fate::Answered(22, 1, LONG_TAG),
+            Fate::Answered(20, 1, LONG_TAG),
+        ],
+        spoken: 6,
+        counter: 1,
+        ..NOTHING
+    },
+];
+
+/// Scripts of damaged messages and of noise.
+const DAMAGED: &[Row] = &[
     Row {
         script: ADDRESS_FAULTY,
         fates: &[Fate::Unfinished(1)],
@@ -174,7 +190,7 @@ const ROWS: &[Row] = &[
         fates: &[Fate::Unfinished(2)],
         spoken: 4,
         counter: 1,
-        assembly: &[0x01, 0x23, 0x45],
+        assembly: [0x01, 0x23, 0x45],
         ..NOTHING
     },
     Row {
@@ -182,7 +198,7 @@ const ROWS: &[Row] = &[
         fates: &[Fate::Answered(19, 2, &[0x00, 0x40, 0x01, 0x23, 0x45])],
         spoken: 4,
         counter: 1,
-        assembly: &[0x01, 0x23, 0x45],
+        assembly: [0x01, 0x23, 0x45],
         ..NOTHING
     },
     Row {
@@ -217,9 +233,13 @@ const ROWS: &[Row] = &[
         fates: &[Fate::Answered(19, 1, &[0x00, 0x40, 0x01, 0x23, 0x45])],
         spoken: 2,
         counter: 1,
-        assembly: &[0x01, 0x23, 0x45],
+        assembly: [0x01, 0x23, 0x45],
         ..NOTHING
     },
+];
+
+/// Scripts with restarts of the device.
+const RESTARTED: &[Row] = &[
     Row {
         script: RESTART_SHOWN,
         fates: &[
@@ -229,7 +249,7 @@ const ROWS: &[Row] = &[
         ],
         spoken: 6,
         counter: 1,
-        assembly: &[0x01, 0x23, 0x45],
+        assembly: [0x01, 0x23, 0x45],
         ..NOTHING
     },
     Row {
@@ -257,18 +277,7 @@ const ROWS: &[Row] = &[
         fates: &[Fate::Answered(19, 2, &[0x00, 0x60, 0x01, 0x23, 0x45])],
         spoken: 4,
         counter: 2,
-        assembly: &[0x01, 0x23, 0x45],
-        ..NOTHING
-    },
-    Row {
-        script: LONG_TAG_WRITTEN,
-        fates: &[
-            Fate::Answered(21, 1, IDENTITY),
-            Fate::Answered(22, 1, LONG_TAG),
-            Fate::Answered(20, 1, LONG_TAG),
-        ],
-        spoken: 6,
-        counter: 1,
+        assembly: [0x01, 0x23, 0x45],
         ..NOTHING
     },
 ];
@@ -346,7 +355,7 @@ fn is_led_to<S: RegisterStore>(report: &Report<S>, outcomes: &[Outcome], row: &R
 fn are_held(registers: &FieldRegisters, row: &Row) -> bool {
     registers.get(Register::Polling) == [row.polling].as_slice()
         && registers.get(Register::Mode) == [1].as_slice()
-        && registers.get(Register::Assembly) == row.assembly
+        && registers.get(Register::Assembly) == row.assembly.as_slice()
 }
 
 /// Whether two devices, each with a store of its own, did the same.
@@ -368,9 +377,16 @@ fn is_as_said(alloc: Global, row: &Row) -> Result<bool, Fail> {
     )
 }
 
+/// Holds each row of a table to what it says.
+fn hold_rows(rt: &(impl Abort + Eprint), alloc: Global, word: &str, rows: &[Row]) {
+    for (number, row) in rows.iter().enumerate() {
+        hold_ok(rt, is_as_said(alloc, row), word, number);
+    }
+}
+
 #[test]
 fn scripts_lead_to_reports(rt: HostRuntime) {
-    for (number, row) in ROWS.iter().enumerate() {
-        hold_ok(&rt, is_as_said(rt.alloc(), row), "row", number);
-    }
+    hold_rows(&rt, rt.alloc(), "row", ROWS);
+    hold_rows(&rt, rt.alloc(), "damaged row", DAMAGED);
+    hold_rows(&rt, rt.alloc(), "restarted row", RESTARTED);
 }
