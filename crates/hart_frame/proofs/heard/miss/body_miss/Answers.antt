@@ -11,3 +11,6 @@ counted_miss-requires-clause-counted c = grind (arith, char_at)
 
 pub counted_miss-requires-clause-len : goal.counted_miss-requires-clause-len
 counted_miss-requires-clause-len c = grind (arith, char_at)
+
+pub returns-in-Some-early_end : goal.returns-in-Some-early_end
+returns-in-Some-early_end c = grind (arith, nat_tests, char_at)

@@ -1,4 +1,5 @@
 use Rattle.std.proofs.Common.{◌<◌, length, arith, rules}
+use Rattle.std.proofs.lemmas.Grind.{common_steps}
 use Rattle.hart_frame.proofs.lemmas.scan.Decision.{given_nothing, given_open, given_stands}
 use Rattle.hart_frame.proofs.scan.buffer.Buffer.decide_held.Goals as goal
 
@@ -15,3 +16,12 @@ pub returns-else-is_empty-clause-seen : goal.returns-else-is_empty-clause-seen
 returns-else-is_empty-clause-seen c =
     let some : 0 < length c.held.result.now = search rules in
     grind (arith, given_open)
+
+pub returns-in-Some-clause-sound : goal.returns-in-Some-clause-sound
+returns-in-Some-clause-sound c = grind (arith, common_steps)
+
+pub end-requires-clause-empty : goal.end-requires-clause-empty
+end-requires-clause-empty c = grind (arith, common_steps)
+
+pub returns-else-is_empty-clause-sound : goal.returns-else-is_empty-clause-sound
+returns-else-is_empty-clause-sound c = grind (arith, common_steps)
