@@ -53,7 +53,7 @@ Front-all heard count most bytes all front = grind (arith, drop_all, append-nil,
 pub heard_parts : (heard : List Character)
     → heard ≡ faultless (faultless_bytes heard) ++ drop (length (faultless_bytes heard)) heard
 heard_parts [] = refl
-heard_parts (c ∷ cs) = grind (arith, common_steps, faultless_bytes-more, faultless_bytes-end, heard_parts cs)
+heard_parts (c ∷ cs) = grind (arith, faultless_bytes-more c cs, faultless_bytes-end c cs, heard_parts cs)
 
 -- a character that follows has fault bits
 pub after_faultless : (heard : List Character) (c : Character) → slice_get heard (length (faultless_bytes heard)) ≡ Some c

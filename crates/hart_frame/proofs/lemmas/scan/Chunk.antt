@@ -1,6 +1,6 @@
 -- What a chunk is to a scanner that hears it at once, or in parts.
 use Rattle.std.proofs.Common.{◌≡◌, ℕ, ◌+◌, ◌-◌, ◌<◌, ◌≤◌, ◌^◌, ◌⊎◌, inl, inr, false, List, [], ◌∷◌, ◌++◌, length, take, Option, None}
-use Rattle.std.proofs.Common.{Some, drop, get_or, ap, ◌∙◌, arith, append_assoc, length-append, length-drop}
+use Rattle.std.proofs.Common.{Some, drop, get_or, refl, sym, ap, subst, ◌∙◌, arith, append_assoc, length-append, length-drop}
 use Rattle.std.proofs.Math.Seq.{take-add}
 use Rattle.std.proofs.lemmas.Grind.{common_steps}
 use Rattle.std.proofs.lemmas.List.{length-take, append-nil, take-map, take-take, length-map, length-take-le}
@@ -90,8 +90,14 @@ heard_length a b chunk n within moves = grind (arith, moves_length, length-appen
 seen_one : (old : Scan) (mid new : Buffer) (character : Character) (seen : Option Layout) → old.finished ≡ false
     → scan_of mid ≡ hearing old (character ∷ []) → MatchOption seen (GivesNothing (scan_of mid) (scan_of new)) (HoldsWhole mid new)
     → MovesPast (hearing old (character ∷ [])) (scan_of new) [] × StopsAt (scan_of new) 1 1 × (new.finished ≡ old.finished)
-seen_one old mid new character None going heard given = grind (arith, common_steps, waits_only)
-seen_one old mid new character (Some layout) going heard given = grind (arith, common_steps, holds_frame new layout given.begins)
+seen_one old mid new character None going heard given =
+    let nothing = subst (λ (s : Scan). GivesNothing s (scan_of new)) heard given in
+    let waits = waits_only (hearing old (character ∷ [])) (scan_of new) going nothing in
+    (waits.moves, inl (waits.drained, waits.undecided, refl), waits.unfinished ∙ sym going)
+seen_one old mid new character (Some layout) going heard given =
+    let moves = subst (λ (s : Scan). MovesPast s (scan_of new) []) heard given.moves in
+    let finished = given.finished ∙ ap (λ (s : Scan). s.finished) heard in
+    (moves, inr (given.undrained, holds_frame new layout given.begins), finished)
 
 -- so a first part of a chunk is heard
 pub hears_first : (old mid new : Buffer) (chunk : List Character) (character : Character) (seen : Option Layout)

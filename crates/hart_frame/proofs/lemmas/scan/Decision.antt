@@ -1,6 +1,6 @@
 -- What is decided of a buffer, and what is given then.
 use Rattle.std.proofs.Common.{◌≡◌, ◌≢◌, ℕ, ◌+◌, ◌-◌, ◌↔◌, inl, inr, Bool, IsTrue, [], ◌∷◌, ◌++◌, length, take}
-use Rattle.std.proofs.Common.{drop, refl, arith, subst, append_assoc, length-append, length-drop}
+use Rattle.std.proofs.Common.{drop, refl, sym, ◌∙◌, arith, subst, append_assoc, length-append, length-drop}
 use Rattle.std.proofs.lemmas.List.{drop_at, map-append}
 use Rattle.std.specs.Option.{option_to_list}
 use Rattle.hart_frame.specs.declared.scan.buffer.Buffer.{Buffer}
@@ -57,8 +57,17 @@ gives_span old b layout sound holds =
 -- nothing is given after some characters were let go
 gives_nothing_then : (old mid new : Scan) → MovesPast old mid [] → mid.finished ≡ old.finished → GivesNothing mid new
     → GivesNothing old new
-gives_nothing_then old mid new moves finished (inl waits) = grind (arith, waits, moves_then)
-gives_nothing_then old mid new moves finished (inr ends) = grind (arith, nothing_before old mid moves ends.none)
+gives_nothing_then old mid new moves finished (inl waits) =
+    inl (record {
+      going = sym finished ∙ waits.going;
+      moves = moves_then old mid new [] moves waits.moves;
+      undecided = waits.undecided;
+      unfinished = waits.unfinished;
+      drained = waits.drained;
+    })
+gives_nothing_then old mid new moves finished (inr ends) =
+    let none = nothing_before old mid moves ends.none in
+    inr (record { finished = sym finished ∙ ends.finished; none = none; renewed = ends.renewed })
 
 -- a buffer that begins with a frame holds it
 pub holds_frame : (b : Buffer) (layout : Layout) → IsWhole layout (held_bytes b) → BeginsWithFrame (scan_of b)
@@ -78,7 +87,9 @@ holds_frame b layout whole =
 -- nothing is given if nothing is held from a place on, before which no frame begins
 pub given_nothing : (b mid : Buffer) (found : Sighting) (new : Scan) → IsHeldSearched b found → mid ≡ passed b found.place
     → GivesNothing (scan_of mid) new → GivesNothing (scan_of b) new
-given_nothing b mid found new is same after = grind (arith, gives_nothing_then, moves_passed b found Busy is)
+given_nothing b mid found new is same after =
+    let given = subst (λ (m : Buffer). GivesNothing (scan_of m) new) same after in
+    gives_nothing_then (scan_of b) (scan_of (passed b found.place)) new (moves_passed b found Busy is) refl given
 
 -- or if what is held from there on may begin one
 pub given_open : (b : Buffer) (found : Sighting) → IsHeldSearched b found → IsHeldOpen b found.place

@@ -91,12 +91,12 @@ undecided_before s t moves (inr (place, opened, before)) =
 
 -- a scanner whose characters begin with a frame gives one
 pub holds_gives : (old new : Scan) → BeginsWithFrame old → GivesNothing old new → ⊥
-holds_gives old new (found, stands, start) nothing =
-    let undecided : IsUndecided old.held = grind (arith, undecided_before old new) in
-    elim undecided [
+holds_gives old new (found, stands, start) (inl waits) =
+    elim (undecided_before old new waits.moves waits.undecided) [
       | inl empty ↦ empty found stands
       | inr (place, opened, before) ↦ omega (arith, before found stands, start, opened.start)
     ]
+holds_gives old new (found, stands, start) (inr ends) = ends.none found stands
 
 -- nothing is given before the finish
 pub waits_only : (old new : Scan) → old.finished ≡ false → GivesNothing old new → Waits old new
