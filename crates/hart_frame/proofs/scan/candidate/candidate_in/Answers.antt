@@ -1,4 +1,5 @@
-use Rattle.std.proofs.Common.{◌≤◌, length, arith}
+use Rattle.std.proofs.Common.{◌≤◌, inr, length, arith}
+use Rattle.std.proofs.lemmas.List.{take_rest}
 use Rattle.hart_frame.proofs.lemmas.scan.Candidate.{after_never, after_whole, second_never}
 use Rattle.hart_frame.proofs.scan.candidate.candidate_in.Goals as goal
 
@@ -12,3 +13,6 @@ returns-in-Never-clause-candidate c =
 
 pub returns-in-Whole-clause-candidate : goal.returns-in-Whole-clause-candidate
 returns-in-Whole-clause-candidate c = grind (arith, after_whole c.args.bytes.now)
+
+pub returns-in-Open-clause-candidate : goal.returns-in-Open-clause-candidate
+returns-in-Open-clause-candidate c = inr (inr (grind (arith, take_rest c.args.bytes.now 2)))

@@ -29,3 +29,6 @@ pub returns-clause-frames : goal.returns-clause-frames
 returns-clause-frames c =
     let place = c.search_to_end-sighting.result.place in
     grind (arith, leads_past c.args.bytes.now c.args.ended c.args.from place c.body_len.result c.in-Some.layout)
+
+pub returns-clause-within : goal.returns-clause-within
+returns-clause-within c = grind (arith, ends_within)

@@ -1,6 +1,6 @@
 use Rattle.std.proofs.Common.{arith}
 use Rattle.std.proofs.lemmas.Grind.{common_steps}
-use Rattle.std.proofs.lemmas.List.{take-map}
+use Rattle.std.proofs.lemmas.List.{length-map, take-map}
 use Rattle.hart_frame.specs.heard.Character.{faultless}
 use Rattle.hart_frame.specs.scan.Buffer.{scan_of}
 use Rattle.hart_frame.specs.scan.Chunk.{Hears}
@@ -18,3 +18,9 @@ returns-clause-before c = simp take-map at (hears c).before
 
 pub returns-clause-pushed : goal.returns-clause-pushed
 returns-clause-pushed c = grind (arith, common_steps, hears, heard_length)
+
+pub returns-clause-stops : goal.returns-clause-stops
+returns-clause-stops c = simp length-map at (hears c).stops
+
+pub returns-clause-few : goal.returns-clause-few
+returns-clause-few c = grind (arith, common_steps)
