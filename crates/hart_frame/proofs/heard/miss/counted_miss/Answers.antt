@@ -38,8 +38,11 @@ not_whole heard body len is not_all = grind (arith, common_steps, take_heard, fa
 
 pub check_miss-requires-clause-whole : goal.check_miss-requires-clause-whole
 check_miss-requires-clause-whole c =
-    let body_is = rw sub-zero at c.in-Some.ensures.lookup.0.2 in
-    grind (arith, common_steps, whole c.args.heard.now c.in-Some.body.now c.args.len c.args.start, length-take-le)
+    let lookup = c.in-Some.ensures.lookup.0 in
+    let body_is = rw sub-zero at lookup.2 in
+    let is = whole c.args.heard.now c.in-Some.body.now c.args.len c.args.start lookup.1 body_is
+    (c.sum_of-sum.ensures.faults.0 c.if-sum-eq0.true) c.requires.counted c.requires.len in
+    is.0 ∙ sym (ap length body_is ∙ length-take-le c.args.len c.args.heard.now lookup.1)
 
 pub returns-then-sum-eq0 : goal.returns-then-sum-eq0
 returns-then-sum-eq0 c =
@@ -56,6 +59,6 @@ returns c =
       | in-Some+else-sum-eq0 w ↦
           not_whole heard w.in-Some.body.now c.args.len (rw sub-zero at w.in-Some.ensures.lookup.0.2)
           (λ all. w.if-sum-eq0.false (w.sum_of-sum.ensures.faults.1 all))
-      | in_default w ↦ grind (arith, common_steps, length-faultless_bytes)
+      | in_default w ↦ grind (arith, length-faultless_bytes)
     ] in
     grind (arith, nat_tests, slice_get-get_or heard n preamble, length-faultless_bytes heard)

@@ -9,4 +9,6 @@ pub returns : goal.returns
 returns c =
     let mid = c.push_chars.new.self in
     let new = c.next_found-2.new.scanner in
-    grind (arith, first_finished c.args.chars.now c.push_chars.result mid c.next_found.new.scanner new c.next_found-2.result)
+    let waiting = c.next_found.new.scanner in
+    first_finished c.args.chars.now c.push_chars.result mid waiting new c.next_found-2.result (grind arith) (grind arith) (grind arith)
+    (grind arith) (grind arith)

@@ -23,7 +23,11 @@ returns-then-is_some-clause-only c =
     only_said frames_are_unambiguous-one_list c.args.delivery.now _ (returns-then-is_some-clause-lone c)
 
 pub returns-clause-lone : goal.returns-clause-lone
-returns-clause-lone c = grind (arith, second_none, one_frame)
+returns-clause-lone c =
+    let delivery = c.args.delivery.now in
+    let first = c.in-Some.first in
+    let none = second_none delivery first.stop c.first_frame-2.result (grind arith) c.first_frame-2.ensures.first in
+    one_frame delivery first c.in-Some.ensures.first none
 
 pub returns-clause-only : goal.returns-clause-only
 returns-clause-only c =
