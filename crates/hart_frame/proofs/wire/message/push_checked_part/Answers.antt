@@ -1,5 +1,26 @@
-use Rattle.std.proofs.Common.{append_assoc, rules}
+use Rattle.std.proofs.Common.{length, ap, arith, append_assoc, length-append, rules}
 use Rattle.hart_frame.proofs.wire.message.push_checked_part.Goals as goal
+
+-- each part fits after those before it, by their lengths
+pub extend_from_slice-requires : goal.extend_from_slice-requires
+extend_from_slice-requires g c = grind (arith, length-append)
+
+pub extend_from_slice-requires-2 : goal.extend_from_slice-requires-2
+extend_from_slice-requires-2 g c = grind (arith, length-append)
+
+pub push-requires-2 : goal.push-requires-2
+push-requires-2 g c = grind (arith, length-append)
+
+pub push-requires-3 : goal.push-requires-3
+push-requires-3 g c = grind (arith, length-append)
+
+pub extend_from_slice-requires-3 : goal.extend_from_slice-requires-3
+extend_from_slice-requires-3 g c = grind (arith, length-append)
+
+pub returns-clause-room : goal.returns-clause-room
+returns-clause-room g c =
+    let long = simp length-append at (ap length c.extend_from_slice-3.ensures) in
+    grind (arith, long, length-append)
 
 pub returns-clause-parts : goal.returns-clause-parts
 returns-clause-parts g c = search (rules, append_assoc)

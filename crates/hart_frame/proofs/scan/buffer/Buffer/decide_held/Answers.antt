@@ -1,5 +1,6 @@
-use Rattle.std.proofs.Common.{◌<◌, length, arith, rules}
-use Rattle.std.proofs.lemmas.Grind.{common_steps}
+use Rattle.std.proofs.Common.{◌<◌, length, length-drop, arith, rules}
+use Rattle.std.proofs.lemmas.List.{nil_from_length}
+use Rattle.hart_frame.proofs.lemmas.scan.Buffer.{held_passed}
 use Rattle.hart_frame.proofs.lemmas.scan.Decision.{given_nothing, given_open, given_stands}
 use Rattle.hart_frame.proofs.scan.buffer.Buffer.decide_held.Goals as goal
 
@@ -18,10 +19,10 @@ returns-else-is_empty-clause-seen c =
     grind (arith, given_open)
 
 pub returns-in-Some-clause-sound : goal.returns-in-Some-clause-sound
-returns-in-Some-clause-sound c = grind (arith, common_steps)
+returns-in-Some-clause-sound c = grind (arith, held_passed)
 
 pub end-requires-clause-empty : goal.end-requires-clause-empty
-end-requires-clause-empty c = grind (arith, common_steps)
+end-requires-clause-empty c = grind (arith, nil_from_length)
 
 pub returns-else-is_empty-clause-sound : goal.returns-else-is_empty-clause-sound
-returns-else-is_empty-clause-sound c = grind (arith, common_steps)
+returns-else-is_empty-clause-sound c = grind (arith, held_passed, length-drop)
