@@ -91,7 +91,6 @@ impl<S: RegisterStore> Device<S> {
     }
 
     /// Whether the device answers a frame, which it carries out; the payload of the answer is then in `payload`.
-    #[tactic(auto, using(crate::proofs::lemmas::answer::Effect::effect_is_asked))]
     fn answer_into(&mut self, frame: &Frame, process: &Process, payload: &mut Payload) -> bool
         ensures answers { result ≡ is_answered self.old frame.now }
         ensures written { IsTrue result → payload.new ≡ reply_payload (reply_of self.old process.now frame.now) }
