@@ -217,10 +217,8 @@ impl<S: RegisterStore> Line<S> {
         let preambles = self.response_preambles;
         self.spoken.speak(Party::Device, preambles, sent_back);
         let returned = arrived_in(Leg::Down, down, sent_back)?;
-        match sent {
-            Some(_) => self.masters.conclude(who, returned, &mut self.outcomes),
-            None => self.masters.overhear(returned),
-        }
+        self.masters
+            .end_turn(who, is_sent, returned, &mut self.outcomes);
         Ok(())
     }
 

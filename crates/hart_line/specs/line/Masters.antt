@@ -80,3 +80,9 @@ pub record Concludes (who : MasterId) (retries : ℕ) (held : InHand) (returned 
   pub accepts : Accepts who (Some held) returned accepted
   pub outcomes_are : outcomes' ≡ slice_set outcomes held.submission (outcome_of retries (held.sendings + 1) accepted)
   pub left : Left (hand_left held (outcome_of retries (held.sendings + 1) accepted))
+
+-- A turn ends: with nothing in hand no submission gets another outcome, and otherwise the request in hand gets its own.
+abbrev pub Ends : MasterId → (retries : ℕ) → Option InHand → Option FrameParts → (outcomes outcomes' : List Outcome) → (Idle : Type 0)
+    → (Left : Option InHand → Type 0) → Type 0
+Ends who retries None returned outcomes outcomes' Idle Left = Idle × (outcomes' ≡ outcomes)
+Ends who retries (Some held) returned outcomes outcomes' Idle Left = Concludes who retries held returned outcomes outcomes' Left

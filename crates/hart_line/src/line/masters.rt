@@ -4,8 +4,9 @@ ghost use Rattle.std.specs.Option.{option_copied};
 ghost use Rattle.hart_values.specs.declared.master_id.MasterId.{MasterId};
 ghost use Rattle.hart_values.specs.declared.each_master.EachMaster.{EachMaster};
 ghost use Rattle.hart_values.specs.EachMaster.{of_master, with_master};
+ghost use Rattle.hart_frame.specs.wire.FrameParts.{FrameParts};
 ghost use Rattle.hart_commands.specs.RequestData.{IsRequest};
-ghost use Rattle.hart_line.specs.line.Masters.{AreHeld, AreInTurn, Awaits, Concludes, Hears, Holds, Sends, Submits};
+ghost use Rattle.hart_line.specs.line.Masters.{AreHeld, AreInTurn, Awaits, Concludes, Ends, Hears, Holds, Sends, Submits};
 ghost use Rattle.hart_line.specs.world.Spoken.{frame_if};
 ghost use Rattle.hart_line.specs.world.Step.{hand_left, outcome_of, submission_fault};
 ghost use Rattle.hart_line.specs.world.World.{InHand};
@@ -151,13 +152,31 @@ impl Masters {
         }
     }
 
-    /// Both masters hear what comes back, and the turn of this one ends.
-    pub fn conclude(
+    /// Both masters hear what comes back, and the turn of this one ends, in which it sent a request or nothing.
+    pub fn end_turn(
         &mut self,
         who: MasterId,
+        is_sent: bool,
         returned: Option<&Frame>,
         outcomes: &mut Filling<Outcome>,
     )
+        ensures ends { (retries : EachMaster ℕ) (hands : EachMaster (Option InHand)) (frame : FrameParts)
+            → Sends who (of_master who hands) (frame_if is_sent frame) (AreHeld retries hands self.old)
+            (λ sent. AreInTurn who retries hands sent self.old)
+            → Ends who (of_master who retries) (of_master who hands) (option_copied returned.entry) outcomes.old.items
+            outcomes.new.items (AreHeld retries hands self.new) (λ left. AreHeld retries (with_master who left hands) self.new) }
+        ensures as_many { length outcomes.new.items ≡ length outcomes.old.items }
+        ensures room { outcomes.new.room ≡ outcomes.old.room }
+    {
+        if is_sent {
+            self.conclude(who, returned, outcomes);
+        } else {
+            self.overhear(returned);
+        }
+    }
+
+    /// Both masters hear what comes back, and the turn of this one, which sent a request, ends.
+    fn conclude(&mut self, who: MasterId, returned: Option<&Frame>, outcomes: &mut Filling<Outcome>)
         ensures concludes { (retries : EachMaster ℕ) (hands : EachMaster (Option InHand)) (held : InHand)
             → AreInTurn who retries hands held self.old
             → Concludes who (of_master who retries) held (option_copied returned.entry) outcomes.old.items outcomes.new.items

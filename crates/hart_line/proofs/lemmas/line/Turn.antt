@@ -14,12 +14,12 @@ use Rattle.hart_line.specs.declared.event.LineEvent.TheVariants.{Turn}
 use Rattle.hart_line.specs.declared.line.report.Spoken.{Spoken}
 use Rattle.hart_line.specs.line.Leg.{AnswersTo, IsSent}
 use Rattle.hart_line.specs.line.Line.{LineState, Stands, Stepped}
-use Rattle.hart_line.specs.line.Masters.{AreHeld, Concludes}
+use Rattle.hart_line.specs.line.Masters.{AreHeld, Ends, Sends}
 use Rattle.hart_line.specs.world.Damage.{Arrives, Reaches}
-use Rattle.hart_line.specs.world.Spoken.{AreSpoken, SpokenFrame, Speaks, spoken_by}
+use Rattle.hart_line.specs.world.Spoken.{AreSpoken, SpokenFrame, Speaks, master_preambles, party_of, spoken_by}
 use Rattle.hart_line.specs.world.Step.{cold_start_after, effect_on, replied, spoken_request, sent_back, sent_by, turned}
 use Rattle.hart_line.specs.world.World.{InHand, Start, World, state_of, MarksWithin}
-use Rattle.hart_line.proofs.lemmas.line.Leg.{speaks_sent, AreSpoken-more}
+use Rattle.hart_line.proofs.lemmas.line.Leg.{AreSpoken-more, says_request, speaks_sent}
 use Rattle.hart_line.proofs.lemmas.world.Steps.{frame_in, none_reaches, reaches_sent, state-after}
 use Rattle.hart_line.specs.declared.line.report.Party.TheVariants as parties
 
@@ -51,6 +51,19 @@ answered start world heard said answer process line after mid new s same says gi
           (AreSpoken-more world.spoken said line.spoken mid s.spoken_are says) (rw back at replies));
     }
 
+-- In a turn the request of the master was said, if it has one in hand.
+pub turn_answered : (start : Start) (world : World) (who : MasterId) (up : Heard) (Silent : Type 0) (Sent : InHand → Type 0)
+    (sent answer : Option FrameParts) (process : Process) (line : LineState) (after : DeviceState) (mid new : List Spoken)
+    → Stands start world line → start.process ≡ process → Sends who (of_master who world.hands) sent Silent Sent
+    → Speaks (spoken_by (party_of who) master_preambles sent) line.spoken mid
+    → ((said : Option SpokenFrame) → IsSent sent said → AnswersTo (Reaches line.device.identity up said) line.device process answer after)
+    → IsPreambleCount line.response_preambles → Speaks (spoken_by parties.Device line.response_preambles answer) mid new
+    → IsAnswered start world up (sent_by who (of_master who world.hands)) answer after new
+turn_answered start world who up Silent Sent sent answer process line after mid new s same sends speaks answers count replies =
+    let says = says_request Silent Sent who (of_master who world.hands) sent line.spoken mid sends speaks in
+    answered start world up (sent_by who (of_master who world.hands)) answer process line after mid new s same says.0
+    (answers (sent_by who (of_master who world.hands)) says.1) count replies
+
 -- If nothing was said, as in noise, the line stands for the world in which the device has replied to what it was brought.
 pub replied_stands : (start : Start) (world : World) (heard : Heard) (answer : Option FrameParts) (line : LineState)
     → (a : IsAnswered start world heard None answer line.device line.spoken) → AreHeld start.retries world.hands line.masters
@@ -72,19 +85,14 @@ state_after-effect : (state : DeviceState) (id : MasterId) (held : InHand) (brou
     ≡ record (after id (effect_on state brought) state) { cold_start = cold_start_after state id brought }
 state_after-effect state id held brought known = grind (arith, answer_leaves)
 
--- The masters end a turn: with a request in hand it is concluded, and otherwise nothing changes.
-abbrev pub Ends : Start → World → MasterId → Option InHand → Option FrameParts → LineState → Type 0
-Ends start world who None returned line = AreHeld start.retries world.hands line.masters × (line.outcomes ≡ world.outcomes)
-Ends start world who (Some held) returned line =
-    Concludes who (of_master who start.retries) held returned world.outcomes line.outcomes
-    (λ left. AreHeld start.retries (with_master who left world.hands) line.masters)
-
 -- The line stands for the world that the turn leads to.
 pub turn_stands : (start : Start) (world : World) (who : MasterId) (up down : Heard) (hand : Option InHand)
     (answer returned : Option FrameParts) (line : LineState) → MarksWithin world → of_master who world.hands ≡ hand
     → (a : IsAnswered start world up (sent_by who hand) answer line.device line.spoken)
     → ((said : Option SpokenFrame) → IsSent answer said → Arrives down said returned)
-    → Ends start world who hand returned line → line.response_preambles ≡ start.device.identity.response_preambles
+    → Ends who (of_master who start.retries) hand returned world.outcomes line.outcomes (AreHeld start.retries world.hands line.masters)
+    (λ left. AreHeld start.retries (with_master who left world.hands) line.masters)
+    → line.response_preambles ≡ start.device.identity.response_preambles
     → Stepped start world (Turn who up down) line
 turn_stands start world who up down None answer returned line within in_hand a returns ends preambles_are = record {
   next = replied start world a.brought;
