@@ -1,11 +1,11 @@
 use Rattle.std.proofs.Common.{◌∙◌, [], ap, arith, refl}
-use Rattle.std.proofs.lemmas.Grind.{common_steps}
-use Rattle.std.proofs.lemmas.List.{drop_more, take_all}
+use Rattle.std.proofs.lemmas.List.{take_all}
 use Rattle.std.proofs.lemmas.Option.{slice_get-get_or}
 use Rattle.hart_device.specs.Device.{DeviceState}
 use Rattle.hart_line.specs.world.Promises.{start_from}
 use Rattle.hart_line.proofs.lemmas.Laws.{scripts_keep_their_promises-kept}
 use Rattle.hart_line.proofs.lemmas.line.Reached.{of_last, reached_first, reached_more, noted_stands, stepped_on, undetected_on, with_spoken}
+use Rattle.hart_line.proofs.lemmas.line.Room.{room_after_each, room_here_each}
 use Rattle.hart_line.proofs.line.logged.run_logged.Goals as goal
 
 pub loop-index-init : goal.loop-index-init
@@ -19,6 +19,12 @@ loop-index-init g c =
       );
       room = record { outcomes = omega arith; nothing_spoken = refl; spoken = omega arith };
     })
+
+pub step-requires : goal.step-requires
+step-requires g c = record {
+  room = rw c.index-events-index.is
+      (room_here_each c.args.events.now c.loop-index.index _ _ c.loop-index-test.true c.loop-index.invariant.room);
+}
 
 pub returns-in-Err-clause-fault : goal.returns-in-Err-clause-fault
 returns-in-Err-clause-fault g c =
@@ -55,8 +61,8 @@ loop-index-preserved g c =
             (rw c.index-events-index.is at (c.in_default.ensures.stepped start (with_spoken [] reached.world) refl reached.marks stands)))
             (rw c.index-events-index.is at c.in_default.ensures.well_made),
       );
-      room = let leaves = rw c.index-events-index.is at c.in_default.ensures.room in
-          rw c.tell.ensures.line (grind (arith, common_steps, drop_more));
+      room = rw c.tell.ensures.line (room_after_each events c.loop-index.index _ _ _ c.loop-index-test.true c.loop-index.invariant.room
+          (rw c.index-events-index.is at c.in_default.ensures.room));
     }
 
 pub returns : goal.returns

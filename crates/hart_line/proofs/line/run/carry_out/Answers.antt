@@ -1,10 +1,11 @@
 use Rattle.std.proofs.Common.{◌∙◌, arith, refl}
 use Rattle.std.proofs.lemmas.Grind.{common_steps}
-use Rattle.std.proofs.lemmas.List.{drop_more, take_all}
+use Rattle.std.proofs.lemmas.List.{take_all}
 use Rattle.std.proofs.lemmas.Option.{slice_get-get_or}
 use Rattle.hart_line.specs.world.Promises.{start_from}
 use Rattle.hart_line.proofs.lemmas.Laws.{scripts_have_one_last_world-no_fault, scripts_have_one_last_world-one_fault}
 use Rattle.hart_line.proofs.lemmas.line.Reached.{of_last, reached_first, reached_more}
+use Rattle.hart_line.proofs.lemmas.line.Room.{room_after, room_here}
 use Rattle.hart_line.proofs.line.run.carry_out.Goals as goal
 
 pub loop-index-init : goal.loop-index-init
@@ -13,6 +14,11 @@ loop-index-init g c = record {
       c.new-line.ensures.device c.requires.primary c.requires.secondary refl refl refl c.requires.room.no_outcomes
       c.requires.room.nothing_spoken refl);
   room = grind (arith, common_steps);
+}
+
+pub step-requires : goal.step-requires
+step-requires g c = record {
+  room = rw c.index-events-index.is (room_here c.args.events.now c.loop-index.index _ _ c.loop-index-test.true c.loop-index.invariant.room);
 }
 
 pub returns-in-Err-clause-fault : goal.returns-in-Err-clause-fault
@@ -35,7 +41,8 @@ loop-index-preserved g c =
       reached = reached_more start c.args.events.now c.loop-index.index _ _ _ c.loop-index-test.true reached
           (rw c.index-events-index.is at (c.in_default.ensures.stepped start reached.world refl reached.marks reached.stands))
           (rw c.index-events-index.is at c.in_default.ensures.well_made);
-      room = let leaves = rw c.index-events-index.is at c.in_default.ensures.room in grind (arith, common_steps, drop_more);
+      room = room_after c.args.events.now c.loop-index.index _ _ _ c.loop-index-test.true c.loop-index.invariant.room
+          (rw c.index-events-index.is at c.in_default.ensures.room);
     }
 
 pub returns-in-Err-clause-reported : goal.returns-in-Err-clause-reported
