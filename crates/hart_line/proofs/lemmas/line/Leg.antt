@@ -14,7 +14,7 @@ use Rattle.hart_device.specs.declared.answer.garbled.GarbledRequest.{GarbledRequ
 use Rattle.hart_device.specs.declared.identity_parts.IdentityParts.{IdentityParts}
 use Rattle.hart_device.specs.declared.process.Process.{Process}
 use Rattle.hart_line.specs.declared.event.Heard.{Heard}
-use Rattle.hart_line.specs.declared.event.Heard.TheVariants.{Clean}
+use Rattle.hart_line.specs.declared.event.Heard.TheVariants.{Chars, Clean}
 use Rattle.hart_line.specs.declared.line.report.Party.{Party}
 use Rattle.hart_line.specs.declared.line.report.Spoken.{Spoken}
 use Rattle.hart_line.specs.line.Leg.{AnswersTo, IsSent, IsSpeakable}
@@ -74,6 +74,17 @@ clean_reaches identity frame None is = let none = is.frame in cc
 clean_reaches identity frame (Some said) is =
     let a = message_arrives said is.speakable in
     record { chars = a.chars; are_heard = a.are_heard; among = grind (arith, is.frame, among_frame) }
+
+-- What is heard of noise is its characters, in which nothing was sent.
+pub noise_answers : (chars : List Character) (device : DeviceState) (process : Process) (answer : Option FrameParts)
+    (after : DeviceState) → AnswersTo (ReachesAmong device.identity chars None) device process answer after
+    → AnswersTo (Reaches device.identity (Chars chars) None) device process answer after
+noise_answers chars device process answer after a = record {
+  brought = a.brought;
+  is_brought = record { chars = chars; are_heard = refl; among = a.is_brought };
+  answer_is = a.answer_is;
+  after_is = a.after_is;
+}
 
 -- WHAT IS SPOKEN
 -- What is spoken after enough preamble bytes was sent.

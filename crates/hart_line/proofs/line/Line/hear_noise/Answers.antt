@@ -1,15 +1,16 @@
 use Rattle.std.proofs.Common.{arith, None, refl}
-use Rattle.std.proofs.lemmas.Grind.{common_steps}
 use Rattle.hart_line.specs.declared.event.Heard.TheVariants.{Chars}
 use Rattle.hart_line.specs.world.Step.{replied}
+use Rattle.hart_line.proofs.lemmas.line.Leg.{noise_answers}
 use Rattle.hart_line.proofs.lemmas.line.Turn.{answered, replied_stands}
 use Rattle.hart_line.proofs.line.Line.hear_noise.Goals as goal
 
 pub returns-clause-stepped : goal.returns-clause-stepped
 returns-clause-stepped g c = λ start world process stands.
     let s = rw (← c.self.view_is) at stands in
-    let a = answered start world (Chars c.args.chars.now) None _ _ _ _ _ _ s process refl (
-    grind (arith, common_steps)) c.self.invariant (rw c.frame_if-answer.ensures at c.speak.ensures.speaks) in
+    let a = answered start world (Chars c.args.chars.now) None _ _ _ _ _ _ s process refl
+    (grind (arith, noise_answers)) c.self.invariant
+    (rw c.frame_if-answer.ensures at c.speak.ensures.speaks) in
     let held = c.overhear.ensures start.retries world.hands (c.hear_noise.ensures start.retries world.hands s.masters_are) in
     record {
       next = replied start world a.brought;
