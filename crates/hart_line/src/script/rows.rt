@@ -80,26 +80,26 @@ fn read_event(
     ensures { ReadsWords (first.now ∷ words_of rest.now) (event_of (first.now ∷ words_of rest.now)) result }
 {
     match first {
-        b"submit" => read_submit(rest),
+        b"submit" => read_submit(rest).ok_or(RowFault::Bad),
         b"turn" => read_turn(alloc, digits, rest),
-        b"protect" => read_protect(rest),
+        b"protect" => read_protect(rest).ok_or(RowFault::Bad),
         b"noise" => read_noise(alloc, digits, rest),
-        b"restart" => read_restart(rest),
+        b"restart" => read_restart(rest).ok_or(RowFault::Bad),
         _ => Err(RowFault::Bad),
     }
 }
 
-/// The submission that the words after `submit` say.
-fn read_submit(rest: &[u8]) -> Result<LineEvent, RowFault>
-    ensures { ReadsWords (codes "submit" ∷ words_of rest.now) (submission_of (words_of rest.now)) result }
+/// The submission that the words after `submit` say, or `None` if they say none.
+fn read_submit(rest: &[u8]) -> Option<LineEvent>
+    ensures { result ≡ submission_of (words_of rest.now) }
 {
-    let (who, rest) = next_word(rest).ok_or(RowFault::Bad)?;
-    let (address, rest) = next_word(rest).ok_or(RowFault::Bad)?;
-    let (command, rest) = next_word(rest).ok_or(RowFault::Bad)?;
-    Ok(LineEvent::Submit {
-        who: read_who(who).ok_or(RowFault::Bad)?,
-        address: read_address(address).ok_or(RowFault::Bad)?,
-        request: read_request(command, rest).ok_or(RowFault::Bad)?,
+    let (who, rest) = next_word(rest)?;
+    let (address, rest) = next_word(rest)?;
+    let (command, rest) = next_word(rest)?;
+    Some(LineEvent::Submit {
+        who: read_who(who)?,
+        address: read_address(address)?,
+        request: read_request(command, rest)?,
     })
 }
 
@@ -158,14 +158,14 @@ fn read_leg(alloc: Global, digits: &Digits, word: &[u8]) -> Result<Heard, RowFau
     }
 }
 
-/// The switch of the write protection that the words after `protect` say.
-fn read_protect(rest: &[u8]) -> Result<LineEvent, RowFault>
-    ensures { ReadsWords (codes "protect" ∷ words_of rest.now) (protection_of (words_of rest.now)) result }
+/// The switch of the write protection that the words after `protect` say, or `None` if they say none.
+fn read_protect(rest: &[u8]) -> Option<LineEvent>
+    ensures { result ≡ protection_of (words_of rest.now) }
 {
-    match only_word(rest).ok_or(RowFault::Bad)? {
-        b"on" => Ok(LineEvent::Protect(true)),
-        b"off" => Ok(LineEvent::Protect(false)),
-        _ => Err(RowFault::Bad),
+    match only_word(rest)? {
+        b"on" => Some(LineEvent::Protect(true)),
+        b"off" => Some(LineEvent::Protect(false)),
+        _ => None,
     }
 }
 
@@ -173,17 +173,15 @@ fn read_protect(rest: &[u8]) -> Result<LineEvent, RowFault>
 fn read_noise(alloc: Global, digits: &Digits, rest: &[u8]) -> Result<LineEvent, RowFault>
     ensures { ReadsWords (codes "noise" ∷ words_of rest.now) (noise_of (words_of rest.now)) result }
 {
-    let items = only_word(rest).ok_or(RowFault::Bad)?;
+    let Some(items) = only_word(rest) else {
+        return Err(RowFault::Bad);
+    };
     Ok(LineEvent::Noise(read_items(alloc, digits, items)?))
 }
 
-/// The restart that `restart` says if no word is after it.
-fn read_restart(rest: &[u8]) -> Result<LineEvent, RowFault>
-    ensures { ReadsWords (codes "restart" ∷ words_of rest.now) (restart_of (words_of rest.now)) result }
+/// The restart that `restart` says, or `None` if a word is after it.
+fn read_restart(rest: &[u8]) -> Option<LineEvent>
+    ensures { result ≡ restart_of (words_of rest.now) }
 {
-    if has_no_word(rest) {
-        Ok(LineEvent::Restart)
-    } else {
-        Err(RowFault::Bad)
-    }
+    has_no_word(rest).then_some(LineEvent::Restart)
 }
