@@ -4,7 +4,7 @@ use Rattle.std.proofs.Common.{replicate, drop, ◌*◌}
 use Rattle.std.proofs.lemmas.Grind.{common_steps}
 use Rattle.hart_frame.specs.declared.heard.found.Found.{Found}
 use Rattle.hart_frame.specs.heard.Character.{Character}
-use Rattle.hart_frame.specs.heard.Frames.{AreFrames, HasNoFrame, IsUndecided, first, none}
+use Rattle.hart_frame.specs.heard.Frames.{AreFrames, HasNoFrame, IsUndecided}
 use Rattle.hart_frame.specs.scan.Scanner.{CanHear, Ends, Gives, MovesPast, Scan, finishing, hearing, new_scan, Waits}
 use Rattle.hart_frame.proofs.lemmas.Laws.{every_list_has_frames, the_rest_has_the_later_frames}
 use Rattle.hart_cli.specs.declared.dump.frame_lines.FrameLines.{FrameLines}
