@@ -14,13 +14,19 @@ note() {
 }
 
 # Each task of the gate gets one job. Else a proof takes the processors that nothing waits for just then, and each job more takes time of
-# its own to read the libraries. So many tasks run at once as there are processors, and as there are 4 GB of memory for each.
+# its own to read the libraries. So many tasks run at once as there are processors, and 4 GB of memory for each, but four at most: with
+# them the crates that wait for one another take as long as all the others beside them.
 if [ -z "${RT_JOBS:-}" ]; then
-    tasks=$(nproc)
-    room=$(awk '/^MemAvailable:/ { print int($2 / 4000000) }' /proc/meminfo)
-    [ "$room" -ge "$tasks" ] || tasks=$room
-    [ "$tasks" -ge 1 ] || tasks=1
-    export RT_JOBS="$tasks"
+    RT_JOBS=$(cat /proc/meminfo /sys/fs/cgroup/memory.max 2>/dev/null | awk -v tasks="$(nproc)" '
+        /^MemAvailable:/ { free = $2 / 4000000 }
+        /^[0-9]+$/ { limit = $1 / 4000000000 }
+        END {
+            if (limit && limit < free) free = limit
+            if (free < tasks) tasks = int(free)
+            if (tasks > 4) tasks = 4
+            print (tasks < 1 ? 1 : tasks)
+        }')
+    export RT_JOBS
 fi
 
 # What stands there after the gate was built by it.
