@@ -81,7 +81,8 @@ pub record Concludes (who : MasterId) (retries : ℕ) (held : InHand) (returned 
   pub outcomes_are : outcomes' ≡ slice_set outcomes held.submission (outcome_of retries (held.sendings + 1) accepted)
   pub left : Left (hand_left held (outcome_of retries (held.sendings + 1) accepted))
 
--- A turn ends: with nothing in hand no submission gets another outcome, and otherwise the request in hand gets its own.
+-- A turn ends: if its master had nothing in hand, no outcome changes and both hands stay; otherwise its request gets its outcome, by
+-- which it stays in hand or leaves it.
 abbrev pub Ends : MasterId → (retries : ℕ) → Option InHand → Option FrameParts → (outcomes outcomes' : List Outcome) → (Idle : Type 0)
     → (Left : Option InHand → Type 0) → Type 0
 Ends who retries None returned outcomes outcomes' Idle Left = Idle × (outcomes' ≡ outcomes)

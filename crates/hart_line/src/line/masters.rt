@@ -152,7 +152,7 @@ impl Masters {
         }
     }
 
-    /// Both masters hear what comes back, and the turn of this one ends, in which it sent a request or nothing.
+    /// Both masters hear what comes back, and the turn of this one ends; `is_sent` says whether it sent a request in it.
     pub fn end_turn(
         &mut self,
         who: MasterId,
@@ -175,7 +175,7 @@ impl Masters {
         }
     }
 
-    /// Both masters hear what comes back, and the turn of this one, which sent a request, ends.
+    /// Both masters hear what comes back, and the turn of this one ends, in which it sent a request.
     fn conclude(&mut self, who: MasterId, returned: Option<&Frame>, outcomes: &mut Filling<Outcome>)
         ensures concludes { (retries : EachMaster ℕ) (hands : EachMaster (Option InHand)) (held : InHand)
             → AreInTurn who retries hands held self.old
