@@ -3,6 +3,7 @@ pub mod Process
 pub mod registers
 pub mod Device
 pub mod FaultText
+pub mod FaultNumbers
 pub mod answer
 pub mod image
 pub mod Bench

@@ -1,4 +1,5 @@
 ghost use Rattle.std.specs.Prelude.{◌≡◌, ◌≤◌, length, Some};
+ghost use Rattle.hart_device.specs.FaultNumbers.{number_among_device_faults};
 ghost use Rattle.hart_device.specs.FaultText.{device_fault_text};
 
 use std::fmt;
@@ -7,19 +8,32 @@ use thiserror::Error;
 /// Why the parts of a device, or its image, were refused.
 #[derive(Clone, Copy, Debug, PartialEq, Eq, Error)]
 pub enum DeviceFault {
-    /// Fault 1: the unique address would be the broadcast address.
+    /// The unique address would be the broadcast address.
     BroadcastAddress,
-    /// Fault 2: a number of an identity lies outside its range.
+    /// A number of an identity is outside its range.
     OutOfRange,
-    /// Fault 3: an image of a version that is not known.
+    /// An image of a version that is not known.
     BadVersion,
-    /// Fault 4: an image of no bytes, or not of as many as its version has.
+    /// An image of no bytes, or of another length than its version has.
     BadLength,
-    /// Fault 5: an image in which a register would hold bytes that are not valid in it, or with flags above 7.
+    /// An image in which a register would hold bytes that are not valid in it, or with flags above 7.
     BadField,
 }
 
 impl DeviceFault {
+    /// Returns the number of the fault, 1 to 5.
+    pub fn number(self) -> u8
+        ensures { result ≡ number_among_device_faults self }
+    {
+        match self {
+            DeviceFault::BroadcastAddress => 1,
+            DeviceFault::OutOfRange => 2,
+            DeviceFault::BadVersion => 3,
+            DeviceFault::BadLength => 4,
+            DeviceFault::BadField => 5,
+        }
+    }
+
     /// The text of the fault.
     pub fn text(self) -> &'static str
         ensures text { result.now ≡ device_fault_text self }

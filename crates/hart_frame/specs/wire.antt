@@ -6,3 +6,4 @@ pub mod Body
 pub mod Layout
 pub mod Refusal
 pub mod Message
+pub mod FaultNumbers

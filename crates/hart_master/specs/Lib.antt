@@ -2,3 +2,4 @@ pub mod Pairing
 pub mod Acceptance
 pub mod Master
 pub mod Unique
+pub mod FaultNumbers

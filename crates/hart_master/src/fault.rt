@@ -1,18 +1,34 @@
+ghost use Rattle.std.specs.Prelude.{◌≡◌};
+ghost use Rattle.hart_master.specs.FaultNumbers.{number_among_master_faults};
+
 use hart_commands::Request;
 use thiserror::Error;
 
 /// Why a master was not made, or took no request.
 #[derive(Clone, Copy, Debug, PartialEq, Eq, Error)]
 pub enum MasterFault {
-    /// Fault 1: more than 15 retries, or a reply limit of 0.
+    /// More than 15 retries, or a reply limit of 0.
     #[error("out of range")]
     OutOfRange,
-    /// Fault 2: a request is in hand already.
+    /// A request is in hand already.
     #[error("a request is pending")]
     Pending,
-    /// Fault 3: the request is none that may be sent to this address.
+    /// The request may not be sent to this address.
     #[error("wrong address")]
     WrongAddress,
+}
+
+impl MasterFault {
+    /// Returns the number of the fault, 1 to 3.
+    pub fn number(self) -> u8
+        ensures { result ≡ number_among_master_faults self }
+    {
+        match self {
+            MasterFault::OutOfRange => 1,
+            MasterFault::Pending => 2,
+            MasterFault::WrongAddress => 3,
+        }
+    }
 }
 
 /// A request that a master did not take, and why.

@@ -3,3 +3,4 @@ pub mod packed_text
 pub mod hart_date
 pub mod status
 pub mod EachMaster
+pub mod FaultNumbers

@@ -1,18 +1,35 @@
+ghost use Rattle.std.specs.Prelude.{◌≡◌};
+ghost use Rattle.hart_values.specs.FaultNumbers.{number_among_value_faults};
+
 use thiserror::Error;
 
 /// Why a value was refused.
 #[derive(Clone, Copy, Debug, PartialEq, Eq, Error)]
 pub enum ValueFault {
-    /// Fault 1: a text or a list of bytes has not the length that the value needs.
+    /// A text or a list of bytes does not have the length that the value needs.
     #[error("wrong length")]
     WrongLength,
-    /// Fault 2: the byte at `place`, counted from 0, is no character of packed text.
+    /// The byte at `place`, counted from 0, is no character of packed text.
     #[error("bad character at {place}")]
     BadCharacter { place: usize },
-    /// Fault 3: three bytes are neither a calendar date nor three zeros.
+    /// Three bytes are neither a calendar date nor three zeros.
     #[error("bad date")]
     BadDate,
-    /// Fault 4: a number lies above the greatest one that the value can have.
+    /// A number is above the greatest one that the value can have.
     #[error("out of range")]
     OutOfRange,
+}
+
+impl ValueFault {
+    /// Returns the number of the fault, 1 to 4.
+    pub fn number(self) -> u8
+        ensures { result ≡ number_among_value_faults self }
+    {
+        match self {
+            ValueFault::WrongLength => 1,
+            ValueFault::BadCharacter { place: _ } => 2,
+            ValueFault::BadDate => 3,
+            ValueFault::OutOfRange => 4,
+        }
+    }
 }

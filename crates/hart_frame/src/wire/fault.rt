@@ -1,24 +1,43 @@
+ghost use Rattle.std.specs.Prelude.{◌≡◌};
+ghost use Rattle.hart_frame.specs.wire.FaultNumbers.{number_among_frame_faults};
+
 use thiserror::Error;
 
 /// Why a frame was not made, not sent or not found in bytes.
 #[derive(Clone, Copy, Debug, PartialEq, Eq, Error)]
 pub enum FrameFault {
-    /// Fault 1: an ACK with a payload below its two status bytes.
+    /// An ACK with a payload below its two status bytes.
     #[error("reply too short")]
     TooShortReply,
-    /// Fault 2: a number of preamble bytes outside 5 to 20.
+    /// A number of preamble bytes outside 5 to 20.
     #[error("bad number of preamble bytes")]
     BadPreamble,
-    /// Fault 3: the first byte is no delimiter of this profile.
+    /// The first byte is no delimiter of this profile.
     #[error("bad delimiter")]
     BadDelimiter,
-    /// Fault 4: the bytes end before the check byte.
+    /// The bytes end before the check byte.
     #[error("truncated")]
     Truncated,
-    /// Fault 5: the check byte does not give the body even parity.
+    /// The check byte does not give the body even parity.
     #[error("bad check byte")]
     BadCheck,
-    /// Fault 6: the delimiter of an ACK with a byte count below 2.
+    /// The delimiter of an ACK with a byte count below 2.
     #[error("reply with a short byte count")]
     ShortReply,
+}
+
+impl FrameFault {
+    /// Returns the number of the fault, 1 to 6.
+    pub fn number(self) -> u8
+        ensures { result ≡ number_among_frame_faults self }
+    {
+        match self {
+            FrameFault::TooShortReply => 1,
+            FrameFault::BadPreamble => 2,
+            FrameFault::BadDelimiter => 3,
+            FrameFault::Truncated => 4,
+            FrameFault::BadCheck => 5,
+            FrameFault::ShortReply => 6,
+        }
+    }
 }
