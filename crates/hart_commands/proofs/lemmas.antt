@@ -4,5 +4,6 @@ pub mod Request
 pub mod Parts
 pub mod Reply
 pub mod RequestMade
+pub mod FieldWidths
 pub mod Laws
 pub mod RequestFields

@@ -13,4 +13,5 @@ pub mod RequestCode
 pub mod Registers
 pub mod ReplyData
 pub mod Fields
+pub mod FieldWidths
 pub mod Parts

@@ -1,10 +1,11 @@
 //! Laws over the definitions alone, for the crates above.
 ghost use Rattle.std.specs.Prelude.{◌≡◌, ◌≢◌, ◌<◌, ◌≤◌, All, AllPairs, Contains, ◌↔◌, ◌++◌, List, ℕ, false, true, Ok, Err, Some};
-ghost use Rattle.std.specs.Prelude.{IsTrue, IsSome, is_some, length, take};
+ghost use Rattle.std.specs.Prelude.{IsTrue, IsSome, drop, is_some, length, take};
 ghost use Rattle.hart_commands.specs.RequestData.{IsRequest, MayFollow, command_of, is_known};
 ghost use Rattle.hart_commands.specs.RequestData.{request_reading, request_data};
 ghost use Rattle.hart_commands.specs.Commands.{content_bytes};
 ghost use Rattle.hart_commands.specs.Fields.{bytes_of, command_name, field_bytes, fields_of, reply_rows, request_rows};
+ghost use Rattle.hart_commands.specs.FieldWidths.{HasWidthOfKind};
 ghost use Rattle.hart_commands.specs.NeededData.{AreTooFew, needed_data};
 ghost use Rattle.hart_commands.specs.Parts.{content_parts, request_parts};
 ghost use Rattle.hart_commands.specs.RequestCode.{is_write};
@@ -136,4 +137,12 @@ pub fn fields_are_all_of_the_data()
         → bytes_of (fields_of (request_rows (command_of request)) (request_data request)) ≡ request_data request }
     ensures reply { (reply : Reply) → IsReply reply
         → bytes_of (fields_of (reply_rows reply.command) (content_bytes reply.content)) ≡ content_bytes reply.content }
+{}
+
+/// The kind of a field says how many bytes it has: a float 4, a date 3, a number 1 or 2, a packed text 6, 12 or 24, and device variables
+/// 8 each. This holds for the fields of any data of a request, and for those of a reply in any payload that is read as it.
+pub fn fields_have_the_width_of_their_kind()
+    ensures request { (command : ℕ) (bytes : List ℕ) → All HasWidthOfKind (fields_of (request_rows command) bytes) }
+    ensures reply { (command : ℕ) (payload : List ℕ) (reply : Reply) → reply_reading command payload ≡ Some reply
+        → All HasWidthOfKind (fields_of (reply_rows command) (take (length (content_bytes reply.content)) (drop 2 payload))) }
 {}

@@ -17,7 +17,8 @@
 //! of it takes memory.
 //!
 //! Each command has a name, [`command_name`], and so has each field of its data, in [`request_rows`] and [`reply_rows`]: by
-//! these rows data fall into the parts that they have. How many of the bytes that were heard a request or a reply takes say
+//! these rows data fall into the parts that they have. How many bytes a field of each kind may have says the law
+//! [`fields_have_the_width_of_their_kind`]. How many of the bytes that were heard a request or a reply takes say
 //! [`Request::data_len`] and [`Reply::data_len`], and how many a command needs says [`needed_data`].
 //!
 //! The other crates of `hart` call neither [`is_write`] nor [`CodeList::new`]: these are for whoever makes requests with this
@@ -49,10 +50,10 @@ pub use fields::{FieldKind, FieldRow, FieldSize, command_name, reply_rows, reque
 pub use identity::IdentityContent;
 pub use laws::{
     all_registers_are_listed_once, fields_are_all_of_the_data, fields_are_the_parts,
-    known_commands_have_names, overwrites_are_valid, read_data_begin_as_written,
-    requests_are_well_made, requests_have_their_command, too_few_data_are_fewer_than_needed,
-    unknown_commands_are_refused, writes_have_overwrites, written_data_are_read_again,
-    written_data_are_their_request, written_payloads_are_read_again,
+    fields_have_the_width_of_their_kind, known_commands_have_names, overwrites_are_valid,
+    read_data_begin_as_written, requests_are_well_made, requests_have_their_command,
+    too_few_data_are_fewer_than_needed, unknown_commands_are_refused, writes_have_overwrites,
+    written_data_are_read_again, written_data_are_their_request, written_payloads_are_read_again,
 };
 pub use output::OutputContent;
 pub use overwrite::{Overwrite, is_write, writes_of};

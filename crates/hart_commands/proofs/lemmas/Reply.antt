@@ -63,22 +63,36 @@ in_groups _ some few bytes long = absurd (omega arith)
 dynamic : Keeps 3 dynamic_reading
 dynamic bytes = grind (arith, common_steps, nat_tests, in_groups)
 
--- an extended device status, one to eight variables and a time stamp
+-- an extended device status, one to eight variables and a time stamp, which are all of the bytes
 in_variables : (groups : ℕ) → 0 < groups → groups < 9 → (bytes : List ℕ) → length bytes ≡ 5 + 8 * groups
-    → IfSome (variables_reading bytes) (IsKept 9 variables_reading bytes)
+    → IfSome (variables_reading bytes) (λ content. (content_bytes content ≡ bytes) × IsKept 9 variables_reading bytes content)
 unfolding rows
-in_variables (suc zero) some few bytes long = rw (← spelled 13 bytes long) (refl, refl, refl)
-in_variables (suc (suc zero)) some few bytes long = rw (← spelled 21 bytes long) (refl, refl, refl)
-in_variables (suc (suc (suc zero))) some few bytes long = rw (← spelled 29 bytes long) (refl, refl, refl)
-in_variables (suc (suc (suc (suc zero)))) some few bytes long = rw (← spelled 37 bytes long) (refl, refl, refl)
-in_variables (suc (suc (suc (suc (suc zero))))) some few bytes long = rw (← spelled 45 bytes long) (refl, refl, refl)
-in_variables (suc (suc (suc (suc (suc (suc zero)))))) some few bytes long = rw (← spelled 53 bytes long) (refl, refl, refl)
-in_variables (suc (suc (suc (suc (suc (suc (suc zero))))))) some few bytes long = rw (← spelled 61 bytes long) (refl, refl, refl)
-in_variables (suc (suc (suc (suc (suc (suc (suc (suc zero)))))))) some few bytes long = rw (← spelled 69 bytes long) (refl, refl, refl)
+in_variables (suc zero) _ _ bytes long = rw (← spelled 13 bytes long) (refl, (refl, refl, refl))
+in_variables (suc (suc zero)) _ _ bytes long = rw (← spelled 21 bytes long) (refl, (refl, refl, refl))
+in_variables (suc (suc (suc zero))) _ _ bytes long = rw (← spelled 29 bytes long) (refl, (refl, refl, refl))
+in_variables (suc (suc (suc (suc zero)))) _ _ bytes long = rw (← spelled 37 bytes long) (refl, (refl, refl, refl))
+in_variables (suc (suc (suc (suc (suc zero))))) _ _ bytes long = rw (← spelled 45 bytes long) (refl, (refl, refl, refl))
+in_variables (suc (suc (suc (suc (suc (suc zero)))))) _ _ bytes long = rw (← spelled 53 bytes long) (refl, (refl, refl, refl))
+in_variables (suc (suc (suc (suc (suc (suc (suc zero))))))) _ _ bytes long = rw (← spelled 61 bytes long) (refl, (refl, refl, refl))
+in_variables (suc (suc (suc (suc (suc (suc (suc (suc zero)))))))) _ _ bytes long = rw (← spelled 69 bytes long) (refl, (refl, refl, refl))
 in_variables _ some few bytes long = absurd (omega arith)
 
 variables : Keeps 9 variables_reading
 variables bytes = grind (arith, common_steps, nat_tests, in_variables ((length bytes - 5) / 8))
+
+-- bytes that are read so are five and eight for each variable
+variables_sized : (bytes : List ℕ) (content : ReplyContent) → variables_reading bytes ≡ Some content
+    → (0 < (length bytes - 5) / 8) × ((length bytes - 5) / 8 < 9) × (length bytes ≡ 5 + 8 * ((length bytes - 5) / 8))
+variables_sized bytes content e = grind (arith, nat_tests)
+
+-- and the content is written as all of them
+pub variables_whole : (bytes : List ℕ) (content : ReplyContent) → variables_reading bytes ≡ Some content
+    → (content_bytes content ≡ bytes) × ((groups : ℕ) × (0 < groups) × (groups ≤ 8) × (length bytes ≡ 5 + 8 * groups))
+variables_whole bytes content e =
+    let groups = (length bytes - 5) / 8 in
+    let (some, few, long) = variables_sized bytes content e in
+    let is = rw e at (in_variables groups some few bytes long) in
+    (is.0, (groups, some, omega arith, long))
 
 -- the front of a list is as many of its items as it has
 front : (n : ℕ) (xs : List ℕ) → take n xs ≡ take (length (take n xs)) xs

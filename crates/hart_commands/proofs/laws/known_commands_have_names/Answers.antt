@@ -1,4 +1,4 @@
-use Rattle.std.proofs.Common.{◌≡◌, rules, ℕ, List, [], ◌∷◌, Option, Some, IfSome, arith, eqb, is_some}
+use Rattle.std.proofs.Common.{◌≡◌, rules, ℕ, List, Option, Some, arith, is_some}
 use Rattle.std.proofs.lemmas.Bool.Decides.{nat_tests}
 use Rattle.std.proofs.lemmas.Grind.{common_steps}
 use Rattle.std.specs.List.{AllByRecursion, find}
@@ -6,6 +6,7 @@ use Rattle.std.specs.Option.{option_map}
 use Rattle.std.specs.Prelude.{bytes_eq}
 use Rattle.hart_commands.specs.Commands.{is_known}
 use Rattle.hart_commands.specs.Fields.{CommandRows, command_name, rows}
+use Rattle.hart_commands.proofs.lemmas.Rows.{found}
 use Rattle.hart_commands.proofs.laws.known_commands_have_names.Goals as goal
 
 known : (command : ℕ) → is_some (command_name command) ≡ is_known command
@@ -22,12 +23,6 @@ IsNamed row = number_of row.name ≡ Some row.number
 named : AllByRecursion IsNamed rows
 unfolding rows
 named = search rules
-
--- what holds of every row holds of the row that is found
-found : (P : CommandRows → Type 0) (rows : List CommandRows) (command : ℕ) → AllByRecursion P rows
-    → IfSome (find (λ row. eqb row.number command) rows) (λ row. (row.number ≡ command) × P row)
-found P [] command all = tt
-found P (row ∷ others) command all = grind (arith, nat_tests, all.0, found P others command all.1)
 
 pub returns : goal.returns
 returns c = record {
