@@ -19,7 +19,7 @@
 
 PREFIX ?= /usr/local
 N ?= 10000
-CLI := crates/hart_cli
+PROGRAM := crates/hart
 GUIDE := docs/GUIDE.md docs/COMMANDS.md docs/PROTOCOL.md docs/vectors.tsv
 SOURCES := crates.txt $(shell find crates -name out -prune -o \( -name '*.rt' -o -name '*.antt' \) -print)
 
@@ -28,8 +28,8 @@ SOURCES := crates.txt $(shell find crates -name out -prune -o \( -name '*.rt' -o
 all: hart
 
 hart: $(SOURCES)
-	cd $(CLI) && rt run -- answer < stdin > out.tmp && cmp out.tmp stdout && rm out.tmp
-	cp $(CLI)/out/hart_cli $@
+	cd $(PROGRAM) && rt run -- answer < stdin > out.tmp && cmp out.tmp stdout && rm out.tmp
+	cp $(PROGRAM)/out/hart $@
 
 # The program is proved and built once, by the gate, and then run.
 check:
@@ -84,4 +84,4 @@ install-library: library
 	sed 's|@PREFIX@|$(PREFIX)|' include/hart.pc.in >$(PREFIX)/lib/pkgconfig/hart.pc
 
 clean:
-	rm -rf build hart $(CLI)/out.tmp crates/*/out
+	rm -rf build hart $(PROGRAM)/out.tmp crates/*/out

@@ -3,7 +3,7 @@
 # line is the gate's count, in which each script that failed here is one failure more; the status is the worst of all.
 set -u
 cd "$(dirname "$0")/.." || exit 1
-program=crates/hart_cli/out/hart_cli
+program=crates/hart/out/hart
 log=$(mktemp)
 trap 'rm -f "$log"' EXIT
 

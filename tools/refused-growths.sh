@@ -85,8 +85,8 @@ refuse_script() {
     refuse_each "$2" sim
 }
 
-cp crates/hart_cli/stdin "$work/input"
-cp crates/hart_cli/stdout "$work/wanted"
+cp crates/hart/stdin "$work/input"
+cp crates/hart/stdout "$work/wanted"
 # Its own are of the input and of its characters.
 refuse_each 2 answer
 # With an image, that of the bench device as it is new, also of the bytes of the image.

@@ -11,7 +11,7 @@ program=$(realpath "${1:-$(dirname "$0")/../hart}")
 cd "$(dirname "$0")/.."
 work=$(mktemp -d)
 trap 'rm -rf "$work"' EXIT
-request=crates/hart_cli/stdin
+request=crates/hart/stdin
 
 # Runs hart with the words that follow the output: it has to end with this status, with a text of this pattern alone on
 # standard error, and with nothing in the output.

@@ -4,7 +4,7 @@ use Rattle.hart_frame.specs.heard.Character.{Character}
 use Rattle.hart_frame.specs.heard.Frames.{IsUndecided}
 use Rattle.hart_frame.specs.scan.Scanner.{GivesNothing, MovesPast, Scan, hearing, new_scan}
 use Rattle.hart_frame.specs.declared.heard.found.Found.{Found}
-use Rattle.hart_cli.specs.declared.dump.frame_lines.FrameLines.{FrameLines}
+use Rattle.hart_cli.specs.declared.calls.dump.frame_lines.FrameLines.{FrameLines}
 use Rattle.hart_cli.specs.declared.stream.Failed.{Failed}
 use Rattle.hart_cli.specs.dump.Text.{dump_text}
 use Rattle.hart_cli.specs.dump.Dump.{AreScanned, StopsSoon, StopsWriting, WroteInTime, ended_text}
@@ -12,8 +12,8 @@ use Rattle.hart_cli.specs.input.Input.{Ending, ReadsPortion, ReadsTo, ending_of,
 use Rattle.hart_cli.specs.text.InputChars.{HasChars}
 use Rattle.hart_cli.specs.text.Items.{MayBegin, ReadsUpTo}
 use Rattle.hart_cli.specs.declared.fault.CliFault.{CliFault}
-use Rattle.hart_cli.specs.declared.dump.NextStep.{NextStep}
-use Rattle.hart_cli.specs.declared.dump.NextStep.TheVariants.{ReadOn, Stop}
+use Rattle.hart_cli.specs.declared.calls.dump.NextStep.{NextStep}
+use Rattle.hart_cli.specs.declared.calls.dump.NextStep.TheVariants.{ReadOn, Stop}
 use Rattle.hart_cli.specs.declared.fault.CliFault.TheVariants as faults
 use Rattle.hart_cli.specs.declared.input.InputEnd.{InputEnd}
 use Rattle.hart_cli.specs.declared.input.InputEnd.TheVariants as ends

@@ -1,7 +1,7 @@
 -- What `hart explain` says of the two status bytes of a reply (HCF_SPEC-099; own profile).
 use Rattle.std.specs.Prelude.{◌==◌, not, nat_le, nat_lt, bit_and, if◌then◌else◌, ◌++◌, [], ◌∷◌, ℕ, Bool, List, codes, decimal, length}
 use Rattle.std.specs.List.{flat_map, list_all}
-use Rattle.hart_cli.specs.declared.explain.status.NamedBit as code
+use Rattle.hart_cli.specs.declared.calls.explain.status.NamedBit as code
 use Rattle.hart_cli.specs.explain.Words.{said_line}
 
 -- A bit of a status byte has a value and a name.

@@ -11,8 +11,8 @@ use Rattle.hart_cli.specs.FaultText.{fault_line}
 use Rattle.hart_cli.specs.sim.Sim.{SimOutcome}
 use Rattle.hart_cli.specs.stream.Stream.{Stream, WritesUnlessFailed}
 use Rattle.hart_cli.specs.declared.fault.CliFault.{CliFault}
-use Rattle.hart_cli.specs.declared.program.command_line.Call.{Call}
-use Rattle.hart_cli.specs.declared.program.command_line.Call.TheVariants.{Answer, Dump, Encode, Explain, Sim}
+use Rattle.hart_cli.specs.declared.calls.program.command_line.Call.{Call}
+use Rattle.hart_cli.specs.declared.calls.program.command_line.Call.TheVariants.{Answer, Dump, Encode, Explain, Sim}
 
 -- A call with this result had the outcome of its own kind on the reader and the writer; that of `encode` leaves the reader.
 abbrev pub CallOutcome : Call → Stream → Stream → Stream → Stream → Result (Unit {0}) CliFault → Type 0

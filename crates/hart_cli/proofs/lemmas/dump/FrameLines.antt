@@ -7,7 +7,7 @@ use Rattle.hart_frame.specs.heard.Character.{Character}
 use Rattle.hart_frame.specs.heard.Frames.{AreFrames, HasNoFrame, IsUndecided}
 use Rattle.hart_frame.specs.scan.Scanner.{CanHear, Ends, Gives, MovesPast, Scan, finishing, hearing, new_scan, Waits}
 use Rattle.hart_frame.proofs.lemmas.Laws.{every_list_has_frames, the_rest_has_the_later_frames}
-use Rattle.hart_cli.specs.declared.dump.frame_lines.FrameLines.{FrameLines}
+use Rattle.hart_cli.specs.declared.calls.dump.frame_lines.FrameLines.{FrameLines}
 use Rattle.hart_cli.specs.dump.Dump.{AreDecided, AreFrameLines}
 use Rattle.hart_cli.specs.dump.FrameLines.{IsWaiting, GivesAll, KeepsLines, ScansText}
 use Rattle.hart_cli.specs.text.Items.{ReadsUpTo}

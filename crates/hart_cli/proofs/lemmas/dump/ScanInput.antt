@@ -6,8 +6,8 @@ use Rattle.std.proofs.lemmas.Grind.{common_steps}
 use Rattle.hart_frame.specs.heard.Character.{Character}
 use Rattle.hart_frame.specs.scan.Scanner.{Scan, hearing, new_scan}
 use Rattle.hart_frame.proofs.lemmas.Laws.{every_list_has_frames}
-use Rattle.hart_cli.specs.declared.dump.NextStep.TheVariants.{Stop}
-use Rattle.hart_cli.specs.declared.dump.frame_lines.FrameLines.{FrameLines}
+use Rattle.hart_cli.specs.declared.calls.dump.NextStep.TheVariants.{Stop}
+use Rattle.hart_cli.specs.declared.calls.dump.frame_lines.FrameLines.{FrameLines}
 use Rattle.hart_cli.specs.declared.fault.CliFault.{CliFault}
 use Rattle.hart_cli.specs.declared.input.InputEnd.{InputEnd}
 use Rattle.hart_cli.specs.declared.input.InputEnd.TheVariants.{Ended, ReadFailed, TooLong}

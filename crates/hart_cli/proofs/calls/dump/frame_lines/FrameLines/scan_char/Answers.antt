@@ -1,0 +1,8 @@
+use Rattle.std.proofs.Common.{arith}
+use Rattle.std.proofs.lemmas.Grind.{common_steps}
+use Rattle.hart_cli.proofs.lemmas.dump.FrameLines.{waits_for_more}
+use Rattle.hart_cli.proofs.calls.dump.frame_lines.FrameLines.scan_char.Goals as goal
+
+pub returns : goal.returns
+returns c =
+    let waits = waits_for_more c.push.new.self _ _ _ (grind arith) c.push.ensures.few c.take_frames.ensures in grind (arith, common_steps)

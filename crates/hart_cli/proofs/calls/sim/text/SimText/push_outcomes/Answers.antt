@@ -1,0 +1,23 @@
+use Rattle.std.proofs.Common.{◌≡◌, ℕ, ◌+◌, ◌<◌, List, [], ◌∷◌, ◌++◌, length, take, get_or, arith, length-take, append_assoc}
+use Rattle.std.proofs.lemmas.Grind.{common_steps}
+use Rattle.std.proofs.lemmas.List.{take_more}
+use Rattle.std.specs.List.{enumerate_from, flat_map}
+use Rattle.hart_line.specs.declared.line.report.Outcome.{Outcome}
+use Rattle.hart_cli.specs.sim.Text.{outcome_line}
+use Rattle.hart_cli.proofs.calls.sim.text.SimText.push_outcomes.Goals as goal
+
+-- the things of a list that goes on are numbered on
+numbered_on : {X : Type 0} (n : ℕ) (xs more : List X)
+    → enumerate_from n (xs ++ more) ≡ enumerate_from n xs ++ enumerate_from (n + length xs) more
+numbered_on n [] more = grind arith
+numbered_on n (x ∷ xs) more = grind (arith, numbered_on (n + 1) xs more)
+
+-- the line of one more submission
+outcomes_more : (outcomes : List Outcome) (i : ℕ) (d : Outcome) → i < length outcomes
+    → flat_map outcome_line (enumerate_from 1 (take (i + 1) outcomes))
+    ≡ flat_map outcome_line (enumerate_from 1 (take i outcomes)) ++ outcome_line (i + 1, get_or outcomes i d)
+outcomes_more outcomes i d below = grind (arith, common_steps, length-take, numbered_on, take_more)
+
+pub loop-index-preserved : goal.loop-index-preserved
+loop-index-preserved c text keeps =
+    let kept = c.push.ensures _ (c.loop-index.invariant text keeps) in grind (arith, append_assoc, outcomes_more)

@@ -1,0 +1,8 @@
+//! The calls: one for each subcommand, over any reader and writer, and the program, which makes the one that its words name.
+
+pub mod answer;
+pub mod dump;
+pub mod encode;
+pub mod explain;
+pub mod program;
+pub mod sim;

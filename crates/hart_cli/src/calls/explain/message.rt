@@ -1,0 +1,92 @@
+//! What is said of a message.
+ghost use Rattle.std.specs.Prelude.{◌≡◌, ◌++◌, ◌+◌, ◌≤◌, length};
+ghost use Rattle.hart_frame.specs.declared.wire.kind.FrameKind.TheVariants.{Ack};
+ghost use Rattle.hart_cli.specs.explain.Message.{burst_line, command_words, message_line, paragraph, payload_lines};
+
+use crate::calls::explain::data::{push_reply_data, push_request_data};
+use crate::calls::explain::kept::Kept;
+use crate::calls::explain::status::push_status;
+use crate::calls::explain::words::{push_bytes_line, push_said, push_who};
+use crate::text::pairs::Pairs;
+use crate::text::words::push_text;
+use hart_commands::command_name;
+use hart_frame::{Found, Frame, FrameKind};
+use itoa::Buffer;
+
+/// Adds the paragraph of a message.
+#[tactic(auto, unfolding(crate::specs::explain::Message::paragraph))]
+pub fn push_paragraph(text: &mut Kept, pairs: &Pairs, found: &Found)
+    requires { length text.old + 8192 ≤ 32768 }
+    ensures { text.new ≡ text.old ++ paragraph found.now }
+{
+    push_message_line(text, pairs, found);
+    push_burst_line(text, found.frame.burst());
+    push_bytes_line(text, pairs, "expansion bytes", found.frame.expansion());
+    push_payload(text, pairs, &found.frame);
+}
+
+/// Adds what the payload of a message says.
+fn push_payload(text: &mut Kept, pairs: &Pairs, frame: &Frame)
+    requires { length text.old + 6000 ≤ 32768 }
+    ensures { text.new ≡ text.old ++ payload_lines frame.now.kind frame.now.command frame.now.payload }
+{
+    match frame.kind() {
+        FrameKind::Stx => push_request_data(text, pairs, frame.command(), frame.payload()),
+        FrameKind::Ack => push_reply(text, pairs, frame.command(), frame.payload()),
+    }
+}
+
+/// Adds what the payload of a reply says.
+fn push_reply(text: &mut Kept, pairs: &Pairs, command: u8, payload: &[u8])
+    requires room { length text.old + 6000 ≤ 32768 }
+    requires few { length payload.now ≤ 255 }
+    ensures lines { text.new ≡ text.old ++ payload_lines Ack command payload.now }
+{
+    let [first, second, ..] = payload else {
+        return;
+    };
+    push_status(text, *first, *second);
+    push_reply_data(text, pairs, command, payload);
+}
+
+/// Adds the line of a message.
+fn push_message_line(text: &mut Kept, pairs: &Pairs, found: &Found)
+    requires { length text.old + 220 ≤ 32768 }
+    ensures line { text.new ≡ text.old ++ message_line found.now }
+    ensures few { length text.new ≤ length text.old + 220 }
+{
+    let frame = &found.frame;
+    push_text(text, Buffer::new().format(found.start));
+    push_text(text, "-");
+    push_text(text, Buffer::new().format(found.stop));
+    push_text(text, ": ");
+    push_who(text, pairs, frame.kind(), frame.master(), frame.address());
+    push_text(text, ", ");
+    push_command(text, frame.command());
+    text.push(b'\n');
+}
+
+/// Adds the words of a command.
+fn push_command(text: &mut Kept, command: u8)
+    requires { length text.old + 80 ≤ 32768 }
+    ensures words { text.new ≡ text.old ++ command_words command }
+    ensures few { length text.new ≤ length text.old + 80 }
+{
+    push_text(text, "Command ");
+    push_text(text, Buffer::new().format(command));
+    if let Some(name) = command_name(command) {
+        push_text(text, ", ");
+        push_text(text, name);
+    }
+}
+
+/// Adds the line of a burst bit, if it is set.
+fn push_burst_line(text: &mut Kept, burst: bool)
+    requires { length text.old + 20 ≤ 32768 }
+    ensures line { text.new ≡ text.old ++ burst_line burst }
+    ensures few { length text.new ≤ length text.old + 20 }
+{
+    if burst {
+        push_said(text, "burst bit", "set");
+    }
+}

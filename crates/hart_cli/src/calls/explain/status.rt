@@ -1,0 +1,149 @@
+//! What is said of the two status bytes of a reply.
+ghost use Rattle.std.specs.Prelude.{◌≡◌, ◌++◌, ◌+◌, ◌≤◌, codes, length, map, true};
+ghost use Rattle.hart_cli.specs.explain.Status.{are_short, code_words, names_words, seen, separated, set_names, status_lines};
+ghost use Rattle.hart_cli.specs.explain.Words.{said_line};
+
+use crate::calls::explain::kept::Kept;
+use crate::calls::explain::words::push_name;
+use crate::text::words::push_text;
+use hart_values::{ByteList, CommFaults, DeviceStatus};
+use itoa::Buffer;
+
+/// A bit of a status byte, and its name.
+struct NamedBit {
+    value: u8,
+    name: &'static str,
+}
+
+/// A bit, in one line.
+macro_rules! bit {
+    ($value:expr, $name:literal) => {
+        NamedBit {
+            value: $value,
+            name: $name,
+        }
+    };
+}
+
+/// The communication faults that have names.
+const COMM_FAULTS: &[NamedBit] = &[
+    bit!(CommFaults::VERTICAL_PARITY, "vertical parity"),
+    bit!(CommFaults::OVERRUN, "overrun"),
+    bit!(CommFaults::FRAMING, "framing"),
+    bit!(CommFaults::LONGITUDINAL_PARITY, "longitudinal parity"),
+    bit!(CommFaults::BUFFER_OVERFLOW, "buffer overflow"),
+];
+
+/// The bits of the device status.
+const DEVICE_STATES: &[NamedBit] = &[
+    bit!(DeviceStatus::DEVICE_MALFUNCTION, "device malfunction"),
+    bit!(DeviceStatus::CONFIGURATION_CHANGED, "configuration changed"),
+    bit!(DeviceStatus::COLD_START, "cold start"),
+    bit!(DeviceStatus::MORE_STATUS_AVAILABLE, "more status available"),
+    bit!(DeviceStatus::LOOP_CURRENT_FIXED, "loop current fixed"),
+    bit!(
+        DeviceStatus::LOOP_CURRENT_SATURATED,
+        "loop current saturated"
+    ),
+    bit!(
+        DeviceStatus::NON_PRIMARY_VARIABLE_OUT_OF_LIMITS,
+        "non-primary variable out of limits"
+    ),
+    bit!(
+        DeviceStatus::PRIMARY_VARIABLE_OUT_OF_LIMITS,
+        "primary variable out of limits"
+    ),
+];
+
+/// The names of eight bits, each with a comma and a space before it.
+type Names = ByteList<336>;
+
+/// Adds what the two status bytes of a reply say.
+pub fn push_status(text: &mut Kept, first: u8, second: u8)
+    requires { length text.old + 500 ≤ 32768 }
+    ensures lines { text.new ≡ text.old ++ status_lines first second }
+    ensures few { length text.new ≤ length text.old + 500 }
+{
+    if first < 0x80 {
+        push_code_line(text, first);
+        push_names_line(text, "device status", DEVICE_STATES, second);
+    } else {
+        push_names_line(text, "communication faults", COMM_FAULTS, first);
+    }
+}
+
+/// Adds the line of a response code.
+fn push_code_line(text: &mut Kept, code: u8)
+    requires { length text.old + 60 ≤ 32768 }
+    ensures line { text.new ≡ text.old ++ said_line (codes "response code") (code_words code) }
+    ensures few { length text.new ≤ length text.old + 60 }
+{
+    push_name(text, "response code");
+    push_code(text, code);
+    text.push(b'\n');
+}
+
+/// Adds the words of a response code.
+fn push_code(text: &mut Kept, code: u8)
+    requires { length text.old + 30 ≤ 32768 }
+    ensures words { text.new ≡ text.old ++ code_words code }
+    ensures few { length text.new ≤ length text.old + 30 }
+{
+    match code {
+        0 => push_text(text, "0, success"),
+        2 => push_text(text, "2, invalid selection"),
+        5 => push_text(text, "5, too few data bytes"),
+        7 => push_text(text, "7, in write protect mode"),
+        64 => push_text(text, "64, command not implemented"),
+        _ => {
+            push_text(text, "code ");
+            push_text(text, Buffer::new().format(code));
+        }
+    }
+}
+
+/// Adds the line of the names of the bits that are set in a byte.
+fn push_names_line(text: &mut Kept, name: &str, bits: &[NamedBit], byte: u8)
+    requires room { length text.old + 380 ≤ 32768 }
+    requires short { length name.now ≤ 20 }
+    requires few { length bits.now ≤ 8 }
+    requires short_names { are_short bits.now ≡ true }
+    ensures line { text.new ≡ text.old ++ said_line name.now (names_words (set_names byte (map seen bits.now))) }
+    ensures few { length text.new ≤ length text.old + 380 }
+{
+    push_name(text, name);
+    push_names(text, bits, byte);
+    text.push(b'\n');
+}
+
+/// Adds the names of the bits that are set in a byte, or `none`.
+fn push_names(text: &mut Kept, bits: &[NamedBit], byte: u8)
+    requires room { length text.old + 340 ≤ 32768 }
+    requires few { length bits.now ≤ 8 }
+    requires short_names { are_short bits.now ≡ true }
+    ensures words { text.new ≡ text.old ++ names_words (set_names byte (map seen bits.now)) }
+    ensures few { length text.new ≤ length text.old + 340 }
+{
+    let names = separated_names(bits, byte);
+    // The first name has nothing before it.
+    match names.as_slice() {
+        [_, _, rest @ ..] => text.extend_from_slice(rest),
+        _ => push_text(text, "none"),
+    }
+}
+
+/// The names of the bits that are set in a byte, each with a comma and a space before it.
+fn separated_names(bits: &[NamedBit], byte: u8) -> Names
+    requires few { length bits.now ≤ 8 }
+    requires short_names { are_short bits.now ≡ true }
+    ensures { result ≡ separated byte bits.now }
+{
+    let mut names = Names::new();
+    for bit in bits {
+        if byte & bit.value != 0 {
+            push_text(&mut names, ", ");
+            push_text(&mut names, bit.name);
+        }
+    }
+    names
+}

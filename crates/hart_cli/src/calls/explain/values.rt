@@ -1,0 +1,166 @@
+//! The values of fields in words.
+ghost use Rattle.std.specs.Prelude.{◌≡◌, ◌++◌, ◌+◌, ◌*◌, ◌≤◌, decimal, length, true};
+ghost use Rattle.hart_values.specs.packed_text.Packing.{IsPackedSize};
+ghost use Rattle.hart_cli.specs.explain.Values.{day_words, no_date_words, suits, two_digits, unpacked, value_words, variable_words};
+ghost use Rattle.hart_cli.specs.explain.Values.{variables_words};
+
+use crate::calls::explain::kept::Kept;
+use crate::text::hex_text::push_hex_items;
+use crate::text::pairs::Pairs;
+use crate::text::words::push_text;
+use hart_commands::FieldKind;
+use hart_values::{HartDate, PackedText};
+use itoa::Buffer;
+
+/// The year whose byte is 0.
+const FIRST_YEAR: u16 = 1900;
+
+/// The most characters of a packed text.
+const MOST_CHARACTERS: usize = 32;
+
+/// Adds the value of a field.
+pub fn push_value(text: &mut Kept, pairs: &Pairs, kind: FieldKind, bytes: &[u8])
+    requires room { length text.old + 12 * length bytes.now + 30 ≤ 32768 }
+    requires suits { suits kind (length bytes.now) ≡ true }
+    ensures words { text.new ≡ text.old ++ value_words kind bytes.now }
+    ensures few { length text.new ≤ length text.old + 12 * length bytes.now + 30 }
+{
+    match kind {
+        FieldKind::Bytes | FieldKind::Float => push_hex_items(text, pairs, bytes),
+        FieldKind::Number => push_number(text, bytes),
+        FieldKind::PackedText => push_packed_text(text, bytes),
+        FieldKind::Date => push_date(text, pairs, bytes),
+        FieldKind::Variables => push_variables(text, pairs, bytes),
+    }
+}
+
+/// Adds a number of one or two bytes.
+fn push_number(text: &mut Kept, bytes: &[u8])
+    requires room { length text.old + 30 ≤ 32768 }
+    requires suits { suits FieldKind.Number (length bytes.now) ≡ true }
+    ensures words { text.new ≡ text.old ++ value_words FieldKind.Number bytes.now }
+    ensures few { length text.new ≤ length text.old + 30 }
+{
+    let number = match bytes {
+        [byte] => u16::from(*byte),
+        [high, low] => u16::from_be_bytes([*high, *low]),
+        _ => unreachable!(),
+    };
+    push_text(text, Buffer::new().format(number));
+}
+
+/// Adds a packed text in double quotes.
+fn push_packed_text(text: &mut Kept, bytes: &[u8])
+    requires room { length text.old + 2 * length bytes.now + 2 ≤ 32768 }
+    requires suits { suits FieldKind.PackedText (length bytes.now) ≡ true }
+    ensures words { text.new ≡ text.old ++ value_words FieldKind.PackedText bytes.now }
+    ensures few { length text.new ≤ length text.old + 2 * length bytes.now + 2 }
+{
+    push_text(text, "\"");
+    match bytes.len() {
+        6 => push_characters::<6>(text, bytes),
+        12 => push_characters::<12>(text, bytes),
+        _ => push_characters::<24>(text, bytes),
+    }
+    push_text(text, "\"");
+}
+
+/// Adds the characters of a packed text of `N` bytes.
+fn push_characters<const N: usize>(text: &mut Kept, bytes: &[u8])
+    requires room { length text.old + 2 * N ≤ 32768 }
+    requires size { length bytes.now ≡ N }
+    requires packed { IsPackedSize N }
+    ensures characters { text.new ≡ text.old ++ unpacked bytes.now }
+    ensures few { length text.new ≤ length text.old + 2 * N }
+{
+    let packed = PackedText::<N>::from_bytes(*bytes.first_chunk::<N>().unwrap());
+    let mut characters = [0; MOST_CHARACTERS];
+    let characters = &mut characters[..4 * N / 3];
+    packed.write_text(characters).unwrap();
+    text.extend_from_slice(characters);
+}
+
+/// Adds a date.
+fn push_date(text: &mut Kept, pairs: &Pairs, bytes: &[u8])
+    requires room { length text.old + 30 ≤ 32768 }
+    requires suits { suits FieldKind.Date (length bytes.now) ≡ true }
+    ensures words { text.new ≡ text.old ++ value_words FieldKind.Date bytes.now }
+    ensures few { length text.new ≤ length text.old + 30 }
+{
+    let [day, month, year] = bytes else {
+        unreachable!()
+    };
+    match HartDate::from_bytes([*day, *month, *year]) {
+        Ok(date) if date.is_set() => push_day(text, *day, *month, *year),
+        Ok(_) => push_text(text, "not set"),
+        Err(_) => {
+            push_hex_items(text, pairs, bytes);
+            push_text(text, ", no date");
+        }
+    }
+}
+
+/// Adds a day of the calendar.
+fn push_day(text: &mut Kept, day: u8, month: u8, year: u8)
+    requires { length text.old + 30 ≤ 32768 }
+    ensures words { text.new ≡ text.old ++ day_words day month year }
+    ensures few { length text.new ≤ length text.old + 30 }
+{
+    push_text(text, Buffer::new().format(FIRST_YEAR + u16::from(year)));
+    push_text(text, "-");
+    push_two_digits(text, month);
+    push_text(text, "-");
+    push_two_digits(text, day);
+}
+
+/// Adds a number below a hundred as two digits.
+fn push_two_digits(text: &mut Kept, number: u8)
+    requires { length text.old + 6 ≤ 32768 }
+    ensures digits { text.new ≡ text.old ++ two_digits number }
+    ensures few { length text.new ≤ length text.old + 6 }
+{
+    push_text(text, Buffer::new().format(number / 10));
+    push_text(text, Buffer::new().format(number % 10));
+}
+
+/// Adds device variables, eight bytes each.
+fn push_variables(text: &mut Kept, pairs: &Pairs, bytes: &[u8])
+    requires { length text.old + 9 * length bytes.now ≤ 32768 }
+    ensures words { text.new ≡ text.old ++ variables_words bytes.now }
+    ensures few { length text.new ≤ length text.old + 9 * length bytes.now }
+{
+    let (groups, _) = bytes.as_chunks::<8>();
+    for (index, group) in groups.iter().enumerate() {
+        if index > 0 {
+            push_text(text, "; ");
+        }
+        push_variable(text, pairs, group);
+    }
+}
+
+/// Adds a device variable.
+#[tactic(auto, unfolding(crate::specs::explain::Values::variable_words))]
+fn push_variable(text: &mut Kept, pairs: &Pairs, variable: &[u8; 8])
+    requires { length text.old + 70 ≤ 32768 }
+    ensures words { text.new ≡ text.old ++ variable_words variable.now }
+    ensures few { length text.new ≤ length text.old + 70 }
+{
+    let [code, classification, unit, .., status] = variable;
+    push_counted(text, "code ", *code);
+    push_counted(text, ", classification ", *classification);
+    push_counted(text, ", unit ", *unit);
+    push_text(text, ", value ");
+    push_hex_items(text, pairs, &variable[3..7]);
+    push_text(text, ", status ");
+    push_hex_items(text, pairs, &[*status]);
+}
+
+/// Adds a text and a number.
+fn push_counted(text: &mut Kept, name: &str, number: u8)
+    requires { length text.old + length name.now + 3 ≤ 32768 }
+    ensures words { text.new ≡ text.old ++ name.now ++ decimal number }
+    ensures few { length text.new ≤ length text.old + length name.now + 3 }
+{
+    push_text(text, name);
+    push_text(text, Buffer::new().format(number));
+}

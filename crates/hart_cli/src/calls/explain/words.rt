@@ -1,0 +1,113 @@
+//! Who speaks to whom, and the lines of what a message says.
+ghost use Rattle.std.specs.Prelude.{◌≡◌, ◌++◌, ◌+◌, ◌*◌, ◌≤◌, codes, length};
+ghost use Rattle.hart_cli.specs.explain.Words.{bytes_line, device_words, master_words, said_line, who_words};
+ghost use Rattle.hart_cli.specs.text.HexText.{hex_items};
+
+use crate::calls::explain::kept::Kept;
+use crate::text::device_digits::push_device_digits;
+use crate::text::hex_text::push_hex_items;
+use crate::text::pairs::Pairs;
+use crate::text::words::push_text;
+use hart_frame::FrameKind;
+use hart_values::{Address, MasterId};
+use itoa::Buffer;
+
+/// Adds the words of who speaks to whom.
+pub fn push_who(text: &mut Kept, pairs: &Pairs, kind: FrameKind, master: MasterId, address: Address)
+    requires { length text.old + 90 ≤ 32768 }
+    ensures words { text.new ≡ text.old ++ who_words kind master address }
+    ensures few { length text.new ≤ length text.old + 90 }
+{
+    match kind {
+        FrameKind::Stx => {
+            push_text(text, "request of ");
+            push_text(text, master_words(master));
+            push_text(text, " to ");
+            push_device(text, pairs, "all devices", address);
+        }
+        FrameKind::Ack => {
+            push_text(text, "reply of ");
+            push_device(text, pairs, "one of all devices", address);
+            push_text(text, " to ");
+            push_text(text, master_words(master));
+        }
+    }
+}
+
+/// The words of a master.
+fn master_words(master: MasterId) -> &'static str
+    ensures words { result.now ≡ master_words master }
+    ensures short { length result.now ≤ 20 }
+{
+    match master {
+        MasterId::Primary => "the primary master",
+        MasterId::Secondary => "the secondary master",
+    }
+}
+
+/// Adds the words of an address, of which these are for broadcast.
+fn push_device(text: &mut Kept, pairs: &Pairs, broadcast: &str, address: Address)
+    requires room { length text.old + 40 ≤ 32768 }
+    requires short { length broadcast.now ≤ 18 }
+    ensures words { text.new ≡ text.old ++ device_words broadcast.now address }
+    ensures few { length text.new ≤ length text.old + 40 }
+{
+    match address {
+        Address::Polling(polling) => {
+            push_text(text, "the device at polling address ");
+            push_text(text, Buffer::new().format(polling.number()));
+        }
+        Address::Unique(device) => {
+            if address.is_broadcast() {
+                push_text(text, broadcast);
+            } else {
+                push_text(text, "device ");
+                push_device_digits(text, pairs, device);
+            }
+        }
+    }
+}
+
+/// Adds a line of what a message says.
+pub fn push_said(text: &mut Kept, name: &str, value: &str)
+    requires { length text.old + length name.now + length value.now + 7 ≤ 32768 }
+    ensures line { text.new ≡ text.old ++ said_line name.now value.now }
+    ensures len { length text.new ≡ length text.old + length name.now + length value.now + 7 }
+{
+    push_name(text, name);
+    push_text(text, value);
+    text.push(b'\n');
+}
+
+/// Adds a line of what a message says, of bytes.
+pub fn push_said_bytes(text: &mut Kept, pairs: &Pairs, name: &str, bytes: &[u8])
+    requires { length text.old + length name.now + 3 * length bytes.now + 7 ≤ 32768 }
+    ensures line { text.new ≡ text.old ++ said_line name.now (hex_items bytes.now) }
+    ensures few { length text.new ≤ length text.old + length name.now + 3 * length bytes.now + 7 }
+{
+    push_name(text, name);
+    push_hex_items(text, pairs, bytes);
+    text.push(b'\n');
+}
+
+/// Adds the line of bytes, if there are any.
+pub fn push_bytes_line(text: &mut Kept, pairs: &Pairs, name: &str, bytes: &[u8])
+    requires { length text.old + length name.now + 3 * length bytes.now + 7 ≤ 32768 }
+    ensures line { text.new ≡ text.old ++ bytes_line name.now bytes.now }
+    ensures few { length text.new ≤ length text.old + length name.now + 3 * length bytes.now + 7 }
+{
+    if !bytes.is_empty() {
+        push_said_bytes(text, pairs, name, bytes);
+    }
+}
+
+/// Adds the beginning of a line of what a message says, with its name.
+pub fn push_name(text: &mut Kept, name: &str)
+    requires { length text.old + length name.now + 6 ≤ 32768 }
+    ensures name { text.new ≡ text.old ++ codes "    " ++ name.now ++ codes ": " }
+    ensures len { length text.new ≡ length text.old + length name.now + 6 }
+{
+    push_text(text, "    ");
+    push_text(text, name);
+    push_text(text, ": ");
+}

@@ -1,0 +1,128 @@
+//! The program: which call the words make, and with which number it ends.
+
+ghost use Rattle.std.specs.Prelude.{◌≡◌, ◌≢◌, IfErr, map, string_bytes};
+ghost use Rattle.hart_cli.specs.program.Program.{CallOutcome, HasPreambleCount, Ran, status_of};
+ghost use Rattle.hart_cli.specs.FaultText.{fault_line};
+ghost use Rattle.hart_cli.specs.stream.Stream.{WritesUnlessFailed};
+
+pub mod command_line;
+mod help;
+
+use crate::calls::answer::answer;
+use crate::calls::dump::dump;
+use crate::calls::encode::{EncodeWords, encode_text};
+use crate::calls::explain::explain;
+use crate::calls::sim::simulate;
+use crate::fault::CliFault;
+use crate::output::write_all;
+use crate::stream::{Sink, Source};
+use command_line::{Call, requested_call};
+use std::alloc::Global;
+use std::fmt;
+use std::fmt::Write;
+
+/// The status of a call that did its work.
+pub const DONE: u8 = 0;
+
+/// The status of a call that ended with a fault.
+pub const FAULT: u8 = 1;
+
+/// The status if the words name no call, ask for help, or were not read because memory was refused.
+pub const NO_CALL: u8 = 2;
+
+/// Makes the call that the words after the program's name ask for, and gives the program's status.
+///
+/// `answer`, `dump`, `explain` and `sim` read from `reader` and write to `writer`; `encode` reads its words alone. At status 0 nothing goes
+/// to `errors`; at status 1 the line of the call's fault does, or a beginning of it if `errors` failed. Status 2 says that clap
+/// found no matches for the words: reader and writer are not touched, and clap's own text, help among it, goes to `errors`. No
+/// clause says which. A failed write to `errors` ends the text there, and the status stays what it was.
+pub fn program<R: Source, W: Sink, E: Sink>(
+    alloc: Global,
+    words: &[String],
+    reader: &mut R,
+    writer: &mut W,
+    errors: &mut E,
+) -> u8
+    ensures ran { result ≢ 2 → Ran (map string_bytes words.now)
+        (R.stream reader.old) (R.stream reader.new)
+        (W.stream writer.old) (W.stream writer.new)
+        (E.stream errors.old) (E.stream errors.new)
+        result }
+    ensures unread { result ≡ 2 → reader.new ≡ reader.old }
+    ensures unwritten { result ≡ 2 → writer.new ≡ writer.old }
+    ensures quiet { result ≡ 0 → errors.new ≡ errors.old }
+{
+    match requested_call(alloc, words) {
+        Ok(call) => finish(make_call(alloc, call, reader, writer), errors),
+        Err(error) => {
+            show(&error, errors);
+            NO_CALL
+        }
+    }
+}
+
+/// Makes the call on the reader and the writer, and gives its result.
+fn make_call<R: Source, W: Sink>(
+    alloc: Global,
+    call: Call<'_>,
+    reader: &mut R,
+    writer: &mut W,
+) -> Result<(), CliFault>
+    requires { HasPreambleCount call }
+    ensures { CallOutcome call.entry
+        (R.stream reader.old) (R.stream reader.new)
+        (W.stream writer.old) (W.stream writer.new)
+        result }
+{
+    match call {
+        Call::Answer(image) => answer(alloc, image.word, reader, writer),
+        Call::Dump => dump(alloc, reader, writer),
+        Call::Explain => explain(alloc, reader, writer),
+        Call::Sim(image) => simulate(alloc, image.word, reader, writer),
+        Call::Encode(words) => {
+            let EncodeWords {
+                who,
+                address,
+                command,
+                payload,
+                preambles,
+            } = words;
+            encode_text(alloc, who, address, command, payload, preambles, writer)
+        }
+    }
+}
+
+/// Writes the line of a fault to `errors`, and gives the status of what the call answered.
+fn finish<E: Sink>(outcome: Result<(), CliFault>, errors: &mut E) -> u8
+    ensures status { result ≡ status_of outcome }
+    ensures fault { IfErr outcome (λ fault. WritesUnlessFailed
+        (E.stream errors.old) (E.stream errors.new)
+        (fault_line fault)) }
+    ensures quiet { result ≡ 0 → errors.new ≡ errors.old }
+{
+    match outcome {
+        Ok(()) => DONE,
+        Err(fault) => {
+            // If the line cannot be written, the status alone shows the fault.
+            let _ = write_all(errors, fault.text_line().as_str().as_bytes());
+            FAULT
+        }
+    }
+}
+
+/// Writes clap's text piece by piece, so that it takes no memory. A failed write ends it.
+fn show<E: Sink>(error: &clap::Error, errors: &mut E) {
+    let _ = write!(Text { sink: errors }, "{error}");
+}
+
+/// A sink as a writer of formatted text.
+#[derive(Drop)]
+struct Text<'a, E> {
+    sink: &'a mut E,
+}
+
+impl<E: Sink> Write for Text<'_, E> {
+    fn write_str(&mut self, text: &str) -> fmt::Result {
+        write_all(self.sink, text.as_bytes()).map_err(|_| fmt::Error)
+    }
+}

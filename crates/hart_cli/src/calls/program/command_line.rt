@@ -1,0 +1,271 @@
+//! The call that the words after the program's name ask for.
+
+ghost use Rattle.std.specs.Prelude.{◌≡◌, ◌∷◌, [], ℕ, IfErr, IfOk, List, None, Some, codes, false, map, string_bytes};
+ghost use Rattle.clap.specs.Words.{HasKind, app_of, fault_of, first_of, found_of, new_app, new_rule, rows_of, rule_of, subcommand_rows_of};
+ghost use Rattle.clap.specs.Words.{with_rule, with_subcommand};
+ghost use Rattle.std.specs.Option.{option_map};
+ghost use Rattle.hart_cli.specs.program.CommandLine.{Calls, call_of, encode_app, encode_with_required_words, hart_alone, hart_app};
+ghost use Rattle.hart_cli.specs.program.CommandLine.{image_app, image_rule, preambles_of, preambles_rule, reading_app, required_rule};
+ghost use Rattle.hart_cli.specs.program.CommandLine.{words_of};
+ghost use Rattle.hart_cli.specs.declared.calls.program.command_line.Call.{Call};
+ghost use Rattle.hart_cli.specs.declared.calls.program.command_line.Call.TheVariants.{Answer, Dump, Encode, Explain, Sim};
+
+use super::help;
+use super::help::Page;
+use crate::calls::encode::EncodeWords;
+use crate::image_word::ImageWord;
+use clap::{Arg, ArgMatches, Command, value_parser};
+use hart_frame::{LEAST_PREAMBLES, MOST_PREAMBLES, is_preamble_count};
+use std::alloc::{AllocError, Global};
+
+/// The version that `hart --version` shows.
+const VERSION: &str = "0.1.0";
+
+/// The word `answer`, `dump`, `explain` or `sim` alone is a call of it, without an image; `--image 01` after `answer` or `sim` gives it the
+/// image `01`. `encode P @0 0` is a call with no data and 5 preamble bytes, and with 20 if `--preambles 20` follows.
+pub fn words_are_calls()
+    ensures answer { Calls (Answer None) (codes "answer" ∷ []) }
+    ensures answer_image { Calls (Answer (Some (codes "01"))) (codes "answer" ∷ codes "--image" ∷ codes "01" ∷ []) }
+    ensures dump { Calls Dump (codes "dump" ∷ []) }
+    ensures explain { Calls Explain (codes "explain" ∷ []) }
+    ensures sim { Calls (Sim None) (codes "sim" ∷ []) }
+    ensures sim_image { Calls (Sim (Some (codes "01"))) (codes "sim" ∷ codes "--image" ∷ codes "01" ∷ []) }
+    ensures encode { Calls
+        (Encode (record { who = codes "P"; address = codes "@0"; command = codes "0"; payload = []; preambles = 5 }))
+        (codes "encode" ∷ codes "P" ∷ codes "@0" ∷ codes "0" ∷ []) }
+    ensures preambles { Calls
+        (Encode (record { who = codes "P"; address = codes "@0"; command = codes "0"; payload = []; preambles = 20 }))
+        (codes "encode" ∷ codes "P" ∷ codes "@0" ∷ codes "0" ∷ codes "--preambles" ∷ codes "20" ∷ []) }
+{}
+
+/// Words make one call at most, so that what the program does is determined by them.
+pub fn one_call()
+    ensures { (a b : Call) (words : List (List ℕ)) → Calls a words → Calls b words → a ≡ b }
+{}
+
+/// The calls that a command line can make.
+#[derive(Drop)]
+pub enum Call<'a> {
+    /// `hart answer`.
+    Answer(ImageWord<'a>),
+    /// `hart dump`.
+    Dump,
+    /// `hart explain`.
+    Explain,
+    /// `hart sim`.
+    Sim(ImageWord<'a>),
+    /// `hart encode`.
+    Encode(EncodeWords<'a>),
+}
+
+/// The call that the words make.
+///
+/// # Errors
+///
+/// What clap gives if it finds no matches for them, help among it, or if memory is refused.
+pub fn requested_call<'a>(alloc: Global, words: &'a [String]) -> Result<Call<'a>, clap::Error>
+    ensures call { IfOk result (λ call. Calls call (map string_bytes words.entry.now)) }
+    ensures refused { IfErr result (HasKind (fault_of hart_app (map string_bytes words.entry.now))) }
+{
+    let matches = hart_command(alloc)?.try_get_matches_from(words)?;
+    match call_of(&matches) {
+        Some(call) => Ok(call),
+        // clap's contract leaves this case open. It does not come about, and would end as refused memory does.
+        None => Err(AllocError.into()),
+    }
+}
+
+/// The call of the subcommand that the words named, or `None` if they named none of the five, or if `encode_words` gives `None`.
+/// clap lets neither pass.
+fn call_of<'a>(matches: &ArgMatches<'a>) -> Option<Call<'a>>
+    ensures { result ≡ call_of (subcommand_rows_of matches.now) }
+{
+    let (name, given) = matches.subcommand()?;
+    match name {
+        "answer" => Some(Call::Answer(image_word(given))),
+        "dump" => Some(Call::Dump),
+        "explain" => Some(Call::Explain),
+        "sim" => Some(Call::Sim(image_word(given))),
+        "encode" => Some(Call::Encode(encode_words(given)?)),
+        _ => None,
+    }
+}
+
+/// The word of the image of `hart answer` or `hart sim`, if it was given one.
+fn image_word<'a>(given: &ArgMatches<'a>) -> ImageWord<'a>
+    ensures { result ≡ first_of (codes "image") (rows_of (found_of given.now)) }
+{
+    ImageWord {
+        word: word_of(given, "image"),
+    }
+}
+
+/// The first word that was given under a name.
+fn word_of<'a>(given: &ArgMatches<'a>, id: &str) -> Option<&'a str>
+    ensures { option_map (λ word. word.now) result ≡ first_of id.now (rows_of (found_of given.now)) }
+{
+    given.get_str(id)
+}
+
+/// The words of `hart encode`, or `None` if WHO, ADDRESS or COMMAND is missing, or if the number of preamble bytes is not from 5 to
+/// 20. clap lets neither pass.
+fn encode_words<'a>(given: &ArgMatches<'a>) -> Option<EncodeWords<'a>>
+    ensures { result ≡ words_of (rows_of (found_of given.now)) }
+{
+    let preambles = preambles_of(word_of(given, "preambles")?)?;
+    Some(EncodeWords {
+        who: word_of(given, "WHO")?,
+        address: word_of(given, "ADDRESS")?,
+        command: word_of(given, "COMMAND")?,
+        payload: word_of(given, "DATA").unwrap_or(""),
+        preambles,
+    })
+}
+
+/// The number of preamble bytes that a word writes, or `None` if it writes none from 5 to 20.
+fn preambles_of(word: &str) -> Option<u8>
+    ensures { result ≡ preambles_of word.now }
+{
+    let count = word.parse::<u8>().ok()?;
+    if !is_preamble_count(count) {
+        return None;
+    }
+    Some(count)
+}
+
+/// What the words are matched against.
+fn hart_command<'a>(alloc: Global) -> Result<Command<'a>, AllocError>
+    ensures { IfOk result (λ command. app_of command ≡ hart_app) }
+{
+    let hart = reading_command(alloc)?;
+    let encode = encode_command(alloc)?;
+    // The words do not give clap the program's name, which the usage of `hart help` shows.
+    hart.subcommand(encode)?.bin_name("hart")
+}
+
+/// `hart` with the subcommands that read an input.
+fn reading_command<'a>(alloc: Global) -> Result<Command<'a>, AllocError>
+    ensures { IfOk result (λ command. app_of command ≡ reading_app) }
+{
+    let hart = with_image_command(alloc, hart_alone(alloc), "answer", help::ANSWER)?;
+    let hart = hart.subcommand(plain_command(alloc, "dump", help::DUMP))?;
+    let hart = hart.subcommand(plain_command(alloc, "explain", help::EXPLAIN))?;
+    with_image_command(alloc, hart, "sim", help::SIM)
+}
+
+/// `hart` before it has its subcommands.
+fn hart_alone<'a>(alloc: Global) -> Command<'a>
+    ensures { app_of result ≡ hart_alone }
+{
+    Command::new(alloc, "hart")
+        .about(help::HART_ABOUT)
+        .version(VERSION)
+        .after_help(help::HART_HELP)
+        .no_binary_name(true)
+        .subcommand_required(true)
+        .arg_required_else_help(true)
+}
+
+/// `hart encode` with its words and its option.
+fn encode_command<'a>(alloc: Global) -> Result<Command<'a>, AllocError>
+    ensures { IfOk result (λ command. app_of command ≡ encode_app) }
+{
+    with_options(alloc, encode_with_required_words(alloc)?)
+}
+
+/// `hart encode` with the words that have to be there.
+fn encode_with_required_words<'a>(alloc: Global) -> Result<Command<'a>, AllocError>
+    ensures { IfOk result (λ command. app_of command ≡ encode_with_required_words) }
+{
+    let encode = plain_command(alloc, "encode", help::ENCODE);
+    let encode = with_word(alloc, encode, "WHO", help::WHO_HELP)?;
+    let encode = with_word(alloc, encode, "ADDRESS", help::ADDRESS_HELP)?;
+    with_word(alloc, encode, "COMMAND", help::COMMAND_HELP)
+}
+
+/// The command with a word more, which has to be there.
+fn with_word<'a>(
+    alloc: Global,
+    command: Command<'a>,
+    id: &'a str,
+    help: &'a str,
+) -> Result<Command<'a>, AllocError>
+    ensures { IfOk result (λ more. app_of more ≡ with_rule (app_of command.entry) (required_rule id.entry.now)) }
+{
+    command.arg(required_word(alloc, id, help))
+}
+
+/// The command with the data and the number of preamble bytes, which may be left out.
+fn with_options<'a>(alloc: Global, command: Command<'a>) -> Result<Command<'a>, AllocError>
+    ensures { IfOk result (λ more. app_of more ≡
+        with_rule (with_rule (app_of command.entry) (new_rule (codes "DATA"))) preambles_rule) }
+{
+    command.arg(data_word(alloc))?.arg(preambles_option(alloc))
+}
+
+/// The word of the data, which may be left out.
+fn data_word<'a>(alloc: Global) -> Arg<'a>
+    ensures rule { rule_of result ≡ new_rule (codes "DATA") }
+    ensures local { result.global ≡ false }
+{
+    Arg::new(alloc, "DATA").help(help::DATA_HELP)
+}
+
+/// The command with a subcommand more, which takes an image.
+fn with_image_command<'a>(
+    alloc: Global,
+    command: Command<'a>,
+    name: &'a str,
+    page: Page<'a>,
+) -> Result<Command<'a>, AllocError>
+    ensures { IfOk result (λ more. app_of more ≡
+        with_subcommand (app_of command.entry) (image_app name.entry.now).top) }
+{
+    let added = plain_command(alloc, name, page).arg(image_option(alloc))?;
+    command.subcommand(added)
+}
+
+/// A subcommand without words of its own.
+fn plain_command<'a>(alloc: Global, name: &'a str, page: Page<'a>) -> Command<'a>
+    ensures { app_of result ≡ new_app name.entry.now }
+{
+    Command::new(alloc, name)
+        .about(page.about)
+        .override_usage(page.usage)
+        .long_about(page.help)
+        .after_long_help(page.example)
+}
+
+/// A word that has to be there.
+fn required_word<'a>(alloc: Global, id: &'a str, help: &'a str) -> Arg<'a>
+    ensures rule { rule_of result ≡ required_rule id.entry.now }
+    ensures local { result.global ≡ false }
+{
+    Arg::new(alloc, id).required(true).help(help)
+}
+
+/// The image that the device of a call goes on from.
+fn image_option<'a>(alloc: Global) -> Arg<'a>
+    ensures rule { rule_of result ≡ image_rule }
+    ensures local { result.global ≡ false }
+{
+    Arg::new(alloc, "image")
+        .long("image")
+        .value_name("HEX")
+        .help(help::IMAGE_HELP)
+}
+
+/// How many preamble bytes a message begins with.
+fn preambles_option<'a>(alloc: Global) -> Arg<'a>
+    ensures rule { rule_of result ≡ preambles_rule }
+    ensures local { result.global ≡ false }
+{
+    Arg::new(alloc, "preambles")
+        .long("preambles")
+        .value_name("N")
+        .value_parser(value_parser!(u8).range(
+            i64::from(LEAST_PREAMBLES)..=i64::from(MOST_PREAMBLES),
+        ))
+        .default_value("5")
+        .help(help::PREAMBLES_HELP)
+}

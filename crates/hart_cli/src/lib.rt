@@ -1,0 +1,49 @@
+//! The calls of the command line `hart`, over any reader and any writer.
+//!
+//! Each subcommand is a call. [`dump`] lists the messages in what was heard, [`explain`] says in words what they mean, [`answer`]
+//! gives the reply of the bench device to one delivery, [`simulate`] carries out a script, and [`encode_text`] writes a message to
+//! send. [`program`] makes the call that the words after the program's name ask for, and gives the exit status. Each call reads from
+//! a [`Source`] and writes to a [`Sink`]; [`Plain`] makes them of the readers and writers of the standard library. A call that
+//! cannot do all of its work gives a [`CliFault`].
+//!
+//! ```rust
+//! let mut reader = Plain::new(b"FF FF 02 80 00 00 82".as_slice());
+//! let mut writer = Plain::new(Vec::new(rt.alloc()));
+//! dump(rt.alloc(), &mut reader, &mut writer)?;
+//! assert_eq!(rt; writer.into_inner().as_slice(), b"2 7 STX P 0 @0 - 0 -\n".as_slice());
+//! ```
+//!
+//! The crate `hart` has `main` alone, which calls [`program`] with the arguments and the standard streams.
+//!
+//! At the root stand faults, the device that a call goes on from (`image_word`), reading an input and writing a text. The rooms:
+//!
+//! - `stream`: readers and writers as the calls see them.
+//! - `text`: hex items, and lines of words and bytes.
+//! - `calls`: a module for each call.
+#![tactic(auto)]
+
+mod calls;
+mod fault;
+mod image_word;
+mod input;
+mod output;
+mod stream;
+mod text;
+
+pub use calls::answer::{answer, one_answer};
+pub use calls::dump::{dump, one_dump};
+pub use calls::encode::{encode_text, one_encoding};
+pub use calls::explain::laws::{
+    every_start_outside_messages_has_one_line, explanations_name_the_messages_of_dump,
+    hints_of_explanations_are_right,
+};
+pub use calls::explain::{explain, one_explanation};
+pub use calls::program::command_line::{one_call, words_are_calls};
+pub use calls::program::{DONE, FAULT, NO_CALL, program};
+pub use calls::sim::{one_simulation, simulate};
+pub use fault::CliFault;
+pub use image_word::one_device;
+pub use input::INPUT_LIMIT;
+pub use stream::plain::Plain;
+pub use stream::{Failed, Sink, Source};
+pub use text::input_chars::inputs_are_unambiguous;
