@@ -2,6 +2,7 @@
 
 ghost use Rattle.std.specs.Prelude.{◌≡◌, Some};
 ghost use Rattle.hart_line.specs.FaultText.{joined};
+ghost use Rattle.hart_cli.specs.FaultNumber.{fault_number};
 ghost use Rattle.hart_cli.specs.FaultText.{fault_line, fault_text};
 ghost use Rattle.hart_cli.specs.declared.fault.CliFault.TheVariants.{Image, Memory, Write};
 
@@ -39,6 +40,22 @@ pub enum CliFault {
 const LONGEST_LINE: usize = 55;
 
 impl CliFault {
+    /// Returns the number of the fault, from 1 to 8.
+    pub fn number(self) -> u8
+        ensures { result ≡ fault_number self }
+    {
+        match self {
+            CliFault::Read => 1,
+            CliFault::Write => 2,
+            CliFault::TooLong => 3,
+            CliFault::BadHex { .. } => 4,
+            CliFault::Line(_) => 5,
+            CliFault::Image(_) => 6,
+            CliFault::Memory(_) => 7,
+            CliFault::BadWord { .. } => 8,
+        }
+    }
+
     /// The text of the fault and a line feed, made without memory, so that refused memory can be reported. It is pushed part by
     /// part: no contract of `write!` says that it succeeds.
     pub fn text_line(self) -> ArrayString<LONGEST_LINE>

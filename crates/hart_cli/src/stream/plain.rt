@@ -26,6 +26,13 @@ impl<T> Plain<T> {
         Plain { inner, failures: 0 }
     }
 
+    /// Returns the reader or writer inside.
+    pub fn into_inner(self) -> T
+        ensures { result ≡ plain_inner self }
+    {
+        self.inner
+    }
+
     /// Counts a failure.
     fn fail(&mut self) -> Failed
         ensures inner { plain_inner self.new ≡ plain_inner self.old }
