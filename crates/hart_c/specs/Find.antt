@@ -17,15 +17,18 @@ abbrev pub AreNext : List Character → Bool → List Found → ℕ → Type 0
 AreNext chars ended given used = (more : List Character) (later : List Found) → (IsTrue ended → more ≡ [])
     → AreFrames (drop used chars ++ more) 0 later → AreFrames (chars ++ more) 0 (given ++ map (moved used) later)
 
--- A search shows the next frames, and says how many characters are used up. What it does not need to show stays as it was. If there was
--- room for more frames: none are left if it ended; otherwise few are, and nothing is decided in them.
+-- A search shows the next frames, and says how many characters are used up. Every frame that is shown stops within those, and if a frame is
+-- shown, some characters are used up. What the search does not need to show stays as it was. If there was room for more frames: none are
+-- left if it ended; otherwise at most 268 characters are left, and nothing is decided in them.
 pub record Finds (chars : List Character) (ended : Bool) (before after : List HartFrame) (search : HartSearch) : Type 0 where
   pub within : search.count ≤ length after
   pub untouched : drop search.count after ≡ drop search.count before
   pub tidy : All IsTidy (take search.count after)
   pub used : search.used ≤ length chars
+  pub stops : All (λ frame. frame.stop ≤ search.used) (take search.count after)
+  pub onward : 0 < search.count → 0 < search.used
   pub are_next : AreNext chars ended (found_in_first search.count after) search.used
-  pub few : search.count < length after → length chars ≤ search.used + 269
+  pub few : search.count < length after → length chars ≤ search.used + 268
   pub all : search.count < length after → IsTrue ended → search.used ≡ length chars
   pub undecided : search.count < length after → ended ≡ false → IsUndecided (drop search.used chars)
   pub fault : search.fault ≡ 0

@@ -20,6 +20,9 @@ loop-taken-init c =
 pub push-requires-clause-room : goal.push-requires-clause-room
 push-requires-clause-room c = grind (arith, common_steps, frames_are_streamed-pushed, length-take, length-map)
 
+pub settle-requires-clause-places : goal.settle-requires-clause-places
+settle-requires-clause-places c = grind (arith, common_steps, frames_are_streamed-pushed, length-take, length-map)
+
 pub loop-taken-preserved : goal.loop-taken-preserved
 loop-taken-preserved c =
     let loop = c.loop-taken.invariant in

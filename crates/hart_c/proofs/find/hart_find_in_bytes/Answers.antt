@@ -7,6 +7,7 @@ use Rattle.hart_frame.specs.heard.Frames.{IsUndecided}
 use Rattle.hart_frame.specs.scan.Next.{LeadsOn}
 use Rattle.hart_frame.proofs.lemmas.Laws.{next_frames_are_all-onward, next_frames_are_all-rest}
 use Rattle.hart_c.specs.Find.{Finds}
+use Rattle.hart_c.proofs.Onward.{IsPast, past_on, shown_onward, shown_stops}
 use Rattle.hart_c.specs.Frames.{IsTidy, found_in_first}
 use Rattle.hart_c.specs.declared.frame.HartFrame.{HartFrame}
 use Rattle.hart_c.proofs.find.hart_find_in_bytes.Goals as goal
@@ -14,31 +15,33 @@ use Rattle.hart_c.proofs.find.hart_find_in_bytes.Goals as goal
 -- what a search comes to that has no more room, or finds no more frames, where few bytes are left, and nothing is decided in them
 finds_next : (bytes : List ℕ) (ended : Bool) (before after : List HartFrame) (used count : ℕ) → count ≤ length after
     → used ≤ length bytes → drop count after ≡ drop count before → All IsTidy (take count after)
-    → LeadsOn (faultless bytes) ended 0 (found_in_first count after) used
+    → All (IsPast used) (found_in_first count after) → LeadsOn (faultless bytes) ended 0 (found_in_first count after) used
     → (count < length after → (length bytes < used + 269) × (IsTrue ended → used ≡ length bytes)
     × (ended ≡ false → IsUndecided (faultless (drop used bytes))))
     → Finds (faultless bytes) ended before after (record { used = used; count = count; fault = 0 })
-finds_next bytes ended before after used count room is_within untouched tidy leads left =
+finds_next bytes ended before after used count room is_within untouched tidy past leads left =
+    let stops = shown_stops used count after past in
+    let onward = shown_onward used count after room past in
     let long : length (faultless bytes) ≡ length bytes = rw length-map in
     let few : count < length after → length bytes < used + 269 = λ fewer. (left fewer).0 in
     let all : count < length after → IsTrue ended → used ≡ length bytes = λ fewer. (left fewer).1 in
     let undecided : count < length after → ended ≡ false → IsUndecided (drop used (faultless bytes)) =
     λ fewer going. rw drop-map ((left fewer).2 going) in
-    search (arith, next_frames_are_all-rest, undecided, few, all, long)
+    search (arith, next_frames_are_all-rest, undecided, few, all, long, stops, onward)
 
 pub loop-count-preserved : goal.loop-count-preserved
 loop-count-preserved c =
-    search (arith, common_steps, length-set, drop-set-lt, drop-drop, take_more_set, All-append, map-append, next_frames_are_all-onward)
+    search (arith, common_steps, length-set, drop-set-lt, drop-drop, take_more_set, All-append, map-append, past_on, next_frames_are_all-onward)
 
 pub returns-in_default : goal.returns-in_default
 returns-in_default c =
     let loop = c.loop-count.invariant in
     let next = c.next_in_bytes-next.ensures in
     rw c.found_so_far.ensures (finds_next _ _ _ _ _ _ loop.room next.within loop.untouched loop.tidy
-    (grind (arith, common_steps, append-nil, next_frames_are_all-onward)) (grind (arith, common_steps)))
+    (past_on _ _ _ next.onward loop.past) (grind (arith, common_steps, append-nil, next_frames_are_all-onward)) (grind (arith, common_steps)))
 
 pub returns : goal.returns
 returns c =
     let loop = c.loop-count.invariant in
-    rw c.found_so_far-2.ensures (finds_next _ _ _ _ _ _ loop.room loop.within loop.untouched loop.tidy loop.leads
+    rw c.found_so_far-2.ensures (finds_next _ _ _ _ _ _ loop.room loop.within loop.untouched loop.tidy loop.past loop.leads
     (λ fewer. absurd (omega (arith, fewer, c.loop-count-test.false))))

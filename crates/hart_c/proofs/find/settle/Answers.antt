@@ -7,6 +7,7 @@ use Rattle.hart_frame.specs.heard.Character.{Character}
 use Rattle.hart_frame.specs.heard.Frames.{IsUndecided}
 use Rattle.hart_frame.specs.scan.Scanner.{Scan}
 use Rattle.hart_frame.proofs.lemmas.Laws.{frames_are_streamed-all, frames_are_streamed-pushed, frames_are_unambiguous-one_list, held_characters_have_the_later_frames-held, held_characters_have_the_later_frames-later, messages_have_their_frame_alone-nothing}
+use Rattle.hart_c.proofs.Onward.{history_past, past_on, shown_onward, shown_stops}
 use Rattle.hart_c.specs.Frames.{found_in_first, IsTidy}
 use Rattle.hart_c.specs.Find.{AreNext, Finds}
 use Rattle.hart_c.specs.declared.find.HartSearch.{HartSearch}
@@ -18,7 +19,7 @@ finds_more : (n count : ℕ) (chars : List Character) (ended : Bool) (before aft
     (scan : Scan) (result : HartSearch) → result.used ≡ scan.first → result.count ≡ count → result.fault ≡ 0 → n ≤ length chars
     → count ≤ length after → drop count after ≡ drop count before → All IsTidy (take count after)
     → (scan.finished ≡ false) ⊎ (IsTrue ended × (n ≡ length chars)) → IsHistory (take n chars) scan (found_in_first count after)
-    → length scan.held ≤ 269 → (count < length after → n ≡ length chars) → (count < length after → ended ≡ false)
+    → (count < length after → length scan.held ≤ 268) → (count < length after → n ≡ length chars) → (count < length after → ended ≡ false)
     → (count < length after → IsUndecided scan.held) → Finds chars ended before after result
 finds_more n count chars ended before after scan result used_is count_is fault fits room untouched tidy goes history few whole going waits =
     let given = found_in_first count after in
@@ -27,22 +28,25 @@ finds_more n count chars ended before after scan result used_is count_is fault f
     let long = length-take n chars in
     let split = take-append-drop n chars in
     let later_is = held_characters_have_the_later_frames-later in
+    let past = history_past (take n chars) scan given history in
+    let stops = shown_stops scan.first count after past in
+    let onward = shown_onward scan.first count after room past in
     let next : AreNext chars ended given scan.first =
     λ more later ends frames. grind (arith, common_steps, frames_are_streamed-pushed, drop-append-le, append_assoc, later_is) in
     let left : count < length after → IsUndecided (drop scan.first chars) =
     λ fewer. rw (rw (whole fewer, take-length) at held) (waits fewer) in
     let is : result ≡ record { used = scan.first; count = count; fault = 0 } = grind arith in
-    rw is (search (arith, next, left, going, pushed, long))
-
-pub returns-then-not-ended : goal.returns-then-not-ended
-returns-then-not-ended c n chars before len searched =
-    let step = c.step.ensures in
-    finds_more n _ _ _ _ _ _ _ step.used step.count step.fault searched.within searched.room searched.untouched searched.tidy
-    (inl searched.going) searched.history step.few searched.whole (λ _. c.if-not-ended.true) searched.undecided
+    rw is (search (arith, next, left, going, pushed, long, stops, onward))
 
 pub returns-then-count-frames : goal.returns-then-count-frames
 returns-then-count-frames c n chars before len searched =
     search (arith, finds_more n c.args.count chars c.args.ended before c.args.frames.now c.args.scanner.now)
+
+pub returns-then-not-ended : goal.returns-then-not-ended
+returns-then-not-ended c n chars before len searched =
+    let wait = c.wait.ensures in
+    finds_more n _ _ _ _ _ _ _ wait.used wait.count wait.fault searched.within searched.room searched.untouched searched.tidy
+    (inl searched.going) searched.history (λ _. wait.few) searched.whole (λ _. c.if-not-ended.true) searched.undecided
 
 pub returns-then-count-frames-2 : goal.returns-then-count-frames-2
 returns-then-count-frames-2 c n chars before len searched =
@@ -62,7 +66,11 @@ returns c n chars before len searched =
     let fewer : c.fill-count.result < length c.fill-count.new.frames = omega (arith, fill.within, c.if-count-frames-2.false) in
     let all = rw (whole, take-length) at (fill.all (take n chars) finished fewer (rw c.finish.ensures refl)) in
     let frames = frames_are_streamed-all chars _ all in
+    let last = frames_are_streamed-pushed chars all.last _ all.history in
+    let past = past_on all.last.first (length chars) _ (omega (arith, last)) (history_past chars all.last _ all.history) in
+    let stops = shown_stops (length chars) c.fill-count.result c.fill-count.new.frames past in
+    let goes_on = shown_onward (length chars) c.fill-count.result c.fill-count.new.frames fill.within past in
     let tidy = fill.tidy searched.tidy in
     let rest = drop-drop {A = HartFrame} (c.fill-count.result - c.args.count) c.args.count in
     let onward : drop c.fill-count.result c.fill-count.new.frames ≡ drop c.fill-count.result before = grind (arith, rest) in
-    rw len (grind (arith, drop-length, frames_are_unambiguous-one_list, messages_have_their_frame_alone-nothing, append-nil))
+    rw len (grind (arith, drop-length, frames_are_unambiguous-one_list, messages_have_their_frame_alone-nothing, append-nil, stops, goes_on))
