@@ -105,13 +105,14 @@ HasNoRoom None preambles room = ⊥
 HasNoRoom (Some reply) preambles room = (message : List ℕ) × IsMessage reply preambles message × (room < length message)
 
 -- A device that hears a delivery says what it answers to what that brings. What is kept is then that of the state after it, and stands
--- for it.
+-- for it. If it said nothing, the state is the one before.
 pub record Hears (identity : HartIdentity) (process : HartProcess) (heard : List HartChar) (before after : HartDevice)
     (old new : List ℕ) (len : ℕ) : Type 0 where
   pub hearing : IsHearing identity process heard before
   pub reply : IsSaid (answer_to hearing.state hearing.measured hearing.brought) identity.response_preambles old new len
   pub state : after ≡ device_of (state_after_delivery hearing.state hearing.brought)
   pub kept : IsKept (parts_of identity) after (state_after_delivery hearing.state hearing.brought)
+  pub silent : len ≡ 0 → state_after_delivery hearing.state hearing.brought ≡ hearing.state
 
 -- The identity and what is kept of the device are refused for no fault: the device is in a state.
 abbrev pub IsInState : HartIdentity → HartDevice → Type 0

@@ -1,9 +1,15 @@
-use Rattle.std.proofs.Common.{◌≡◌, ◌∙◌, Err, arith, map, rules}
+use Rattle.std.proofs.Common.{◌≡◌, ◌∙◌, ℕ, Bool, true, false, Err, List, Option, None, Some, arith, length-append, map, refl, rules, sym}
 use Rattle.std.proofs.lemmas.Grind.{common_steps}
+use Rattle.std.specs.Prelude.{if◌then◌else◌}
+use Rattle.std.proofs.lemmas.List.{length-replicate}
+use Rattle.hart_frame.specs.wire.FrameParts.{FrameParts}
+use Rattle.hart_frame.specs.wire.Message.{IsPreambleCount}
 use Rattle.hart_device.specs.Device.{DeviceState}
-use Rattle.hart_device.specs.answer.Delivery.{Brings, Brought, state_after_delivery}
+use Rattle.hart_device.specs.answer.Answer.{is_answered}
+use Rattle.hart_device.specs.answer.Delivery.{Brings, Brought, OneFrame, Garbled, NoMessage, answer_to, state_after_delivery}
+use Rattle.hart_device.specs.declared.process.Process.{Process}
 use Rattle.hart_device.proofs.lemmas.Laws.{deliveries_bring_one-brings, frames_leave_identity_and_protection-identity}
-use Rattle.hart_c.specs.Device.{IsHearing}
+use Rattle.hart_c.specs.Device.{IsHearing, IsSaid}
 use Rattle.hart_c.specs.Find.{char_of}
 use Rattle.hart_c.specs.Heard.{IsDelivery}
 use Rattle.hart_c.specs.Identity.{parts_of}
@@ -16,6 +22,26 @@ use Rattle.hart_c.proofs.device.hear.Goals as goal
 -- who a device is stays after a delivery, as after a frame
 stays : (state : DeviceState) (brought : Brought) → (state_after_delivery state brought).identity ≡ state.identity
 stays state brought = grind (arith, frames_leave_identity_and_protection-identity)
+
+-- without a reply the state stays
+silent_if : (is_answered : Bool) (reply : FrameParts) (state after : DeviceState) → (if is_answered then Some reply else None) ≡ None
+    → (if is_answered then after else state) ≡ state
+silent_if true reply state after none = cc
+silent_if false reply state after none = refl
+
+-- what is not answered leaves the state
+unanswered : (state : DeviceState) (process : Process) (brought : Brought) → answer_to state process brought ≡ None
+    → state_after_delivery state brought ≡ state
+unanswered state process (OneFrame frame) none = silent_if (is_answered state frame) _ state _ none
+unanswered state process (Garbled request) none = cc
+unanswered state process NoMessage none = refl
+
+-- only silence has no bytes
+unsaid : (answer : Option FrameParts) (preambles : ℕ) (old new : List ℕ) (len : ℕ) → IsPreambleCount preambles
+    → IsSaid answer preambles old new len → len ≡ 0 → answer ≡ None
+unsaid None preambles old new len counts said none = refl
+unsaid (Some reply) preambles old new len counts said none =
+    grind (arith, common_steps, length-append, length-replicate)
 
 -- what a delivery brings to the device
 abbrev hearing : (c : In_ok-process) → IsProcessOf c.args.process.now c.in_ok-process.process
@@ -54,9 +80,13 @@ returns-clause-heard c =
     let own : c.hear-said.new.self.identity ≡ parts_of c.args.identity.now =
     rw (after, stays c.in_ok-state.state heard.brought) c.in_ok-state.ensures.kept.identity in
     let counts : c.response_preambles-preambles.result ≡ c.args.identity.now.response_preambles = grind (arith, own) in
+    let answer = c.hear-said.ensures.answer heard.brought brings in
+    let sent = rw (← counts) at c.in_ok-state.ensures.kept.is_identity.in_range.response_preambles in
     record {
       hearing = heard;
-      reply = rw (← c.hear-said.ensures.answer heard.brought brings, ← counts) c.in_ok-len.ensures.said;
+      reply = rw (← answer, ← counts) c.in_ok-len.ensures.said;
+      silent = λ none. unanswered c.in_ok-state.state c.in_ok-process.process heard.brought
+          (sym answer ∙ unsaid _ _ _ _ _ sent c.in_ok-len.ensures.said none);
       state = rw (← after) c.keep.ensures;
       kept = rw (← after, c.keep.ensures, ← own) (devices_are_kept-kept _ c.response_preambles-preambles.ensures.device);
     }
