@@ -30,7 +30,7 @@ ghost use Rattle.hart_c.specs.Master.{AcceptOutcome};
 ghost use Rattle.hart_c.specs.Names.{NameOutcome, field_name};
 
 use hart_device::bytes_have_one_image_fault;
-use hart_frame::bytes_have_one_fault;
+use hart_frame::{bytes_have_one_fault, messages_are_short};
 
 /// Whoever passes what is not used up again, with what comes after it, is given all frames of all that was heard, and no others, in
 /// whatever pieces it came: the frames of each search, moved by what was used up before, are the next ones; and once all is used up
@@ -72,6 +72,18 @@ pub fn sixteen_fields_and_names_of_64_bytes_have_room()
     ensures field_names { (is_reply : Bool) (command index : ℕ) (before after : List ℕ) (outcome : HartOutcome) → 64 ≤ length before
         → NameOutcome (field_name is_reply command index) before after outcome → outcome.fault ≢ 12 }
 {}
+
+/// Room for 287 bytes is room for any message: with it neither a frame that is written nor a reply of a device is refused for want of
+/// room.
+pub fn messages_of_287_bytes_have_room()
+    ensures encode { (frame : HartFrame) (preambles : ℕ) (before after : List ℕ) (outcome : HartOutcome) → 287 ≤ length before
+        → EncodeOutcome frame preambles before after outcome → outcome.fault ≢ 12 }
+    ensures hear { (identity : HartIdentity) (process : HartProcess) (heard : List HartChar) (before after : HartDevice)
+        (old new : List ℕ) (outcome : HartOutcome) → 287 ≤ length old
+        → HearOutcome identity process heard before after old new outcome → outcome.fault ≢ 12 }
+{
+    messages_are_short();
+}
 
 /// In an image that is kept, byte 1 is the polling address and byte 2 the loop current mode, and bit 2 of the last byte, its flags, is
 /// write protection. With that bit set or cleared, the device is kept in the same state, but for write protection.

@@ -33,7 +33,7 @@ pub use frame::HartFrame;
 pub use identity::{HartIdentity, hart_bench_identity};
 pub use laws::{
     calls_have_one_outcome, devices_are_kept, fields_stand_where_they_are_shown,
-    kept_bytes_are_what_they_say, searches_give_all_frames,
+    kept_bytes_are_what_they_say, messages_of_287_bytes_have_room, searches_give_all_frames,
     sixteen_fields_and_names_of_64_bytes_have_room,
 };
 pub use master::{HartAcceptance, HartUnique, hart_accept, hart_unique_of};
