@@ -1,6 +1,6 @@
 //! What follows from the contracts for a caller.
 ghost use Rattle.std.specs.Prelude.{◌≡◌, ◌≢◌, ◌<◌, ◌≤◌, ◌-◌, ◌/◌, [], ◌∷◌, List, Bool, ℕ, Option, Some, false, true, if◌then◌else◌};
-ghost use Rattle.std.specs.Prelude.{length, slice_get, slice_index};
+ghost use Rattle.std.specs.Prelude.{All, length, slice_get, slice_index, take};
 ghost use Rattle.hart_frame.specs.heard.Character.{Character};
 ghost use Rattle.hart_frame.specs.heard.Frames.{AreFrames};
 ghost use Rattle.hart_frame.specs.declared.heard.found.Found.{Found};
@@ -16,15 +16,16 @@ ghost use Rattle.hart_c.specs.declared.device.HartDevice.{HartDevice};
 ghost use Rattle.hart_c.specs.declared.fault.HartOutcome.{HartOutcome};
 ghost use Rattle.hart_c.specs.Data.{ReplyOutcome, RequestOutcome, StandsAt, reply_fields, request_fields};
 ghost use Rattle.hart_c.specs.Device.{HearOutcome, IsKept, NewDeviceOutcome, device_of, with_protection};
-ghost use Rattle.hart_c.specs.Find.{AreNext, IsSearchedSoFar};
+ghost use Rattle.hart_c.specs.Find.{AreNext, Finds, IsSearchedSoFar};
 ghost use Rattle.hart_c.specs.declared.find.HartChar.{HartChar};
+ghost use Rattle.hart_c.specs.declared.find.HartSearch.{HartSearch};
 ghost use Rattle.hart_c.specs.declared.frame.HartFrame.{HartFrame};
 ghost use Rattle.hart_c.specs.declared.identity.HartIdentity.{HartIdentity};
 ghost use Rattle.hart_c.specs.declared.master.HartAcceptance.{HartAcceptance};
 ghost use Rattle.hart_c.specs.declared.process.HartProcess.{HartProcess};
 ghost use Rattle.hart_c.specs.declared.registers.HartRegisters.{HartRegisters};
 ghost use Rattle.hart_c.specs.Decode.{DecodeOutcome};
-ghost use Rattle.hart_c.specs.Encode.{EncodeOutcome};
+ghost use Rattle.hart_c.specs.Encode.{EncodeOutcome, IsFrame};
 ghost use Rattle.hart_c.specs.Frames.{found_in};
 ghost use Rattle.hart_c.specs.Master.{AcceptOutcome};
 ghost use Rattle.hart_c.specs.Names.{NameOutcome, field_name};
@@ -71,6 +72,17 @@ pub fn sixteen_fields_and_names_of_64_bytes_have_room()
         → NameOutcome (command_name command) before after outcome → outcome.fault ≢ 12 }
     ensures field_names { (is_reply : Bool) (command index : ℕ) (before after : List ℕ) (outcome : HartOutcome) → 64 ≤ length before
         → NameOutcome (field_name is_reply command index) before after outcome → outcome.fault ≢ 12 }
+{}
+
+/// A frame that a call shows can be written as it is: its address is in range, it has at most three expansion bytes, and a reply has its
+/// two status bytes.
+pub fn shown_frames_can_be_written()
+    ensures found { (chars : List Character) (ended : Bool) (before after : List HartFrame) (search : HartSearch)
+        → Finds chars ended before after search → All IsFrame (take search.count after) }
+    ensures decoded { (bytes : List ℕ) (before after : HartFrame) (outcome : HartOutcome)
+        → DecodeOutcome bytes before after outcome → outcome.fault ≡ 0 → IsFrame after }
+    ensures accepted { (numbers : HartFrame) (heard : List HartChar) (before after : HartFrame) (acceptance : HartAcceptance)
+        → AcceptOutcome numbers heard before after acceptance → acceptance.is_accepted ≡ true → IsFrame after }
 {}
 
 /// Room for 287 bytes is room for any message: with it neither a frame that is written nor a reply of a device is refused for want of

@@ -1,0 +1,79 @@
+use Rattle.std.proofs.Common.{◌≡◌, Bool, true, false, inl, inr, ℕ, List, Ok, Option, None, Some, [], ◌∷◌, ◌++◌, All, arith, drop, map, subst, sym, take}
+use Rattle.std.proofs.lemmas.Grind.{common_steps}
+use Rattle.std.proofs.lemmas.List.Elements.{All-cons, All-head, All-nil}
+use Rattle.hart_values.specs.address.AddressBytes.{IsAddressBytes}
+use Rattle.hart_values.specs.declared.master_id.MasterId.{MasterId}
+use Rattle.hart_frame.specs.declared.heard.found.Found.{Found}
+use Rattle.hart_frame.specs.heard.Character.{Character}
+use Rattle.hart_frame.specs.heard.Frames.{AreFrames, first}
+use Rattle.hart_frame.specs.wire.Body.{IsBody}
+use Rattle.hart_frame.specs.declared.wire.fault.FrameFault.{FrameFault}
+use Rattle.hart_commands.specs.declared.reply.Reply.{Reply}
+use Rattle.hart_frame.proofs.lemmas.Laws.{every_list_has_frames}
+use Rattle.hart_c.specs.Encode.{IsFrame, IsInRange}
+use Rattle.hart_c.specs.Faults.{frame_fault_number}
+use Rattle.hart_c.specs.Master.{Accepts, acceptance_of}
+use Rattle.hart_c.specs.declared.find.HartChar.{HartChar}
+use Rattle.hart_c.specs.Frames.{IsTidy, address_of, found_in, frame_in}
+use Rattle.hart_c.specs.declared.frame.HartFrame.{HartFrame}
+use Rattle.hart_c.proofs.laws.shown_frames_can_be_written.Goals as goal
+
+-- the address of a body is in range
+in_range : (is_unique : Bool) (frame : HartFrame) (master : MasterId) (burst : Bool) (bytes : List ℕ)
+    → IsAddressBytes master burst (address_of is_unique frame) bytes → IsInRange is_unique frame
+in_range true frame master burst bytes is = grind arith
+in_range false frame master burst bytes is = is.0
+
+-- so numbers that show the frame of a body are a frame
+shown : (frame : HartFrame) (body : List ℕ) → IsBody (frame_in frame) body → IsTidy frame → IsFrame frame
+shown frame body is tidy = record {
+  address = in_range frame.is_unique frame _ _ _ is.checked_part.address_bytes;
+  expansion = tidy.expansion;
+  payload = is.checked_part.payload_fits;
+}
+
+-- a frame that is found has a body
+abbrev HasBody : Found → Type 0
+HasBody found = (body : List ℕ) × IsBody found.frame body
+
+all_have : (chars : List Character) (from : ℕ) (frames : List Found) → AreFrames chars from frames → All HasBody frames
+all_have chars from [] are = All-nil HasBody
+all_have chars from (found ∷ later) (first start head others is rest) =
+    All-cons HasBody found later (is.stands.body, is.stands.is_body) (all_have chars found.stop later rest)
+
+-- and so has one that is shown
+has : (frames : List HartFrame) (others : List Found) → All HasBody (map found_in frames ++ others) → All (λ frame. HasBody (found_in frame)) frames
+has frames others all index other within = grind (arith, common_steps, all index (found_in other))
+
+pub returns-clause-found : goal.returns-clause-found
+returns-clause-found c chars ended before after search finds index other within =
+    let rest = every_list_has_frames (drop search.used chars ++ []) 0 in
+    let all = all_have _ _ _ (finds.are_next [] rest.0 (λ closed. cc) rest.1) in
+    let body = has (take search.count after) _ all index other within in
+    shown _ body.0 body.1 (finds.tidy index other within)
+
+-- no fault has the number 0
+a_fault : (fault : FrameFault) → frame_fault_number fault ≡ 0 → ⊥
+a_fault fault is = grind arith
+
+pub returns-clause-decoded : goal.returns-clause-decoded
+returns-clause-decoded c bytes before after outcome told free = elim told [
+  | inl is ↦ shown after _ is.1.begins.body is.1.tidy
+  | inr why ↦ absurd (a_fault why.0 (cc))
+]
+
+-- a reply that is accepted is a frame that was found
+of_reply : (numbers : HartFrame) (heard : List HartChar) (before after : HartFrame) (said : Option Reply)
+    → Accepts numbers heard before after said → (acceptance_of (Ok said)).is_accepted ≡ true → IsFrame after
+of_reply numbers heard before after None is told = cc
+of_reply numbers heard before after (Some reply) is told =
+    let found = is.reply.0.found in
+    let has_body : HasBody (found_in after) =
+    subst HasBody (sym is.reply.1) (All-head HasBody found [] (all_have _ _ _ is.reply.0.alone)) in
+    shown after has_body.0 has_body.1 is.reply.2
+
+pub returns-clause-accepted : goal.returns-clause-accepted
+returns-clause-accepted c numbers heard before after acceptance told is_accepted = elim told [
+  | inl is ↦ of_reply numbers heard before after is.0 is.1 (cc)
+  | inr why ↦ cc
+]
