@@ -22,7 +22,7 @@
 extern "C" {
 #endif
 
-/* A frame, and where it stands in what was passed. */
+/* A frame, and where it stands in what was passed. A frame that a call shows may be passed to hart_encode as it is. */
 typedef struct hart_frame {
     uint64_t start;          /* the place of the delimiter, from 0 */
     uint64_t stop;           /* the place after the check byte */
@@ -82,10 +82,11 @@ typedef struct hart_search {
 /* Finds the next frames of bytes that were heard without faults, each after two preamble bytes FF, as many as there is room for; whoever
  * has room for none is given none and comes to no end. `ended` says that no more is to come: without it the frames that a false start
  * holds back are never given. What is not used up is passed again, with what comes after it, and places are then counted from its front:
- * in all that was heard they are those and the sum of what was used up before. If there are fewer frames than room, none is left if it
- * ended, and otherwise at most 269 bytes are, in which nothing is decided yet: so 270 bytes are room enough for what is kept and a byte
- * more. Each call looks again at what is kept, so that larger pieces cost less. Whoever goes on so until the end is given all frames of
- * all that was heard, and no others, in whatever pieces it came. */
+ * in all that was heard they are those and the sum of what was used up before. Each frame stops within what is used up, so a call that
+ * shows a frame uses something up. If there are fewer frames than room, none is left if it ended, and otherwise at most 268 bytes are, in
+ * which nothing is decided yet: 269 bytes are room enough for what is kept and a byte more. Each call looks again at what is kept, so that
+ * larger pieces cost less. Whoever goes on so until the end is given all frames of all that was heard, and no others, in whatever pieces
+ * it came. */
 hart_search hart_find_in_bytes(const uint8_t *bytes, size_t bytes_len, bool ended, hart_frame *frames, size_t frames_len);
 
 /* The same for characters that were heard with fault bits or without. At HART_BAD_FAULT_BITS nothing is found or used up. */

@@ -56,7 +56,7 @@ int main(int argc, char **argv)
         return 1;
     }
     while (!ended) {
-        /* At most 269 bytes are held, so there is always room. */
+        /* At most 268 bytes are held, so there is always room. */
         ssize_t got = read(from, heard + held, sizeof heard - held);
         if (got < 0) {
             perror("read");
