@@ -5,7 +5,7 @@ use Rattle.hart_frame.specs.wire.Refusal.{IsRefusedWith}
 use Rattle.hart_frame.specs.declared.wire.fault.FrameFault.{FrameFault}
 use Rattle.hart_c.specs.declared.fault.HartOutcome.{HartOutcome}
 use Rattle.hart_c.specs.declared.frame.HartFrame.{HartFrame}
-use Rattle.hart_c.specs.Faults.{frame_fault_number}
+use Rattle.hart_frame.specs.wire.FaultNumbers.{frame_fault_number}
 use Rattle.hart_c.specs.Frames.{IsTidy, frame_in}
 
 -- Bytes begin with the body of the frame that is shown, which has so many bytes and is shown from place 0 on.

@@ -1,8 +1,6 @@
 -- The numbers of faults for C (own profile).
 use Rattle.std.specs.Prelude.{ℕ, Result, Ok, Err}
-use Rattle.hart_frame.specs.declared.wire.fault.FrameFault.{FrameFault}
-use Rattle.hart_frame.specs.declared.wire.fault.FrameFault.TheVariants.{TooShortReply, BadPreamble, BadDelimiter, Truncated, BadCheck}
-use Rattle.hart_frame.specs.declared.wire.fault.FrameFault.TheVariants.{ShortReply}
+use Rattle.hart_frame.specs.wire.FaultNumbers.{frame_fault_number}
 use Rattle.hart_device.specs.declared.fault.DeviceFault.{DeviceFault}
 use Rattle.hart_device.specs.declared.fault.DeviceFault.TheVariants.{BadField, BadLength, BadVersion, BroadcastAddress, OutOfRange}
 use Rattle.hart_c.specs.declared.fault.Fault as own
@@ -10,31 +8,22 @@ use Rattle.hart_c.specs.declared.fault.HartOutcome.{HartOutcome}
 use Rattle.hart_c.specs.declared.fault.Fault.TheVariants.{Frame, BadAddress, LongExpansion, NoRoom}
 use Rattle.hart_c.specs.declared.fault.Fault.TheVariants.{BadFaultBits, BadVariables, Device, NoRequest, TooLong, WrongAddress}
 
--- The numbers of the faults of frames, which are those of the library.
-abbrev pub frame_fault_number : FrameFault → ℕ
-frame_fault_number TooShortReply = 1
-frame_fault_number BadPreamble = 2
-frame_fault_number BadDelimiter = 3
-frame_fault_number Truncated = 4
-frame_fault_number BadCheck = 5
-frame_fault_number ShortReply = 6
+-- The numbers for C of the faults of devices.
+abbrev pub device_fault_number_for_c : DeviceFault → ℕ
+device_fault_number_for_c OutOfRange = 16
+device_fault_number_for_c BroadcastAddress = 17
+device_fault_number_for_c BadVersion = 18
+device_fault_number_for_c BadLength = 19
+device_fault_number_for_c BadField = 20
 
--- The numbers of the faults of devices.
-abbrev pub device_fault_number : DeviceFault → ℕ
-device_fault_number OutOfRange = 16
-device_fault_number BroadcastAddress = 17
-device_fault_number BadVersion = 18
-device_fault_number BadLength = 19
-device_fault_number BadField = 20
-
--- The numbers of all faults.
+-- The numbers of all faults. Those of frames are the same as in hart_frame.
 abbrev pub number_of : own.Fault → ℕ
 number_of (Frame fault) = frame_fault_number fault
 number_of BadAddress = 10
 number_of LongExpansion = 11
 number_of NoRoom = 12
 number_of BadFaultBits = 13
-number_of (Device fault) = device_fault_number fault
+number_of (Device fault) = device_fault_number_for_c fault
 number_of BadVariables = 21
 number_of TooLong = 22
 number_of NoRequest = 23

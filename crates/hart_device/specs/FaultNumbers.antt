@@ -3,10 +3,10 @@ use Rattle.std.specs.Prelude.{ℕ}
 use Rattle.hart_device.specs.declared.fault.DeviceFault.{DeviceFault}
 use Rattle.hart_device.specs.declared.fault.DeviceFault.TheVariants.{BroadcastAddress, OutOfRange, BadVersion, BadLength, BadField}
 
--- A fault of a device has this number among them.
-abbrev pub number_among_device_faults : DeviceFault → ℕ
-number_among_device_faults BroadcastAddress = 1
-number_among_device_faults OutOfRange = 2
-number_among_device_faults BadVersion = 3
-number_among_device_faults BadLength = 4
-number_among_device_faults BadField = 5
+-- The number of each fault.
+abbrev pub device_fault_number : DeviceFault → ℕ
+device_fault_number BroadcastAddress = 1
+device_fault_number OutOfRange = 2
+device_fault_number BadVersion = 3
+device_fault_number BadLength = 4
+device_fault_number BadField = 5

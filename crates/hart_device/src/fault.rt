@@ -1,5 +1,5 @@
 ghost use Rattle.std.specs.Prelude.{◌≡◌, ◌≤◌, length, Some};
-ghost use Rattle.hart_device.specs.FaultNumbers.{number_among_device_faults};
+ghost use Rattle.hart_device.specs.FaultNumbers.{device_fault_number};
 ghost use Rattle.hart_device.specs.FaultText.{device_fault_text};
 
 use std::fmt;
@@ -23,7 +23,7 @@ pub enum DeviceFault {
 impl DeviceFault {
     /// Returns the number of the fault, 1 to 5.
     pub fn number(self) -> u8
-        ensures { result ≡ number_among_device_faults self }
+        ensures { result ≡ device_fault_number self }
     {
         match self {
             DeviceFault::BroadcastAddress => 1,

@@ -3,8 +3,8 @@ use Rattle.std.specs.Prelude.{ℕ}
 use Rattle.hart_master.specs.declared.fault.MasterFault.{MasterFault}
 use Rattle.hart_master.specs.declared.fault.MasterFault.TheVariants.{OutOfRange, Pending, WrongAddress}
 
--- A fault of a master has this number among them.
-abbrev pub number_among_master_faults : MasterFault → ℕ
-number_among_master_faults OutOfRange = 1
-number_among_master_faults Pending = 2
-number_among_master_faults WrongAddress = 3
+-- The number of each fault.
+abbrev pub master_fault_number : MasterFault → ℕ
+master_fault_number OutOfRange = 1
+master_fault_number Pending = 2
+master_fault_number WrongAddress = 3

@@ -1,5 +1,5 @@
 ghost use Rattle.std.specs.Prelude.{◌≡◌};
-ghost use Rattle.hart_master.specs.FaultNumbers.{number_among_master_faults};
+ghost use Rattle.hart_master.specs.FaultNumbers.{master_fault_number};
 
 use hart_commands::Request;
 use thiserror::Error;
@@ -21,7 +21,7 @@ pub enum MasterFault {
 impl MasterFault {
     /// Returns the number of the fault, 1 to 3.
     pub fn number(self) -> u8
-        ensures { result ≡ number_among_master_faults self }
+        ensures { result ≡ master_fault_number self }
     {
         match self {
             MasterFault::OutOfRange => 1,

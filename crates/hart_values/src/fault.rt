@@ -1,5 +1,5 @@
 ghost use Rattle.std.specs.Prelude.{◌≡◌};
-ghost use Rattle.hart_values.specs.FaultNumbers.{number_among_value_faults};
+ghost use Rattle.hart_values.specs.FaultNumbers.{value_fault_number};
 
 use thiserror::Error;
 
@@ -23,7 +23,7 @@ pub enum ValueFault {
 impl ValueFault {
     /// Returns the number of the fault, 1 to 4.
     pub fn number(self) -> u8
-        ensures { result ≡ number_among_value_faults self }
+        ensures { result ≡ value_fault_number self }
     {
         match self {
             ValueFault::WrongLength => 1,

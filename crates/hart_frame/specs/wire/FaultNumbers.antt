@@ -4,11 +4,11 @@ use Rattle.hart_frame.specs.declared.wire.fault.FrameFault.{FrameFault}
 use Rattle.hart_frame.specs.declared.wire.fault.FrameFault.TheVariants.{TooShortReply, BadPreamble, BadDelimiter, Truncated, BadCheck}
 use Rattle.hart_frame.specs.declared.wire.fault.FrameFault.TheVariants.{ShortReply}
 
--- A fault of a frame has this number among them.
-abbrev pub number_among_frame_faults : FrameFault → ℕ
-number_among_frame_faults TooShortReply = 1
-number_among_frame_faults BadPreamble = 2
-number_among_frame_faults BadDelimiter = 3
-number_among_frame_faults Truncated = 4
-number_among_frame_faults BadCheck = 5
-number_among_frame_faults ShortReply = 6
+-- The number of each fault.
+abbrev pub frame_fault_number : FrameFault → ℕ
+frame_fault_number TooShortReply = 1
+frame_fault_number BadPreamble = 2
+frame_fault_number BadDelimiter = 3
+frame_fault_number Truncated = 4
+frame_fault_number BadCheck = 5
+frame_fault_number ShortReply = 6

@@ -1,5 +1,5 @@
 ghost use Rattle.std.specs.Prelude.{◌≡◌};
-ghost use Rattle.hart_frame.specs.wire.FaultNumbers.{number_among_frame_faults};
+ghost use Rattle.hart_frame.specs.wire.FaultNumbers.{frame_fault_number};
 
 use thiserror::Error;
 
@@ -29,7 +29,7 @@ pub enum FrameFault {
 impl FrameFault {
     /// Returns the number of the fault, 1 to 6.
     pub fn number(self) -> u8
-        ensures { result ≡ number_among_frame_faults self }
+        ensures { result ≡ frame_fault_number self }
     {
         match self {
             FrameFault::TooShortReply => 1,

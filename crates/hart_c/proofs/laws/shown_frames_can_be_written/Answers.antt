@@ -11,7 +11,7 @@ use Rattle.hart_frame.specs.declared.wire.fault.FrameFault.{FrameFault}
 use Rattle.hart_commands.specs.declared.reply.Reply.{Reply}
 use Rattle.hart_frame.proofs.lemmas.Laws.{every_list_has_frames}
 use Rattle.hart_c.specs.Encode.{IsFrame, IsInRange}
-use Rattle.hart_c.specs.Faults.{frame_fault_number}
+use Rattle.hart_frame.specs.wire.FaultNumbers.{frame_fault_number}
 use Rattle.hart_c.specs.Master.{Accepts, acceptance_of}
 use Rattle.hart_c.specs.declared.find.HartChar.{HartChar}
 use Rattle.hart_c.specs.Frames.{IsTidy, address_of, found_in, frame_in}
