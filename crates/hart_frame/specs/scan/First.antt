@@ -1,11 +1,20 @@
 -- The first frame of what was heard (HCF_SPEC-081). For private calls alone.
-use Rattle.std.specs.Prelude.{◌<◌, ◌≤◌, List, length}
+use Rattle.std.specs.Prelude.{◌+◌, ◌<◌, ◌≤◌, List, length}
 use Rattle.hart_frame.specs.heard.Character.{Character}
 use Rattle.hart_frame.specs.heard.Frames.{IsFirst}
-use Rattle.hart_frame.specs.declared.heard.found.Found.{Found}
+use Rattle.hart_frame.specs.scan.Candidate.{IsWholeBody}
+use Rattle.hart_frame.specs.scan.Decision.{body_at}
+use Rattle.hart_frame.specs.wire.Body.{IsBody}
+use Rattle.hart_frame.specs.wire.FrameParts.{FrameParts}
+use Rattle.hart_frame.specs.wire.Layout.{layout_length}
+use Rattle.hart_frame.specs.declared.scan.buffer.Buffer.{Buffer}
+use Rattle.hart_frame.specs.declared.scan.buffer.Span.{Span}
 
--- The first frame of a list lies in it.
-pub record IsFirstIn (found : Found) (chars : List Character) : Type 0 where
-  pub first : IsFirst found chars 0
-  pub order : found.start < found.stop
-  pub within : found.stop ≤ length chars
+-- A whole body lies at the span, whose places are within a list, and the frame of it is the first of that list.
+pub record HoldsFirst (buffer : Buffer) (chars : List Character) (span : Span) : Type 0 where
+  pub stored : span.at + layout_length span.layout ≤ length buffer.bytes
+  pub body : IsWholeBody span.layout (body_at buffer span)
+  pub order : span.start < span.stop
+  pub within : span.stop ≤ length chars
+  pub first : (frame : FrameParts) → IsBody frame (body_at buffer span)
+      → IsFirst (record { start = span.start; stop = span.stop; frame = frame }) chars 0

@@ -1,14 +1,20 @@
-//! The first frames of what was heard, by a scanner.
-ghost use Rattle.std.specs.Prelude.{◌≡◌, ◌+◌, ◌<◌, ◌≤◌, List, length, MatchOption, IfSome};
+//! The first frame of what was heard, by what a scanner holds.
+ghost use Rattle.std.specs.Prelude.{◌≡◌, ◌+◌, ◌<◌, ◌≤◌, List, false, length, IsTrue, MatchOption, IfSome};
 ghost use Rattle.hart_frame.specs.heard.Delivery.{IsLone, lone_of};
 ghost use Rattle.hart_frame.specs.heard.Frames.{AreFrames, HasNoFrame, IsFirst};
-ghost use Rattle.hart_frame.specs.scan.First.{IsFirstIn};
-ghost use Rattle.hart_frame.specs.scan.Scanner.{Gives, GivesNothing};
+ghost use Rattle.hart_frame.specs.scan.Buffer.{IsSound, scan_of};
+ghost use Rattle.hart_frame.specs.scan.Candidate.{IsWholeBody};
+ghost use Rattle.hart_frame.specs.scan.Decision.{body_at};
+ghost use Rattle.hart_frame.specs.scan.First.{HoldsFirst};
+ghost use Rattle.hart_frame.specs.scan.Scanner.{new_scan};
+ghost use Rattle.hart_frame.specs.wire.Body.{IsBody};
+ghost use Rattle.hart_frame.specs.wire.Layout.{layout_length};
 ghost use Rattle.hart_frame.specs.declared.heard.found.Found.{Found};
 
-use crate::{Char, Found, LoneFrame, Scanner};
+use crate::scan::buffer::{Buffer, Span};
+use crate::{Char, Found, LoneFrame};
 
-/// The first frame of what was heard, from a place of the list on, or `None` if no frame stands there.
+/// Returns the first frame of what was heard, from a place of the list on, or `None` if no frame stands there.
 ///
 /// A frame stands after two faultless preamble bytes `FF`, which lie at that place or after it, if faultless characters
 /// are a body. Of several the one with the least start is given. The frames of a whole list are the first from place 0 on,
@@ -19,7 +25,9 @@ pub fn first_frame(chars: &[Char], from: usize) -> Option<Found>
     ensures order { IfSome result (λ found. found.start < found.stop) }
     ensures within { IfSome result (λ found. found.stop ≤ length chars.now) }
 {
-    let found = first_scanned(chars.get(from..)?)?;
+    let mut buffer = Buffer::new();
+    let span = first_span(&mut buffer, chars.get(from..)?)?;
+    let found = found_at(&buffer, span);
     Some(Found {
         start: from + found.start,
         stop: from + found.stop,
@@ -27,41 +35,56 @@ pub fn first_frame(chars: &[Char], from: usize) -> Option<Found>
     })
 }
 
-/// The one frame of a delivery, if it has exactly one.
+/// Returns the frame of a delivery if it has exactly one. That frame is copied, and no other.
 pub fn lone_frame(delivery: &[Char]) -> LoneFrame
     ensures lone { IsLone delivery.now result }
     ensures only { (frames : List Found) → AreFrames delivery.now 0 frames → result ≡ lone_of frames }
 {
-    let Some(first) = first_frame(delivery, 0) else {
+    let mut buffer = Buffer::new();
+    let Some(span) = first_span(&mut buffer, delivery) else {
         return LoneFrame::NoFrame;
     };
-    if first_frame(delivery, first.stop).is_some() {
+    if has_frame(&delivery[span.stop as usize..]) {
         return LoneFrame::Several;
     }
-    LoneFrame::Alone(first)
+    LoneFrame::Alone(found_at(&buffer, span))
 }
 
-/// The first frame of a list.
-fn first_scanned(chars: &[Char]) -> Option<Found>
-    ensures { MatchOption result (HasNoFrame chars.now 0) (λ found. IsFirstIn found chars.now) }
+/// Returns whether a frame stands in a list.
+fn has_frame(chars: &[Char]) -> bool
+    ensures some { IsTrue result → (found : Found) × IsFirst found chars.now 0 }
+    ensures none { result ≡ false → HasNoFrame chars.now 0 }
 {
-    let mut scanner = Scanner::new();
-    scanner.push_chars(chars);
-    if let Some(found) = next_found(&mut scanner) {
-        return Some(found);
+    let mut buffer = Buffer::new();
+    first_span(&mut buffer, chars).is_some()
+}
+
+/// Pushes a list to a new buffer, and returns where the body of its first frame then lies in the buffer.
+fn first_span(buffer: &mut Buffer, chars: &[Char]) -> Option<Span>
+    requires sound { IsSound buffer.old }
+    requires is_new { scan_of buffer.old ≡ new_scan }
+    ensures { MatchOption result (HasNoFrame chars.now 0) (HoldsFirst buffer.new chars.now) }
+{
+    buffer.push_chars(chars);
+    if let Some(span) = buffer.next() {
+        return Some(span);
     }
-    scanner.finish();
-    next_found(&mut scanner)
+    buffer.finish();
+    buffer.next()
 }
 
-/// The next frame that a scanner gives, copied.
-fn next_found(scanner: &mut Scanner) -> Option<Found>
-    ensures { MatchOption result (GivesNothing scanner.old scanner.new) (Gives scanner.old scanner.new) }
+/// Copies the frame at a span.
+fn found_at(buffer: &Buffer, span: Span) -> Found
+    requires within { span.at + layout_length span.layout ≤ length buffer.now.bytes }
+    requires body { IsWholeBody span.layout (body_at buffer.now span) }
+    ensures frame { IsBody result.frame (body_at buffer.now span) }
+    ensures start { result.start ≡ span.start }
+    ensures stop { result.stop ≡ span.stop }
 {
-    let view = scanner.take()?;
-    Some(Found {
+    let view = buffer.found(span);
+    Found {
         start: view.start as usize,
         stop: view.stop as usize,
         frame: view.frame.to_frame(),
-    })
+    }
 }

@@ -1,6 +1,5 @@
 -- The frames of a delivery, by the first of them.
-use Rattle.std.proofs.Common.{arith, ◌≡◌, ℕ, List, [], ◌∷◌, Option, None, Some, true, false}
-use Rattle.std.specs.Option.{MatchOption, is_some}
+use Rattle.std.proofs.Common.{arith, ◌≡◌, ℕ, List, [], ◌∷◌}
 use Rattle.hart_frame.specs.declared.heard.delivery.LoneFrame.{LoneFrame}
 use Rattle.hart_frame.specs.declared.heard.found.Found.{Found}
 use Rattle.hart_frame.specs.heard.Character.{Character}
@@ -22,17 +21,6 @@ no_frame delivery no_first = none 0 no_first
 pub one_frame : (delivery : List Character) (found : Found) → IsFirst found delivery 0 → HasNoFrame delivery found.stop
     → AreFrames delivery 0 (found ∷ [])
 one_frame delivery found is_first no_second = first 0 found [] is_first (none found.stop no_second)
-
--- a second frame is known, or that there is none
-pub second_none : (delivery : List Character) (from : ℕ) (second : Option Found) → is_some second ≡ false
-    → MatchOption second (HasNoFrame delivery from) (λ found. IsFirst found delivery from) → HasNoFrame delivery from
-second_none delivery from None is said = said
-second_none delivery from (Some found) is said = absurd cc
-
-pub second_some : (delivery : List Character) (from : ℕ) (second : Option Found) → is_some second ≡ true
-    → MatchOption second (HasNoFrame delivery from) (λ found. IsFirst found delivery from)
-    → (found : Found) × IsFirst found delivery from
-second_some delivery from second is said = grind arith
 
 -- after a second frame come the frames of what follows it
 pub several_frames : (delivery : List Character) (found second : Found) (later : List Found) → IsFirst found delivery 0

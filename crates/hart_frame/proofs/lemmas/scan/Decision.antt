@@ -1,5 +1,5 @@
 -- What is decided of a buffer, and what is given then.
-use Rattle.std.proofs.Common.{◌≡◌, ◌≢◌, ℕ, ◌+◌, ◌-◌, ◌↔◌, inl, inr, Bool, IsTrue, [], ◌∷◌, ◌++◌, length, take}
+use Rattle.std.proofs.Common.{◌≡◌, ◌≢◌, ℕ, ◌+◌, ◌-◌, ◌↔◌, inl, inr, Bool, IsTrue, List, [], ◌∷◌, ◌++◌, length, take}
 use Rattle.std.proofs.Common.{drop, refl, sym, ◌∙◌, arith, subst, append_assoc, length-append, length-drop}
 use Rattle.std.proofs.lemmas.List.{drop_at, map-append}
 use Rattle.std.specs.Option.{option_to_list}
@@ -11,7 +11,7 @@ use Rattle.hart_frame.specs.heard.Character.{faultless}
 use Rattle.hart_frame.specs.heard.Place.{StandsIn}
 use Rattle.hart_frame.specs.wire.FrameParts.{FrameParts}
 use Rattle.hart_frame.specs.scan.Buffer.{IsEnded, IsSound, IsWaiting, held_bytes, scan_of}
-use Rattle.hart_frame.specs.scan.Candidate.{IsWhole}
+use Rattle.hart_frame.specs.scan.Candidate.{IsWhole, IsWholeBody}
 use Rattle.hart_frame.specs.scan.Chunk.{BeginsWithFrame}
 use Rattle.hart_frame.specs.scan.Decision.{GivesSpan, HoldsWhole, IsHeldOpen, IsHeldSearched, NoneBeginHeld}
 use Rattle.hart_frame.specs.scan.Scanner.{Scan, MovesPast, GivesNothing}
@@ -69,18 +69,22 @@ gives_nothing_then old mid new moves finished (inr ends) =
     let none = nothing_before old mid moves ends.none in
     inr (record { finished = sym finished ∙ ends.finished; none = none; renewed = ends.renewed })
 
+-- a whole body is that of a frame
+pub frame_of_whole : (layout : Layout) (body : List ℕ) → IsWholeBody layout body → (frame : FrameParts) × IsBody frame body
+frame_of_whole layout body is =
+    let exact : body_length body ≡ length body = omega (arith, is.described.command, is.described.count, is.exact) in
+    let frame = held_frame body (λ k below. is.fits k 0 (omega (arith, below, exact))) is.checked in
+    let Part : ℕ → Type 0 = λ k. IsCheckedPart frame.frame (take (k - 1) body) in
+    (frame.frame, IsBody-whole body frame.frame (omega (arith, exact)) is.fits (subst Part exact frame.part) is.even)
+
 -- a buffer that begins with a frame holds it
 pub holds_frame : (b : Buffer) (layout : Layout) → IsWhole layout (held_bytes b) → BeginsWithFrame (scan_of b)
 holds_frame b layout whole =
     let body = whole.body in
-    let is = whole.whole in
-    let exact : body_length body ≡ length body = omega (arith, is.described.command, is.described.count, is.exact) in
-    let frame = held_frame body (λ k below. is.fits k 0 (omega (arith, below, exact))) is.checked in
-    let Part : ℕ → Type 0 = λ k. IsCheckedPart frame.frame (take (k - 1) body) in
-    let is_body = IsBody-whole body frame.frame (omega (arith, exact)) is.fits (subst Part exact frame.part) is.even in
+    let (frame, is_body) = frame_of_whole layout body whole.whole in
     let rest = (scan_of (released b layout)).held in
     let split = held_whole b layout whole in
-    let stands : StandsIn (record { start = 2; stop = 2 + length body; frame = frame.frame }) (scan_of b).held 0 =
+    let stands : StandsIn (record { start = 2; stop = 2 + length body; frame = frame }) (scan_of b).held 0 =
     record { prefix = []; body = body; rest = rest; split = split; is_body = is_body; after = omega arith; start = refl; stop = refl } in
     (_, stands, refl)
 

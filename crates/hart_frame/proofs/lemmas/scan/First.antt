@@ -1,18 +1,25 @@
 -- The first frame of a list, by what a scanner gave of it.
-use Rattle.std.proofs.Common.{inl, inr, add-zero, ◌≡◌, ℕ, ◌≤◌, false, Option, Some, None, List, [], ◌∷◌, ◌++◌, length, take, drop}
-use Rattle.std.proofs.Common.{arith}
+use Rattle.std.proofs.Common.{inl, inr, add-zero, ◌≡◌, ℕ, ◌<◌, ◌≤◌, false, Option, Some, None, List, [], ◌∷◌, ◌++◌, length, take, drop}
+use Rattle.std.proofs.Common.{arith, refl, subst}
 use Rattle.std.proofs.Math.Seq.{take-length}
 use Rattle.std.proofs.lemmas.List.{append-nil, length-take-le, take-append-drop}
-use Rattle.std.specs.Option.{MatchOption}
+use Rattle.std.specs.Option.{MatchOption, is_some}
 use Rattle.hart_frame.specs.declared.heard.found.Found.{Found}
+use Rattle.hart_frame.specs.declared.scan.buffer.Buffer.{Buffer}
+use Rattle.hart_frame.specs.declared.scan.buffer.Span.{Span}
 use Rattle.hart_frame.specs.heard.Character.{Character}
 use Rattle.hart_frame.specs.heard.Frames.{AreFrames, HasNoFrame, IsFirst, moved}
-use Rattle.hart_frame.specs.scan.Chunk.{StopsAt}
-use Rattle.hart_frame.specs.scan.First.{IsFirstIn}
+use Rattle.hart_frame.specs.scan.Chunk.{Hears}
+use Rattle.hart_frame.specs.scan.Buffer.{scan_of}
+use Rattle.hart_frame.specs.scan.Decision.{GivesSpan, body_at}
+use Rattle.hart_frame.specs.scan.First.{HoldsFirst}
 use Rattle.hart_frame.specs.scan.Scanner.{CanHear, Scan, Gives, GivesNothing, MovesPast, finishing, hearing, new_scan}
+use Rattle.hart_frame.specs.wire.Body.{IsBody}
+use Rattle.hart_frame.specs.wire.FrameParts.{FrameParts}
 use Rattle.hart_frame.proofs.lemmas.heard.FramesFound.{AreFrames-found}
 use Rattle.hart_frame.proofs.lemmas.heard.Place.{StandsIn-within}
 use Rattle.hart_frame.proofs.lemmas.heard.Rest.{first_moved, stands_in}
+use Rattle.hart_frame.proofs.lemmas.scan.Decision.{frame_of_whole}
 use Rattle.hart_frame.proofs.lemmas.scan.Scan.{moves_then}
 use Rattle.hart_frame.proofs.lemmas.scan.Undecided.{head_first, holds_gives, nothing_before, waits_only}
 
@@ -20,42 +27,90 @@ use Rattle.hart_frame.proofs.lemmas.scan.Undecided.{head_first, holds_gives, not
 hears_new : (chars more : List Character) → CanHear (hearing new_scan chars) more (chars ++ more)
 hears_new chars more = grind arith
 
--- the first frame of a list lies in it
-first_in : (chars : List Character) (found : Found) (later : List Found) → AreFrames chars 0 (found ∷ later) → IsFirstIn found chars
-first_in chars found later are =
+-- what a new scanner moves past
+moves_new : (chars : List Character) (count : ℕ) (old : Buffer) (mid : Scan) → scan_of old ≡ new_scan
+    → MovesPast (hearing (scan_of old) (take count chars)) mid [] → MovesPast (hearing new_scan (take count chars)) mid []
+moves_new chars count old mid is_new moves = subst (λ (s : Scan). MovesPast (hearing s (take count chars)) mid []) is_new moves
+
+-- what is given first is the first frame of a list
+first_of : (chars : List Character) (found : Found) (later : List Found) → AreFrames chars 0 (found ∷ later)
+    → IsFirst found chars 0 × (found.start < found.stop) × (found.stop ≤ length chars)
+first_of chars found later are =
     let is = head_first chars 0 found later are in grind (arith, StandsIn-within found chars 0 is.stands)
 
--- a scanner that heard so many characters of a list gives its first frame
-pub first_given : (chars : List Character) (count : ℕ) (mid new : Scan) (found : Found)
-    → MovesPast (hearing new_scan (take count chars)) mid [] → Gives mid new found → IsFirstIn found chars
-first_given chars count mid new found moves gives =
-    let (later, are) = AreFrames-found chars new.first in
-    let given = moves_then (hearing new_scan (take count chars)) mid new (found ∷ []) moves gives.moves in
+-- so a span that is given holds the first frame of a list, if each frame that may be given there is the first of it
+holds_first : (chars : List Character) (old new : Buffer) (span : Span) → GivesSpan old new span
+    → ((found : Found) → Gives (scan_of old) (scan_of new) found → (later : List Found) × AreFrames chars 0 (found ∷ later))
+    → HoldsFirst new chars span
+holds_first chars old new span gives are =
+    let found : FrameParts → Found = λ frame. record { start = span.start; stop = span.stop; frame = frame } in
+    let (some, is) = frame_of_whole span.layout (body_at new span) gives.body in
+    let given = are (found some) (gives.given some is) in
+    let (head, order, within) = first_of chars (found some) given.0 given.1 in
+    record {
+      stored = gives.within;
+      body = gives.body;
+      order = order;
+      within = within;
+      first = λ frame body. let given = are (found frame) (gives.given frame body) in (first_of chars (found frame) given.0 given.1).0;
+    }
+
+-- so a list of which a first frame is held has one
+pub some_first : (chars : List Character) (buffer : Buffer) (span : Span) → HoldsFirst buffer chars span
+    → (found : Found) × IsFirst found chars 0 × (found.stop ≡ span.stop)
+some_first chars buffer span holds =
+    let (frame, is) = frame_of_whole span.layout (body_at buffer span) holds.body in (_, holds.first frame is, refl)
+
+-- and that is what is copied
+pub first_copied : (chars : List Character) (buffer : Buffer) (span : Span) (found : Found) → HoldsFirst buffer chars span
+    → IsBody found.frame (body_at buffer span) → found.start ≡ span.start → found.stop ≡ span.stop → IsFirst found chars 0
+first_copied chars buffer span found holds is start stop = rw (← start, ← stop) at (holds.first found.frame is)
+
+-- a list of which none is held has none
+pub none_first : (chars : List Character) (buffer : Buffer) (given : Option Span) → is_some given ≡ false
+    → MatchOption given (HasNoFrame chars 0) (HoldsFirst buffer chars) → HasNoFrame chars 0
+none_first chars buffer None none is = is
+none_first chars buffer (Some span) none is = absurd cc
+
+-- a new scanner that heard a list gives its first frame
+pub first_given : (chars : List Character) (count : ℕ) (old mid new : Buffer) (span : Span) → scan_of old ≡ new_scan
+    → Hears (scan_of old) (scan_of mid) chars count → GivesSpan mid new span → HoldsFirst new chars span
+first_given chars count old mid new span is_new hears given =
+    holds_first chars mid new span given (λ found gives.
+    let (later, are) = AreFrames-found chars (scan_of new).first in
+    let moves = moves_new chars count old (scan_of mid) is_new hears.moves in
+    let all = moves_then (hearing new_scan (take count chars)) (scan_of mid) (scan_of new) (found ∷ []) moves gives.moves in
     let hears = rw (take-append-drop count chars) at (hears_new (take count chars) (drop count chars)) in
-    first_in chars found later (given.frames (drop count chars) chars later hears are)
+    (later, all.frames (drop count chars) chars later hears are))
 
 -- or it does once it is finished, or there is none
-last_given : (chars : List Character) (waiting new : Scan) (given : Option Found) → MovesPast (hearing new_scan chars) waiting []
-    → MatchOption given (GivesNothing (finishing waiting) new) (Gives (finishing waiting) new)
-    → MatchOption given (HasNoFrame chars 0) (λ found. IsFirstIn found chars)
-last_given chars waiting new None moves (inl waits) = absurd cc
-last_given chars waiting new None moves (inr ends) = nothing_before (hearing new_scan chars) waiting moves ends.none
-last_given chars waiting new (Some found) moves gives =
+last_given : (chars : List Character) (waiting : Scan) (old new : Buffer) (given : Option Span)
+    → MovesPast (hearing new_scan chars) waiting [] → scan_of old ≡ finishing waiting
+    → MatchOption given (GivesNothing (scan_of old) (scan_of new)) (GivesSpan old new)
+    → MatchOption given (HasNoFrame chars 0) (HoldsFirst new chars)
+last_given chars waiting old new None moves finished (inl waits) = absurd (grind arith)
+last_given chars waiting old new None moves finished (inr ends) =
+    nothing_before (hearing new_scan chars) waiting moves (subst (λ (s : Scan). HasNoFrame s.held 0) finished ends.none)
+last_given chars waiting old new (Some span) moves finished given =
+    holds_first chars old new span given (λ found gives.
     let hears = rw (append-nil chars) at (hears_new chars []) in
-    let ends : CanHear (finishing waiting) [] chars = grind (arith, moves.heard [] chars hears) in
-    let (later, are) = AreFrames-found chars new.first in
-    first_in chars found later (moves.frames [] chars (found ∷ later) hears (gives.moves.frames [] chars later ends are))
+    let ends : CanHear (scan_of old) [] chars = grind (arith, moves.heard [] chars hears) in
+    let (later, are) = AreFrames-found chars (scan_of new).first in
+    (later, moves.frames [] chars (found ∷ later) hears (grind (arith, gives.moves.frames [] chars later ends are))))
 
 -- as all of it was heard then
-pub first_finished : (chars : List Character) (count : ℕ) (mid waiting new : Scan) (given : Option Found)
-    → MovesPast (hearing new_scan (take count chars)) mid [] → mid.finished ≡ false → StopsAt mid count (length chars)
-    → GivesNothing mid waiting → MatchOption given (GivesNothing (finishing waiting) new) (Gives (finishing waiting) new)
-    → MatchOption given (HasNoFrame chars 0) (λ found. IsFirstIn found chars)
-first_finished chars count mid waiting new given moves going stops nothing after =
-    let all : count ≡ length chars = grind (arith, holds_gives mid waiting) in
-    let waits = waits_only mid waiting going nothing in
-    last_given chars waiting new given
-    (moves_then (hearing new_scan chars) mid waiting [] (rw (all, take-length) at moves) waits.moves) after
+pub first_finished : (chars : List Character) (count : ℕ) (start mid waiting old new : Buffer) (given : Option Span)
+    → scan_of start ≡ new_scan → Hears (scan_of start) (scan_of mid) chars count
+    → GivesNothing (scan_of mid) (scan_of waiting) → scan_of old ≡ finishing (scan_of waiting)
+    → MatchOption given (GivesNothing (scan_of old) (scan_of new)) (GivesSpan old new)
+    → MatchOption given (HasNoFrame chars 0) (HoldsFirst new chars)
+first_finished chars count start mid waiting old new given is_new hears nothing finished after =
+    let all : count ≡ length chars = grind (arith, hears.stops, holds_gives (scan_of mid) (scan_of waiting)) in
+    let going : mid.finished ≡ false = grind (arith, hears.finished) in
+    let waits = waits_only (scan_of mid) (scan_of waiting) going nothing in
+    let moves = rw (all, take-length) at (moves_new chars count start (scan_of mid) is_new hears.moves) in
+    last_given chars (scan_of waiting) old new given
+    (moves_then (hearing new_scan chars) (scan_of mid) (scan_of waiting) [] moves waits.moves) finished after
 
 -- what stands in the rest of a list stands in the list
 pub first_later : (chars rest : List Character) (from : ℕ) (found : Found) → from ≤ length chars → rest ≡ drop from chars

@@ -1,33 +1,43 @@
 use Rattle.std.proofs.Common.{arith}
+use Rattle.std.proofs.lemmas.List.{take_rest}
+use Rattle.hart_frame.specs.heard.Frames.{moved}
 use Rattle.hart_frame.proofs.lemmas.Laws.{every_list_has_frames, frames_are_unambiguous-one_list}
-use Rattle.hart_frame.proofs.lemmas.heard.Delivery.{no_frame, one_frame, only_said, second_none, second_some, several_frames}
+use Rattle.hart_frame.proofs.lemmas.heard.Delivery.{no_frame, one_frame, only_said, several_frames}
+use Rattle.hart_frame.proofs.lemmas.scan.First.{first_copied, first_later, no_later, some_first}
 use Rattle.hart_frame.proofs.scan.first.lone_frame.Goals as goal
 
 pub returns-in_default-clause-lone : goal.returns-in_default-clause-lone
-returns-in_default-clause-lone c = no_frame c.args.delivery.now c.in_default.ensures.first
+returns-in_default-clause-lone c = no_frame c.args.delivery.now c.in_default.ensures
 
 pub returns-in_default-clause-only : goal.returns-in_default-clause-only
 returns-in_default-clause-only c =
     only_said frames_are_unambiguous-one_list c.args.delivery.now _ (returns-in_default-clause-lone c)
 
-pub returns-then-is_some-clause-lone : goal.returns-then-is_some-clause-lone
-returns-then-is_some-clause-lone c =
+pub returns-then-has_frame-clause-lone : goal.returns-then-has_frame-clause-lone
+returns-then-has_frame-clause-lone c =
     let delivery = c.args.delivery.now in
-    let first = c.in-Some.first in
-    let (second, is) = second_some delivery first.stop c.first_frame-2.result (grind arith) c.first_frame-2.ensures.first in
+    let span = c.in-Some.span in
+    let (first, is_first, stop) = some_first delivery c.first_span.new.buffer span c.in-Some.ensures in
+    let (rest, is_rest) = c.has_frame.ensures.some c.if-has_frame.true in
+    let second = moved span.stop rest in
+    let is_second = first_later delivery _ span.stop rest c.in-Some.ensures.within (grind (arith, take_rest)) is_rest in
     let later = every_list_has_frames delivery second.stop in
-    (first, second, later.0, several_frames delivery first second later.0 c.in-Some.ensures.first is later.1)
+    (first, second, later.0, several_frames delivery first second later.0 is_first (rw stop is_second) later.1)
 
-pub returns-then-is_some-clause-only : goal.returns-then-is_some-clause-only
-returns-then-is_some-clause-only c =
-    only_said frames_are_unambiguous-one_list c.args.delivery.now _ (returns-then-is_some-clause-lone c)
+pub returns-then-has_frame-clause-only : goal.returns-then-has_frame-clause-only
+returns-then-has_frame-clause-only c =
+    only_said frames_are_unambiguous-one_list c.args.delivery.now _ (returns-then-has_frame-clause-lone c)
 
 pub returns-clause-lone : goal.returns-clause-lone
 returns-clause-lone c =
     let delivery = c.args.delivery.now in
-    let first = c.in-Some.first in
-    let none = second_none delivery first.stop c.first_frame-2.result (grind arith) c.first_frame-2.ensures.first in
-    one_frame delivery first c.in-Some.ensures.first none
+    let span = c.in-Some.span in
+    let copied = c.found_at in
+    let is_first = first_copied delivery c.first_span.new.buffer span copied.result c.in-Some.ensures copied.ensures.frame
+    copied.ensures.start copied.ensures.stop in
+    let none = no_later delivery _ span.stop c.in-Some.ensures.within (grind (arith, take_rest))
+    (c.has_frame.ensures.none c.if-has_frame.false) in
+    one_frame delivery copied.result is_first (rw copied.ensures.stop none)
 
 pub returns-clause-only : goal.returns-clause-only
 returns-clause-only c =
