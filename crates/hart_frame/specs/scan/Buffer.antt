@@ -42,11 +42,12 @@ pub record IsStored (b : Buffer) : Type 0 where
   pub few : length (held_bytes b) + length (option_to_list b.damaged) ≤ 269
   pub places : b.first + (length (held_bytes b) + length (option_to_list b.damaged)) < 2 ^ 64
 
--- A drained buffer waits: it is unfinished, holds no character with faults, and what it holds may begin a frame that has more bytes.
+-- A drained buffer waits: it is unfinished, holds no character with faults, and holds at most 268 bytes, which may begin a frame that
+-- has more.
 pub record IsWaiting (b : Buffer) : Type 0 where
   pub clear : b.damaged ≡ None
   pub going : b.finished ≡ false
-  pub few : length (held_bytes b) < 269
+  pub few : length (held_bytes b) ≤ 268
   pub may : MayBegin (held_bytes b)
 
 -- What a state means: a drained buffer waits, of a busy one nothing is known, and one in which a frame stands begins with it.

@@ -41,7 +41,7 @@ NoneBeginHeld b count = (place : ℕ) → place < count → (more : List Charact
 -- In what is held from a place on, nothing is found: no byte is held there, or those that are may begin a frame, and more can follow.
 abbrev pub IsHeldOpen : Buffer → ℕ → Type 0
 IsHeldOpen b place = (length (held_bytes b) ≡ place)
-    ⊎ ((length (held_bytes b) < place + 269) × MayBegin (drop place (held_bytes b)) × (b.damaged ≡ None) × (b.finished ≡ false))
+    ⊎ ((length (held_bytes b) ≤ place + 268) × MayBegin (drop place (held_bytes b)) × (b.damaged ≡ None) × (b.finished ≡ false))
 
 -- A place is found in what is held, before which no frame begins: from there on the held bytes begin with a frame, or nothing is found.
 pub record IsHeldSearched (b : Buffer) (found : Sighting) : Type 0 where

@@ -1,5 +1,5 @@
 -- What a scanner promises: the frames of what is heard, each given as soon as it is decided (own profile).
-use Rattle.std.specs.Prelude.{◌≡◌, ℕ, Bool, true, false, IsTrue, ◌⊎◌, List, [], ◌∷◌, ◌++◌, length}
+use Rattle.std.specs.Prelude.{◌≡◌, ℕ, Bool, true, false, IsTrue, ◌≤◌, ◌⊎◌, List, [], ◌∷◌, ◌++◌, length}
 use Rattle.hart_frame.specs.heard.Character.{Character}
 use Rattle.hart_frame.specs.heard.Frames.{AreFrames, HasNoFrame, IsUndecided}
 use Rattle.hart_frame.specs.declared.heard.found.Found.{Found}
@@ -48,10 +48,12 @@ pub record Gives (old new : Scan) (found : Found) : Type 0 where
   pub finished : new.finished ≡ old.finished
   pub undrained : (old.drained ≡ false) × (new.drained ≡ false)
 
--- A scanner that waits is not finished, moves past no frame, decides nothing in what it then holds, and is drained.
+-- A scanner that waits is not finished, moves past no frame, and is drained. It then holds at most 268 characters, in which nothing is
+-- decided.
 pub record Waits (old new : Scan) : Type 0 where
   pub going : old.finished ≡ false
   pub moves : MovesPast old new []
+  pub few : length new.held ≤ 268
   pub undecided : IsUndecided new.held
   pub unfinished : new.finished ≡ false
   pub drained : new.drained ≡ true

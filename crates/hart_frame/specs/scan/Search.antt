@@ -21,10 +21,10 @@ pub record IsOpenFrom (bytes : List ℕ) (from : ℕ) : Type 0 where
 abbrev pub IsOpenBefore : List ℕ → ℕ → ℕ → ℕ → Type 0
 IsOpenBefore bytes from seen count = (fewer : ℕ) → seen ≤ fewer → fewer < count → IsOpenFrom (take fewer bytes) from
 
--- All the bytes decide nothing: those from the place on, fewer than the longest frame has, may begin a frame.
+-- All the bytes decide nothing: those from the place on, at most 268, may begin a frame.
 abbrev pub IsOpenAll : List ℕ → Sighting → Type 0
 IsOpenAll bytes found =
-    (found.decided ≡ length bytes) × (length bytes < found.place + 269) × MayBegin (drop found.place bytes)
+    (found.decided ≡ length bytes) × (length bytes ≤ found.place + 268) × MayBegin (drop found.place bytes)
 
 -- A search of a list from a place on finds a place at or after it, at most 269 bytes before the end of those that show it, which
 -- are at least those seen before: no frame begins before it, and from it on these bytes begin with a frame, or else all bytes decide
@@ -46,11 +46,10 @@ abbrev pub NoneBeginThen : List ℕ → Bool → ℕ → ℕ → Type 0
 NoneBeginThen bytes ended from to = (place : ℕ) → from ≤ place → place < to → (next : List Character)
     → (IsTrue ended → NothingFollows next) → BeginWithNone (faultless (drop place bytes) ++ next)
 
--- No frame is found from a place on if no byte is left there, or if those that are, fewer than two preamble bytes and the longest body
--- have, may begin one and have not ended.
+-- No frame is found from a place on if no byte is left there, or if those that are, at most 268, may begin one and have not ended.
 abbrev pub IsLeftOpen : List ℕ → Bool → ℕ → Type 0
 IsLeftOpen bytes ended place =
-    (length bytes ≡ place) ⊎ ((length bytes < place + 269) × MayBegin (drop place bytes) × (ended ≡ false))
+    (length bytes ≡ place) ⊎ ((length bytes ≤ place + 268) × MayBegin (drop place bytes) × (ended ≡ false))
 
 -- A search of a list to its end, from a place on, finds a place of the list at or after it: no frame begins before it, and from there on
 -- the bytes begin with a frame, or no frame is found.

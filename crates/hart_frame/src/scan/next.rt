@@ -42,7 +42,7 @@ pub fn next_in_bytes(bytes: &[u8], from: usize, ended: bool) -> NextInBytes<'_>
     ensures start { IfSome result.frame (λ view. from + 2 ≤ view.start) }
     ensures order { IfSome result.frame (λ view. view.start < view.stop) }
     ensures stop { IfSome result.frame (λ view. view.stop ≡ result.used) }
-    ensures few { result.frame ≡ None → length bytes.now < result.used + 269 }
+    ensures few { result.frame ≡ None → length bytes.now ≤ result.used + 268 }
     ensures all { result.frame ≡ None → IsTrue ended → result.used ≡ length bytes.now }
     ensures undecided { result.frame ≡ None → ended ≡ false → IsUndecided (faultless (drop result.used bytes.now)) }
 {

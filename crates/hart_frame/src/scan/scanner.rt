@@ -6,7 +6,8 @@ use std::marker::Model;
 
 /// Finds the frames of what is heard, character by character, and lends a view of each as soon as it is decided.
 ///
-/// It holds at most 269 characters, the two preamble bytes and the body of the longest frame, and takes no memory.
+/// It holds at most 269 characters, the two preamble bytes and the body of the longest frame, and takes no memory. While it waits for
+/// more it holds at most 268, as the longest frame is decided by its last character.
 ///
 /// ```rust
 /// let mut scanner = Scanner::new();
@@ -116,10 +117,11 @@ impl Scanner {
         Some(self.buffer.found(span))
     }
 
-    /// Whether nothing is given before the next character, or the finish.
+    /// Returns whether nothing is given before the next character, or the finish. At most 268 characters are then held.
     pub fn is_drained(&self) -> bool
         ensures drained { result ≡ self.now.drained }
         ensures waiting { IsTrue self.now.drained → (self.now.finished ≡ false) × IsUndecided self.now.held }
+        ensures few { IsTrue self.now.drained → length self.now.held ≤ 268 }
     {
         self.buffer.is_drained()
     }

@@ -61,6 +61,7 @@ gives_nothing_then old mid new moves finished (inl waits) =
     inl (record {
       going = sym finished ∙ waits.going;
       moves = moves_then old mid new [] moves waits.moves;
+      few = waits.few;
       undecided = waits.undecided;
       unfinished = waits.unfinished;
       drained = waits.drained;
