@@ -1,5 +1,5 @@
 //! What a master makes of what it hears.
-ghost use Rattle.std.specs.Prelude.{◌≡◌, false, IfErr, IfOk, OnErr};
+ghost use Rattle.std.specs.Prelude.{◌≡◌, ◌<◌, ◌^◌, false, IfErr, IfOk, OnErr};
 ghost use Rattle.hart_commands.specs.ReplyData.{reply_reading};
 ghost use Rattle.hart_commands.specs.declared.request.Request.{Request};
 ghost use Rattle.hart_c.specs.Master.{AcceptOutcome, Accepts, IsAcceptFault, IsAsked, IsAwaiting, IsSendFault, acceptance_of};
@@ -150,7 +150,9 @@ fn asked_by(frame: &Frame) -> Result<Request, Fault>
 /// 0, 11 and 21 are replied to with an identity.
 #[unsafe(no_mangle)]
 pub extern "C" fn hart_unique_of(command: u8, payload: &[u8]) -> HartUnique
-    ensures { result ≡ given_by (reply_reading command payload.now) }
+    ensures given { result ≡ given_by (reply_reading command payload.now) }
+    ensures expanded_type { result.expanded_type < 2 ^ 14 }
+    ensures device_id { result.device_id < 2 ^ 24 }
 {
     let Some(reply) = Reply::read(command, payload) else {
         return given_of(None);
@@ -160,7 +162,9 @@ pub extern "C" fn hart_unique_of(command: u8, payload: &[u8]) -> HartUnique
 
 /// The numbers of a unique address.
 fn given_of(address: Option<Address>) -> HartUnique
-    ensures { result ≡ given_of address }
+    ensures given { result ≡ given_of address }
+    ensures expanded_type { result.expanded_type < 2 ^ 14 }
+    ensures device_id { result.device_id < 2 ^ 24 }
 {
     let Some(address) = address else {
         return NO_ADDRESS;
