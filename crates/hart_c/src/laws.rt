@@ -26,7 +26,7 @@ ghost use Rattle.hart_c.specs.declared.process.HartProcess.{HartProcess};
 ghost use Rattle.hart_c.specs.declared.registers.HartRegisters.{HartRegisters};
 ghost use Rattle.hart_c.specs.Decode.{DecodeOutcome};
 ghost use Rattle.hart_c.specs.Encode.{EncodeOutcome, IsFrame};
-ghost use Rattle.hart_c.specs.Frames.{found_in};
+ghost use Rattle.hart_c.specs.Frames.{found_in, frame_in};
 ghost use Rattle.hart_c.specs.Master.{AcceptOutcome};
 ghost use Rattle.hart_c.specs.Names.{NameOutcome, field_name};
 
@@ -83,6 +83,14 @@ pub fn shown_frames_can_be_written()
         → DecodeOutcome bytes before after outcome → outcome.fault ≡ 0 → IsFrame after }
     ensures accepted { (numbers : HartFrame) (heard : List HartChar) (before after : HartFrame) (acceptance : HartAcceptance)
         → AcceptOutcome numbers heard before after acceptance → acceptance.is_accepted ≡ true → IsFrame after }
+{}
+
+/// A message depends on the frame alone: numbers that say one frame, with the same number of expansion bytes, are written alike. Its place,
+/// the numbers of the other kind of address, and the bytes after those that count are not looked at.
+pub fn numbers_of_one_frame_are_written_alike()
+    ensures { (frame other : HartFrame) (preambles : ℕ) (before after : List ℕ) (outcome : HartOutcome)
+        → frame_in other ≡ frame_in frame → other.expansion_len ≡ frame.expansion_len
+        → EncodeOutcome frame preambles before after outcome → EncodeOutcome other preambles before after outcome }
 {}
 
 /// Room for 287 bytes is room for any message: with it neither a frame that is written nor a reply of a device is refused for want of

@@ -1,0 +1,71 @@
+use Rattle.std.proofs.Common.{◌≡◌, Bool, true, false, inl, inr, ℕ, List, ap, subst, sym, arith}
+use Rattle.hart_frame.specs.declared.wire.fault.FrameFault.TheVariants.{BadPreamble, TooShortReply}
+use Rattle.hart_frame.specs.wire.FrameParts.{FrameParts, IsLongEnough}
+use Rattle.hart_frame.specs.wire.Message.{IsMessage}
+use Rattle.hart_c.specs.Encode.{IsEncodeFault, IsFrame, IsInRange}
+use Rattle.hart_c.specs.Frames.{address_of, frame_in}
+use Rattle.hart_c.specs.declared.fault.Fault.{Fault}
+use Rattle.hart_c.specs.declared.fault.Fault.TheVariants.{BadAddress, Frame, LongExpansion, NoRoom}
+use Rattle.hart_c.specs.declared.frame.HartFrame.{HartFrame}
+use Rattle.hart_c.proofs.laws.numbers_of_one_frame_are_written_alike.Goals as goal
+
+-- numbers of one address are in range alike
+in_range : (is_unique is_other : Bool) (frame other : HartFrame) → address_of is_other other ≡ address_of is_unique frame
+    → IsInRange is_unique frame → IsInRange is_other other
+in_range true true frame other same is = grind arith
+in_range true false frame other same is = cc
+in_range false true frame other same is = cc
+in_range false false frame other same is = grind arith
+
+-- long enough are the payloads of one frame alike
+is_long : (parts others : FrameParts) → others ≡ parts → IsLongEnough parts.kind parts.payload → IsLongEnough others.kind others.payload
+is_long parts others same = let P : FrameParts → Type 0 = λ these. IsLongEnough these.kind these.payload in subst P (sym same)
+
+-- and they have one message
+is_message : (parts others : FrameParts) (preambles : ℕ) → others ≡ parts → {message : List ℕ} → IsMessage parts preambles message → IsMessage others preambles message
+is_message parts others preambles same {message} = let P : FrameParts → Type 0 = λ these. IsMessage these preambles message in subst P (sym same)
+
+-- of numbers of one frame
+module _ (frame other : HartFrame) (same : frame_in other ≡ frame_in frame) (long : other.expansion_len ≡ frame.expansion_len) where
+  address : address_of other.is_unique other ≡ address_of frame.is_unique frame
+  address = ap (λ (parts : FrameParts). parts.address) same
+
+  forth : IsInRange frame.is_unique frame → IsInRange other.is_unique other
+  forth = in_range frame.is_unique other.is_unique frame other address
+
+  back : IsInRange other.is_unique other → IsInRange frame.is_unique frame
+  back = in_range other.is_unique frame.is_unique other frame (sym address)
+
+  is_frame : IsFrame frame → IsFrame other
+  is_frame is = record {
+    address = forth is.address;
+    expansion = rw long is.expansion;
+    payload = is_long (frame_in frame) (frame_in other) same is.payload;
+  }
+
+  -- they are refused alike
+  refused : (preambles room : ℕ) (fault : Fault) → IsEncodeFault frame preambles room fault → IsEncodeFault other preambles room fault
+  refused preambles room BadAddress why = λ is. why (back is)
+  refused preambles room LongExpansion why = (forth why.0, rw long why.1)
+  refused preambles room (Frame TooShortReply) why =
+      (forth why.0, rw long why.1, λ is. why.2 (is_long (frame_in other) (frame_in frame) (sym same) is))
+  refused preambles room (Frame BadPreamble) why = (is_frame why.0, why.1)
+  refused preambles room NoRoom why =
+      (is_frame why.0, why.1, (why.2.0, is_message (frame_in frame) (frame_in other) preambles same why.2.1, why.2.2))
+  refused preambles room _ why = absurd why
+
+pub returns : goal.returns
+returns c frame other preambles before after outcome same long told = elim told [
+  | inl is ↦ inl (
+    is.0,
+    record {
+      is_frame = is_frame frame other same long is.1.is_frame;
+      in_range = is.1.in_range;
+      message = is.1.message;
+      is_message = is_message (frame_in frame) (frame_in other) preambles same is.1.is_message;
+      len_is = is.1.len_is;
+      written = is.1.written;
+    },
+  )
+  | inr why ↦ inr (why.0, refused frame other same long preambles _ why.0 why.1, why.2, why.3, why.4)
+]
