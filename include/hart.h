@@ -112,14 +112,14 @@ hart_outcome hart_encode(const hart_frame *frame, uint8_t preambles, uint8_t *ou
 /* The check byte of some bytes: their exclusive or. */
 uint8_t hart_check_byte(const uint8_t *bytes, size_t bytes_len);
 
-/* How the bytes of a field are meant. Numbers and floats have the most significant byte first. */
+/* How the bytes of a field are meant, and how many there are. Numbers and floats have the most significant byte first. */
 enum {
-    HART_BYTES = 0,       /* as they are: an id, flags, a status, codes of device variables, a long tag, a time stamp */
+    HART_BYTES = 0,       /* as they are, at least one: an id, flags, a status, codes of device variables, a long tag, a time stamp */
     HART_NUMBER = 1,      /* a number or a code of one or two bytes */
-    HART_PACKED_TEXT = 2, /* packed text, four characters in three bytes */
+    HART_PACKED_TEXT = 2, /* packed text in 6, 12 or 24 bytes, four characters in three bytes */
     HART_DATE = 3,        /* a date in three bytes: the day, the month, the year after 1900 */
     HART_FLOAT = 4,       /* a floating point number of IEEE 754 in four bytes */
-    HART_VARIABLES = 5    /* device variables of eight bytes each: code, classification, unit, value in four bytes, status */
+    HART_VARIABLES = 5    /* one to eight device variables of eight bytes each: code, classification, unit, value in four bytes, status */
 };
 
 /* A field of data: where it stands in what was passed, and how its bytes are meant. */

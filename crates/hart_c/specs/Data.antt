@@ -2,6 +2,7 @@
 use Rattle.std.specs.Prelude.{◌≡◌, ◌+◌, ◌==◌, if◌then◌else◌, ℕ, List, [], ◌∷◌, ◌++◌, drop, length, take, Option, None, Some, Ok, Err}
 use Rattle.std.specs.Prelude.{◌≤◌, Bool, slice_get}
 use Rattle.hart_commands.specs.Commands.{content_bytes}
+use Rattle.hart_commands.specs.FieldWidths.{IsWidthOf}
 use Rattle.hart_commands.specs.Fields.{Field, Row, bytes_of, fields_of, reply_rows, request_rows}
 use Rattle.hart_commands.specs.ReplyData.{reply_payload, reply_reading}
 use Rattle.hart_commands.specs.RequestData.{Reading, request_data, request_reading}
@@ -76,7 +77,7 @@ ReplyOutcome command payload = ReplyShown command payload (reply_reading command
 
 -- A place that is shown of bytes is that of the field of its index. The field has the name that is told at that index, and the kind that
 -- is shown is the number of the kind of the row of that index. The field starts right after those before it, of which the first starts at
--- a place; it is as long as it is said to be, and lies within the bytes; and there stand its bytes.
+-- a place; it is as long as it is said to be, which is a width of its kind, and lies within the bytes; and there stand its bytes.
 pub record StandsAt (is_reply : Bool) (command first : ℕ) (fields : List Field) (bytes : List ℕ) (index : ℕ) (shown : HartField)
     : Type 0 where
   pub row : Row
@@ -87,5 +88,6 @@ pub record StandsAt (is_reply : Bool) (command first : ℕ) (fields : List Field
   pub kind : shown.kind ≡ kind_number row.kind
   pub start : shown.start ≡ first + length (bytes_of (take index fields))
   pub len : shown.len ≡ length field.bytes
+  pub width : IsWidthOf row.kind shown.len
   pub within : shown.start + shown.len ≤ length bytes
   pub bytes_there : take shown.len (drop shown.start bytes) ≡ field.bytes

@@ -8,22 +8,22 @@ use crate::fault::{HART_NO_REPLY, HART_OK};
 use hart_commands::{FieldKind, FieldRow, Reply, Request, reply_rows, request_rows};
 use hart_values::{Payload, ResponseCode};
 
-/// The bytes of the field stand for themselves.
+/// The bytes of the field stand for themselves; there is one at least.
 pub const HART_BYTES: u8 = 0;
 
-/// A number or a code, the most significant byte first.
+/// A number or a code of one or two bytes, the most significant byte first.
 pub const HART_NUMBER: u8 = 1;
 
-/// Packed text, four characters in three bytes.
+/// Packed text in 6, 12 or 24 bytes, four characters in three bytes.
 pub const HART_PACKED_TEXT: u8 = 2;
 
-/// A date: day, month, and year after 1900.
+/// A date in three bytes: day, month, and year after 1900.
 pub const HART_DATE: u8 = 3;
 
-/// A floating point number of IEEE 754, the most significant byte first.
+/// A floating point number of IEEE 754 in four bytes, the most significant byte first.
 pub const HART_FLOAT: u8 = 4;
 
-/// Device variables of eight bytes each: code, classification, unit, value in four bytes, status.
+/// One to eight device variables of eight bytes each: code, classification, unit, value in four bytes, status.
 pub const HART_VARIABLES: u8 = 5;
 
 /// Where a field stands in what was passed, and how its bytes are meant.

@@ -51,7 +51,8 @@ pub fn devices_are_kept()
 {}
 
 /// Each place that is shown of data is that of the field of its index: the field whose name is told at that index stands there, right after
-/// the fields before it and within the data, is as long as it is said to be, and is meant as its row in the table of fields says.
+/// the fields before it and within the data, is as long as it is said to be, and is meant as its row in the table of fields says. Its kind
+/// may have that length: a float 4 bytes, a date 3, a number 1 or 2, a packed text 6, 12 or 24, device variables 8 each.
 pub fn fields_stand_where_they_are_shown()
     ensures requests { (command index : ℕ) (bytes : List ℕ) (before after : List HartField) (reading : HartReading) (shown : HartField)
         → RequestOutcome command bytes before after reading → index < reading.count → slice_get after index ≡ Some shown

@@ -1,11 +1,14 @@
-use Rattle.std.proofs.Common.{◌≡◌, ◌<◌, ◌+◌, ℕ, zero, suc, List, [], ◌∷◌, ◌++◌, Bool, Some, append_assoc, arith, drop, length, length-append, refl, slice_get, take, true, false, Ok, Err}
+use Rattle.std.proofs.Common.{◌≡◌, ◌<◌, ◌+◌, ℕ, zero, suc, All, List, [], ◌∷◌, ◌++◌, Bool, Some, append_assoc, arith, drop, length, length-append, refl, slice_get, take, true, false, Ok, Err}
 use Rattle.std.proofs.Math.Seq.{drop-append-add, drop-append_seam, take-append_seam}
 use Rattle.std.proofs.lemmas.Grind.{common_steps}
 use Rattle.std.proofs.lemmas.List.{take-append-drop}
+use Rattle.std.proofs.lemmas.Option.{slice_get_cases}
 use Rattle.std.specs.Prelude.{if◌then◌else◌, ◌==◌}
 use Rattle.hart_commands.specs.Commands.{content_bytes}
+use Rattle.hart_commands.specs.FieldWidths.{HasWidthOfKind}
 use Rattle.hart_commands.specs.Fields.{Field, Row, bytes_of, fields_of}
 use Rattle.hart_commands.specs.RequestData.{Reading, request_data, request_reading}
+use Rattle.hart_commands.proofs.lemmas.Laws.{fields_have_the_width_of_their_kind-reply, fields_have_the_width_of_their_kind-request}
 use Rattle.hart_c.specs.Data.{IsShown, RequestShown, StandsAt, kind_number, placed, request_fields, written_over}
 use Rattle.hart_c.specs.Names.{rows_for}
 use Rattle.hart_c.specs.declared.data.HartField.{HartField}
@@ -37,17 +40,24 @@ bytes_first : (rows : List Row) (bytes : List ℕ)
 bytes_first [] bytes = refl
 bytes_first (row ∷ rows) bytes = grind (arith, bytes_first rows, take-append-drop, append_assoc, drop-append-add, length-append)
 
+-- a field of them has a width of its kind
+width_of : (fields : List Field) (index : ℕ) (field : Field) → All HasWidthOfKind fields → slice_get fields index ≡ Some field
+    → HasWidthOfKind field
+width_of fields index field wide is = grind (arith, slice_get_cases, wide index field)
+
 -- so the place of each index is that of the field of its row, if fields are shown
 stands : (is_reply : Bool) (command n : ℕ) (bytes before : List ℕ) (taken code status : ℕ) (old new : List HartField)
     (reading : HartReading) (index : ℕ) (shown : HartField) (done : Bool) (fields : List Field)
     → fields ≡ (if done then fields_of (rows_for is_reply command) (take n bytes) else [])
+    → All HasWidthOfKind (fields_of (rows_for is_reply command) (take n bytes))
     → IsShown (length before) fields taken code status old new reading → index < reading.count → slice_get new index ≡ Some shown
     → StandsAt is_reply command (length before) fields (before ++ bytes) index shown
-stands is_reply command n bytes before taken code status old new reading index shown done fields are from within got =
+stands is_reply command n bytes before taken code status old new reading index shown done fields are wide from within got =
     let rows = rows_for is_reply command in
     let all : fields ≡ fields_of rows (take n bytes) = grind arith in
     let (field, is_field, start, len, kind, parts) = field_of (length before) fields old index shown (grind arith) (grind arith) in
     let (row, is_row, name, kinds) = row_of rows (take n bytes) index field (cc) in
+    let width : HasWidthOfKind field = width_of fields index field (rw all wide) is_field in
     let front = before ++ bytes_of (take index fields) in
     let more = bytes_of (drop (suc index) fields) ++ (drop (length (bytes_of fields)) (take n bytes) ++ drop n bytes) in
     let split : before ++ bytes ≡ front ++ (field.bytes ++ more) =
@@ -60,8 +70,10 @@ of_reading : (command index : ℕ) (bytes : List ℕ) (read : Reading) (old new 
     → StandsAt false command 0 (request_fields command bytes read) bytes index shown
 of_reading command index bytes (Ok request) old new reading shown =
     stands false command (length (request_data request)) bytes [] _ 0 0 old new reading index shown true _ refl
+    (fields_have_the_width_of_their_kind-request command (take (length (request_data request)) bytes))
 of_reading command index bytes (Err code) old new reading shown =
     stands false command 0 bytes [] 0 code 0 old new reading index shown false _ refl
+    (fields_have_the_width_of_their_kind-request command (take 0 bytes))
 
 pub returns-clause-requests : goal.returns-clause-requests
 returns-clause-requests c command index bytes = of_reading command index bytes (request_reading command bytes)
@@ -69,5 +81,6 @@ returns-clause-requests c command index bytes = of_reading command index bytes (
 pub returns-clause-replies : goal.returns-clause-replies
 returns-clause-replies c command index (code ∷ status ∷ bytes) old new reading shown reply read outcome within got =
     stands true command (length (content_bytes reply.content)) bytes (code ∷ status ∷ []) _ reply.code reply.status.0 old new reading index
-    shown (reply.code == 0) _ refl (rw read at outcome) within got
+    shown (reply.code == 0) _ refl (fields_have_the_width_of_their_kind-reply command (code ∷ status ∷ bytes) reply read)
+    (rw read at outcome) within got
 returns-clause-replies c command index payload old new reading shown reply read outcome within got = cc
