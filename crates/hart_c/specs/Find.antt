@@ -55,7 +55,7 @@ pub data IsSearchedSoFar : List Character → Bool → List Found → ℕ → Ty
       → IsSearchedSoFar (heard ++ piece) ended (given ++ map (moved used) found) (used + further)
 
 -- For private calls alone: so many characters were searched by a scanner that goes on, and so many frames that it gave are shown. If there
--- is room for more, all were searched, and nothing is decided in what the scanner holds.
+-- is room for more, all were searched, and nothing is decided in what the scanner holds, which is at most 268 characters.
 pub record IsSearched (n : ℕ) (chars : List Character) (before after : List HartFrame) (count : ℕ) (scan : Scan) : Type 0 where
   pub within : n ≤ length chars
   pub room : count ≤ length after
@@ -64,4 +64,5 @@ pub record IsSearched (n : ℕ) (chars : List Character) (before after : List Ha
   pub going : scan.finished ≡ false
   pub history : IsHistory (take n chars) scan (found_in_first count after)
   pub whole : count < length after → n ≡ length chars
+  pub few : count < length after → length scan.held ≤ 268
   pub undecided : count < length after → IsUndecided scan.held

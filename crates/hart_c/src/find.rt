@@ -1,5 +1,5 @@
 //! The frames of what was heard, some at a time.
-ghost use Rattle.std.specs.Prelude.{◌≡◌, ◌<◌, ◌≤◌, ◌+◌, ◌-◌, ◌^◌, ℕ, false, true, List, IsTrue, All, drop, length, take};
+ghost use Rattle.std.specs.Prelude.{◌≡◌, ◌<◌, ◌≤◌, ℕ, false, true, List, IsTrue, All, drop, length, take};
 ghost use Rattle.hart_frame.specs.heard.Character.{AreFaultBits, Character, faultless};
 ghost use Rattle.hart_frame.specs.heard.Frames.{IsUndecided};
 ghost use Rattle.hart_frame.specs.scan.Streamed.{IsHistory, IsWholeHistory};
@@ -114,16 +114,14 @@ fn settle(
     count: usize,
 ) -> HartSearch
     requires room { count ≤ length frames.old }
-    requires drained { count < length frames.old → IsTrue scanner.old.drained }
-    requires places { scanner.old.first + length scanner.old.held < 2 ^ 64 - 1 }
     ensures { (n : ℕ) (chars : List Character) (before : List HartFrame) → len ≡ length chars
         → IsSearched n chars before frames.old count scanner.old → Finds chars ended before frames.new result }
 {
-    if count == frames.len() {
+    if !ended {
         return step(scanner, count);
     }
-    if !ended {
-        return wait(scanner, count);
+    if count == frames.len() {
+        return step(scanner, count);
     }
     scanner.finish();
     let count = fill(scanner, frames, count);
@@ -150,21 +148,6 @@ fn step(scanner: &Scanner, count: usize) -> HartSearch
     }
 }
 
-/// Returns what a search came to that waits for more characters. The scanner may not be used after it.
-fn wait(scanner: &mut Scanner, count: usize) -> HartSearch
-    requires drained { IsTrue scanner.old.drained }
-    requires places { scanner.old.first + length scanner.old.held < 2 ^ 64 - 1 }
-    ensures used { result.used ≡ scanner.old.first }
-    ensures count { result.count ≡ count }
-    ensures fault { result.fault ≡ 0 }
-    ensures few { length scanner.old.held ≤ 268 }
-{
-    let search = step(scanner, count);
-    // No clause says how many characters a scanner holds that waits, but with one more they are at most 269: so one more is pushed.
-    scanner.push(Char::new(0, 0).unwrap());
-    search
-}
-
 /// Shows the frames that a scanner gives, after so many others, until it gives none or there is no more room.
 #[inline(always)]
 fn fill(scanner: &mut Scanner, frames: &mut [HartFrame], count: usize) -> usize
@@ -179,6 +162,7 @@ fn fill(scanner: &mut Scanner, frames: &mut [HartFrame], count: usize) -> usize
     ensures all { (past : List Character) → IsHistory past scanner.old (found_in_first count frames.old)
         → result < length frames.new → scanner.old.finished ≡ true → IsWholeHistory past (found_in_first result frames.new) }
     ensures waits { result < length frames.new → scanner.old.finished ≡ false → IsTrue scanner.new.drained }
+    ensures few { result < length frames.new → scanner.old.finished ≡ false → length scanner.new.held ≤ 268 }
     ensures undecided { result < length frames.new → scanner.old.finished ≡ false → IsUndecided scanner.new.held }
     ensures going { scanner.old.finished ≡ false → scanner.new.finished ≡ false }
 {

@@ -20,9 +20,6 @@ loop-taken-init c =
 pub push-requires-clause-room : goal.push-requires-clause-room
 push-requires-clause-room c = grind (arith, common_steps, frames_are_streamed-pushed, length-take, length-map)
 
-pub settle-requires-clause-places : goal.settle-requires-clause-places
-settle-requires-clause-places c = grind (arith, common_steps, frames_are_streamed-pushed, length-take, length-map)
-
 pub loop-taken-preserved : goal.loop-taken-preserved
 loop-taken-preserved c =
     let loop = c.loop-taken.invariant in
@@ -32,7 +29,7 @@ loop-taken-preserved c =
     let history = rw (← all, ← c.push.ensures.heard) at (push _ _ _ c.char_of.result loop.history loop.going) in
     let rest = drop-drop {A = HartFrame} (c.fill-count.result - c.loop-taken.count) c.loop-taken.count in
     let fill = c.fill-count.ensures in
-    search (arith, rest, history, fill.tidy, fill.going, fill.waits, fill.undecided, fill.so_far)
+    search (arith, rest, history, fill.tidy, fill.going, fill.waits, fill.few, fill.undecided, fill.so_far)
 
 pub returns : goal.returns
 returns c =

@@ -13,6 +13,7 @@ invariant-loop-taken l = record {
   tidy : All IsTidy (take l.count l.frames);
   going : l.scanner.finished ≡ false;
   drained : l.count < length l.frames → IsTrue l.scanner.drained;
+  few : l.count < length l.frames → length l.scanner.held ≤ 268;
   undecided : l.count < length l.frames → IsUndecided l.scanner.held;
   history : IsHistory (take l.taken (map char_of l.heard)) l.scanner (found_in_first l.count l.frames);
 }

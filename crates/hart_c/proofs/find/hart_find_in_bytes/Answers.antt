@@ -16,14 +16,14 @@ use Rattle.hart_c.proofs.find.hart_find_in_bytes.Goals as goal
 finds_next : (bytes : List ℕ) (ended : Bool) (before after : List HartFrame) (used count : ℕ) → count ≤ length after
     → used ≤ length bytes → drop count after ≡ drop count before → All IsTidy (take count after)
     → All (IsPast used) (found_in_first count after) → LeadsOn (faultless bytes) ended 0 (found_in_first count after) used
-    → (count < length after → (length bytes < used + 269) × (IsTrue ended → used ≡ length bytes)
+    → (count < length after → (length bytes ≤ used + 268) × (IsTrue ended → used ≡ length bytes)
     × (ended ≡ false → IsUndecided (faultless (drop used bytes))))
     → Finds (faultless bytes) ended before after (record { used = used; count = count; fault = 0 })
 finds_next bytes ended before after used count room is_within untouched tidy past leads left =
     let stops = shown_stops used count after past in
     let onward = shown_onward used count after room past in
     let long : length (faultless bytes) ≡ length bytes = rw length-map in
-    let few : count < length after → length bytes < used + 269 = λ fewer. (left fewer).0 in
+    let few : count < length after → length bytes ≤ used + 268 = λ fewer. (left fewer).0 in
     let all : count < length after → IsTrue ended → used ≡ length bytes = λ fewer. (left fewer).1 in
     let undecided : count < length after → ended ≡ false → IsUndecided (drop used (faultless bytes)) =
     λ fewer going. rw drop-map ((left fewer).2 going) in

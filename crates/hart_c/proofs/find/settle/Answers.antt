@@ -38,15 +38,15 @@ finds_more n count chars ended before after scan result used_is count_is fault f
     let is : result ≡ record { used = scan.first; count = count; fault = 0 } = grind arith in
     rw is (search (arith, next, left, going, pushed, long, stops, onward))
 
+pub returns-then-not-ended : goal.returns-then-not-ended
+returns-then-not-ended c n chars before len searched =
+    let step = c.step.ensures in
+    finds_more n _ _ _ _ _ _ _ step.used step.count step.fault searched.within searched.room searched.untouched searched.tidy
+    (inl searched.going) searched.history searched.few searched.whole (λ _. c.if-not-ended.true) searched.undecided
+
 pub returns-then-count-frames : goal.returns-then-count-frames
 returns-then-count-frames c n chars before len searched =
     search (arith, finds_more n c.args.count chars c.args.ended before c.args.frames.now c.args.scanner.now)
-
-pub returns-then-not-ended : goal.returns-then-not-ended
-returns-then-not-ended c n chars before len searched =
-    let wait = c.wait.ensures in
-    finds_more n _ _ _ _ _ _ _ wait.used wait.count wait.fault searched.within searched.room searched.untouched searched.tidy
-    (inl searched.going) searched.history (λ _. wait.few) searched.whole (λ _. c.if-not-ended.true) searched.undecided
 
 pub returns-then-count-frames-2 : goal.returns-then-count-frames-2
 returns-then-count-frames-2 c n chars before len searched =
