@@ -36,8 +36,10 @@ def early_end(_):
 
 
 def later_end(missing):
-    """What is wrong at an end after the byte count, before the check byte."""
-    return f"it ends {missing} character{'s' * (missing > 1)} before its check byte"
+    """What is wrong at an end after the byte count, by the number of the characters that are missing."""
+    if missing == 1:
+        return "it lacks 1 character, its check byte"
+    return f"it lacks {missing} characters, the last of them its check byte"
 
 
 def judge_delimiter(byte):

@@ -84,7 +84,7 @@ EXPLAINED = (
     ("FF FF 01 80!40 00 00 81", "2: no message: it is a burst message, which is not read\n", ""),
     ("FF FF 26 80 55 00 00!20", "2: no message: the character at 6 has the fault bits 20\n", ""),
     ("FF FF 26 80 55 00 00 00!20", "2: no message: it is a reply, and its byte count 0 is below 2\n", ""),
-    ("FF FF 02 80 00 00", "2: no message: it ends 1 character before its check byte\n", ""),
+    ("FF FF 02 80 00 00", "2: no message: it lacks 1 character, its check byte\n", ""),
     ("FF FF 02 80 00 00 82 8", f"2-7: {IDENTIFIED}\n", "bad hex at 21"),
 )
 

@@ -77,7 +77,7 @@ ROWS = (
     ("FF FF 02 80 00 00 83", "2: no message: the check byte is 83 at 6, and 82 would fit\n", ""),
     (
         "55 FF FF 82 B7 42 0A 1B 2C 13 FF FF FF FF FF FF 02 80 00 00 82",
-        "3: no message: it ends 246 characters before its check byte\n"
+        "3: no message: it lacks 246 characters, the last of them its check byte\n"
         "16-21: request of the primary master to the device at polling address 0, Command 0, read unique identifier\n",
         "",
     ),
@@ -87,7 +87,7 @@ ROWS = (
         "9: no message: it ends before its byte count\n",
         "bad hex at 33\n",
     ),
-    ("FF FF 02 80 00 00 82!08", "2: no message: it ends 1 character before its check byte\n", "bad hex at 18\n"),
+    ("FF FF 02 80 00 00 82!08", "2: no message: it lacks 1 character, its check byte\n", "bad hex at 18\n"),
     ("FF FF 0G", "", "bad hex at 6\n"),
     ("02!08", "", "bad hex at 0\n"),
 )
@@ -97,7 +97,7 @@ ROWS = (
 FAILED_READS = (
     ("", "", "read fault\n"),
     ("FF FF 02 80 00 00 82 ", IDENTIFY, "read fault\n"),
-    ("FF FF 02 80 00 00 82", "2: no message: it ends 1 character before its check byte\n", "read fault\n"),
+    ("FF FF 02 80 00 00 82", "2: no message: it lacks 1 character, its check byte\n", "read fault\n"),
     ("FF FF 02 80 00 00 82 G", IDENTIFY, "bad hex at 21\n"),
     ("FF FF 02 80 00 00 82 8", IDENTIFY, "read fault\n"),
 )

@@ -14,9 +14,11 @@ use Rattle.hart_frame.specs.declared.heard.miss.Miss.TheVariants.{BadCheck, OneP
 abbrev pub byte_digits : ℕ → List ℕ
 byte_digits byte = encode_upper (byte ∷ [])
 
--- One character is ` character`, and any other number of them ` characters`.
-abbrev pub characters_word : ℕ → List ℕ
-characters_word count = if count == 1 then codes " character" else codes " characters"
+-- The characters that are missing are said by their number, and the last of them is the check byte.
+abbrev pub missing_words : ℕ → List ℕ
+missing_words count =
+    if count == 1 then codes "it lacks 1 character, its check byte"
+    else codes "it lacks " ++ decimal count ++ codes " characters, the last of them its check byte"
 
 -- The words of a miss. Its places are counted in the list that begins at a place of the whole list, and are told as places of the whole
 -- list. Bytes and fault bits are in hex, places and counts in decimal.
@@ -27,7 +29,7 @@ miss_words from Burst = codes "it is a burst message, which is not read"
 miss_words from (BadDelimiter byte) = byte_digits byte ++ codes " is no delimiter of this profile"
 miss_words from EndsBeforeByteCount = codes "it ends before its byte count"
 miss_words from (ShortReply byte_count) = codes "it is a reply, and its byte count " ++ decimal byte_count ++ codes " is below 2"
-miss_words from (Missing count) = codes "it ends " ++ decimal count ++ characters_word count ++ codes " before its check byte"
+miss_words from (Missing count) = missing_words count
 miss_words from (BadCheck place byte fits) =
     codes "the check byte is " ++ byte_digits byte ++ codes " at " ++ decimal (from + place) ++ codes ", and "
     ++ byte_digits fits ++ codes " would fit"

@@ -1,7 +1,7 @@
 //! What is said of places at which no message stands, though one seems to start there.
 ghost use Rattle.std.specs.Prelude.{◌≡◌, ◌++◌, ◌+◌, ◌-◌, ◌<◌, ◌≤◌, ◌^◌, codes, decimal, length};
 ghost use Rattle.hart_frame.specs.heard.Miss.{is_preamble};
-ghost use Rattle.hart_cli.specs.explain.Misses.{ArePlacesBelow, byte_digits, characters_word, gap_text, is_asked, miss_words, place_text};
+ghost use Rattle.hart_cli.specs.explain.Misses.{ArePlacesBelow, byte_digits, gap_text, is_asked, miss_words, missing_words, place_text};
 ghost use Rattle.hart_cli.specs.explain.Told.{Tells};
 
 use crate::calls::explain::kept::{Kept, make_room};
@@ -124,12 +124,7 @@ fn push_miss(text: &mut Kept, pairs: &Pairs, from: usize, miss: Miss)
             push_text(text, Buffer::new().format(byte_count));
             push_text(text, " is below 2");
         }
-        Miss::Missing { count } => {
-            push_text(text, "it ends ");
-            push_text(text, Buffer::new().format(count));
-            push_text(text, characters_word(count));
-            push_text(text, " before its check byte");
-        }
+        Miss::Missing { count } => push_missing(text, count),
         Miss::BadCheck { place, byte, fits } => {
             push_check(text, pairs, from + place, byte, fits);
         }
@@ -137,15 +132,18 @@ fn push_miss(text: &mut Kept, pairs: &Pairs, from: usize, miss: Miss)
     }
 }
 
-/// The word of so many characters.
-fn characters_word(count: usize) -> &'static str
-    ensures word { result.now ≡ characters_word count }
-    ensures short { length result.now ≤ 11 }
+/// Appends the words of a number of missing characters, the last of which is the check byte.
+fn push_missing(text: &mut Kept, count: usize)
+    requires { length text.old + 80 ≤ 32768 }
+    ensures words { text.new ≡ text.old ++ missing_words count }
+    ensures few { length text.new ≤ length text.old + 80 }
 {
     if count == 1 {
-        " character"
+        push_text(text, "it lacks 1 character, its check byte");
     } else {
-        " characters"
+        push_text(text, "it lacks ");
+        push_text(text, Buffer::new().format(count));
+        push_text(text, " characters, the last of them its check byte");
     }
 }
 

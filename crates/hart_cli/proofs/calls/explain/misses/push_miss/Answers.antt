@@ -21,16 +21,7 @@ returns-in-ShortReply-clause-words c =
     ) (simp append_assoc)
 
 pub returns-in-Missing-clause-words : goal.returns-in-Missing-clause-words
-returns-in-Missing-clause-words c =
-    rw (
-      c.in-Missing.is,
-      c.push_text-in-Missing-4.ensures.text,
-      c.push_text-in-Missing-3.ensures.text,
-      c.characters_word.ensures.word,
-      c.push_text-in-Missing-2.ensures.text,
-      c.format-in-Missing.ensures.text,
-      c.push_text-in-Missing.ensures.text,
-    ) (simp append_assoc)
+returns-in-Missing-clause-words c = rw c.in-Missing.is c.push_missing.ensures.words
 
 pub returns-in-BadCheck-clause-words : goal.returns-in-BadCheck-clause-words
 returns-in-BadCheck-clause-words c = rw (c.in-BadCheck.is, c.push_check.ensures.words) (simp append_assoc)
