@@ -100,7 +100,7 @@ refuse_each 0 dump
 cat >"$work/wanted" <<'TEXT'
 2-7: request of the primary master to the device at polling address 0, Command 0, read unique identifier
 10-22: request of the primary master to device 37420A1B2C, Command 19, write final assembly number
-    final assembly number: 01 23 45
+    final assembly number: 0x012345
 TEXT
 # Its own are of the input and of its characters.
 refuse_each 2 explain

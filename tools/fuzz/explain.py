@@ -1,14 +1,15 @@
 """What `hart explain` says of characters: of each message what it says, and of other places why no message stands there."""
 
 import pathlib
+import re
 
 from . import commands
 from .commands import COMMANDS
 from .device import COMMUNICATION_FAULTS
-from .fields import said_of_fields
+from .fields import bytes_text, said_of_fields
 from .frames import BROADCAST, Polling, frames_of
 from .misses import missed
-from .texts import hex_text, told
+from .texts import told
 
 PAGE = pathlib.Path(__file__).parents[2] / "docs" / "PROTOCOL.md"
 SECTION = PAGE.read_text(encoding="utf-8").split("\n## Explanations")[1]
@@ -19,13 +20,31 @@ STATUS_NAMES = {
     0x80: "device malfunction", 0x40: "configuration changed", 0x20: "cold start", 0x10: "more status available",
     0x08: "loop current fixed", 0x04: "loop current saturated", 0x02: "non-primary variable out of limits",
     0x01: "primary variable out of limits"}
-CODE_NAMES = {
-    0: "0, success", 2: "2, invalid selection", 5: "5, too few data bytes", 7: "7, in write protect mode",
-    64: "64, command not implemented"}
-# Why the data of a request are refused, by the code.
-REFUSALS = {commands.INVALID_SELECTION: "invalid selection", commands.INVALID_DATE: "invalid date", commands.INVALID_MODE: "invalid mode"}
+# A row of the table of response codes in docs/COMMANDS.md: its code and its meaning. One with a command has that meaning there alone.
+CODE_ROW = re.compile(r"^\| (\d+) \| `[0-9A-F]{2}` \| ([^|]+) \|", re.MULTILINE)
+OF_COMMAND = re.compile(r"(.+), of Command (\d+)")
 # How many bytes Command 38 needs, which also does without any.
 COUNTER_BYTES = 2
+
+
+def code_names():
+    """The names in the table of response codes, by the code and the command; the command is None where any has the name."""
+    names = {}
+    for code, cell in CODE_ROW.findall(commands.PAGE.read_text(encoding="utf-8")):
+        for meaning in cell.removesuffix(" (own profile)").split("; "):
+            of_command = OF_COMMAND.fullmatch(meaning)
+            name, command = (of_command[1], int(of_command[2])) if of_command else (meaning, None)
+            names[int(code), command] = name
+    return names
+
+
+CODE_NAMES = code_names()
+
+
+def code_text(command, code):
+    """A response code of a command by its number and, if it has one, its name."""
+    name = CODE_NAMES.get((code, command)) or CODE_NAMES.get((code, None))
+    return f"{code}, {name}" if name else f"{code}"
 
 
 def device_text(address, all_devices):
@@ -57,19 +76,19 @@ def names_text(names, byte):
     return ", ".join(name for bit, name in names.items() if byte & bit) or "none"
 
 
-def said_of_status(first, second):
-    """What the two status bytes of a reply say, by the names of the lines."""
+def said_of_status(command, first, second):
+    """What the two status bytes of a reply to a command say, by the names of the lines."""
     if first & COMMUNICATION_FAULTS:
         yield "communication faults", names_text(FAULT_NAMES, first)
     else:
-        yield "response code", CODE_NAMES.get(first, f"code {first}")
+        yield "response code", code_text(command, first)
         yield "device status", names_text(STATUS_NAMES, second)
 
 
 def bytes_line(name, data):
     """The line of this name with these bytes, none without any."""
     if data:
-        yield name, hex_text(data)
+        yield name, bytes_text(data)
 
 
 def said_of_too_few(command, data):
@@ -87,7 +106,7 @@ def said_of_request(command, data):
     taken = len(commands.written_data(command, data))
     yield from said_of_fields("STX", command, data[:taken])
     if code != commands.SUCCESS:
-        yield "refused", f"{code}, {REFUSALS[code]}"
+        yield "refused", code_text(command, code)
     yield from bytes_line("ignored", data[taken:])
 
 
@@ -95,7 +114,7 @@ def said_of_content(command, data):
     """What is said of the data of a reply with code 0 to a command that is listed."""
     taken = commands.reply_data(command, data)
     if taken is None:
-        yield f"data that are no reply to Command {command}", hex_text(data) or "none"
+        yield f"data that are no reply to Command {command}", bytes_text(data) if data else "none"
         return
     yield from said_of_fields("ACK", command, taken)
     yield from bytes_line("ignored", data[len(taken):])
@@ -117,9 +136,9 @@ def said(frame):
     if frame.burst:
         yield "burst bit", "set"
     if frame.expansion:
-        yield "expansion bytes", hex_text(frame.expansion)
+        yield "expansion bytes", bytes_text(frame.expansion)
     if frame.kind == "ACK":
-        yield from said_of_status(*data[:2])
+        yield from said_of_status(command, *data[:2])
         yield from said_of_reply(command, data[0], data[2:])
     elif command in COMMANDS:
         yield from said_of_request(command, data)

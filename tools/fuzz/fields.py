@@ -5,7 +5,6 @@ from typing import NamedTuple
 
 from .commands import PAGE, is_date
 from .device import unpacked
-from .texts import hex_text
 
 SECTION = PAGE.read_text(encoding="utf-8").split("\n## Names of fields\n")[1].split("\n## ")[0]
 # The cell of a row that says which data it is of, as `requests of 6; replies to 6 and 7`.
@@ -54,6 +53,11 @@ def fallen(fields, data):
         place = stop
 
 
+def bytes_text(data):
+    """Bytes in hex."""
+    return f"0x{data.hex().upper()}"
+
+
 def number_text(data):
     """A number, the most significant byte first."""
     return str(int.from_bytes(data, "big"))
@@ -69,7 +73,7 @@ def date_text(data):
     if data == bytes(3):
         return "not set"
     if not is_date(data):
-        return f"{hex_text(data)}, no date"
+        return f"{bytes_text(data)}, no date"
     day, month, year = data
     return f"{1900 + year}-{month:02}-{day:02}"
 
@@ -77,7 +81,7 @@ def date_text(data):
 def variable_text(data):
     """A device variable by its parts."""
     code, classification, unit = data[:3]
-    return f"code {code}, classification {classification}, unit {unit}, value {hex_text(data[3:7])}, status {hex_text(data[7:])}"
+    return f"code {code}, classification {classification}, unit {unit}, value {bytes_text(data[3:7])}, status {bytes_text(data[7:])}"
 
 
 def variables_text(data):
@@ -85,7 +89,7 @@ def variables_text(data):
     return "; ".join(variable_text(data[place:place + VARIABLE_BYTES]) for place in range(0, len(data), VARIABLE_BYTES))
 
 
-VALUES = {"bytes": hex_text, "float": hex_text, "number": number_text, "packed text": packed_text, "date": date_text,
+VALUES = {"bytes": bytes_text, "float": bytes_text, "number": number_text, "packed text": packed_text, "date": date_text,
           "variables": variables_text}
 
 

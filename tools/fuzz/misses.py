@@ -24,7 +24,7 @@ class Walk:
                 raise Wrong(at_end(count - taken))
             char = self.heard[self.place]
             if char.faults:
-                raise Wrong(f"the character at {self.place} has the fault bits {char.faults:02X}")
+                raise Wrong(f"the character at {self.place} has the fault bits 0x{char.faults:02X}")
             self.bytes += bytes([char.byte])
             self.place += 1
         return self.bytes[len(self.bytes) - count:]
@@ -47,7 +47,7 @@ def judge_delimiter(byte):
     if byte & 0x18 == 0 and byte & 7 == BURST_BITS:
         raise Wrong("it is a burst message, which is not read")
     if not is_delimiter(byte):
-        raise Wrong(f"{byte:02X} is no delimiter of this profile")
+        raise Wrong(f"0x{byte:02X} is no delimiter of this profile")
 
 
 def walk_body(walk):
@@ -61,7 +61,7 @@ def walk_body(walk):
     walk.take(count + 1, later_end)
     last, fits = walk.bytes[-1], parity(walk.bytes[:-1])
     if last != fits:
-        raise Wrong(f"the check byte is {last:02X} at {walk.place - 1}, and {fits:02X} would fit")
+        raise Wrong(f"the check byte is 0x{last:02X} at {walk.place - 1}, and 0x{fits:02X} would fit")
 
 
 def wrong_from(heard, place):
@@ -80,6 +80,6 @@ def missed(heard, begin, end):
             continue
         reason = wrong_from(heard, place)
         if place - 2 < begin or heard[place - 2] != PREAMBLE:
-            reason = "only one FF stands before it" if reason is None else None
+            reason = "only one 0xFF stands before it" if reason is None else None
         if reason is not None:
             yield f"{place}: no message: {reason}"

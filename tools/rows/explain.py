@@ -12,8 +12,8 @@ ROWS = (
     (
         "FF FF E2 80 00 00 00 00 AA BB CC 0B 01 FF 4A",
         "2-15: request of the primary master to all devices, Command 11, read unique identifier associated with tag\n"
-        "    expansion bytes: AA BB CC\n"
-        "    data: FF\n"
+        "    expansion bytes: 0xAABBCC\n"
+        "    data: 0xFF\n"
         "    too few data: 1 of 6\n",
         "",
     ),
@@ -31,7 +31,7 @@ ROWS = (
         "    polling address: 64\n"
         "    loop current mode: 2\n"
         "    refused: 2, invalid selection\n"
-        "    ignored: 55\n",
+        "    ignored: 0x55\n",
         "",
     ),
     (
@@ -39,7 +39,7 @@ ROWS = (
         "2-16: reply of device 37420A1B2C to the primary master, Command 19, write final assembly number\n"
         "    response code: 0, success\n"
         "    device status: configuration changed, cold start\n"
-        "    final assembly number: 01 23 45\n",
+        "    final assembly number: 0x012345\n",
         "",
     ),
     (
@@ -47,10 +47,10 @@ ROWS = (
         "2-34: reply of device 37420A1B2C to the primary master, Command 9, read device variables with status\n"
         "    response code: 0, success\n"
         "    device status: none\n"
-        "    extended device status: 00\n"
-        "    device variables: code 245, classification 0, unit 39, value 41 40 00 00, status C0; "
-        "code 9, classification 0, unit 250, value 7F A0 00 00, status 30\n"
-        "    time stamp: 00 00 00 00\n",
+        "    extended device status: 0x00\n"
+        "    device variables: code 245, classification 0, unit 39, value 0x41400000, status 0xC0; "
+        "code 9, classification 0, unit 250, value 0x7FA00000, status 0x30\n"
+        "    time stamp: 0x00000000\n",
         "",
     ),
     (
@@ -65,16 +65,16 @@ ROWS = (
         "FF FF 86 B7 42 0A 1B 2C 13 03 88 00 01 D7",
         "2-14: reply of device 37420A1B2C to the primary master, Command 19, write final assembly number\n"
         "    communication faults: longitudinal parity\n"
-        "    ignored: 01\n",
+        "    ignored: 0x01\n",
         "",
     ),
     (
         "FF FF 02 80 7D 00 FF FF 02 00 00 00 02",
         "2-7: request of the primary master to the device at polling address 0, Command 125\n"
-        "8: no message: only one FF stands before it\n",
+        "8: no message: only one 0xFF stands before it\n",
         "",
     ),
-    ("FF FF 02 80 00 00 83", "2: no message: the check byte is 83 at 6, and 82 would fit\n", ""),
+    ("FF FF 02 80 00 00 83", "2: no message: the check byte is 0x83 at 6, and 0x82 would fit\n", ""),
     (
         "55 FF FF 82 B7 42 0A 1B 2C 13 FF FF FF FF FF FF 02 80 00 00 82",
         "3: no message: it lacks 246 characters, the last of them its check byte\n"

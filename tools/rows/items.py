@@ -70,5 +70,5 @@ def said_of(read):
     chars = read.split()
     for number, item in enumerate(chars):
         if "!" in item:
-            return f"2: no message: the character at {10 + number} has the fault bits {item[3:]}\n"
+            return f"2: no message: the character at {10 + number} has the fault bits 0x{item[3:]}\n"
     return f"2: no message: it lacks {16 - len(chars)} characters, the last of them its check byte\n"

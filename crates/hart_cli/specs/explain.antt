@@ -1,6 +1,7 @@
 -- `hart explain`.
 pub mod Heard
 pub mod Words
+pub mod Codes
 pub mod Values
 pub mod Fields
 pub mod Data

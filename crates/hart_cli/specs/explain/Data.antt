@@ -7,11 +7,11 @@ use Rattle.hart_commands.specs.NeededData.{needed_data}
 use Rattle.hart_commands.specs.ReplyData.{reply_reading}
 use Rattle.hart_commands.specs.RequestData.{Reading, request_data, request_reading}
 use Rattle.hart_commands.specs.declared.reply.Reply.{Reply}
+use Rattle.hart_cli.specs.explain.Codes.{code_words}
 use Rattle.hart_cli.specs.explain.Fields.{field_lines, taken_lines}
-use Rattle.hart_cli.specs.explain.Words.{bytes_line, said_line}
-use Rattle.hart_cli.specs.text.HexText.{hex_items}
+use Rattle.hart_cli.specs.explain.Words.{bytes_line, hex_value, said_line}
 
--- Data of a command that is not known are shown as they are, if there are any.
+-- Data of a command that is not known are shown in hex, if there are any.
 abbrev pub data_line : List ℕ → List ℕ
 data_line bytes = bytes_line (codes "data") bytes
 
@@ -19,29 +19,17 @@ data_line bytes = bytes_line (codes "data") bytes
 abbrev pub ignored_line : List ℕ → List ℕ
 ignored_line bytes = bytes_line (codes "ignored") bytes
 
--- Too few data are shown as they are, if there are any, and then it is said how many they are, and how many are needed.
+-- Too few data are shown in hex, if there are any, and then it is said how many they are, and how many are needed.
 abbrev pub too_few_lines : ℕ → List ℕ → List ℕ
 too_few_lines needed bytes =
     data_line bytes ++ said_line (codes "too few data") (decimal (length bytes) ++ codes " of " ++ decimal needed)
-
--- What a code says of the data that it refuses, after a comma and a space; nothing, if that is not told here.
-abbrev pub refusal_name : ℕ → List ℕ
-refusal_name code =
-    if code == 2 then codes ", invalid selection"
-    else if code == 12 then codes ", invalid mode"
-    else if code == 9 then codes ", invalid date"
-    else []
-
--- A code that refuses data is said by its number and what it says.
-abbrev pub refusal_words : ℕ → List ℕ
-refusal_words code = decimal code ++ refusal_name code
 
 -- Data that are refused by a code are shown as the fields that the command has in them, then the code, and then what comes after the
 -- fields, which is ignored.
 abbrev pub refused_lines : ℕ → ℕ → List ℕ → List ℕ
 refused_lines command code bytes =
     let fields = fields_of (request_rows command) bytes in
-    field_lines fields ++ said_line (codes "refused") (refusal_words code) ++ ignored_line (drop (length (bytes_of fields)) bytes)
+    field_lines fields ++ said_line (codes "refused") (code_words command code) ++ ignored_line (drop (length (bytes_of fields)) bytes)
 
 -- Code 64 refuses data of a command that is not known, and code 5 too few data.
 abbrev pub no_request_lines : ℕ → ℕ → List ℕ → List ℕ
@@ -62,14 +50,14 @@ request_lines command bytes = read_lines command bytes (request_reading command 
 -- The words of bytes are the bytes, or `none`.
 abbrev pub bytes_or_none : List ℕ → List ℕ
 bytes_or_none [] = codes "none"
-bytes_or_none (byte ∷ bytes) = hex_items (byte ∷ bytes)
+bytes_or_none (byte ∷ bytes) = hex_value (byte ∷ bytes)
 
--- The line of data that are no reply to a known command shows them as they are.
+-- The line of data that are no reply to a known command shows them in hex.
 abbrev pub other_data_line : ℕ → List ℕ → List ℕ
 other_data_line command bytes =
     said_line (codes "data that are no reply to Command " ++ decimal command) (bytes_or_none bytes)
 
--- Data that are no reply have that line if the command is known, and are otherwise shown as they are, if there are any.
+-- Data that are no reply have that line if the command is known, and are otherwise shown in hex, if there are any.
 abbrev pub no_reply_line : ℕ → List ℕ → List ℕ
 no_reply_line command bytes = if is_some (command_name command) then other_data_line command bytes else data_line bytes
 

@@ -1,21 +1,16 @@
 -- What `hart explain` says of a message (own profile).
-use Rattle.std.specs.Prelude.{◌++◌, [], ◌∷◌, ℕ, Bool, false, true, List, Option, None, Some, codes, decimal}
+use Rattle.std.specs.Prelude.{◌++◌, [], ◌∷◌, ℕ, Bool, false, true, List, codes, decimal}
 use Rattle.hart_frame.specs.declared.heard.found.Found.{Found}
 use Rattle.hart_commands.specs.Fields.{command_name}
 use Rattle.hart_frame.specs.declared.wire.kind.FrameKind.{FrameKind}
 use Rattle.hart_frame.specs.declared.wire.kind.FrameKind.TheVariants.{Stx, Ack}
 use Rattle.hart_cli.specs.explain.Data.{reply_lines, request_lines}
 use Rattle.hart_cli.specs.explain.Status.{status_lines}
-use Rattle.hart_cli.specs.explain.Words.{bytes_line, said_line, who_words}
-
--- A name follows a comma and a space; without a name nothing does.
-abbrev pub name_words : Option (List ℕ) → List ℕ
-name_words None = []
-name_words (Some name) = codes ", " ++ name
+use Rattle.hart_cli.specs.explain.Words.{bytes_line, named_number, said_line, who_words}
 
 -- The words of a command are its number in decimal and, if it is known, its name.
 abbrev pub command_words : ℕ → List ℕ
-command_words command = codes "Command " ++ decimal command ++ name_words (command_name command)
+command_words command = codes "Command " ++ named_number command (command_name command)
 
 -- The line of a message has the places of its delimiter and after its check byte in decimal, who speaks to whom, the command,
 -- and a line feed.
@@ -32,7 +27,8 @@ burst_line true = said_line (codes "burst bit") (codes "set")
 -- The payload of an STX is its data; that of an ACK has its two status bytes, and then its data.
 abbrev pub payload_lines : FrameKind → ℕ → List ℕ → List ℕ
 payload_lines Stx command payload = request_lines command payload
-payload_lines Ack command (first ∷ second ∷ bytes) = status_lines first second ++ reply_lines command (first ∷ second ∷ bytes)
+payload_lines Ack command (first ∷ second ∷ bytes) =
+    status_lines command first second ++ reply_lines command (first ∷ second ∷ bytes)
 payload_lines Ack command _ = []
 
 -- The paragraph of a message is its line, and then those of what it says: the burst bit, the expansion bytes, and the payload.

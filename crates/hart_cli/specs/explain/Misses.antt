@@ -3,16 +3,16 @@ use Rattle.std.specs.Prelude.{◌==◌, ◌<◌, ⊤, if◌then◌else◌, ◌+�
 use Rattle.std.specs.Prelude.{◌&&◌, not, slice_get, Bool, false}
 use Rattle.std.specs.Option.{option_map_or}
 use Rattle.std.specs.List.{flat_map, range_with_len}
-use Rattle.hex.specs.Hex.{encode_upper}
 use Rattle.hart_frame.specs.heard.Character.{Character}
 use Rattle.hart_frame.specs.heard.Miss.{follows_preamble, is_preamble, miss_of}
 use Rattle.hart_frame.specs.declared.heard.miss.Miss.{Miss}
 use Rattle.hart_frame.specs.declared.heard.miss.Miss.TheVariants.{Faulty, Burst, BadDelimiter, EndsBeforeByteCount, ShortReply, Missing}
 use Rattle.hart_frame.specs.declared.heard.miss.Miss.TheVariants.{BadCheck, OnePreamble}
+use Rattle.hart_cli.specs.explain.Words.{hex_value}
 
--- The two digits of a byte.
-abbrev pub byte_digits : ℕ → List ℕ
-byte_digits byte = encode_upper (byte ∷ [])
+-- One byte in hex.
+abbrev pub byte_value : ℕ → List ℕ
+byte_value byte = hex_value (byte ∷ [])
 
 -- The characters that are missing are said by their number, and the last of them is the check byte.
 abbrev pub missing_words : ℕ → List ℕ
@@ -24,16 +24,16 @@ missing_words count =
 -- list. Bytes and fault bits are in hex, places and counts in decimal.
 abbrev pub miss_words : ℕ → Miss → List ℕ
 miss_words from (Faulty place faults) =
-    codes "the character at " ++ decimal (from + place) ++ codes " has the fault bits " ++ byte_digits faults
+    codes "the character at " ++ decimal (from + place) ++ codes " has the fault bits " ++ byte_value faults
 miss_words from Burst = codes "it is a burst message, which is not read"
-miss_words from (BadDelimiter byte) = byte_digits byte ++ codes " is no delimiter of this profile"
+miss_words from (BadDelimiter byte) = byte_value byte ++ codes " is no delimiter of this profile"
 miss_words from EndsBeforeByteCount = codes "it ends before its byte count"
 miss_words from (ShortReply byte_count) = codes "it is a reply, and its byte count " ++ decimal byte_count ++ codes " is below 2"
 miss_words from (Missing count) = missing_words count
 miss_words from (BadCheck place byte fits) =
-    codes "the check byte is " ++ byte_digits byte ++ codes " at " ++ decimal (from + place) ++ codes ", and "
-    ++ byte_digits fits ++ codes " would fit"
-miss_words from OnePreamble = codes "only one FF stands before it"
+    codes "the check byte is " ++ byte_value byte ++ codes " at " ++ decimal (from + place) ++ codes ", and "
+    ++ byte_value fits ++ codes " would fit"
+miss_words from OnePreamble = codes "only one 0xFF stands before it"
 
 -- The miss whose places are counted in the whole list, of one whose places are counted in the list that begins at a place of it.
 abbrev pub miss_in_whole : ℕ → Miss → Miss

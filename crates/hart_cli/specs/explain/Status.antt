@@ -1,7 +1,8 @@
 -- What `hart explain` says of the two status bytes of a reply (HCF_SPEC-099; own profile).
-use Rattle.std.specs.Prelude.{◌==◌, not, nat_le, nat_lt, bit_and, if◌then◌else◌, ◌++◌, [], ◌∷◌, ℕ, Bool, List, codes, decimal, length}
+use Rattle.std.specs.Prelude.{◌==◌, not, nat_le, nat_lt, bit_and, if◌then◌else◌, ◌++◌, [], ◌∷◌, ℕ, Bool, List, codes, length}
 use Rattle.std.specs.List.{flat_map, list_all}
 use Rattle.hart_cli.specs.declared.calls.explain.status.NamedBit as code
+use Rattle.hart_cli.specs.explain.Codes.{code_words}
 use Rattle.hart_cli.specs.explain.Words.{said_line}
 
 -- A bit of a status byte has a value and a name.
@@ -53,23 +54,12 @@ abbrev pub names_words : List (List ℕ) → List ℕ
 names_words [] = codes "none"
 names_words (name ∷ others) = name ++ flat_map further others
 
--- A response code is said by its number and its name, or by `code` and its number if it has no name here: its meaning is then the
--- command's, or none.
-abbrev pub code_words : ℕ → List ℕ
-code_words code =
-    if code == 0 then codes "0, success"
-    else if code == 2 then codes "2, invalid selection"
-    else if code == 5 then codes "5, too few data bytes"
-    else if code == 7 then codes "7, in write protect mode"
-    else if code == 64 then codes "64, command not implemented"
-    else codes "code " ++ decimal code
-
--- If bit 7 of the first status byte is clear it is the response code, and the second is the device status. If it is set the first has
--- communication faults, and of the second nothing is said.
-abbrev pub status_lines : ℕ → ℕ → List ℕ
-status_lines first second =
+-- If bit 7 of the first status byte is clear it is the response code to the command, and the second is the device status. If it is set
+-- the first has communication faults, and of the second nothing is said.
+abbrev pub status_lines : (command first second : ℕ) → List ℕ
+status_lines command first second =
     if nat_lt first 128
-    then said_line (codes "response code") (code_words first)
+    then said_line (codes "response code") (code_words command first)
     ++ said_line (codes "device status") (names_words (set_names second device_states))
     else said_line (codes "communication faults") (names_words (set_names first comm_faults))
 

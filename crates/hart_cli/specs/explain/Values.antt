@@ -6,7 +6,7 @@ use Rattle.std.specs.Simd.{first_chunks}
 use Rattle.hart_values.specs.hart_date.Calendar.{is_date}
 use Rattle.hart_commands.specs.declared.fields.FieldKind.{FieldKind}
 use Rattle.hart_commands.specs.declared.fields.FieldKind.TheVariants.{Bytes, Number, PackedText, Date, Float, Variables}
-use Rattle.hart_cli.specs.text.HexText.{hex_items}
+use Rattle.hart_cli.specs.explain.Words.{hex_value}
 
 -- Bytes are one number, of which the first is the most significant byte.
 abbrev pub number_in : List ℕ → ℕ
@@ -34,9 +34,9 @@ two_digits number = decimal (number / 10) ++ decimal (number % 10)
 abbrev pub day_words : (day month year : ℕ) → List ℕ
 day_words day month year = decimal (1900 + year) ++ codes "-" ++ two_digits month ++ codes "-" ++ two_digits day
 
--- Bytes that are no date are shown as they are.
+-- Bytes that are no date are shown in hex.
 abbrev pub no_date_words : List ℕ → List ℕ
-no_date_words bytes = hex_items bytes ++ codes ", no date"
+no_date_words bytes = hex_value bytes ++ codes ", no date"
 
 -- A date of three zero bytes is not set; any other is a day of the calendar, or none.
 abbrev pub date_words : List ℕ → List ℕ
@@ -46,23 +46,23 @@ date_words (day ∷ month ∷ year ∷ []) =
     else no_date_words (day ∷ month ∷ year ∷ [])
 date_words bytes = no_date_words bytes
 
--- The words of eight bytes of a device variable: its code, classification and unit in decimal, its value and its status as bytes.
+-- The words of eight bytes of a device variable: its code, classification and unit in decimal, its value and its status in hex.
 unfoldable pub variable_words : List ℕ → List ℕ
 variable_words bytes =
     codes "code " ++ decimal (slice_index bytes 0)
     ++ codes ", classification " ++ decimal (slice_index bytes 1)
     ++ codes ", unit " ++ decimal (slice_index bytes 2)
-    ++ codes ", value " ++ hex_items (slice_range bytes 3 7)
-    ++ codes ", status " ++ hex_items (slice_index bytes 7 ∷ [])
+    ++ codes ", value " ++ hex_value (slice_range bytes 3 7)
+    ++ codes ", status " ++ hex_value (slice_index bytes 7 ∷ [])
 
 -- Device variables have eight bytes each, and a semicolon and a space between two of them.
 abbrev pub variables_words : List ℕ → List ℕ
 variables_words bytes = join_by variable_words (codes "; ") (first_chunks 8 (length bytes / 8) bytes)
 
--- Bytes and a float are shown as bytes, a number in decimal, a text in double quotes, a date as a day, and device variables one by one.
+-- Bytes and a float are shown in hex, a number in decimal, a text in double quotes, a date as a day, and device variables one by one.
 abbrev pub value_words : FieldKind → List ℕ → List ℕ
-value_words Bytes bytes = hex_items bytes
-value_words Float bytes = hex_items bytes
+value_words Bytes bytes = hex_value bytes
+value_words Float bytes = hex_value bytes
 value_words Number bytes = decimal (number_in bytes)
 value_words PackedText bytes = codes "\"" ++ unpacked bytes ++ codes "\""
 value_words Date bytes = date_words bytes

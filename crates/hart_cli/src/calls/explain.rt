@@ -19,6 +19,7 @@ use crate::text::pairs::Pairs;
 use hart_frame::{Char, Found, first_frame};
 use std::alloc::Global;
 
+mod codes;
 mod data;
 mod fields;
 mod heard;

@@ -22,6 +22,7 @@ use Rattle.hart_frame.specs.heard.Miss.{HasFrameAt, miss_of}
 use Rattle.hart_frame.specs.heard.Place.{StandsIn}
 use Rattle.hart_cli.specs.explain.Gaps.{IsGap, missed, missed_at, MissedPlace}
 use Rattle.hart_cli.specs.explain.Misses.{miss_line, miss_words, place_text}
+use Rattle.hart_cli.specs.explain.Words.{hex_value}
 
 -- places that have something, each with it
 abbrev pub told_at : (ℕ → Option Miss) → ℕ → List MissedPlace
@@ -90,7 +91,7 @@ unbroken-digit k = grind (arith, common_steps, list_all_at no_line_feed upper_di
 
 -- the words of a miss have none
 pub unbroken-miss_words : (from : ℕ) (miss : Miss) → list_all no_line_feed (miss_words from miss) ≡ true
-unfolding encode_with
+unfolding encode_with hex_value
 unbroken-miss_words from Burst = refl
 unbroken-miss_words from _ = grind (arith, list_all-append, unbroken-decimal, unbroken-digit)
 

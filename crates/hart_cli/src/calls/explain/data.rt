@@ -1,12 +1,12 @@
 //! What is said of the data of a message.
 ghost use Rattle.std.specs.Prelude.{◌≡◌, ◌++◌, ◌+◌, ◌*◌, ◌≤◌, Some, length};
-ghost use Rattle.hart_cli.specs.explain.Data.{bytes_or_none, no_reply_line, no_request_lines, other_data_line, refusal_name};
-ghost use Rattle.hart_cli.specs.explain.Data.{refusal_words, refused_lines, replied_lines, reply_lines, request_lines, too_few_lines};
+ghost use Rattle.hart_cli.specs.explain.Data.{bytes_or_none, no_reply_line, no_request_lines, other_data_line, refused_lines};
+ghost use Rattle.hart_cli.specs.explain.Data.{replied_lines, reply_lines, request_lines, too_few_lines};
 
+use crate::calls::explain::codes::push_code;
 use crate::calls::explain::fields::{push_fields, push_taken};
 use crate::calls::explain::kept::Kept;
-use crate::calls::explain::words::{push_bytes_line, push_name};
-use crate::text::hex_text::push_hex_items;
+use crate::calls::explain::words::{push_bytes_line, push_hex_value, push_name};
 use crate::text::pairs::Pairs;
 use crate::text::words::push_text;
 use hart_commands::{Reply, Request, command_name, needed_data, reply_rows, request_rows};
@@ -68,32 +68,9 @@ fn push_refused(text: &mut Kept, pairs: &Pairs, command: u8, code: ResponseCode,
 {
     let rest = push_fields(text, pairs, request_rows(command), bytes);
     push_name(text, "refused");
-    push_refusal(text, code.value());
+    push_code(text, command, code.value());
     text.push(b'\n');
     push_bytes_line(text, pairs, "ignored", rest);
-}
-
-/// Adds the words of a code that refuses data.
-fn push_refusal(text: &mut Kept, code: u8)
-    requires { length text.old + 30 ≤ 32768 }
-    ensures words { text.new ≡ text.old ++ refusal_words code }
-    ensures few { length text.new ≤ length text.old + 30 }
-{
-    push_text(text, Buffer::new().format(code));
-    push_text(text, refusal_name(code));
-}
-
-/// What a code says of the data that it refuses, after a comma and a space.
-fn refusal_name(code: u8) -> &'static str
-    ensures name { result.now ≡ refusal_name code }
-    ensures short { length result.now ≤ 20 }
-{
-    match code {
-        2 => ", invalid selection",
-        12 => ", invalid mode",
-        9 => ", invalid date",
-        _ => "",
-    }
 }
 
 /// Adds what is said of the data of a reply, which stand after its two status bytes.
@@ -155,13 +132,13 @@ fn push_other_data(text: &mut Kept, pairs: &Pairs, command: u8, bytes: &[u8])
 
 /// Adds bytes, or `none`.
 fn push_bytes_or_none(text: &mut Kept, pairs: &Pairs, bytes: &[u8])
-    requires room { length text.old + 3 * length bytes.now + 4 ≤ 32768 }
+    requires room { length text.old + 2 * length bytes.now + 4 ≤ 32768 }
     ensures words { text.new ≡ text.old ++ bytes_or_none bytes.now }
-    ensures few { length text.new ≤ length text.old + 3 * length bytes.now + 4 }
+    ensures few { length text.new ≤ length text.old + 2 * length bytes.now + 4 }
 {
     if bytes.is_empty() {
         push_text(text, "none");
     } else {
-        push_hex_items(text, pairs, bytes);
+        push_hex_value(text, pairs, bytes);
     }
 }

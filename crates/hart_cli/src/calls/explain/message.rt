@@ -6,7 +6,7 @@ ghost use Rattle.hart_cli.specs.explain.Message.{burst_line, command_words, mess
 use crate::calls::explain::data::{push_reply_data, push_request_data};
 use crate::calls::explain::kept::Kept;
 use crate::calls::explain::status::push_status;
-use crate::calls::explain::words::{push_bytes_line, push_said, push_who};
+use crate::calls::explain::words::{push_bytes_line, push_named_number, push_said, push_who};
 use crate::text::pairs::Pairs;
 use crate::text::words::push_text;
 use hart_commands::command_name;
@@ -45,7 +45,7 @@ fn push_reply(text: &mut Kept, pairs: &Pairs, command: u8, payload: &[u8])
     let [first, second, ..] = payload else {
         return;
     };
-    push_status(text, *first, *second);
+    push_status(text, command, *first, *second);
     push_reply_data(text, pairs, command, payload);
 }
 
@@ -73,11 +73,7 @@ fn push_command(text: &mut Kept, command: u8)
     ensures few { length text.new ≤ length text.old + 80 }
 {
     push_text(text, "Command ");
-    push_text(text, Buffer::new().format(command));
-    if let Some(name) = command_name(command) {
-        push_text(text, ", ");
-        push_text(text, name);
-    }
+    push_named_number(text, command, command_name(command));
 }
 
 /// Adds the line of a burst bit, if it is set.

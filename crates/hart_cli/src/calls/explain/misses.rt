@@ -1,12 +1,12 @@
 //! What is said of places at which no message stands, though one seems to start there.
 ghost use Rattle.std.specs.Prelude.{◌≡◌, ◌++◌, ◌+◌, ◌-◌, ◌<◌, ◌≤◌, ◌^◌, codes, decimal, length};
 ghost use Rattle.hart_frame.specs.heard.Miss.{is_preamble};
-ghost use Rattle.hart_cli.specs.explain.Misses.{ArePlacesBelow, byte_digits, gap_text, is_asked, miss_words, missing_words, place_text};
+ghost use Rattle.hart_cli.specs.explain.Misses.{ArePlacesBelow, byte_value, gap_text, is_asked, miss_words, missing_words, place_text};
 ghost use Rattle.hart_cli.specs.explain.Told.{Tells};
 
 use crate::calls::explain::kept::{Kept, make_room};
+use crate::calls::explain::words::push_hex_value;
 use crate::stream::{Failed, Sink};
-use crate::text::hex_text::push_hex;
 use crate::text::pairs::Pairs;
 use crate::text::words::push_text;
 use hart_frame::{Char, Miss, why_none};
@@ -128,7 +128,7 @@ fn push_miss(text: &mut Kept, pairs: &Pairs, from: usize, miss: Miss)
         Miss::BadCheck { place, byte, fits } => {
             push_check(text, pairs, from + place, byte, fits);
         }
-        Miss::OnePreamble => push_text(text, "only one FF stands before it"),
+        Miss::OnePreamble => push_text(text, "only one 0xFF stands before it"),
     }
 }
 
@@ -150,8 +150,8 @@ fn push_missing(text: &mut Kept, count: usize)
 /// Adds the words of a check byte at a place, and of the one that would fit.
 fn push_check(text: &mut Kept, pairs: &Pairs, place: usize, byte: u8, fits: u8)
     requires { length text.old + 70 ≤ 32768 }
-    ensures words { text.new ≡ text.old ++ codes "the check byte is " ++ byte_digits byte ++ codes " at " ++ decimal place
-        ++ codes ", and " ++ byte_digits fits ++ codes " would fit" }
+    ensures words { text.new ≡ text.old ++ codes "the check byte is " ++ byte_value byte ++ codes " at " ++ decimal place
+        ++ codes ", and " ++ byte_value fits ++ codes " would fit" }
     ensures few { length text.new ≤ length text.old + 70 }
 {
     push_text(text, "the check byte is ");
@@ -163,11 +163,11 @@ fn push_check(text: &mut Kept, pairs: &Pairs, place: usize, byte: u8, fits: u8)
     push_text(text, " would fit");
 }
 
-/// Adds the two digits of a byte.
+/// Appends a byte in hex.
 fn push_byte(text: &mut Kept, pairs: &Pairs, byte: u8)
-    requires { length text.old + 2 ≤ 32768 }
-    ensures digits { text.new ≡ text.old ++ byte_digits byte }
-    ensures len { length text.new ≡ length text.old + 2 }
+    requires { length text.old + 4 ≤ 32768 }
+    ensures value { text.new ≡ text.old ++ byte_value byte }
+    ensures len { length text.new ≡ length text.old + 4 }
 {
-    push_hex(text, pairs, &[byte]);
+    push_hex_value(text, pairs, &[byte]);
 }

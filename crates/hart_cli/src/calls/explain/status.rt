@@ -1,13 +1,14 @@
 //! What is said of the two status bytes of a reply.
 ghost use Rattle.std.specs.Prelude.{◌≡◌, ◌++◌, ◌+◌, ◌≤◌, codes, length, map, true};
-ghost use Rattle.hart_cli.specs.explain.Status.{are_short, code_words, names_words, seen, separated, set_names, status_lines};
+ghost use Rattle.hart_cli.specs.explain.Status.{are_short, names_words, seen, separated, set_names, status_lines};
+ghost use Rattle.hart_cli.specs.explain.Codes.{code_words};
 ghost use Rattle.hart_cli.specs.explain.Words.{said_line};
 
+use crate::calls::explain::codes::push_code;
 use crate::calls::explain::kept::Kept;
 use crate::calls::explain::words::push_name;
 use crate::text::words::push_text;
 use hart_values::{ByteList, CommFaults, DeviceStatus};
-use itoa::Buffer;
 
 /// A bit of a status byte, and its name.
 struct NamedBit {
@@ -58,48 +59,29 @@ const DEVICE_STATES: &[NamedBit] = &[
 /// The names of eight bits, each with a comma and a space before it.
 type Names = ByteList<336>;
 
-/// Adds what the two status bytes of a reply say.
-pub fn push_status(text: &mut Kept, first: u8, second: u8)
+/// Adds what the two status bytes of a reply to a command say.
+pub fn push_status(text: &mut Kept, command: u8, first: u8, second: u8)
     requires { length text.old + 500 ≤ 32768 }
-    ensures lines { text.new ≡ text.old ++ status_lines first second }
+    ensures lines { text.new ≡ text.old ++ status_lines command first second }
     ensures few { length text.new ≤ length text.old + 500 }
 {
     if first < 0x80 {
-        push_code_line(text, first);
+        push_code_line(text, command, first);
         push_names_line(text, "device status", DEVICE_STATES, second);
     } else {
         push_names_line(text, "communication faults", COMM_FAULTS, first);
     }
 }
 
-/// Adds the line of a response code.
-fn push_code_line(text: &mut Kept, code: u8)
-    requires { length text.old + 60 ≤ 32768 }
-    ensures line { text.new ≡ text.old ++ said_line (codes "response code") (code_words code) }
-    ensures few { length text.new ≤ length text.old + 60 }
+/// Adds the line of the response code to a command.
+fn push_code_line(text: &mut Kept, command: u8, code: u8)
+    requires { length text.old + 89 ≤ 32768 }
+    ensures line { text.new ≡ text.old ++ said_line (codes "response code") (code_words command code) }
+    ensures few { length text.new ≤ length text.old + 89 }
 {
     push_name(text, "response code");
-    push_code(text, code);
+    push_code(text, command, code);
     text.push(b'\n');
-}
-
-/// Adds the words of a response code.
-fn push_code(text: &mut Kept, code: u8)
-    requires { length text.old + 30 ≤ 32768 }
-    ensures words { text.new ≡ text.old ++ code_words code }
-    ensures few { length text.new ≤ length text.old + 30 }
-{
-    match code {
-        0 => push_text(text, "0, success"),
-        2 => push_text(text, "2, invalid selection"),
-        5 => push_text(text, "5, too few data bytes"),
-        7 => push_text(text, "7, in write protect mode"),
-        64 => push_text(text, "64, command not implemented"),
-        _ => {
-            push_text(text, "code ");
-            push_text(text, Buffer::new().format(code));
-        }
-    }
 }
 
 /// Adds the line of the names of the bits that are set in a byte.

@@ -5,7 +5,7 @@ ghost use Rattle.hart_cli.specs.explain.Values.{day_words, no_date_words, suits,
 ghost use Rattle.hart_cli.specs.explain.Values.{variables_words};
 
 use crate::calls::explain::kept::Kept;
-use crate::text::hex_text::push_hex_items;
+use crate::calls::explain::words::push_hex_value;
 use crate::text::pairs::Pairs;
 use crate::text::words::push_text;
 use hart_commands::FieldKind;
@@ -26,7 +26,7 @@ pub fn push_value(text: &mut Kept, pairs: &Pairs, kind: FieldKind, bytes: &[u8])
     ensures few { length text.new ≤ length text.old + 12 * length bytes.now + 30 }
 {
     match kind {
-        FieldKind::Bytes | FieldKind::Float => push_hex_items(text, pairs, bytes),
+        FieldKind::Bytes | FieldKind::Float => push_hex_value(text, pairs, bytes),
         FieldKind::Number => push_number(text, bytes),
         FieldKind::PackedText => push_packed_text(text, bytes),
         FieldKind::Date => push_date(text, pairs, bytes),
@@ -94,7 +94,7 @@ fn push_date(text: &mut Kept, pairs: &Pairs, bytes: &[u8])
         Ok(date) if date.is_set() => push_day(text, *day, *month, *year),
         Ok(_) => push_text(text, "not set"),
         Err(_) => {
-            push_hex_items(text, pairs, bytes);
+            push_hex_value(text, pairs, bytes);
             push_text(text, ", no date");
         }
     }
@@ -150,9 +150,9 @@ fn push_variable(text: &mut Kept, pairs: &Pairs, variable: &[u8; 8])
     push_counted(text, ", classification ", *classification);
     push_counted(text, ", unit ", *unit);
     push_text(text, ", value ");
-    push_hex_items(text, pairs, &variable[3..7]);
+    push_hex_value(text, pairs, &variable[3..7]);
     push_text(text, ", status ");
-    push_hex_items(text, pairs, &[*status]);
+    push_hex_value(text, pairs, &[*status]);
 }
 
 /// Adds a text and a number.

@@ -1,11 +1,11 @@
-//! Who speaks to whom, and the lines of what a message says.
-ghost use Rattle.std.specs.Prelude.{◌≡◌, ◌++◌, ◌+◌, ◌*◌, ◌≤◌, codes, length};
-ghost use Rattle.hart_cli.specs.explain.Words.{bytes_line, device_words, master_words, said_line, who_words};
-ghost use Rattle.hart_cli.specs.text.HexText.{hex_items};
+//! Bytes, numbers with names, who speaks to whom, and the lines of what a message says.
+ghost use Rattle.std.specs.Prelude.{◌≡◌, ◌++◌, ◌+◌, ◌*◌, ◌≤◌, IfSome, codes, length};
+ghost use Rattle.std.specs.Option.{option_map};
+ghost use Rattle.hart_cli.specs.explain.Words.{bytes_line, device_words, hex_value, master_words, named_number, said_line, who_words};
 
 use crate::calls::explain::kept::Kept;
 use crate::text::device_digits::push_device_digits;
-use crate::text::hex_text::push_hex_items;
+use crate::text::hex_text::push_hex;
 use crate::text::pairs::Pairs;
 use crate::text::words::push_text;
 use hart_frame::FrameKind;
@@ -80,24 +80,49 @@ pub fn push_said(text: &mut Kept, name: &str, value: &str)
 }
 
 /// Adds a line of what a message says, of bytes.
-pub fn push_said_bytes(text: &mut Kept, pairs: &Pairs, name: &str, bytes: &[u8])
-    requires { length text.old + length name.now + 3 * length bytes.now + 7 ≤ 32768 }
-    ensures line { text.new ≡ text.old ++ said_line name.now (hex_items bytes.now) }
-    ensures few { length text.new ≤ length text.old + length name.now + 3 * length bytes.now + 7 }
+fn push_said_bytes(text: &mut Kept, pairs: &Pairs, name: &str, bytes: &[u8])
+    requires { length text.old + length name.now + 2 * length bytes.now + 9 ≤ 32768 }
+    ensures line { text.new ≡ text.old ++ said_line name.now (hex_value bytes.now) }
+    ensures len { length text.new ≡ length text.old + length name.now + 2 * length bytes.now + 9 }
 {
     push_name(text, name);
-    push_hex_items(text, pairs, bytes);
+    push_hex_value(text, pairs, bytes);
     text.push(b'\n');
 }
 
 /// Adds the line of bytes, if there are any.
 pub fn push_bytes_line(text: &mut Kept, pairs: &Pairs, name: &str, bytes: &[u8])
-    requires { length text.old + length name.now + 3 * length bytes.now + 7 ≤ 32768 }
+    requires { length text.old + length name.now + 2 * length bytes.now + 9 ≤ 32768 }
     ensures line { text.new ≡ text.old ++ bytes_line name.now bytes.now }
-    ensures few { length text.new ≤ length text.old + length name.now + 3 * length bytes.now + 7 }
+    ensures few { length text.new ≤ length text.old + length name.now + 2 * length bytes.now + 9 }
 {
     if !bytes.is_empty() {
         push_said_bytes(text, pairs, name, bytes);
+    }
+}
+
+/// Appends bytes in hex: `0x`, and two upper-case digits for each byte.
+#[tactic(auto, unfolding(crate::specs::explain::Words::hex_value))]
+pub fn push_hex_value(text: &mut Kept, pairs: &Pairs, bytes: &[u8])
+    requires { length text.old + 2 * length bytes.now + 2 ≤ 32768 }
+    ensures value { text.new ≡ text.old ++ hex_value bytes.now }
+    ensures len { length text.new ≡ length text.old + 2 * length bytes.now + 2 }
+{
+    push_text(text, "0x");
+    push_hex(text, pairs, bytes);
+}
+
+/// Appends a number in decimal, and its name, if it has one.
+pub fn push_named_number(text: &mut Kept, number: u8, name: Option<&str>)
+    requires room { length text.old + 69 ≤ 32768 }
+    requires short { IfSome name (λ name. length name.now ≤ 64) }
+    ensures words { text.new ≡ text.old ++ named_number number (option_map (λ name. name.now) name.entry) }
+    ensures few { length text.new ≤ length text.old + 69 }
+{
+    push_text(text, Buffer::new().format(number));
+    if let Some(name) = name {
+        push_text(text, ", ");
+        push_text(text, name);
     }
 }
 

@@ -147,6 +147,7 @@ line for each thing that the message says:
   data              of a command that hart does not know, or too few, in hex
 and if the data do not fit the command: too few data; refused, with the response
 code that refuses them and why; data that are no reply.
+Bytes in hex begin with 0x, as 0x41C80000; all other numbers are decimal.
 For each place at which a message seems to start and none stands, a line with
 that place and why. A message seems to start after two preamble bytes FF that
 came whole; of a whole message after one FF alone it says so.
@@ -163,12 +164,12 @@ writes
   2-16: reply of device 37420A1B2C to the primary master, Command 19, write final assembly number
       response code: 0, success
       device status: configuration changed
-      final assembly number: 01 23 45
+      final assembly number: 0x012345
 and with a byte changed in the second of two messages,
   echo \"FF FF 02 80 00 00 82 FF FF 02 80 00 00 83\" | hart explain
 writes
   2-7: request of the primary master to the device at polling address 0, Command 0, read unique identifier
-  9: no message: the check byte is 83 at 13, and 82 would fit",
+  9: no message: the check byte is 0x83 at 13, and 0x82 would fit",
 };
 
 pub(super) const SIM: Page = Page {

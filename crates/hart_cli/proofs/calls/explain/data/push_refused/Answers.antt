@@ -10,7 +10,7 @@ returns c = record {
   lines = rw (
     c.push_bytes_line.ensures.line,
     c.push.ensures,
-    c.push_refusal.ensures.words,
+    c.push_code.ensures.words,
     c.value.ensures.same,
     c.push_name.ensures.name,
     c.push_fields-rest.ensures.lines,

@@ -20,9 +20,6 @@ returns-in-ShortReply-clause-words c =
       c.push_text-in-ShortReply.ensures.text,
     ) (simp append_assoc)
 
-pub returns-in-Missing-clause-words : goal.returns-in-Missing-clause-words
-returns-in-Missing-clause-words c = rw c.in-Missing.is c.push_missing.ensures.words
-
 pub returns-in-BadCheck-clause-words : goal.returns-in-BadCheck-clause-words
 returns-in-BadCheck-clause-words c = rw (c.in-BadCheck.is, c.push_check.ensures.words) (simp append_assoc)
 

@@ -1,0 +1,23 @@
+-- The response codes that have a name in `hart explain` (HCF_SPEC-099; of 9 and 12 own profile).
+use Rattle.std.specs.Prelude.{◌==◌, ◌&&◌, if◌then◌else◌, ℕ, List, Option, None, Some, codes}
+use Rattle.hart_cli.specs.explain.Words.{named_number}
+
+-- A response code has this name, whether a reply to the command gives it or the data of a request are refused by it. A code that means
+-- something else for each command has a name for those commands alone of which this profile says what it means.
+abbrev pub code_name : (command code : ℕ) → Option (List ℕ)
+code_name command code =
+    if code == 0 then Some (codes "success")
+    else if code == 2 then Some (codes "invalid selection")
+    else if code == 5 then Some (codes "too few data bytes")
+    else if code == 7 then Some (codes "in write protect mode")
+    else if (code == 9) && (command == 18) then Some (codes "invalid date")
+    else if (code == 9) && (command == 38) then Some (codes "counter mismatch")
+    else if (code == 12) && (command == 6) then Some (codes "invalid mode")
+    else if code == 16 then Some (codes "access restricted")
+    else if code == 32 then Some (codes "busy")
+    else if code == 64 then Some (codes "command not implemented")
+    else None
+
+-- A response code is said by its number and, if it has one, its name.
+abbrev pub code_words : (command code : ℕ) → List ℕ
+code_words command code = named_number code (code_name command code)
