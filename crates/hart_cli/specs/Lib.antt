@@ -7,6 +7,6 @@ pub mod Answer
 pub mod dump
 pub mod explain
 pub mod sim
-pub mod FaultNumber
+pub mod FaultNumbers
 pub mod FaultText
 pub mod program

@@ -2,7 +2,7 @@
 
 ghost use Rattle.std.specs.Prelude.{◌≡◌, Some};
 ghost use Rattle.hart_line.specs.FaultText.{joined};
-ghost use Rattle.hart_cli.specs.FaultNumber.{fault_number};
+ghost use Rattle.hart_cli.specs.FaultNumbers.{cli_fault_number};
 ghost use Rattle.hart_cli.specs.FaultText.{fault_line, fault_text};
 ghost use Rattle.hart_cli.specs.declared.fault.CliFault.TheVariants.{Image, Memory, Write};
 
@@ -17,22 +17,22 @@ use thiserror::Error;
 /// Why a call ended early.
 #[derive(Clone, Copy, Debug, Error)]
 pub enum CliFault {
-    /// Fault 1: the reader failed.
+    /// The reader failed.
     Read,
-    /// Fault 2: the writer failed.
+    /// The writer failed.
     Write,
-    /// Fault 3: the input has more bytes than `INPUT_LIMIT`.
+    /// The input has more bytes than [`INPUT_LIMIT`](crate::INPUT_LIMIT).
     TooLong,
-    /// Fault 4: at this byte of the input, counted from 0, begins the first thing that is neither a separator nor an item. Of the
-    /// word of an image it is the first byte that is no hex digit, or its length if this is odd.
+    /// At this byte of the input, counted from 0, begins the first thing that is neither a separator nor an item. Of the word of an image
+    /// it is the first byte that is no hex digit, or its length if this is odd.
     BadHex { place: usize },
-    /// Fault 5: the input is no script, or one that is not carried out.
+    /// The input is no script, or one that is not carried out.
     Line(LineFault),
-    /// Fault 6: the image is none that a device goes on from.
+    /// The image is none that a device goes on from.
     Image(DeviceFault),
-    /// Fault 7: memory was refused, for so many items.
+    /// Memory was refused, for this number of items.
     Memory(NoRoom),
-    /// Fault 8: this word of a message to send is bad: 1 is WHO, 2 ADDRESS, 3 COMMAND and 4 DATA.
+    /// This word of a message to send is bad: 1 is WHO, 2 ADDRESS, 3 COMMAND and 4 DATA.
     BadWord { number: u8 },
 }
 
@@ -40,9 +40,9 @@ pub enum CliFault {
 const LONGEST_LINE: usize = 55;
 
 impl CliFault {
-    /// Returns the number of the fault, from 1 to 8.
+    /// Returns the number of the fault, 1 to 8.
     pub fn number(self) -> u8
-        ensures { result ≡ fault_number self }
+        ensures { result ≡ cli_fault_number self }
     {
         match self {
             CliFault::Read => 1,
