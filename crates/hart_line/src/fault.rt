@@ -1,4 +1,5 @@
 ghost use Rattle.std.specs.Prelude.{◌≡◌, ◌≤◌, length, Some};
+ghost use Rattle.hart_line.specs.FaultNumbers.{line_fault_number};
 ghost use Rattle.hart_line.specs.FaultText.{joined, leg_word, line_fault_text};
 
 use crate::{FaultText, NoRoom};
@@ -41,16 +42,27 @@ impl fmt::Display for Leg {
 /// Why a script was not read or not carried out.
 #[derive(Clone, Copy, Debug, PartialEq, Eq, Error)]
 pub enum LineFault {
-    /// Fault 1: what was heard in this leg of the event with this number, counted from 0, has frames, and they are not just the
-    /// one that was sent.
+    /// What was heard in this leg of the event with this number, counted from 0, has frames, and they are not just the one that was
+    /// sent.
     Undetected { event: usize, leg: Leg },
-    /// Fault 2: memory was refused, for so many items.
+    /// Memory was refused.
     Memory(NoRoom),
-    /// Fault 3: the line of the text with this number, counted from 1, says no event.
+    /// The line of the text with this number, counted from 1, says no event.
     BadLine { number: usize },
 }
 
 impl LineFault {
+    /// Returns the number of the fault, 1 to 3.
+    pub fn number(self) -> u8
+        ensures { result ≡ line_fault_number self }
+    {
+        match self {
+            LineFault::Undetected { .. } => 1,
+            LineFault::Memory(_) => 2,
+            LineFault::BadLine { .. } => 3,
+        }
+    }
+
     /// The text of the fault.
     pub fn text(self) -> FaultText
         ensures { joined result ≡ line_fault_text self }

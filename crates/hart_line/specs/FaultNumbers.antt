@@ -1,0 +1,10 @@
+-- The numbers of the faults of a script (own profile).
+use Rattle.std.specs.Prelude.{ℕ}
+use Rattle.hart_line.specs.declared.fault.LineFault.{LineFault}
+use Rattle.hart_line.specs.declared.fault.LineFault.TheVariants.{Undetected, Memory, BadLine}
+
+-- The number of each fault.
+abbrev pub line_fault_number : LineFault → ℕ
+line_fault_number (Undetected event leg) = 1
+line_fault_number (Memory none) = 2
+line_fault_number (BadLine number) = 3
