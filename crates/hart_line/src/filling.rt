@@ -24,7 +24,7 @@ impl<T> Model for Filling<T> {
 }
 
 impl<T> Filling<T> {
-    /// No items yet, and room for so many, each of which takes 512 bytes at most. Room for none is always there.
+    /// Returns a list of no items with room for `room` of them, each of which takes at most 512 bytes. Room for none is always there.
     ///
     /// # Errors
     ///
@@ -81,16 +81,18 @@ impl<T> Filling<T> {
         }
     }
 
-    /// Makes room for so many more items, if there is less.
+    /// Makes room for `more` further items, each of which takes at most 512 bytes, if there is less. Room for none is always there.
     ///
     /// # Errors
     ///
     /// [`NoRoom`] with that number, if the allocator refused it. Nothing has changed then.
     pub fn make_room(&mut self, more: usize) -> Result<(), NoRoom>
+        requires small { AreSmall T.row }
         ensures items { self.new.items ≡ self.old.items }
         ensures room { OnOk result (length self.new.items + more ≤ self.new.room) }
         ensures refused { OnErr result (self.new ≡ self.old) }
         ensures number { IfErr result (λ none. none.items ≡ more) }
+        ensures nothing { more ≡ 0 → IsOk result }
     {
         make_room(&mut self.items, more)?;
         self.room = self.items.capacity();

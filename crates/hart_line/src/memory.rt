@@ -4,29 +4,22 @@ ghost use Rattle.hart_line.specs.Filling.{AreSmall};
 
 use std::alloc::Global;
 
-/// There is no room for so many items. [`reserved`] and [`make_room`] alone say so, if the allocator refused it.
+/// A growth that the allocator refused. [`reserved`] and [`make_room`] alone make one, and nothing changes its number.
 #[derive(Clone, Copy, Debug, PartialEq, Eq)]
 pub struct NoRoom {
     items: usize,
 }
 
 impl NoRoom {
-    /// The number of items that there is no room for.
+    /// Returns the number of items that there is no room for.
     pub fn items(self) -> usize
         ensures { result ≡ self.items }
     {
         self.items
     }
-
-    /// The same refusal, of room for so many items in all, of which these were some.
-    pub fn among(self, items: usize) -> NoRoom
-        ensures { result.items ≡ items }
-    {
-        NoRoom { items }
-    }
 }
 
-/// An empty list with room for so many items, each of which takes 512 bytes at most. Room for none is always there.
+/// Returns an empty list with room for `room` items, each of which takes at most 512 bytes. Room for none is always there.
 ///
 /// # Errors
 ///
@@ -43,16 +36,19 @@ pub fn reserved<T>(alloc: Global, room: usize) -> Result<Vec<T>, NoRoom>
     Vec::with_capacity(alloc, room).map_err(|_refused| NoRoom { items: room })
 }
 
-/// Makes room for so many more items of a list, and for more than that if it is missing, so that a list that grows seldom moves.
+/// Makes room for `more` further items of a list, each of which takes at most 512 bytes. Room for none is always there. If room is
+/// missing it makes more than that, so that a list that grows seldom moves.
 ///
 /// # Errors
 ///
 /// [`NoRoom`] with that number, if the allocator refused it. The list is as it was.
 pub fn make_room<T>(list: &mut Vec<T>, more: usize) -> Result<(), NoRoom>
+    requires small { AreSmall T.row }
     ensures items { list.new.items ≡ list.old.items }
     ensures room { OnOk result (length list.new.items + more ≤ vec_capacity list.new) }
     ensures kept { vec_capacity list.old ≤ vec_capacity list.new }
     ensures refused { IfErr result (λ none. none.items ≡ more) }
+    ensures nothing { more ≡ 0 → IsOk result }
 {
     list.reserve(more)
         .map_err(|_refused| NoRoom { items: more })

@@ -3,7 +3,7 @@ ghost use Rattle.std.specs.Prelude.{IfOk, IfErr};
 ghost use Rattle.hart_line.specs.script.Rows.{IsScript, IsScriptFault};
 
 use crate::script::digits::Digits;
-use crate::script::lines::{count_lines, without_return};
+use crate::script::lines::without_return;
 use crate::script::rows::read_line;
 use crate::{Filling, LineEvent, LineFault};
 use std::alloc::Global;
@@ -19,7 +19,7 @@ pub mod words;
 /// # Errors
 ///
 /// [`LineFault::BadLine`] with the number, counted from 1, of the first line that says no event and is no such line;
-/// [`LineFault::Memory`] if room was refused: for an event of each line, or for half as many characters as a word has bytes.
+/// [`LineFault::Memory`] if room was refused: for the event of a line, or for half as many characters as a word of it has bytes.
 pub fn read_script(alloc: Global, text: &[u8]) -> Result<Vec<LineEvent>, LineFault>
     ensures events { IfOk result (λ events. IsScript text.now events.items) }
     ensures fault { IfErr result (IsScriptFault text.now) }
@@ -32,10 +32,7 @@ pub fn read_script(alloc: Global, text: &[u8]) -> Result<Vec<LineEvent>, LineFau
         let Some(event) = read_line(alloc, &digits, number, without_return(part))? else {
             continue;
         };
-        // A line says one event at most.
-        if let Err(none) = events.make_room(1) {
-            return Err(none.among(count_lines(text)).into());
-        }
+        events.make_room(1)?;
         events.push(event);
     }
     Ok(events.finish())

@@ -1,7 +1,7 @@
 -- The room on the line, for private calls alone (own profile).
 use Rattle.std.specs.Prelude.{◌≡◌, ◌≤◌, ◌+◌, List, [], ◌∷◌, count_by, length}
 use Rattle.hart_line.specs.line.Line.{LineState}
-use Rattle.hart_line.specs.world.Needs.{is_submission, most_spoken}
+use Rattle.hart_line.specs.world.Needs.{is_submission, most_spoken, most_spoken_in_one}
 use Rattle.hart_line.specs.declared.event.LineEvent.{LineEvent}
 use Rattle.hart_line.specs.declared.line.room.ScriptRoom.{ScriptRoom}
 
@@ -21,7 +21,7 @@ pub record HasRoomFor (events : List LineEvent) (line : LineState) : Type 0 wher
 pub record HasRoomForEach (events : List LineEvent) (line : LineState) : Type 0 where
   pub outcomes : length line.outcomes + count_by is_submission events ≤ line.outcomes_room
   pub nothing_spoken : line.spoken ≡ []
-  pub spoken : 2 ≤ line.spoken_room
+  pub spoken : most_spoken_in_one events ≤ line.spoken_room
 
 -- An event takes no more room than is meant for it: for an outcome if it is a submission, and for the most frames that are spoken in it.
 pub record LeavesRoom (event : LineEvent) (old new : LineState) : Type 0 where

@@ -1,6 +1,6 @@
 -- What the lines of a script say (own profile): a table of one row for each kind of event.
-use Rattle.std.specs.Prelude.{◌≡◌, ◌⊎◌, ℕ, ◌/◌, ◌&&◌, Any, Bool, true, false, not, nat_eq, List, [], ◌∷◌, codes, length, map, IsTrue}
-use Rattle.std.specs.Prelude.{Option, None, Some, is_none, option_map, Result, Ok, Err}
+use Rattle.std.specs.Prelude.{◌≡◌, ◌⊎◌, ℕ, ◌/◌, ◌<◌, ◌&&◌, Any, Bool, true, false, not, nat_eq, List, [], ◌∷◌, codes, length, map, IsTrue}
+use Rattle.std.specs.Prelude.{Option, None, Some, is_none, is_some, option_map, Result, Ok, Err}
 use Rattle.std.specs.List.{filter_map, position_from, starts_with}
 use Rattle.std.specs.Option.{option_or}
 use Rattle.std.specs.Result.{result_ok}
@@ -112,13 +112,17 @@ AreEvents lines events = (first_bad_line lines ≡ None) × (events ≡ filter_m
 abbrev pub IsScript : List ℕ → List LineEvent → Type 0
 IsScript text events = AreEvents (lines_in_words text) events
 
--- Characters need room for half as many of them as one of these words has bytes.
+-- Characters need room for half as many of them as one of these words has bytes. Room for none is no need.
 abbrev pub IsNeededByWords : List (List ℕ) → ℕ → Type 0
-IsNeededByWords words items = Any (λ word. items ≡ length word / 2) words
+IsNeededByWords words items = (0 < items) × Any (λ word. items ≡ length word / 2) words
 
--- A text needs room for as many events as it has lines, and for the characters of a word of one of them.
+-- A line that is not skipped needs room for the event that it says, and for the characters of one of its words.
+abbrev pub IsNeededByLine : List (List ℕ) → ℕ → Type 0
+IsNeededByLine words items = (is_skipped words ≡ false) × ((IsTrue (is_some (event_of words)) × (items ≡ 1)) ⊎ IsNeededByWords words items)
+
+-- A text needs the room that one of its lines needs.
 abbrev pub IsNeededByText : List ℕ → ℕ → Type 0
-IsNeededByText text items = (items ≡ length (lines_of text)) ⊎ Any (λ words. IsNeededByWords words items) (map words_of (lines_of text))
+IsNeededByText text items = Any (λ words. IsNeededByLine words items) (lines_in_words text)
 
 -- Reading a text is refused with its first bad line, or because memory is refused for as many items as it needs room for, and never for
 -- damage.
@@ -140,11 +144,11 @@ abbrev pub fault_at_line : ℕ → RowFault → LineFault
 fault_at_line number rows.Bad = BadLine number
 fault_at_line number (rows.Memory room) = Memory room
 
--- The words of the line with this number say the event that is read; if none is read the line is skipped, and a fault that names
--- the line says that it is bad.
+-- The words of the line with this number, which is not skipped, say the event that is read; if none is read the line is skipped, and
+-- a fault that names the line says that it is bad.
 abbrev pub SaysLine : ℕ → List (List ℕ) → Result (Option LineEvent) LineFault → Type 0
 SaysLine number words (Ok None) = IsTrue (is_skipped words)
-SaysLine number words (Ok (Some event)) = event_of words ≡ Some event
+SaysLine number words (Ok (Some event)) = (is_skipped words ≡ false) × (event_of words ≡ Some event)
 SaysLine number words (Err (BadLine at)) = (at ≡ number) × IsTrue (is_bad_line words)
-SaysLine number words (Err (Memory room)) = IsNeededByWords words room.items
+SaysLine number words (Err (Memory room)) = (is_skipped words ≡ false) × IsNeededByWords words room.items
 SaysLine number words (Err (Undetected event leg)) = ⊥

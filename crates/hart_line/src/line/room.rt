@@ -1,28 +1,26 @@
 //! The room that a script needs.
 ghost use Rattle.std.specs.Prelude.{◌≡◌, ◌≤◌, ◌*◌, [], IfErr, IfOk, count_by, length};
-ghost use Rattle.hart_line.specs.world.Needs.{IsNeededBy, is_noise, is_submission, is_turn, most_spoken};
+ghost use Rattle.hart_line.specs.world.Needs.{IsNeededBy, IsNeededForEach, is_noise, is_submission, is_turn, most_spoken};
+ghost use Rattle.hart_line.specs.world.Needs.{most_spoken_in_one};
 
 use crate::{Filling, LineEvent, NoRoom, Outcome, Spoken};
 use std::alloc::Global;
-
-/// The most frames that are spoken in one event, which a turn has.
-const MOST_SPOKEN_IN_ONE: usize = 2;
 
 /// Room for what a script leads to.
 #[derive(Drop)]
 pub struct ScriptRoom {
     /// For an outcome of each submission.
     pub outcomes: Filling<Outcome>,
-    /// For two spoken frames of each turn, and one of each noise, or for those of one event.
+    /// For the spoken frames of all events, or of any one of them: two in a turn, and one in noise.
     pub spoken: Filling<Spoken>,
 }
 
 impl ScriptRoom {
-    /// Room for what these events lead to.
+    /// Reserves room for what these events lead to.
     ///
     /// # Errors
     ///
-    /// [`NoRoom`] for as many outcomes as there are submissions, or for the most frames that are spoken.
+    /// [`NoRoom`] for as many outcomes as there are submissions, or for the most frames that are spoken in all events.
     pub fn reserve(alloc: Global, events: &[LineEvent]) -> Result<Self, NoRoom>
         ensures outcomes { IfOk result (λ room. room.outcomes ≡ record { items = []; room = count_by is_submission events.now }) }
         ensures spoken { IfOk result (λ room. room.spoken ≡ record { items = []; room = most_spoken events.now }) }
@@ -34,21 +32,19 @@ impl ScriptRoom {
         })
     }
 
-    /// Room for the outcomes of these events, and for what is spoken in one of them.
+    /// Reserves room for the outcomes of these events, and for what is spoken in any one of them.
     ///
     /// # Errors
     ///
-    /// [`NoRoom`] as [`ScriptRoom::reserve`] gives it.
+    /// [`NoRoom`] for as many outcomes as there are submissions, or for the most frames that are spoken in one event.
     pub fn reserve_for_each(alloc: Global, events: &[LineEvent]) -> Result<Self, NoRoom>
         ensures outcomes { IfOk result (λ room. room.outcomes ≡ record { items = []; room = count_by is_submission events.now }) }
-        ensures spoken { IfOk result (λ room. room.spoken ≡ record { items = []; room = 2 }) }
-        ensures refused { IfErr result (λ none. IsNeededBy events.now none.items) }
+        ensures spoken { IfOk result (λ room. room.spoken ≡ record { items = []; room = most_spoken_in_one events.now }) }
+        ensures refused { IfErr result (λ none. IsNeededForEach events.now none.items) }
     {
         let outcomes = Filling::with_room(alloc, submissions(events))?;
-        match Filling::with_room(alloc, MOST_SPOKEN_IN_ONE) {
-            Ok(spoken) => Ok(ScriptRoom { outcomes, spoken }),
-            Err(none) => Err(none.among(most_spoken(events))),
-        }
+        let spoken = Filling::with_room(alloc, most_spoken_in_one(events))?;
+        Ok(ScriptRoom { outcomes, spoken })
     }
 }
 
@@ -68,6 +64,17 @@ fn most_spoken(events: &[LineEvent]) -> usize
     ensures { result ≡ most_spoken events.now }
 {
     2 * turns(events) + noises(events)
+}
+
+/// Returns the most frames that are spoken in one of these events: two if there is a turn, otherwise one if there is noise.
+fn most_spoken_in_one(events: &[LineEvent]) -> usize
+    ensures { result ≡ most_spoken_in_one events.now }
+{
+    if turns(events) > 0 {
+        2
+    } else {
+        noises(events).min(1)
+    }
 }
 
 /// The number of turns among these events.

@@ -1,29 +1,8 @@
 //! The lines of a text and the words of a line.
-ghost use Rattle.std.specs.Prelude.{◌≡◌, ◌≢◌, ◌≤◌, ◌==◌, ◌↔◌, [], ◌∷◌, count_by, length, not, IsTrue, MatchOption};
+ghost use Rattle.std.specs.Prelude.{◌≡◌, ◌≢◌, ◌≤◌, ◌↔◌, [], ◌∷◌, length, IsTrue, MatchOption};
 ghost use Rattle.std.specs.List.{position_or_len};
 ghost use Rattle.std.specs.Str.Lines.{strip_carriage_return};
-ghost use Rattle.hart_line.specs.script.Lines.{is_blank, lines_of, words_of};
-
-/// The number of lines of a text.
-pub fn count_lines(text: &[u8]) -> usize
-    ensures { result ≡ length (lines_of text.now) }
-{
-    count_line_feeds(text) + 1
-}
-
-/// The number of line feeds in a text.
-fn count_line_feeds(text: &[u8]) -> usize
-    ensures count { result ≡ count_by (λ byte. byte == 10) text.now }
-    ensures within { result ≤ length text.now }
-{
-    let mut count = 0;
-    for byte in text {
-        if *byte == b'\n' {
-            count += 1;
-        }
-    }
-    count
-}
+ghost use Rattle.hart_line.specs.script.Lines.{is_blank, words_of};
 
 /// The part without one carriage return at its end.
 pub fn without_return(part: &[u8]) -> &[u8]

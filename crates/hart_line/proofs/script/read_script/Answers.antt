@@ -1,5 +1,5 @@
 use Rattle.std.proofs.Common.{ℕ, ◌+◌, length, None, Some, ap, arith, sym, rules, tests, ◌≡◌, ◌<◌, suc, Bool, List, [], ◌∷◌, ◌++◌, get_or}
-use Rattle.std.proofs.Common.{Option, Ok, Err, drop, take}
+use Rattle.std.proofs.Common.{Option, Ok, Err, drop, false, inl, inr, refl, take}
 use Rattle.std.proofs.lemmas.Grind.{common_steps}
 use Rattle.std.proofs.lemmas.Iterator.Consumers.{YieldsList-at, YieldsList-end, YieldsList-turn}
 use Rattle.std.proofs.lemmas.Iterator.Splits.{YieldsList-from_slice_split}
@@ -14,8 +14,9 @@ use Rattle.std.specs.Option.{option_or, option_to_list}
 use Rattle.std.specs.Str.Lines.{strip_carriage_return}
 use Rattle.hart_line.specs.declared.event.LineEvent.{LineEvent}
 use Rattle.hart_line.specs.declared.fault.LineFault.{LineFault}
+use Rattle.hart_line.specs.declared.fault.LineFault.TheVariants.{BadLine, Memory, Undetected}
 use Rattle.hart_line.specs.script.Lines.{lines_of, words_of}
-use Rattle.hart_line.specs.script.Rows.{AreEvents, IsScriptFault, lines_in_words, SaysLine}
+use Rattle.hart_line.specs.script.Rows.{AreEvents, IsNeededByText, IsScriptFault, SaysLine, event_of, is_skipped, lines_in_words}
 use Rattle.hart_line.proofs.script.read_script.Goals as goal
 
 -- the first place in some elements and more is one in the first ones, or else in the others
@@ -53,9 +54,18 @@ AreEvents-more text n m number words events new said stands more before says pus
 line_fault : (text : List ℕ) (n number : ℕ) (words : List (List ℕ)) (events : List LineEvent) (fault : LineFault)
     → StandsAt text n words → number ≡ n + 1 → AreEvents (take n (lines_in_words text)) events → SaysLine number words (Err fault)
     → IsScriptFault text fault
-line_fault text n number words events fault stands counted before says =
+line_fault text n number words events (BadLine at) stands counted before says =
     let cut : lines_in_words text ≡ take n (lines_in_words text) ++ words ∷ drop (suc n) (lines_in_words text) =
     grind (arith, common_steps, take-append-drop, drop-cons) in grind (arith, common_steps, length-take-le, position_from-append)
+line_fault text n number words events (Memory none) stands counted before says =
+    (n, words, stands.within, stands.is, (says.0, inr says.1))
+line_fault text n number words events (Undetected event leg) stands counted before says = absurd says
+
+-- a text needs room for the event of a line
+event_needed : (text : List ℕ) (n : ℕ) (words : List (List ℕ)) (event : LineEvent) → StandsAt text n words
+    → (is_skipped words ≡ false) × (event_of words ≡ Some event) → IsNeededByText text 1
+event_needed text n words event stands says =
+    (n, words, stands.within, stands.is, (says.0, inl (rw says.1 refl, refl)))
 
 pub returns-in_err-event-clause-fault : goal.returns-in_err-event-clause-fault
 returns-in_err-event-clause-fault c =
@@ -66,6 +76,17 @@ returns-in_err-event-clause-fault c =
     let stop = err_from_is_err_and c.from_residual.result c.from_residual.ensures.1 in
     let stands = stands_at c.args.text.now _ c.in-Some.part.now _ t.0 t.1 c.without_return.ensures in
     rw (stop.1, stop.2) (line_fault c.args.text.now _ _ _ _ _ stands (omega arith) c.loop-part.invariant.said c.in_err-event.ensures)
+
+pub returns-in_err-make_room-clause-fault : goal.returns-in_err-make_room-clause-fault
+returns-in_err-make_room-clause-fault c =
+    let t = YieldsList-turn (YieldsList-at c.into_iter-part-iterator.ensures.into_iter_gives
+    (YieldsList-from_slice_split _ (λ (byte : ℕ). byte == 10) c.args.text.now c.split-part-items.ensures.rest
+    c.split-part-items.ensures.done c.split-part-items.ensures.closure (λ x b q k. search (rules, tests))))
+    c.loop-part.yielded _ c.loop-part.yielded_by _ _ c.in-Some.part c.in-Some.is c.next.ensures.steps in
+    let stop = err_from_is_err_and c.from_residual-in_err-make_room.result c.from_residual-in_err-make_room.ensures.1 in
+    let stands = stands_at c.args.text.now _ c.in-Some.part.now _ t.0 t.1 c.without_return.ensures in
+    rw (stop.1, stop.2, c.in_err-make_room.ensures.number)
+    (event_needed c.args.text.now _ _ _ stands (rw c.in-Some-2.is at c.in_ok-event.ensures))
 
 pub loop-part-preserved-in_default : goal.loop-part-preserved-in_default
 loop-part-preserved-in_default c =
