@@ -5,6 +5,7 @@ pub mod World
 pub mod Step
 pub mod Needs
 pub mod Faults
+pub mod Noted
 pub mod Executions
 pub mod Promises
 pub mod Kept

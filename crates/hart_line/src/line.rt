@@ -1,5 +1,5 @@
 //! The HART line: a device and its two masters, and what an event does to them.
-ghost use Rattle.std.specs.Prelude.{◌≡◌, [], ◌∷◌, ◌++◌, List, IfErr, OnOk};
+ghost use Rattle.std.specs.Prelude.{◌≡◌, ◌<◌, [], ◌∷◌, ◌++◌, Any, List, IfErr, OnOk};
 ghost use Rattle.std.specs.Option.{option_copied};
 ghost use Rattle.hart_values.specs.EachMaster.{of_master};
 ghost use Rattle.hart_commands.specs.RequestData.{IsRequest};
@@ -20,7 +20,9 @@ use crate::line::masters::{Masters, Submitter};
 use crate::line::report::Ending;
 use crate::line::room::ScriptRoom;
 use crate::line::undetected::Undetected;
-use crate::{Filling, Heard, Leg, LineEvent, Outcome, Outcomes, Party, Report, Spoken, SpokenList};
+use crate::{
+    Filling, Heard, Leg, LineEvent, NoRoom, Outcome, Outcomes, Party, Report, Spoken, SpokenList,
+};
 use hart_commands::Request;
 use hart_device::{Device, Process, RegisterStore};
 use hart_frame::{Char, Frame};
@@ -105,13 +107,20 @@ impl<S: RegisterStore> Line<S> {
         }
     }
 
-    /// Has noted what the line keeps of what was spoken, and keeps it no longer.
-    pub fn tell<L: Log>(&mut self, log: &mut L)
-        ensures line { self.new ≡ record self.old { spoken = [] } }
-        ensures noted { (noted : List Spoken) → L.has_noted log.old noted → L.has_noted log.new (noted ++ self.old.spoken) }
+    /// Notes in a log what the line keeps of what was spoken, and keeps it no longer.
+    ///
+    /// # Errors
+    ///
+    /// [`NoRoom`] at the first frame that the log has no room for.
+    pub fn tell<L: Log>(&mut self, log: &mut L) -> Result<(), NoRoom>
+        ensures line { OnOk result (self.new ≡ record self.old { spoken = [] }) }
+        ensures noted { OnOk result
+            ((noted : List Spoken) → L.has_noted log.old noted → L.has_noted log.new (noted ++ self.old.spoken)) }
+        ensures refused { IfErr result (λ none. (0 < none.items) × Any (λ said. L.needs said none.items) self.old.spoken) }
     {
-        note_all(log, self.spoken.as_slice());
+        note_all(log, self.spoken.as_slice())?;
         self.spoken.clear();
+        Ok(())
     }
 
     /// What the script has led to, but for what was spoken.

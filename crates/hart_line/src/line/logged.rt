@@ -2,8 +2,9 @@
 ghost use Rattle.std.specs.Prelude.{◌≡◌, [], List, IfErr, IfOk};
 ghost use Rattle.hart_values.specs.declared.master_id.MasterId.TheVariants.{Primary, Secondary};
 ghost use Rattle.hart_master.specs.declared.hand.Hand.TheVariants.{Empty};
-ghost use Rattle.hart_line.specs.world.Faults.{IsFault, IsNotDetectable};
+ghost use Rattle.hart_line.specs.world.Faults.{IsNotDetectable};
 ghost use Rattle.hart_line.specs.world.Kept.{KeepsPromises};
+ghost use Rattle.hart_line.specs.world.Noted.{IsLoggedFault, IsNotedBefore};
 ghost use Rattle.hart_line.specs.world.Promises.{AreWellMade, start_from};
 ghost use Rattle.hart_line.specs.world.Spoken.{AreSpoken};
 ghost use Rattle.hart_line.specs.world.Step.{IsLast};
@@ -19,12 +20,14 @@ use hart_device::{Device, Process, RegisterStore};
 use hart_master::Master;
 use std::alloc::Global;
 
-/// Carries out a script as [`run`](crate::run) does, and has what is spoken noted while it is, so that none of it is kept.
+/// Carries out a script as [`run`](crate::run) does, and notes what is spoken after each event, so that none of it is kept.
 ///
 /// # Errors
 ///
-/// Those of [`run`](crate::run), with room for two spoken frames in place of that for all of them. What was noted before is no
-/// part of any report then.
+/// [`LineFault::Memory`] if room was refused: before the first event, for an outcome of each submission and for the most frames that
+/// are spoken in one event; or after an event, if the log has no room for a frame that was spoken in it. [`LineFault::Undetected`] as
+/// [`run`](crate::run) gives it, if no room was refused before that event; what was spoken before it has been noted then. Only the
+/// fault is given back.
 pub fn run_logged<S: RegisterStore + Drop, L: Log>(
     alloc: Global,
     device: Device<S>,
@@ -51,8 +54,12 @@ pub fn run_logged<S: RegisterStore + Drop, L: Log>(
     // All that run promises of a script, of its turns and of its last world holds of this one, and each request of it is well made.
     ensures well_made { IfOk result (λ _. AreWellMade events.now) }
     ensures promises { IfOk result (λ _. KeepsPromises (start_from device process.now primary secondary) events.now) }
-    // A fault names the first leg whose damage is undetected, or the outcomes or spoken frames that there is no room for.
-    ensures fault { IfErr result (IsFault (start_from device process.now primary secondary) events.now) }
+    // A fault names the first leg whose damage is undetected, or the outcomes or spoken frames that there is no room for, or as much
+    // room as noting a frame needs that was spoken.
+    ensures fault { IfErr result (IsLoggedFault L.needs (start_from device process.now primary secondary) events.now) }
+    // What was spoken before an event with undetected damage has been noted.
+    ensures noted_before { IfErr result
+        (IsNotedBefore (L.has_noted log.new) (start_from device process.now primary secondary) events.now) }
     // No leg that is clean, lost, or marked or check damage of the message that was sent in it stops a script.
     ensures detectable_damage_is_detected { IfErr result (IsNotDetectable (start_from device process.now primary secondary) events.now) }
 {
@@ -62,7 +69,7 @@ pub fn run_logged<S: RegisterStore + Drop, L: Log>(
         if let Err(damage) = line.step(event, process) {
             return Err(LineFault::from(damage.at(index)));
         }
-        line.tell(log);
+        line.tell(log)?;
     }
     Ok(line.into_ending())
 }

@@ -1,5 +1,6 @@
 -- How far a script has come, also on a line that has let go what was spoken.
 use Rattle.std.proofs.Common.{◌∙◌, ◌∷◌, arith, ◌≡◌, ℕ, ◌+◌, ◌<◌, sym, refl, List, [], length, take, get_or, rules, append-nil, ◌++◌}
+use Rattle.std.specs.List.{Any}
 use Rattle.std.proofs.lemmas.Grind.{common_steps}
 use Rattle.std.proofs.lemmas.List.{take_more}
 use Rattle.hart_values.specs.declared.master_id.MasterId.TheVariants.{Primary, Secondary}
@@ -69,6 +70,11 @@ reached_first device process primary secondary line is one other same master ano
 pub of_last : (P : World → Type 0) {start : Start} {events : List LineEvent} {line : LineState} → (r : IsReached start events line)
     → P r.world → (world : World) → IsLast start events world → P world
 of_last P {start = start} {events = events} r holds world last = grind (arith, common_steps, leads_one)
+
+-- If something holds of an element of a list, it does of one of a list that ends so.
+pub Any-append : {X : Type 0} (P : X → Type 0) (xs ys : List X) → Any P ys → Any P (xs ++ ys)
+Any-append P xs ys (k, x, within, is, holds) =
+    (length xs + k, x, grind (arith, common_steps), grind (arith, common_steps), holds)
 
 -- A WORLD WITHOUT WHAT WAS SPOKEN
 -- What a line keeps of what was spoken may be noted and let go: its events lead on as they would from the whole.

@@ -1,11 +1,16 @@
-use Rattle.std.proofs.Common.{◌∙◌, [], ap, arith, refl}
+use Rattle.std.proofs.Common.{◌∙◌, ◌+◌, ◌++◌, [], ap, arith, inr, refl, take}
 use Rattle.std.proofs.lemmas.List.{take_all}
 use Rattle.std.proofs.lemmas.Option.{slice_get-get_or}
+use Rattle.std.proofs.lemmas.Result.{err_from_is_err_and}
 use Rattle.hart_device.specs.Device.{DeviceState}
+use Rattle.hart_line.specs.declared.fault.LineFault.TheVariants.{Undetected}
 use Rattle.hart_line.specs.world.Promises.{start_from}
 use Rattle.hart_line.proofs.lemmas.Laws.{scripts_keep_their_promises-kept}
-use Rattle.hart_line.proofs.lemmas.line.Reached.{of_last, reached_first, reached_more, noted_stands, stepped_on, undetected_on, with_spoken}
+use Rattle.hart_line.proofs.lemmas.line.Reached.{Any-append, IsReached, of_last, reached_first, reached_more, noted_stands, stepped_on}
+use Rattle.hart_line.proofs.lemmas.line.Reached.{undetected_on, with_spoken}
 use Rattle.hart_line.proofs.lemmas.line.Room.{room_after_each, room_here_each}
+use Rattle.hart_line.proofs.line.logged.run_logged.Given.{Over}
+use Rattle.hart_line.proofs.line.logged.run_logged.Goals.{After-tell}
 use Rattle.hart_line.proofs.line.logged.run_logged.Goals as goal
 
 pub loop-index-init : goal.loop-index-init
@@ -41,29 +46,55 @@ returns-in-Err-clause-fault g c =
           (rw c.index-events-index.is at (c.in-Err.ensures.stopped start (with_spoken [] reached.world) refl stands)),
     )
 
+pub returns-in-Err-clause-noted_before : goal.returns-in-Err-clause-noted_before
+returns-in-Err-clause-noted_before g c =
+    let (noted, has, reached) = c.loop-index.invariant.told in
+    rw (c.from.ensures, c.at.ensures) (of_last _ reached (noted, reached.stands.spoken_are, has))
+
 pub returns-in-Err-clause-detectable_damage_is_detected : goal.returns-in-Err-clause-detectable_damage_is_detected
 returns-in-Err-clause-detectable_damage_is_detected g c =
     let enough = c.new-line.ensures.device.identity.in_range.response_preambles.0 in
-    (scripts_keep_their_promises-kept (start_from c.args.device c.args.process.now c.args.primary c.args.secondary)
-    c.args.events.now).detectable_damage_is_detected _ enough (returns-in-Err-clause-fault g c)
+    let fault = rw (c.from.ensures, c.at.ensures) at (returns-in-Err-clause-fault g c) in
+    rw (c.from.ensures, c.at.ensures) ((scripts_keep_their_promises-kept
+    (start_from c.args.device c.args.process.now c.args.primary c.args.secondary) c.args.events.now).detectable_damage_is_detected
+    (Undetected c.loop-index.index c.in-Err.damage.leg) enough fault)
 
-pub loop-index-preserved : goal.loop-index-preserved
-loop-index-preserved g c =
+-- An event more is carried out, and what is spoken in it is not noted yet.
+carried_out : (g : Over) (c : After-tell g) → IsReached (start_from c.args.device c.args.process.now c.args.primary c.args.secondary)
+    (take (c.loop-index.index + 1) c.args.events.now) (record c.step.new.self { spoken = c.loop-index.invariant.told.0 ++ c.step.new.self.spoken })
+carried_out g c =
     let start = start_from c.args.device c.args.process.now c.args.primary c.args.secondary in
     let (noted, has, reached) = c.loop-index.invariant.told in
-    let events = c.args.events.now in
-    let stands = noted_stands start reached.world _ noted c.loop-index.invariant.room.nothing_spoken reached.stands in record {
-      told = rw c.tell.ensures.line (
-        _,
-        c.tell.ensures.noted noted has,
-        reached_more start events c.loop-index.index _ _ _
-            c.loop-index-test.true reached (stepped_on start reached.world _ _ noted reached.stands.spoken_are
-            (rw c.index-events-index.is at (c.in_default.ensures.stepped start (with_spoken [] reached.world) refl reached.marks stands)))
-            (rw c.index-events-index.is at c.in_default.ensures.well_made),
-      );
-      room = rw c.tell.ensures.line (room_after_each events c.loop-index.index _ _ _ c.loop-index-test.true c.loop-index.invariant.room
-          (rw c.index-events-index.is at c.in_default.ensures.room));
-    }
+    let stands = noted_stands start reached.world _ noted c.loop-index.invariant.room.nothing_spoken reached.stands in
+    reached_more start c.args.events.now c.loop-index.index _ _ _
+    c.loop-index-test.true reached (stepped_on start reached.world _ _ noted reached.stands.spoken_are
+    (rw c.index-events-index.is at (c.in_default.ensures.stepped start (with_spoken [] reached.world) refl reached.marks stands)))
+    (rw c.index-events-index.is at c.in_default.ensures.well_made)
+
+pub loop-index-preserved : goal.loop-index-preserved
+loop-index-preserved g c = record {
+  told = rw c.in_ok-tell.ensures.line (
+    _,
+    c.in_ok-tell.ensures.noted _ c.loop-index.invariant.told.1,
+    carried_out g (goal.at.loop-index-preserved g c).After-tell,
+  );
+  room = rw c.in_ok-tell.ensures.line (room_after_each c.args.events.now c.loop-index.index _ _ _ c.loop-index-test.true
+      c.loop-index.invariant.room (rw c.index-events-index.is at c.in_default.ensures.room));
+}
+
+pub returns-in_err-tell-clause-fault : goal.returns-in_err-tell-clause-fault
+returns-in_err-tell-clause-fault g c =
+    let reached = carried_out g (goal.at.returns-in_err-tell-clause-fault g c).After-tell in
+    let stop = err_from_is_err_and c.from_residual-in_err-tell.result c.from_residual-in_err-tell.ensures.1 in
+    rw (stop.1, stop.2) (inr (record {
+      number = c.loop-index.index + 1;
+      world = reached.world;
+      is_last = reached.is_last;
+      spoken = c.loop-index.invariant.told.0 ++ c.step.new.self.spoken;
+      are_spoken = reached.stands.spoken_are;
+      needed = Any-append _ c.loop-index.invariant.told.0 _ c.in_err-tell.ensures.refused.1;
+      some = c.in_err-tell.ensures.refused.0;
+    }))
 
 pub returns : goal.returns
 returns g c =
@@ -79,5 +110,6 @@ returns g c =
       well_made = reached.well_made;
       promises = scripts_keep_their_promises-kept start c.args.events.now;
       fault = tt;
+      noted_before = tt;
       detectable_damage_is_detected = tt;
     }
