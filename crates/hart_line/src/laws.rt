@@ -1,5 +1,6 @@
 //! Laws over the definitions alone, for the crates above.
-ghost use Rattle.std.specs.Prelude.{◌≡◌, ◌<◌, ◌^◌, List, ℕ, Some};
+ghost use Rattle.std.specs.Prelude.{◌≡◌, ◌<◌, ◌^◌, [], List, ℕ, Some};
+ghost use Rattle.std.specs.List.{AllPass};
 ghost use Rattle.hart_values.specs.declared.address.Address.{Address};
 ghost use Rattle.hart_values.specs.declared.address.Address.TheVariants.{Unique};
 ghost use Rattle.hart_values.specs.declared.master_id.MasterId.{MasterId};
@@ -10,17 +11,20 @@ ghost use Rattle.hart_device.specs.answer.Answer.{after_refusal, reply_of};
 ghost use Rattle.hart_device.specs.declared.identity_parts.IdentityParts.{IdentityParts};
 ghost use Rattle.hart_master.specs.Master.{MasterState};
 ghost use Rattle.hart_master.specs.Unique.{unique_in};
-ghost use Rattle.hart_line.specs.script.Rows.{HasFirstBadLine, IsScript};
+ghost use Rattle.hart_line.specs.script.Rows.{HasFirstBadLine, IsScript, IsScriptFault, is_skipped, lines_in_words};
 ghost use Rattle.hart_line.specs.script.Words.{IsAddressWord, IsCommandWord, IsDataWord, IsWho};
 ghost use Rattle.hart_line.specs.world.Faults.{AreAllDetected, IsFault};
 ghost use Rattle.hart_line.specs.world.Kept.{KeepsPromises};
+ghost use Rattle.hart_line.specs.world.Noted.{IsLoggedFault};
 ghost use Rattle.hart_line.specs.world.Promises.{AnswersLastSending, IsRefusedByDevice, start_from};
 ghost use Rattle.hart_line.specs.world.Step.{IsLast, spoken_request};
 ghost use Rattle.hart_line.specs.world.World.{Start, World, first_world, state_of};
 ghost use Rattle.hart_line.specs.declared.event.LineEvent.{LineEvent};
 ghost use Rattle.hart_line.specs.declared.fault.Leg.{Leg};
-ghost use Rattle.hart_line.specs.declared.fault.LineFault.TheVariants.{Undetected};
+ghost use Rattle.hart_line.specs.declared.fault.LineFault.TheVariants.{Memory, Undetected};
+ghost use Rattle.hart_line.specs.declared.memory.NoRoom.{NoRoom};
 
+use crate::Log;
 use hart_device::{Device, Process, RegisterStore, processes_are_well_made};
 
 /// A word is that of one master, of one address, of one command and of one list of data at most.
@@ -52,6 +56,14 @@ pub fn scripts_have_one_last_world()
     ensures one_fault { (start : Start) (events : List LineEvent) (number other : ℕ) (leg another : Leg)
         → IsFault start events (Undetected number leg) → IsFault start events (Undetected other another)
         → (number ≡ other) × (leg ≡ another) }
+{}
+
+/// Want of memory is no fault of a script without events, and none of a text whose lines are all skipped.
+pub fn empty_scripts_need_no_room<L: Log>()
+    ensures events { (start : Start) (none : NoRoom) → IsFault start [] (Memory none) → ⊥ }
+    ensures noted { (start : Start) (none : NoRoom) → IsLoggedFault L.needs start [] (Memory none) → ⊥ }
+    ensures text { (text : List ℕ) (none : NoRoom) → AllPass is_skipped (lines_in_words text)
+        → IsScriptFault text (Memory none) → ⊥ }
 {}
 
 /// The unique address that a master takes from a reply with code 0 and the identity of a device is the one at which this device is asked.
