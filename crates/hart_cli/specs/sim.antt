@@ -1,4 +1,3 @@
 -- `hart sim`.
 pub mod Text
-pub mod Kept
 pub mod Sim

@@ -1,9 +1,9 @@
 -- What `hart sim` writes for what it reads (own profile).
-use Rattle.std.specs.Prelude.{◌≡◌, ◌⊎◌, ℕ, ◌^◌, ◌-◌, List, Option, length, min}
+use Rattle.std.specs.Prelude.{◌≡◌, ◌⊎◌, ℕ, List, Option, take}
 use Rattle.hart_device.specs.Bench.{bench_process}
 use Rattle.hart_device.specs.Device.{DeviceState}
 use Rattle.hart_line.specs.world.Faults.{IsFault}
-use Rattle.hart_line.specs.world.Needs.{IsNeededBy}
+use Rattle.hart_line.specs.world.Needs.{IsNeededForEach}
 use Rattle.hart_line.specs.script.Rows.{HasFirstBadLine, IsNeededByText, IsScript}
 use Rattle.hart_line.specs.world.Spoken.{AreSpoken}
 use Rattle.hart_line.specs.world.Step.{IsLast}
@@ -15,7 +15,7 @@ use Rattle.hart_line.specs.declared.line.report.Spoken.{Spoken}
 use Rattle.hart_cli.specs.declared.fault.CliFault.{CliFault}
 use Rattle.hart_cli.specs.declared.fault.CliFault.TheVariants.{Line, Memory}
 use Rattle.hart_cli.specs.ImageWord.{OutcomeWith, OutcomeRelation}
-use Rattle.hart_cli.specs.sim.Text.{sim_text}
+use Rattle.hart_cli.specs.sim.Text.{IsNeededByBytes, sim_text}
 use Rattle.hart_cli.specs.input.WholeInput.{WholeOutcome}
 
 -- A script starts with a device, the process values of the bench device, and two masters that have nothing in hand and send a
@@ -55,16 +55,21 @@ HasLineFault device input (line_faults.BadLine number) = HasFirstBadLine input n
 HasLineFault device input (line_faults.Undetected number leg) = IsScriptWithFault device input (line_faults.Undetected number leg)
 HasLineFault device input (line_faults.Memory none) = ⊥
 
--- A text to write needs room for as many bytes as it has, or for the greatest number of them.
-abbrev pub IsNeededByWriting : List ℕ → ℕ → Type 0
-IsNeededByWriting text items = items ≡ min (length text) (2 ^ 64 - 1)
+-- What some first events of a script lead to is written, and bytes of the text of their last world need room.
+pub record IsNeededByWriting (start : Start) (events : List LineEvent) (items : ℕ) : Type 0 where
+  pub number : ℕ
+  pub world : World
+  pub last : IsLast start (take number events) world
+  pub text : List ℕ
+  pub world_text : IsWorldText start world text
+  pub needed : IsNeededByBytes text items
 
--- Room for so many items is needed to read an input as a script, to carry this out, or to make the text for it.
+-- Room for so many items is needed to read an input as a script, to carry out its events, or to write what its first events lead to.
 abbrev pub IsNeededForSimulation : DeviceState → List ℕ → ℕ → Type 0
 IsNeededForSimulation device input items =
     IsNeededByText input items
-    ⊎ ((events : List LineEvent) × IsScript input events × IsNeededBy events items)
-    ⊎ ((text : List ℕ) × IsSimulation device input text × IsNeededByWriting text items)
+    ⊎ ((events : List LineEvent) × IsScript input events
+    × (IsNeededForEach events items ⊎ IsNeededByWriting (start_with device) events items))
 
 -- An input that is not carried out has this fault, of its lines or its events; or memory is refused for as many items as it needs
 -- room for, which is no fault of an input.

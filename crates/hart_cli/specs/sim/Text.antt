@@ -1,12 +1,11 @@
 -- The text of `hart sim` (own profile).
-use Rattle.std.specs.Prelude.{ℕ, List, [], ◌∷◌, ◌++◌, codes, decimal}
+use Rattle.std.specs.Prelude.{ℕ, ◌<◌, ◌≤◌, List, [], ◌∷◌, ◌++◌, codes, decimal, length}
 use Rattle.std.specs.List.{enumerate_from, flat_map}
 use Rattle.hex.specs.Hex.{encode_upper}
 use Rattle.hart_commands.specs.ReplyData.{content_bytes}
 use Rattle.hart_device.specs.Device.{DeviceState}
 use Rattle.hart_device.specs.image.Image.{image_of}
-use Rattle.hart_master.specs.declared.fault.MasterFault.{MasterFault}
-use Rattle.hart_master.specs.declared.fault.MasterFault.TheVariants.{OutOfRange, Pending, WrongAddress}
+use Rattle.hart_master.specs.FaultNumbers.{master_fault_number}
 use Rattle.hart_line.specs.declared.line.report.Outcome.{Outcome}
 use Rattle.hart_line.specs.declared.line.report.Outcome.TheVariants.{Answered, NoReply, Refused, Unfinished}
 use Rattle.hart_line.specs.declared.line.report.Party.{Party}
@@ -24,12 +23,6 @@ party_word Device = codes "D"
 abbrev pub spoken_line : Spoken → List ℕ
 spoken_line spoken =
     line_of (party_word spoken.party ∷ decimal spoken.preambles ∷ encode_upper spoken.bytes ∷ [])
-
--- Each fault of a master has its number.
-abbrev pub master_fault_number : MasterFault → ℕ
-master_fault_number OutOfRange = 1
-master_fault_number Pending = 2
-master_fault_number WrongAddress = 3
 
 -- A submission that was answered has the word `answered`, the number of its sendings, and the response code, the device status and
 -- the data of the reply in upper case hex. One without a reply has `noreply`, and an unfinished one `unfinished`, with the number of
@@ -59,3 +52,7 @@ image_line device = line_of (codes "image" ∷ encode_upper (image_of device) �
 abbrev pub sim_text : List Spoken → List Outcome → DeviceState → List ℕ
 sim_text spoken outcomes device =
     flat_map spoken_line spoken ++ flat_map outcome_line (enumerate_from 1 outcomes) ++ counter_line device ++ image_line device
+
+-- Bytes that are added to a text need room for some of them.
+abbrev pub IsNeededByBytes : List ℕ → ℕ → Type 0
+IsNeededByBytes bytes items = (0 < items) × (items ≤ length bytes)

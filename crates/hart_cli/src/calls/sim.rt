@@ -18,7 +18,6 @@ use hart_master::Master;
 use hart_values::MasterId;
 use std::alloc::Global;
 
-mod kept;
 mod text;
 
 /// How often a master sends a request again at most.
@@ -37,8 +36,8 @@ const SECONDARY_REPLY_LIMIT: u8 = 41;
 ///
 /// [`CliFault::BadHex`] and [`CliFault::Image`] of the image, at which nothing is read; then [`CliFault::Read`],
 /// [`CliFault::TooLong`], then [`CliFault::Line`] with the first bad line or, if there is none, with the first leg whose damage
-/// is undetected, then [`CliFault::Write`], and [`CliFault::Memory`] if memory is refused. At a fault nothing is written, except
-/// at `Write`: there a prefix of the text is, short of its end.
+/// is undetected, then [`CliFault::Write`]. [`CliFault::Memory`] at the first growth that is refused: what is left of the script is not
+/// looked at. At a fault nothing is written, except at `Write`: there a prefix of the text is, short of its end.
 pub fn simulate<R: Source, W: Sink>(
     alloc: Global,
     image: Option<&str>,
@@ -109,6 +108,6 @@ fn simulation(
         &bench::process(),
         &mut text,
     )?;
-    text.push_outcomes(ending.outcomes.as_slice());
+    text.push_outcomes(ending.outcomes.as_slice())?;
     Ok(text.finish(&ending.device)?)
 }

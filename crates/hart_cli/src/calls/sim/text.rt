@@ -1,20 +1,15 @@
 //! The text that `hart sim` writes.
-ghost use Rattle.std.specs.Prelude.{◌≡◌, ◌≤◌, ◌<◌, ◌+◌, ◌∷◌, [], ◌++◌, ℕ, List, IfErr, IfOk, decimal, length};
+ghost use Rattle.std.specs.Prelude.{◌≡◌, ◌≤◌, ◌<◌, ◌+◌, ◌∷◌, [], ◌++◌, IfErr, IfOk, OnErr, OnOk, decimal, length};
 ghost use Rattle.std.specs.List.{enumerate_from, flat_map, join_with_byte};
 ghost use Rattle.hart_line.specs.declared.line.report.Outcome.TheVariants.{Answered};
-ghost use Rattle.hart_cli.specs.sim.Text.{counter_line, master_fault_number, image_line, outcome_line, outcome_words, party_word};
-ghost use Rattle.hart_cli.specs.sim.Kept.{Keeps};
-ghost use Rattle.hart_cli.specs.sim.Sim.{IsNeededByWriting};
-ghost use Rattle.hart_cli.specs.sim.Text.{spoken_line};
+ghost use Rattle.hart_cli.specs.sim.Text.{IsNeededByBytes, counter_line, image_line, outcome_line, outcome_words, party_word, spoken_line};
 
-use crate::calls::sim::kept::KeptText;
 use crate::text::hex_text::push_hex;
 use crate::text::pairs::Pairs;
 use crate::text::words::{TextLine, push_hex_word, push_word};
 use hart_commands::Reply;
 use hart_device::{Device, RegisterStore};
-use hart_line::{Log, NoRoom, Outcome, Party, Spoken};
-use hart_master::MasterFault;
+use hart_line::{Filling, Log, NoRoom, Outcome, Party, Spoken};
 use hart_values::Payload;
 use itoa::Buffer;
 use std::alloc::Global;
@@ -25,66 +20,87 @@ const STATUS_LEN: usize = 2;
 /// The text of a script that is carried out, while it is: the lines of spoken frames, then those of submissions.
 #[derive(Drop)]
 pub struct SimText {
-    kept: KeptText,
+    text: Filling<u8>,
     pairs: Pairs,
     line: TextLine,
 }
 
 impl SimText {
-    /// The text before anything was spoken.
+    /// Returns the text before anything was spoken.
     pub fn new(alloc: Global) -> Self
-        ensures { Keeps result.kept [] }
+        ensures { result.text.items ≡ [] }
     {
         SimText {
-            kept: KeptText::new(alloc),
+            text: Filling::with_room(alloc, 0).unwrap(),
             pairs: Pairs::new(),
             line: TextLine::new(),
         }
     }
 
     /// Adds a line for each submission.
-    pub fn push_outcomes(&mut self, outcomes: &[Outcome])
-        ensures { (text : List ℕ) → Keeps self.old.kept text
-            → Keeps self.new.kept (text ++ flat_map outcome_line (enumerate_from 1 outcomes.now)) }
-    {
-        for (index, outcome) in outcomes.iter().enumerate() {
-            make_outcome_line(&mut self.line, &self.pairs, index + 1, outcome);
-            self.kept.push(self.line.as_slice());
-        }
-    }
-
-    /// The whole text, which ends with the lines of the counter and the image of the device.
     ///
     /// # Errors
     ///
-    /// [`NoRoom`] for its length, or for the greatest number of bytes if it is longer than that.
+    /// [`NoRoom`] at the first line that there is no room for.
+    pub fn push_outcomes(&mut self, outcomes: &[Outcome]) -> Result<(), NoRoom>
+        ensures text { OnOk result
+            (self.new.text.items ≡ self.old.text.items ++ flat_map outcome_line (enumerate_from 1 outcomes.now)) }
+        ensures refused { IfErr result (λ none. IsNeededByBytes (flat_map outcome_line (enumerate_from 1 outcomes.now)) none.items) }
+    {
+        for (index, outcome) in outcomes.iter().enumerate() {
+            make_outcome_line(&mut self.line, &self.pairs, index + 1, outcome);
+            push_bytes(&mut self.text, self.line.as_slice())?;
+        }
+        Ok(())
+    }
+
+    /// Adds the lines of the counter and the image of the device, and returns the whole text.
+    ///
+    /// # Errors
+    ///
+    /// [`NoRoom`] if there is no room for these lines.
     pub fn finish<S: RegisterStore>(self, device: &Device<S>) -> Result<Vec<u8>, NoRoom>
-        ensures text { (text : List ℕ) → Keeps self.kept text
-            → IfOk result (λ list. list.items ≡ text ++ counter_line device.now ++ image_line device.now) }
-        ensures refused { (text : List ℕ) → Keeps self.kept text
-            → IfErr result (λ none. IsNeededByWriting (text ++ counter_line device.now ++ image_line device.now) none.items) }
+        ensures text { IfOk result (λ list. list.items ≡ self.text.items ++ counter_line device.now ++ image_line device.now) }
+        ensures refused { IfErr result (λ none. IsNeededByBytes (counter_line device.now ++ image_line device.now) none.items) }
     {
         let SimText {
-            mut kept,
+            mut text,
             pairs,
             line: _,
         } = self;
-        kept.push(device_lines(&pairs, device).as_slice());
-        kept.finish()
+        push_bytes(&mut text, device_lines(&pairs, device).as_slice())?;
+        Ok(text.finish())
     }
 }
 
 impl Log for SimText {
+    ghost use Rattle.std.specs.Prelude.{◌≡◌};
     ghost use Rattle.std.specs.List.{flat_map};
-    ghost use Rattle.hart_cli.specs.sim.Kept.{Keeps};
-    ghost use Rattle.hart_cli.specs.sim.Text.{spoken_line};
+    ghost use Rattle.hart_cli.specs.sim.Text.{IsNeededByBytes, spoken_line};
 
-    ghost has_noted = { λ text noted. Keeps text.kept (flat_map spoken_line noted) };
+    ghost has_noted = { λ text noted. text.text.items ≡ flat_map spoken_line noted };
 
-    fn note(&mut self, spoken: &Spoken) {
+    ghost needs = { λ spoken items. IsNeededByBytes (spoken_line spoken) items };
+
+    fn note(&mut self, spoken: &Spoken) -> Result<(), NoRoom> {
         make_spoken_line(&mut self.line, &self.pairs, spoken);
-        self.kept.push(self.line.as_slice());
+        push_bytes(&mut self.text, self.line.as_slice())
     }
+}
+
+/// Adds bytes to a text.
+///
+/// # Errors
+///
+/// [`NoRoom`] if there is no room for them. The text is as it was.
+fn push_bytes(text: &mut Filling<u8>, bytes: &[u8]) -> Result<(), NoRoom>
+    ensures text { OnOk result (text.new.items ≡ text.old.items ++ bytes.now) }
+    ensures kept { OnErr result (text.new ≡ text.old) }
+    ensures refused { IfErr result (λ none. IsNeededByBytes bytes.now none.items) }
+{
+    text.make_room(bytes.len())?;
+    text.extend(bytes);
+    Ok(())
 }
 
 /// Makes a line, whatever it holds, that of a spoken frame.
@@ -130,7 +146,7 @@ fn push_outcome(line: &mut TextLine, pairs: &Pairs, outcome: &Outcome)
         Outcome::Answered { reply, sendings } => push_answered(line, pairs, reply, *sendings),
         Outcome::NoReply { sendings } => push_count(line, "noreply", *sendings),
         Outcome::Unfinished { sendings } => push_count(line, "unfinished", *sendings),
-        Outcome::Refused(fault) => push_count(line, "refused", master_fault_number(*fault)),
+        Outcome::Refused(fault) => push_count(line, "refused", fault.number()),
     }
 }
 
@@ -159,17 +175,6 @@ fn push_count(line: &mut TextLine, word: &str, number: u8)
 {
     push_word(line, word);
     line.extend_from_slice(Buffer::new().format(number).as_bytes());
-}
-
-/// The number of the fault for which a master refuses a submission.
-fn master_fault_number(fault: MasterFault) -> u8
-    ensures { result ≡ master_fault_number fault }
-{
-    match fault {
-        MasterFault::OutOfRange => 1,
-        MasterFault::Pending => 2,
-        MasterFault::WrongAddress => 3,
-    }
 }
 
 /// The lines of the counter and of the image.

@@ -1,6 +1,8 @@
-use Rattle.std.proofs.Common.{◌≡◌, ℕ, ◌+◌, ◌<◌, List, [], ◌∷◌, ◌++◌, length, take, get_or, arith, length-take, append_assoc}
+use Rattle.std.proofs.Common.{◌≡◌, ℕ, ◌+◌, ◌<◌, ◌≤◌, List, [], ◌∷◌, ◌++◌, length, take, get_or, arith, length-take, append_assoc}
 use Rattle.std.proofs.lemmas.Grind.{common_steps}
 use Rattle.std.proofs.lemmas.List.{take_more}
+use Rattle.std.proofs.lemmas.List.Folds.{length-flat_map-take}
+use Rattle.std.proofs.lemmas.List.FromFn.{get_or-enumerate_from, length-enumerate_from}
 use Rattle.std.specs.List.{enumerate_from, flat_map}
 use Rattle.hart_line.specs.declared.line.report.Outcome.{Outcome}
 use Rattle.hart_cli.specs.sim.Text.{outcome_line}
@@ -18,6 +20,17 @@ outcomes_more : (outcomes : List Outcome) (i : ℕ) (d : Outcome) → i < length
     ≡ flat_map outcome_line (enumerate_from 1 (take i outcomes)) ++ outcome_line (i + 1, get_or outcomes i d)
 outcomes_more outcomes i d below = grind (arith, common_steps, length-take, numbered_on, take_more)
 
+-- the line of a submission is no longer than those of all
+outcome_within : (outcomes : List Outcome) (i : ℕ) (d : Outcome) → i < length outcomes
+    → length (outcome_line (i + 1, get_or outcomes i d)) ≤ length (flat_map outcome_line (enumerate_from 1 outcomes))
+outcome_within outcomes i d below =
+    let within : i < length (enumerate_from 1 outcomes) = omega (arith, length-enumerate_from 1 outcomes) in
+    let one = length-flat_map-take outcome_line (enumerate_from 1 outcomes) i (0, d) within in
+    let line : get_or (enumerate_from 1 outcomes) i (0, d) ≡ (i + 1, get_or outcomes i d) =
+    grind (arith, get_or-enumerate_from 1 outcomes i (0, d) below) in omega (arith, rw line at one)
+
 pub loop-index-preserved : goal.loop-index-preserved
-loop-index-preserved c text keeps =
-    let kept = c.push.ensures _ (c.loop-index.invariant text keeps) in grind (arith, append_assoc, outcomes_more)
+loop-index-preserved c = grind (arith, common_steps, append_assoc, outcomes_more)
+
+pub returns-in_err-push_bytes-clause-refused : goal.returns-in_err-push_bytes-clause-refused
+returns-in_err-push_bytes-clause-refused c = grind (arith, common_steps, outcome_within)
