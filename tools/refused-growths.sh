@@ -20,24 +20,28 @@ is_prefix() {
     head -n "$lines" "$work/wanted" | cmp -s - "$work/output"
 }
 
-# Whether what the run of this status has left in $work is right.
-is_right() {
-    if [ "$1" -eq 0 ]; then
-        cmp -s "$work/output" "$work/wanted" && [ ! -s "$work/errors" ]
-    elif [ "$1" -eq 1 ]; then
-        is_prefix && [ "$(cat "$work/errors")" = 'out of memory' ]
-    elif [ "$1" -eq 2 ]; then
-        is_prefix && grep -q 'out of memory$' "$work/errors"
-    else
-        false
-    fi
+# Whether the run of this status ended as it does with ample memory.
+has_ample_memory() {
+    [ "$1" -eq "$wanted_status" ] && cmp -s "$work/output" "$work/wanted" && cmp -s "$work/errors" "$work/fault"
 }
 
-# Refuses each growth of one call in turn; its input and what it must write stand in $work. The first word is how many of them
-# are its own.
+# Whether the run was refused memory for itself.
+lacks_memory() {
+    [ "$1" -eq 1 ] && is_prefix && [ "$(cat "$work/errors")" = 'out of memory' ]
+}
+
+# Whether the run was refused memory for the words of the command line.
+lacks_words() {
+    [ "$1" -eq 2 ] && is_prefix && grep -q 'out of memory$' "$work/errors"
+}
+
+# Refuses each growth of one call in turn; its input and what it must write stand in $work, to standard error too. The first word is
+# how many of them are its own.
 refuse_each() {
     wanted_own=$1
     shift
+    wanted_status=0
+    [ ! -s "$work/fault" ] || wanted_status=1
     number=1
     own=0
     of_clap=0
@@ -46,24 +50,23 @@ refuse_each() {
         status=0
         REFUSED_GROWTH=$number LD_PRELOAD=$work/refuse_growth.so "$program" "$@" \
             <"$work/input" >"$work/output" 2>"$work/errors" 3>"$work/hit" || status=$?
-        if ! is_right "$status"; then
+        [ -s "$work/hit" ] || break
+        if lacks_memory "$status"; then
+            own=$((own + 1))
+        elif lacks_words "$status" && grep -q 'the words cannot be read' "$work/errors"; then
+            of_main=$((of_main + 1))
+        elif lacks_words "$status"; then
+            of_clap=$((of_clap + 1))
+        elif ! has_ample_memory "$status"; then
             echo "hart $*, growth $number refused: status $status, $(cat "$work/output" "$work/errors")" >&2
             exit 1
-        fi
-        [ -s "$work/hit" ] || break
-        if [ "$status" -eq 1 ]; then
-            own=$((own + 1))
-        elif grep -q 'the words cannot be read' "$work/errors"; then
-            of_main=$((of_main + 1))
-        elif [ "$status" -eq 2 ]; then
-            of_clap=$((of_clap + 1))
         elif [ "$of_clap" -gt 0 ]; then
             echo "hart $*: it did without growth $number, so it has more of its own than it says" >&2
             exit 1
         fi
         number=$((number + 1))
     done
-    if [ "$status" -ne 0 ] || [ "$own" -ne "$wanted_own" ] || [ "$of_clap" -eq 0 ]; then
+    if ! has_ample_memory "$status" || [ "$own" -ne "$wanted_own" ] || [ "$of_clap" -eq 0 ]; then
         echo "hart $*: status $status with ample memory, and $own growths of its own, but $wanted_own are wanted" >&2
         exit 1
     fi
@@ -85,6 +88,7 @@ refuse_script() {
     refuse_each "$2" sim
 }
 
+: >"$work/fault"
 cp crates/hart/stdin "$work/input"
 cp crates/hart/stdout "$work/wanted"
 # Its own are of the input and of its characters.
@@ -142,6 +146,19 @@ refuse_script 1 8
 refuse_script 65 19
 refuse_script 300 23
 refuse_script 3000 30
+
+# A script without events has those of the input and of its text alone.
+: >"$work/input"
+"$program" sim <"$work/input" >"$work/wanted"
+refuse_each 2 sim
+
+# A refused line of the text ends a script before a later leg with undetected damage does. Its own are of the input, of three events, of
+# a word of characters, of an outcome, of the messages of an event, and two of the text.
+printf 'submit P 37420A1B2C 19 012345\nturn P ok ok\nnoise FFFF0280000082\n' >"$work/input"
+: >"$work/wanted"
+echo 'undetected damage at event 2, noise' >"$work/fault"
+refuse_each 7 sim
+: >"$work/fault"
 
 : >"$work/input"
 echo 'FF FF FF FF FF 82 B7 42 0A 1B 2C 13 03 01 23 45 3D' >"$work/wanted"

@@ -55,7 +55,7 @@ HasLineFault device input (line_faults.BadLine number) = HasFirstBadLine input n
 HasLineFault device input (line_faults.Undetected number leg) = IsScriptWithFault device input (line_faults.Undetected number leg)
 HasLineFault device input (line_faults.Memory none) = ⊥
 
--- What some first events of a script lead to is written, and bytes of the text of their last world need room.
+-- The first events of a script, up to some number of them, lead to a world, and adding bytes of its text needs room for this number.
 pub record IsNeededByWriting (start : Start) (events : List LineEvent) (items : ℕ) : Type 0 where
   pub number : ℕ
   pub world : World
@@ -64,7 +64,7 @@ pub record IsNeededByWriting (start : Start) (events : List LineEvent) (items : 
   pub world_text : IsWorldText start world text
   pub needed : IsNeededByBytes text items
 
--- Room for so many items is needed to read an input as a script, to carry out its events, or to write what its first events lead to.
+-- Reading an input as a script, carrying out its events, or writing what its first events lead to needs room for this number of items.
 abbrev pub IsNeededForSimulation : DeviceState → List ℕ → ℕ → Type 0
 IsNeededForSimulation device input items =
     IsNeededByText input items

@@ -53,6 +53,6 @@ abbrev pub sim_text : List Spoken → List Outcome → DeviceState → List ℕ
 sim_text spoken outcomes device =
     flat_map spoken_line spoken ++ flat_map outcome_line (enumerate_from 1 outcomes) ++ counter_line device ++ image_line device
 
--- Bytes that are added to a text need room for some of them.
+-- Adding bytes to a text needs room for at least 1 byte, and for no more than these.
 abbrev pub IsNeededByBytes : List ℕ → ℕ → Type 0
 IsNeededByBytes bytes items = (0 < items) × (items ≤ length bytes)

@@ -10,8 +10,8 @@ use Rattle.hart_line.specs.declared.fault.LineFault.{LineFault}
 use Rattle.hart_line.specs.declared.fault.LineFault.TheVariants.{BadLine, Memory, Undetected}
 use Rattle.hart_line.specs.declared.line.report.Spoken.{Spoken}
 
--- A frame that was spoken in some first events of a script, all of whose damage is detected, needs room for so many items to be noted,
--- of which there is one at least.
+-- The first events of a script, up to some number of them, lead to a world, and noting a frame that was spoken there needs room for this
+-- number of items, which is 1 at least.
 pub record IsNeededByNoting (Needs : Spoken → ℕ → Type 0) (start : Start) (events : List LineEvent) (items : ℕ) : Type 0 where
   pub number : ℕ
   pub world : World
@@ -21,8 +21,8 @@ pub record IsNeededByNoting (Needs : Spoken → ℕ → Type 0) (start : Start) 
   pub needed : Any (λ frame. Needs frame items) spoken
   pub some : 0 < items
 
--- The fault of such a script is that of a script with undetected damage; or memory was refused for as many items as its events need
--- room for, or as noting one of its frames does.
+-- The fault of a script whose frames are noted is undetected damage, as without a log; or memory was refused that its events need, or that
+-- noting one of its frames needs.
 abbrev pub IsLoggedFault : (Spoken → ℕ → Type 0) → Start → List LineEvent → LineFault → Type 0
 IsLoggedFault Needs start events (Undetected number leg) = IsFault start events (Undetected number leg)
 IsLoggedFault Needs start events (Memory room) = IsNeededForEach events room.items ⊎ IsNeededByNoting Needs start events room.items

@@ -9,14 +9,14 @@ pub trait Log {
     // What is kept is what these frames leave, noted in this order.
     ghost has_noted: { Self → List Spoken → Type 0 };
 
-    // Noting this frame may need room for so many items.
+    // Noting this frame may need room for this number of items.
     ghost needs: { Spoken → ℕ → Type 0 };
 
     /// Notes a frame that was spoken.
     ///
     /// # Errors
     ///
-    /// [`NoRoom`] if memory for it was refused. Nothing is said then of what is kept.
+    /// [`NoRoom`] if memory for it was refused. It is not known then what is kept.
     fn note(&mut self, spoken: &Spoken) -> Result<(), NoRoom>
         ensures noted { OnOk result
             ((noted : List Spoken) → has_noted self.old noted → has_noted self.new (noted ++ spoken.now ∷ [])) }
@@ -27,7 +27,7 @@ pub trait Log {
 ///
 /// # Errors
 ///
-/// [`NoRoom`] at the first frame that the log has no room for. It gets none of those after it.
+/// [`NoRoom`] at the first frame that the log has no room for. The frames after it are not noted.
 pub fn note_all<L: Log>(log: &mut L, spoken: &[Spoken]) -> Result<(), NoRoom>
     ensures noted { OnOk result ((noted : List Spoken) → L.has_noted log.old noted → L.has_noted log.new (noted ++ spoken.now)) }
     ensures refused { IfErr result (λ none. (0 < none.items) × Any (λ said. L.needs said none.items) spoken.now) }

@@ -54,8 +54,8 @@ pub fn run_logged<S: RegisterStore + Drop, L: Log>(
     // All that run promises of a script, of its turns and of its last world holds of this one, and each request of it is well made.
     ensures well_made { IfOk result (λ _. AreWellMade events.now) }
     ensures promises { IfOk result (λ _. KeepsPromises (start_from device process.now primary secondary) events.now) }
-    // A fault names the first leg whose damage is undetected, or the outcomes or spoken frames that there is no room for, or as much
-    // room as noting a frame needs that was spoken.
+    // A fault names the first leg whose damage is undetected; the outcomes or the frames of one event that there is no room for; or
+    // the room that noting a spoken frame needs.
     ensures fault { IfErr result (IsLoggedFault L.needs (start_from device process.now primary secondary) events.now) }
     // What was spoken before an event with undetected damage has been noted.
     ensures noted_before { IfErr result

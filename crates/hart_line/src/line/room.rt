@@ -20,7 +20,7 @@ impl ScriptRoom {
     ///
     /// # Errors
     ///
-    /// [`NoRoom`] for as many outcomes as there are submissions, or for the most frames that are spoken in all events.
+    /// [`NoRoom`] for an outcome of each submission, or for the most frames that are spoken in all events.
     pub fn reserve(alloc: Global, events: &[LineEvent]) -> Result<Self, NoRoom>
         ensures outcomes { IfOk result (λ room. room.outcomes ≡ record { items = []; room = count_by is_submission events.now }) }
         ensures spoken { IfOk result (λ room. room.spoken ≡ record { items = []; room = most_spoken events.now }) }
@@ -36,7 +36,7 @@ impl ScriptRoom {
     ///
     /// # Errors
     ///
-    /// [`NoRoom`] for as many outcomes as there are submissions, or for the most frames that are spoken in one event.
+    /// [`NoRoom`] for an outcome of each submission, or for the most frames that are spoken in one event.
     pub fn reserve_for_each(alloc: Global, events: &[LineEvent]) -> Result<Self, NoRoom>
         ensures outcomes { IfOk result (λ room. room.outcomes ≡ record { items = []; room = count_by is_submission events.now }) }
         ensures spoken { IfOk result (λ room. room.spoken ≡ record { items = []; room = most_spoken_in_one events.now }) }

@@ -61,7 +61,8 @@ returns-in-Err-clause-detectable_damage_is_detected g c =
 
 -- An event more is carried out, and what is spoken in it is not noted yet.
 carried_out : (g : Over) (c : After-tell g) → IsReached (start_from c.args.device c.args.process.now c.args.primary c.args.secondary)
-    (take (c.loop-index.index + 1) c.args.events.now) (record c.step.new.self { spoken = c.loop-index.invariant.told.0 ++ c.step.new.self.spoken })
+    (take (c.loop-index.index + 1) c.args.events.now)
+    (record c.step.new.self { spoken = c.loop-index.invariant.told.0 ++ c.step.new.self.spoken })
 carried_out g c =
     let start = start_from c.args.device c.args.process.now c.args.primary c.args.secondary in
     let (noted, has, reached) = c.loop-index.invariant.told in
