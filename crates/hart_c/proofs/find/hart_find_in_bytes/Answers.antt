@@ -31,14 +31,26 @@ finds_next bytes ended before after used count room is_within untouched tidy pas
 
 pub loop-count-preserved : goal.loop-count-preserved
 loop-count-preserved c =
-    search (arith, common_steps, length-set, drop-set-lt, drop-drop, take_more_set, All-append, map-append, past_on, next_frames_are_all-onward)
+    search (
+      arith,
+      common_steps,
+      length-set,
+      drop-set-lt,
+      drop-drop,
+      take_more_set,
+      All-append,
+      map-append,
+      past_on,
+      next_frames_are_all-onward,
+    )
 
 pub returns-in_default : goal.returns-in_default
 returns-in_default c =
     let loop = c.loop-count.invariant in
     let next = c.next_in_bytes-next.ensures in
     rw c.found_so_far.ensures (finds_next _ _ _ _ _ _ loop.room next.within loop.untouched loop.tidy
-    (past_on _ _ _ next.onward loop.past) (grind (arith, common_steps, append-nil, next_frames_are_all-onward)) (grind (arith, common_steps)))
+    (past_on _ _ _ next.onward loop.past) (grind (arith, common_steps, append-nil, next_frames_are_all-onward))
+    (grind (arith, common_steps)))
 
 pub returns : goal.returns
 returns c =

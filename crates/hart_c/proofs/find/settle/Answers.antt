@@ -73,4 +73,12 @@ returns c n chars before len searched =
     let tidy = fill.tidy searched.tidy in
     let rest = drop-drop {A = HartFrame} (c.fill-count.result - c.args.count) c.args.count in
     let onward : drop c.fill-count.result c.fill-count.new.frames ≡ drop c.fill-count.result before = grind (arith, rest) in
-    rw len (grind (arith, drop-length, frames_are_unambiguous-one_list, messages_have_their_frame_alone-nothing, append-nil, stops, goes_on))
+    rw len (grind (
+      arith,
+      drop-length,
+      frames_are_unambiguous-one_list,
+      messages_have_their_frame_alone-nothing,
+      append-nil,
+      stops,
+      goes_on,
+    ))

@@ -22,8 +22,10 @@ is_long : (parts others : FrameParts) → others ≡ parts → IsLongEnough part
 is_long parts others same = let P : FrameParts → Type 0 = λ these. IsLongEnough these.kind these.payload in subst P (sym same)
 
 -- and they have one message
-is_message : (parts others : FrameParts) (preambles : ℕ) → others ≡ parts → {message : List ℕ} → IsMessage parts preambles message → IsMessage others preambles message
-is_message parts others preambles same {message} = let P : FrameParts → Type 0 = λ these. IsMessage these preambles message in subst P (sym same)
+is_message : (parts others : FrameParts) (preambles : ℕ) → others ≡ parts → {message : List ℕ} → IsMessage parts preambles message
+    → IsMessage others preambles message
+is_message parts others preambles same {message} =
+    let P : FrameParts → Type 0 = λ these. IsMessage these preambles message in subst P (sym same)
 
 -- of numbers of one frame
 module _ (frame other : HartFrame) (same : frame_in other ≡ frame_in frame) (long : other.expansion_len ≡ frame.expansion_len) where

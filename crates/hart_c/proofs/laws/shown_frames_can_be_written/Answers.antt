@@ -42,7 +42,8 @@ all_have chars from (found ∷ later) (first start head others is rest) =
     All-cons HasBody found later (is.stands.body, is.stands.is_body) (all_have chars found.stop later rest)
 
 -- and so has one that is shown
-has : (frames : List HartFrame) (others : List Found) → All HasBody (map found_in frames ++ others) → All (λ frame. HasBody (found_in frame)) frames
+has : (frames : List HartFrame) (others : List Found) → All HasBody (map found_in frames ++ others)
+    → All (λ frame. HasBody (found_in frame)) frames
 has frames others all index other within = grind (arith, common_steps, all index (found_in other))
 
 pub returns-clause-found : goal.returns-clause-found
