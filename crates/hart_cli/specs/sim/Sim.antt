@@ -1,9 +1,10 @@
 -- What `hart sim` writes for what it reads (own profile).
-use Rattle.std.specs.Prelude.{◌≡◌, ◌⊎◌, ℕ, List, Option, take}
+use Rattle.std.specs.Prelude.{◌≡◌, ◌⊎◌, ◌<◌, ℕ, List, Option}
 use Rattle.hart_device.specs.Bench.{bench_process}
 use Rattle.hart_device.specs.Device.{DeviceState}
 use Rattle.hart_line.specs.world.Faults.{IsFault}
 use Rattle.hart_line.specs.world.Needs.{IsNeededForEach}
+use Rattle.hart_line.specs.world.Noted.{IsNeededByNoting}
 use Rattle.hart_line.specs.script.Rows.{HasFirstBadLine, IsNeededByText, IsScript}
 use Rattle.hart_line.specs.world.Spoken.{AreSpoken}
 use Rattle.hart_line.specs.world.Step.{IsLast}
@@ -15,7 +16,7 @@ use Rattle.hart_line.specs.declared.line.report.Spoken.{Spoken}
 use Rattle.hart_cli.specs.declared.fault.CliFault.{CliFault}
 use Rattle.hart_cli.specs.declared.fault.CliFault.TheVariants.{Line, Memory}
 use Rattle.hart_cli.specs.ImageWord.{OutcomeWith, OutcomeRelation}
-use Rattle.hart_cli.specs.sim.Text.{IsNeededByBytes, sim_text}
+use Rattle.hart_cli.specs.sim.Text.{IsNeededByDevice, IsNeededByFrame, IsNeededByOutcomes, sim_text}
 use Rattle.hart_cli.specs.input.WholeInput.{WholeOutcome}
 
 -- A script starts with a device, the process values of the bench device, and two masters that have nothing in hand and send a
@@ -55,21 +56,23 @@ HasLineFault device input (line_faults.BadLine number) = HasFirstBadLine input n
 HasLineFault device input (line_faults.Undetected number leg) = IsScriptWithFault device input (line_faults.Undetected number leg)
 HasLineFault device input (line_faults.Memory none) = ⊥
 
--- The first events of a script, up to some number of them, lead to a world, and adding bytes of its text needs room for this number.
-pub record IsNeededByWriting (start : Start) (events : List LineEvent) (items : ℕ) : Type 0 where
-  pub number : ℕ
+-- A script leads to a last world, and the line of one of its submissions, or the last two lines, need room for this number of bytes,
+-- which is 1 at least.
+pub record IsNeededByLastLines (start : Start) (events : List LineEvent) (items : ℕ) : Type 0 where
   pub world : World
-  pub last : IsLast start (take number events) world
-  pub text : List ℕ
-  pub world_text : IsWorldText start world text
-  pub needed : IsNeededByBytes text items
+  pub last : IsLast start events world
+  pub needed : IsNeededByOutcomes world.outcomes items ⊎ IsNeededByDevice (state_of start.device world) items
+  pub some : 0 < items
 
--- Reading an input as a script, carrying out its events, or writing what its first events lead to needs room for this number of items.
+-- An input needs room for this number of items: to be read as a script, to have its events carried out, or for a line of its text, which
+-- is that of a spoken frame or comes after all of those.
 abbrev pub IsNeededForSimulation : DeviceState → List ℕ → ℕ → Type 0
 IsNeededForSimulation device input items =
     IsNeededByText input items
     ⊎ ((events : List LineEvent) × IsScript input events
-    × (IsNeededForEach events items ⊎ IsNeededByWriting (start_with device) events items))
+    × (IsNeededForEach events items
+    ⊎ IsNeededByNoting IsNeededByFrame (start_with device) events items
+    ⊎ IsNeededByLastLines (start_with device) events items))
 
 -- An input that is not carried out has this fault, of its lines or its events; or memory is refused for as many items as it needs
 -- room for, which is no fault of an input.

@@ -1,5 +1,5 @@
 -- The text of `hart sim` (own profile).
-use Rattle.std.specs.Prelude.{ℕ, ◌<◌, ◌≤◌, List, [], ◌∷◌, ◌++◌, codes, decimal, length}
+use Rattle.std.specs.Prelude.{◌≡◌, ℕ, Any, List, [], ◌∷◌, ◌++◌, codes, decimal, length}
 use Rattle.std.specs.List.{enumerate_from, flat_map}
 use Rattle.hex.specs.Hex.{encode_upper}
 use Rattle.hart_commands.specs.ReplyData.{content_bytes}
@@ -53,6 +53,14 @@ abbrev pub sim_text : List Spoken → List Outcome → DeviceState → List ℕ
 sim_text spoken outcomes device =
     flat_map spoken_line spoken ++ flat_map outcome_line (enumerate_from 1 outcomes) ++ counter_line device ++ image_line device
 
--- Adding bytes to a text needs room for at least 1 byte, and for no more than these.
-abbrev pub IsNeededByBytes : List ℕ → ℕ → Type 0
-IsNeededByBytes bytes items = (0 < items) × (items ≤ length bytes)
+-- A spoken frame needs room for the bytes of its line.
+abbrev pub IsNeededByFrame : Spoken → ℕ → Type 0
+IsNeededByFrame frame items = items ≡ length (spoken_line frame)
+
+-- One of these submissions needs room for the bytes of its line.
+abbrev pub IsNeededByOutcomes : List Outcome → ℕ → Type 0
+IsNeededByOutcomes outcomes items = Any (λ numbered. items ≡ length (outcome_line numbered)) (enumerate_from 1 outcomes)
+
+-- The device needs room for the bytes of the last two lines, which are added at once.
+abbrev pub IsNeededByDevice : DeviceState → ℕ → Type 0
+IsNeededByDevice device items = items ≡ length (counter_line device ++ image_line device)

@@ -2,7 +2,8 @@
 ghost use Rattle.std.specs.Prelude.{◌≡◌, ◌≤◌, ◌<◌, ◌+◌, ◌∷◌, [], ◌++◌, IfErr, IfOk, OnErr, OnOk, decimal, length};
 ghost use Rattle.std.specs.List.{enumerate_from, flat_map, join_with_byte};
 ghost use Rattle.hart_line.specs.declared.line.report.Outcome.TheVariants.{Answered};
-ghost use Rattle.hart_cli.specs.sim.Text.{IsNeededByBytes, counter_line, image_line, outcome_line, outcome_words, party_word, spoken_line};
+ghost use Rattle.hart_cli.specs.sim.Text.{IsNeededByDevice, IsNeededByOutcomes, counter_line, image_line, outcome_line, outcome_words};
+ghost use Rattle.hart_cli.specs.sim.Text.{party_word, spoken_line};
 
 use crate::text::hex_text::push_hex;
 use crate::text::pairs::Pairs;
@@ -45,7 +46,7 @@ impl SimText {
     pub fn push_outcomes(&mut self, outcomes: &[Outcome]) -> Result<(), NoRoom>
         ensures text { OnOk result
             (self.new.text.items ≡ self.old.text.items ++ flat_map outcome_line (enumerate_from 1 outcomes.now)) }
-        ensures refused { IfErr result (λ none. IsNeededByBytes (flat_map outcome_line (enumerate_from 1 outcomes.now)) none.items) }
+        ensures refused { IfErr result (λ none. (0 < none.items) × IsNeededByOutcomes outcomes.now none.items) }
     {
         for (index, outcome) in outcomes.iter().enumerate() {
             make_outcome_line(&mut self.line, &self.pairs, index + 1, outcome);
@@ -61,7 +62,7 @@ impl SimText {
     /// [`NoRoom`] if there is no room for these lines.
     pub fn finish<S: RegisterStore>(self, device: &Device<S>) -> Result<Vec<u8>, NoRoom>
         ensures text { IfOk result (λ list. list.items ≡ self.text.items ++ counter_line device.now ++ image_line device.now) }
-        ensures refused { IfErr result (λ none. IsNeededByBytes (counter_line device.now ++ image_line device.now) none.items) }
+        ensures refused { IfErr result (λ none. (0 < none.items) × IsNeededByDevice device.now none.items) }
     {
         let SimText {
             mut text,
@@ -76,11 +77,11 @@ impl SimText {
 impl Log for SimText {
     ghost use Rattle.std.specs.Prelude.{◌≡◌};
     ghost use Rattle.std.specs.List.{flat_map};
-    ghost use Rattle.hart_cli.specs.sim.Text.{IsNeededByBytes, spoken_line};
+    ghost use Rattle.hart_cli.specs.sim.Text.{IsNeededByFrame, spoken_line};
 
     ghost has_noted = { λ text noted. text.text.items ≡ flat_map spoken_line noted };
 
-    ghost needs = { λ spoken items. IsNeededByBytes (spoken_line spoken) items };
+    ghost needs = { λ spoken items. IsNeededByFrame spoken items };
 
     fn note(&mut self, spoken: &Spoken) -> Result<(), NoRoom> {
         make_spoken_line(&mut self.line, &self.pairs, spoken);
@@ -96,7 +97,7 @@ impl Log for SimText {
 fn push_bytes(text: &mut Filling<u8>, bytes: &[u8]) -> Result<(), NoRoom>
     ensures text { OnOk result (text.new.items ≡ text.old.items ++ bytes.now) }
     ensures kept { OnErr result (text.new ≡ text.old) }
-    ensures refused { IfErr result (λ none. IsNeededByBytes bytes.now none.items) }
+    ensures refused { IfErr result (λ none. (0 < none.items) × (none.items ≡ length bytes.now)) }
 {
     text.make_room(bytes.len())?;
     text.extend(bytes);

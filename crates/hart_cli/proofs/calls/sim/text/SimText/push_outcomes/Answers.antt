@@ -1,11 +1,11 @@
-use Rattle.std.proofs.Common.{◌≡◌, ℕ, ◌+◌, ◌<◌, ◌≤◌, List, [], ◌∷◌, ◌++◌, length, take, get_or, arith, length-take, append_assoc}
+use Rattle.std.proofs.Common.{◌≡◌, ℕ, ◌+◌, ◌<◌, List, [], ◌∷◌, ◌++◌, length, take, get_or, arith, length-take, append_assoc}
 use Rattle.std.proofs.lemmas.Grind.{common_steps}
-use Rattle.std.proofs.lemmas.List.{take_more}
-use Rattle.std.proofs.lemmas.List.Folds.{length-flat_map-take}
+use Rattle.std.proofs.lemmas.List.{get_or_default, take_more}
+use Rattle.std.proofs.lemmas.Result.{err_from_is_err_and}
 use Rattle.std.proofs.lemmas.List.FromFn.{get_or-enumerate_from, length-enumerate_from}
 use Rattle.std.specs.List.{enumerate_from, flat_map}
 use Rattle.hart_line.specs.declared.line.report.Outcome.{Outcome}
-use Rattle.hart_cli.specs.sim.Text.{outcome_line}
+use Rattle.hart_cli.specs.sim.Text.{IsNeededByOutcomes, outcome_line}
 use Rattle.hart_cli.proofs.calls.sim.text.SimText.push_outcomes.Goals as goal
 
 -- the things of a list that goes on are numbered on
@@ -20,17 +20,21 @@ outcomes_more : (outcomes : List Outcome) (i : ℕ) (d : Outcome) → i < length
     ≡ flat_map outcome_line (enumerate_from 1 (take i outcomes)) ++ outcome_line (i + 1, get_or outcomes i d)
 outcomes_more outcomes i d below = grind (arith, common_steps, length-take, numbered_on, take_more)
 
--- the line of a submission is no longer than those of all
-outcome_within : (outcomes : List Outcome) (i : ℕ) (d : Outcome) → i < length outcomes
-    → length (outcome_line (i + 1, get_or outcomes i d)) ≤ length (flat_map outcome_line (enumerate_from 1 outcomes))
-outcome_within outcomes i d below =
+-- room for the line of a submission is needed by one of them
+outcome_needed : (outcomes : List Outcome) (i : ℕ) (d : Outcome) (items : ℕ) → i < length outcomes
+    → items ≡ length (outcome_line (i + 1, get_or outcomes i d)) → IsNeededByOutcomes outcomes items
+outcome_needed outcomes i d items below is =
     let within : i < length (enumerate_from 1 outcomes) = omega (arith, length-enumerate_from 1 outcomes) in
-    let one = length-flat_map-take outcome_line (enumerate_from 1 outcomes) i (0, d) within in
-    let line : get_or (enumerate_from 1 outcomes) i (0, d) ≡ (i + 1, get_or outcomes i d) =
-    grind (arith, get_or-enumerate_from 1 outcomes i (0, d) below) in omega (arith, rw line at one)
+    let line : ℕ × Outcome = (i + 1, get_or outcomes i d) in
+    (i, line, within, grind (arith, get_or-enumerate_from 1 outcomes i line below, get_or_default), is)
 
 pub loop-index-preserved : goal.loop-index-preserved
 loop-index-preserved c = grind (arith, common_steps, append_assoc, outcomes_more)
 
 pub returns-in_err-push_bytes-clause-refused : goal.returns-in_err-push_bytes-clause-refused
-returns-in_err-push_bytes-clause-refused c = grind (arith, common_steps, outcome_within)
+returns-in_err-push_bytes-clause-refused c =
+    let stop = err_from_is_err_and c.from_residual.result c.from_residual.ensures.1 in
+    let refused = c.in_err-push_bytes.ensures.refused in
+    let outcome = c.index-outcomes-index.result in
+    rw (stop.1, stop.2)
+    (refused.0, outcome_needed c.args.outcomes.now c.loop-index.index outcome _ (grind (arith, common_steps)) (grind (arith, common_steps)))
