@@ -11,6 +11,7 @@ mod addresses;
 mod deliveries;
 mod images;
 mod restarts;
+pub mod worked;
 mod writes;
 
 /// The payload of the reply to Command 0, before anything is counted.
@@ -129,21 +130,29 @@ fn unknown_commands_are_refused(rt: HostRuntime) {
     }
 }
 
-/// Whether the device status of the reply to Command 48 is this, where a byte of the additional status is 1.
-fn status_is(place: usize, status: u8) -> Result<bool, Fail> {
+/// Whether the reply to Command 48 has this device status and this check byte, where a byte of the additional status is 1.
+fn status_is(place: usize, status: u8, check: u8) -> Result<bool, Fail> {
     let mut process = bench::process();
     *process.additional_status.get_mut(place).ok_or("a place")? = 1;
     let reply = asked_at(&mut bench_device(), 48, &[], &process)?;
-    Ok(reply.payload().get(1) == Some(&status))
+    let has_status = reply.payload().get(1) == Some(&status);
+    Ok(has_status && reply.body().as_slice().last() == Some(&check))
 }
 
-/// Bytes of the additional status, and the device status with each.
-const STATUSES: &[(usize, u8)] = &[(0, 0x10), (5, 0x10), (6, 0x00), (7, 0x10), (24, 0x10)];
+/// Bytes of the additional status, and with each of them the device status and the check byte of the reply.
+const STATUSES: &[(usize, u8, u8)] = &[
+    (0, 0x10, 0x74),
+    (5, 0x10, 0x74),
+    (6, 0x00, 0x64),
+    (7, 0x10, 0x74),
+    (24, 0x10, 0x74),
+];
 
 #[test]
 fn additional_status_is_shown(rt: HostRuntime) {
-    for (place, status) in STATUSES {
-        hold_ok(&rt, status_is(*place, *status), "byte", *place);
+    for (place, status, check) in STATUSES {
+        let is_shown = status_is(*place, *status, *check);
+        hold_ok(&rt, is_shown, "byte", *place);
     }
 }
 

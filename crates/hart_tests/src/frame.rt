@@ -122,12 +122,13 @@ const REPLY: &[u8] = &[
     0x23, 0x45, 0x7F,
 ];
 
-/// Whether a frame is written as this message in place of what was there, and too few preamble bytes leave the message.
+/// Whether a frame is written as this message in place of what was there, and too few or too many preamble bytes leave the message.
 fn is_written_as(frame: &Frame, want: &[u8], output: &mut Message) -> Result<bool, Fail> {
     encode(frame, 5, output)?;
     let is_written = output.as_slice() == want;
-    let is_refused = encode(frame, 4, output) == Err(FrameFault::BadPreamble);
-    Ok(is_written && is_refused && output.as_slice() == want)
+    let too_few = encode(frame, 4, output) == Err(FrameFault::BadPreamble);
+    let too_many = encode(frame, 21, output) == Err(FrameFault::BadPreamble);
+    Ok(is_written && too_few && too_many && output.as_slice() == want)
 }
 
 #[test]
@@ -143,7 +144,7 @@ fn requests_and_replies_are_written(rt: HostRuntime) -> Result<(), Fail> {
 }
 
 #[test]
-fn frames_keep_to_their_limits(rt: HostRuntime) -> Result<(), Fail> {
+fn a_reply_has_two_bytes_of_payload(rt: HostRuntime) -> Result<(), Fail> {
     let one_byte = Payload::from_slice(&[0]).ok_or("one byte")?;
     let too_short = Frame::new(
         FrameKind::Ack,
@@ -155,6 +156,25 @@ fn frames_keep_to_their_limits(rt: HostRuntime) -> Result<(), Fail> {
         one_byte,
     );
     assert!(rt; too_short.err() == Some(FrameFault::TooShortReply));
+    Ok(())
+}
+
+/// What the longest body has before its payload of 255 zeros: with expansion bytes, at the broadcast address.
+const LONGEST_HEADER: &[u8] = &[
+    0xE2, 0x80, 0x00, 0x00, 0x00, 0x00, 0x00, 0x00, 0x00, 0x00, 0xFF,
+];
+
+/// The message with 20 preamble bytes and the longest body, which ends with its check byte.
+fn longest_message() -> [u8; 287] {
+    let mut message = [0; 287];
+    message[..20].fill(0xFF);
+    message[20..31].copy_from_slice(LONGEST_HEADER);
+    message[286] = 0x9D;
+    message
+}
+
+#[test]
+fn the_longest_message_has_287_bytes(rt: HostRuntime) -> Result<(), Fail> {
     let longest = Frame::new(
         FrameKind::Stx,
         MasterId::Primary,
@@ -166,7 +186,10 @@ fn frames_keep_to_their_limits(rt: HostRuntime) -> Result<(), Fail> {
     )?;
     let mut output = Message::new();
     encode(&longest, 20, &mut output)?;
-    assert!(rt; output.len() == 287 && output.as_slice().ends_with(&[0x9D]));
+    let want = longest_message();
+    assert!(rt; output.as_slice() == want.as_slice());
+    let (read, len) = decode(&want[20..])?;
+    assert!(rt; read == longest && len == 267);
     Ok(())
 }
 

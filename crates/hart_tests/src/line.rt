@@ -1,6 +1,6 @@
 mod room;
 mod runs;
-mod scripts;
+pub mod scripts;
 mod texts;
 mod undetected;
 

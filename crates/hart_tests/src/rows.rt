@@ -1,6 +1,7 @@
 //! How tests hold what they try to what they say of it. What is proved here is not proved again in each test.
 use hart_frame::Char;
-use std::alloc::Global;
+use hart_line::leading_item;
+use std::alloc::{AllocError, Global};
 use std::fmt::Display;
 use std::process::{Abort, Termination};
 use std::test::Fail;
@@ -34,4 +35,52 @@ pub fn write_chars(chars: &mut [Char], heard: &[u16]) -> Option<()> {
         *character = Char::new((both % 256) as u8, (both / 256) as u8)?;
     }
     Some(())
+}
+
+/// The characters that the items of a text stand for, with spaces between them.
+pub fn chars_of_items(alloc: Global, text: &str) -> Result<Vec<Char>, Fail> {
+    let mut chars = Vec::new(alloc);
+    let mut rest = text.as_bytes();
+    for _ in 0..text.len() {
+        rest = rest.trim_ascii_start();
+        if rest.is_empty() {
+            break;
+        }
+        let item = leading_item(rest).ok_or("an item")?;
+        chars.push(item.char)?;
+        rest = rest.get(item.len..).ok_or("its bytes")?;
+    }
+    Ok(chars)
+}
+
+/// The bytes of characters, whatever their faults.
+pub fn bytes_of(alloc: Global, chars: &[Char]) -> Result<Vec<u8>, Fail> {
+    let mut bytes = Vec::new(alloc);
+    for character in chars {
+        bytes.push(character.byte())?;
+    }
+    Ok(bytes)
+}
+
+/// Appends a part to a text `times` times.
+fn push_often(text: &mut String, part: &str, times: usize) -> Result<(), AllocError> {
+    for _ in 0..times {
+        text.push_str(part)?;
+    }
+    Ok(())
+}
+
+/// Returns a text in which a part stands `times` times between two others.
+pub fn text_of(
+    alloc: Global,
+    prefix: &str,
+    part: &str,
+    times: usize,
+    suffix: &str,
+) -> Result<String, AllocError> {
+    let mut text = String::new(alloc);
+    text.push_str(prefix)?;
+    push_often(&mut text, part, times)?;
+    text.push_str(suffix)?;
+    Ok(text)
 }

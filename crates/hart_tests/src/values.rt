@@ -19,12 +19,28 @@ fn addresses_have_their_bytes(rt: HostRuntime) -> Result<(), Fail> {
     Ok(())
 }
 
+/// An address byte, and the master, the burst bit and the polling address that it holds.
+const POLLING: &[(u8, MasterId, bool, u8)] = &[
+    (0x45, MasterId::Secondary, true, 5),
+    (0xC5, MasterId::Primary, true, 5),
+    (0xBF, MasterId::Primary, false, 63),
+    (0x00, MasterId::Secondary, false, 0),
+];
+
+/// Whether an address byte holds what its row says.
+fn holds_polling(row: &(u8, MasterId, bool, u8)) -> Result<bool, Fail> {
+    let (byte, master, burst, number) = *row;
+    let polling = Address::polling(number)?;
+    Ok(Address::read(&[byte]) == Some((master, burst, polling)))
+}
+
 #[test]
 fn addresses_are_read(rt: HostRuntime) -> Result<(), Fail> {
+    for (number, row) in POLLING.iter().enumerate() {
+        hold_ok(&rt, holds_polling(row), "row", number);
+    }
     let device = Address::unique(0x3742, 0x0A1B2C)?;
     assert!(rt; Address::read(UNIQUE) == Some((MasterId::Primary, false, device)));
-    let polling = Address::polling(5)?;
-    assert!(rt; Address::read(&[0x45]) == Some((MasterId::Secondary, true, polling)));
     assert!(rt; Address::read(&[0x45, 0x00]).is_none());
     Ok(())
 }
@@ -36,6 +52,19 @@ fn only_both_numbers_zero_are_broadcast(rt: HostRuntime) -> Result<(), Fail> {
     assert!(rt; !Address::unique(0x0001, 0)?.is_broadcast());
     assert!(rt; !Address::polling(0)?.is_broadcast());
     Ok(())
+}
+
+#[test]
+fn numbers_out_of_range_are_refused(rt: HostRuntime) {
+    let faults = [
+        Address::polling(64).err(),
+        Address::unique(0, 0x0100_0000).err(),
+        ResponseCode::new(128).err(),
+        CommFaults::new(128).err(),
+    ];
+    for (row, fault) in faults.iter().enumerate() {
+        hold(&rt, *fault == Some(ValueFault::OutOfRange), "row", row);
+    }
 }
 
 /// Whether a list has these bytes.
@@ -70,16 +99,26 @@ fn each_master_has_its_own(rt: HostRuntime) {
 fn texts_are_packed(rt: HostRuntime) -> Result<(), Fail> {
     let tag = PackedText::<6>::from_text("PUMP-101".as_bytes())?;
     assert!(rt; tag.as_bytes() == [0x41, 0x53, 0x50, 0xB7, 0x1C, 0x31].as_slice());
-    let spaces = PackedText::<12>::from_text(&[b' '; 16])?;
-    assert!(rt;
-        spaces
-            .as_bytes()
-            .starts_with(&[0x82, 0x08, 0x20, 0x82, 0x08, 0x20])
-    );
+    let spaces = PackedText::<6>::from_text(&[b' '; 8])?;
+    assert!(rt; spaces.as_bytes() == [0x82, 0x08, 0x20, 0x82, 0x08, 0x20].as_slice());
     let mut text = [0; 32];
     PackedText::<24>::from_bytes([0xFF; 24]).write_text(&mut text)?;
     assert!(rt; text == [b'?'; 32]);
-    assert!(rt; tag.write_text(&mut text) == Err(ValueFault::WrongLength));
+    Ok(())
+}
+
+#[test]
+fn packed_text_is_written_into_its_length_alone(rt: HostRuntime) -> Result<(), Fail> {
+    let tag = PackedText::<6>::from_bytes([0x41, 0x53, 0x50, 0xB7, 0x1C, 0x31]);
+    let mut text = [0; 8];
+    tag.write_text(&mut text)?;
+    assert!(rt; text == *b"PUMP-101");
+    let mut shorter = [0x55; 7];
+    assert!(rt;
+        tag.write_text(&mut shorter) == Err(ValueFault::WrongLength) && shorter == [0x55; 7]
+    );
+    let mut longer = [0x55; 9];
+    assert!(rt; tag.write_text(&mut longer) == Err(ValueFault::WrongLength) && longer == [0x55; 9]);
     Ok(())
 }
 
@@ -130,10 +169,13 @@ fn three_zeros_alone_are_not_set(rt: HostRuntime) -> Result<(), Fail> {
 #[test]
 fn status_bytes_hold_a_code_or_faults(rt: HostRuntime) -> Result<(), Fail> {
     let changed = DeviceStatus(DeviceStatus::CONFIGURATION_CHANGED);
+    let success = Status::Code(ResponseCode::SUCCESS, changed);
+    assert!(rt; Status::read([0x00, 0x40]) == success && success.bytes() == [0x00, 0x40]);
     let code = Status::Code(ResponseCode::new(16)?, changed);
     assert!(rt; Status::read([0x10, 0x40]) == code && code.bytes() == [0x10, 0x40]);
     let faulty = Status::Faulty(CommFaults::new(CommFaults::LONGITUDINAL_PARITY)?);
-    assert!(rt; Status::read([0x88, 0x05]) == faulty && faulty.bytes() == [0x88, 0x00]);
+    assert!(rt; Status::read([0x88, 0x00]) == faulty && Status::read([0x88, 0x05]) == faulty);
+    assert!(rt; faulty.bytes() == [0x88, 0x00]);
     Ok(())
 }
 

@@ -1,5 +1,6 @@
 //! A scanner against the first frames of the whole list.
 use super::*;
+use crate::rows::bytes_of;
 use std::alloc::Global;
 
 /// Characters one after another, each so many times. The high byte of a character is its fault bits.
@@ -300,15 +301,6 @@ fn noise_stop(chars: &[Char], want: &Option<(usize, Read)>) -> Option<usize> {
         }
         _ => None,
     }
-}
-
-/// The bytes of characters without faults.
-fn bytes_of(alloc: Global, chars: &[Char]) -> Result<Vec<u8>, Fail> {
-    let mut bytes = Vec::new(alloc);
-    for character in chars {
-        bytes.push(character.byte())?;
-    }
-    Ok(bytes)
 }
 
 /// As `by_character`, by one chunk of all the characters, of which none has a fault.

@@ -1,6 +1,7 @@
 //! Scripts of many kinds and lengths, none of which is refused if there is memory.
 use super::runs::run_on;
 use super::*;
+use crate::rows::text_of;
 use hart_commands::Request;
 use hart_device::{Device, FieldRegisters, bench};
 use std::process::Abort;
@@ -97,29 +98,6 @@ const GROWING: &[Growing] = &[
         spoken: 0,
     },
 ];
-
-/// Adds a part to a text so often.
-fn push_often(text: &mut String, part: &str, times: usize) -> Result<(), AllocError> {
-    for _ in 0..times {
-        text.push_str(part)?;
-    }
-    Ok(())
-}
-
-/// A text in which a part stands so often.
-pub fn text_of(
-    alloc: Global,
-    prefix: &str,
-    part: &str,
-    times: usize,
-    suffix: &str,
-) -> Result<String, AllocError> {
-    let mut text = String::new(alloc);
-    text.push_str(prefix)?;
-    push_often(&mut text, part, times)?;
-    text.push_str(suffix)?;
-    Ok(text)
-}
 
 /// The numbers of outcomes and of spoken frames that a script leads to.
 fn lens_of(alloc: Global, script: &str) -> Result<(usize, usize), Fail> {

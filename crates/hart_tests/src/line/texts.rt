@@ -1,6 +1,6 @@
 //! Texts with long words, with many lines, and of bytes that no line has.
-use super::room::text_of;
 use super::*;
+use crate::rows::text_of;
 
 /// A text in which a part stands often, and what its script is: a letter for each event, or the number of its first bad line.
 struct Long<'a> {
