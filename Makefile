@@ -3,7 +3,7 @@
 #   make                      builds the proved program and leaves it as ./hart
 #   make check                runs every proof and every test, and ends with the count of what passed and what failed
 #   make test                 proves every crate and runs every test and script, but tries no wrong body: the quick one of the two
-#   make refused-growths      refuses each allocation of ./hart in turn, as make check does to the program that it proves
+#   make refused-growths      refuses each allocation of ./hart and of each call by its name in turn, as make check does
 #   make runs                 runs ./hart on rows of words and inputs, with reads and writes cut short, as make check does
 #   make streams              runs ./hart on streams that fail and for its texts, as make check does
 #   make examples             runs the examples of help and pages on ./hart, as make check does
@@ -20,6 +20,7 @@
 PREFIX ?= /usr/local
 N ?= 10000
 PROGRAM := crates/hart
+TESTS := crates/hart_tests/out/hart_tests_tests
 GUIDE := docs/GUIDE.md docs/COMMANDS.md docs/PROTOCOL.md docs/vectors.tsv
 SOURCES := crates.txt $(shell find crates -name out -prune -o \( -name '*.rt' -o -name '*.antt' \) -print)
 
@@ -30,6 +31,9 @@ all: hart
 hart: $(SOURCES)
 	cd $(PROGRAM) && rt run -- answer < stdin > out.tmp && cmp out.tmp stdout && rm out.tmp
 	cp $(PROGRAM)/out/hart $@
+
+$(TESTS): $(SOURCES)
+	cd crates/hart_tests && rt test
 
 # The program is proved and built once, by the gate, and then run.
 check:
@@ -48,6 +52,8 @@ test: hart
 
 held-view:
 	sh tools/held-view.sh
+
+refused-growths: $(TESTS)
 
 runs refused-growths streams examples manual library-examples: hart
 	sh tools/$@.sh

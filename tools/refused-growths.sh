@@ -6,9 +6,14 @@
 # before clap has the words a run may do without a growth. That it succeeds with ample memory is the last run, in which none is
 # left to refuse.
 #
-# Usage: tools/refused-growths.sh [PROGRAM]; PROGRAM is the ./hart of the repository if absent. It needs cc.
+# The program does not call `run`, and tells a refusal by `read_script` as its own. So a test of hart_tests makes each call once by its
+# name and tells what it answered, and each growth of that test is refused in the same way.
+#
+# Usage: tools/refused-growths.sh [PROGRAM [TESTS]]; PROGRAM is the ./hart of the repository if absent, and TESTS the tests that `rt test`
+# or the gate has built in crates/hart_tests. It needs cc.
 set -eu
 program=$(realpath "${1:-$(dirname "$0")/../hart}")
+tests=$(realpath "${2:-$(dirname "$0")/../crates/hart_tests/out/hart_tests_tests}")
 cd "$(dirname "$0")/.."
 work=$(mktemp -d)
 trap 'rm -rf "$work"' EXIT
@@ -163,3 +168,56 @@ refuse_each 7 sim
 : >"$work/input"
 echo 'FF FF FF FF FF 82 B7 42 0A 1B 2C 13 03 01 23 45 3D' >"$work/wanted"
 refuse_each 0 encode P 37420A1B2C 19 012345
+
+# Runs the test that makes each call by its name, and refuses the growth with this number. The test ends otherwise than with ample memory
+# then; what counts is what it tells of the calls. Whether there was such a growth is the result.
+refuse_by_name() {
+    REFUSED_GROWTH=$1 LD_PRELOAD=$work/refuse_growth.so "$tests" cli::growths::each_call_succeeds_with_ample_memory \
+        2>"$work/errors" 3>"$work/hit" | grep -E ' [0-9]+$' >"$work/output" || true
+    [ -s "$work/hit" ]
+}
+
+# With ample memory each call answers 0, and those that write have written so many bytes.
+cat >"$work/wanted" <<'ANSWERS'
+read_script 0
+run 0
+dump 0 58
+explain 0 240
+answer 0 102
+answer with an image 0 102
+simulate 0 410
+simulate with an image 0 410
+encode_text 0 51
+ANSWERS
+
+# Each growth is one of a single call, which answers otherwise if it is refused. All other calls answer as with ample memory.
+: >"$work/refused"
+number=1
+while refuse_by_name "$number"; do
+    diff "$work/wanted" "$work/output" >"$work/changes" || true
+    if [ "$(wc -l <"$work/changes")" -ne 4 ]; then
+        echo "the calls by their names, growth $number refused: not just one of them answers otherwise:" >&2
+        cat "$work/changes" "$work/errors" >&2
+        exit 1
+    fi
+    sed -n 's/^> //p' "$work/changes" >>"$work/refused"
+    number=$((number + 1))
+done
+
+# How many growths each call has, and what it answers and how many bytes it has written if one of them is refused. `dump` and `encode_text`
+# have none.
+cat >"$work/growths" <<'GROWTHS'
+2 answer 7 0
+3 answer with an image 7 0
+2 explain 7 0
+4 read_script 2
+2 run 2
+12 simulate 7 0
+13 simulate with an image 7 0
+GROWTHS
+LC_ALL=C sort "$work/refused" | uniq -c | sed 's/^ *//' >"$work/counted"
+if ! cmp -s "$work/wanted" "$work/output" || ! diff "$work/growths" "$work/counted" >&2; then
+    echo "the calls by their names: other refusals than are wanted, or other answers with ample memory" >&2
+    exit 1
+fi
+echo "the calls by their names: $((number - 1)) growths refused in turn"

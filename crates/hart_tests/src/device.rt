@@ -4,6 +4,7 @@ use hart_device::*;
 use hart_frame::{Char, Frame, Payload};
 use hart_values::{Address, MasterId, ResponseCode};
 use images::image_fault;
+use std::alloc::Global;
 use std::process::Abort;
 use std::test::Fail;
 
@@ -181,8 +182,8 @@ enum Refused<'a> {
     Bytes(&'a [u8]),
 }
 
-/// What is refused, the fault, and its text.
-type RefusedRow<'a> = (Refused<'a>, DeviceFault, &'a str);
+/// What is refused, and the number and the text of the fault.
+type RefusedRow<'a> = (Refused<'a>, u8, &'a str);
 
 /// Parts that are not like these in one way, and bytes that are no image in each way.
 const REFUSED: &[RefusedRow] = &[
@@ -191,7 +192,7 @@ const REFUSED: &[RefusedRow] = &[
             device_id: 0,
             ..PARTS
         }),
-        DeviceFault::BroadcastAddress,
+        1,
         "broadcast address",
     ),
     (
@@ -200,7 +201,7 @@ const REFUSED: &[RefusedRow] = &[
             signalling_code: 8,
             ..PARTS
         }),
-        DeviceFault::OutOfRange,
+        2,
         "out of range",
     ),
     (
@@ -208,7 +209,7 @@ const REFUSED: &[RefusedRow] = &[
             device_id: 0x0100_0000,
             ..PARTS
         }),
-        DeviceFault::OutOfRange,
+        2,
         "out of range",
     ),
     (
@@ -216,7 +217,7 @@ const REFUSED: &[RefusedRow] = &[
             hardware_revision: 32,
             ..PARTS
         }),
-        DeviceFault::OutOfRange,
+        2,
         "out of range",
     ),
     (
@@ -224,7 +225,7 @@ const REFUSED: &[RefusedRow] = &[
             request_preambles: 4,
             ..PARTS
         }),
-        DeviceFault::OutOfRange,
+        2,
         "out of range",
     ),
     (
@@ -232,24 +233,12 @@ const REFUSED: &[RefusedRow] = &[
             response_preambles: 21,
             ..PARTS
         }),
-        DeviceFault::OutOfRange,
+        2,
         "out of range",
     ),
-    (
-        Refused::Bytes(&[0x03]),
-        DeviceFault::BadVersion,
-        "bad image: version",
-    ),
-    (
-        Refused::Bytes(&[]),
-        DeviceFault::BadLength,
-        "bad image: length",
-    ),
-    (
-        Refused::Bytes(&[0x02; 86]),
-        DeviceFault::BadField,
-        "bad image: field",
-    ),
+    (Refused::Bytes(&[0x03]), 3, "bad image: version"),
+    (Refused::Bytes(&[]), 4, "bad image: length"),
+    (Refused::Bytes(&[0x02; 86]), 5, "bad image: field"),
 ];
 
 /// The fault for which it is refused.
@@ -260,16 +249,17 @@ fn fault_of(refused: &Refused) -> Option<DeviceFault> {
     }
 }
 
+/// Whether the fault of a row has its number and its text.
+fn has_its_fault(alloc: Global, row: &RefusedRow) -> Result<bool, Fail> {
+    let (refused, number, text) = row;
+    let fault = fault_of(refused).ok_or("no fault")?;
+    Ok(fault.number() == *number && has_text(alloc, &fault, text)?)
+}
+
 #[test]
-fn what_is_refused_has_a_fault_with_a_text(rt: HostRuntime) {
+fn what_is_refused_has_a_fault(rt: HostRuntime) {
     assert!(rt; Identity::new(PARTS).is_ok());
-    for (row, (refused, fault, text)) in REFUSED.iter().enumerate() {
-        hold(&rt, fault_of(refused) == Some(*fault), "row", row);
-        hold_ok(
-            &rt,
-            has_text(rt.alloc(), fault, text),
-            "the text of row",
-            row,
-        );
+    for (number, row) in REFUSED.iter().enumerate() {
+        hold_ok(&rt, has_its_fault(rt.alloc(), row), "row", number);
     }
 }

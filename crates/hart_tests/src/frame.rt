@@ -233,18 +233,20 @@ fn a_check_byte_is_the_exclusive_or(rt: HostRuntime) {
     }
 }
 
-const TEXTS: &[(FrameFault, &str)] = &[
-    (FrameFault::TooShortReply, "reply too short"),
-    (FrameFault::BadPreamble, "bad number of preamble bytes"),
-    (FrameFault::BadDelimiter, "bad delimiter"),
-    (FrameFault::Truncated, "truncated"),
-    (FrameFault::BadCheck, "bad check byte"),
-    (FrameFault::ShortReply, "reply with a short byte count"),
+/// Each fault, its number and its text.
+const FAULTS: &[(FrameFault, u8, &str)] = &[
+    (FrameFault::TooShortReply, 1, "reply too short"),
+    (FrameFault::BadPreamble, 2, "bad number of preamble bytes"),
+    (FrameFault::BadDelimiter, 3, "bad delimiter"),
+    (FrameFault::Truncated, 4, "truncated"),
+    (FrameFault::BadCheck, 5, "bad check byte"),
+    (FrameFault::ShortReply, 6, "reply with a short byte count"),
 ];
 
 #[test]
-fn faults_have_texts(rt: HostRuntime) {
-    for (row, (fault, want)) in TEXTS.iter().enumerate() {
-        hold_ok(&rt, has_text(rt.alloc(), fault, want), "row", row);
+fn faults_have_numbers_and_texts(rt: HostRuntime) {
+    for (row, (fault, number, text)) in FAULTS.iter().enumerate() {
+        hold(&rt, fault.number() == *number, "the number of row", row);
+        hold_ok(&rt, has_text(rt.alloc(), fault, text), "row", row);
     }
 }

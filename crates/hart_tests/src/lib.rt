@@ -1,10 +1,12 @@
-//! The tests of the library's crates, a module for each: what no clause says, as vectors from outside, texts, and rooms that are refused.
-//! What the modules share is in `rows`.
+//! The tests of the crates from hart_values to hart_cli, a module for each crate: what no clause says, as worked messages, texts, readers
+//! and writers that fail, and memory that is refused. What the modules share is in `rows`.
 //!
-//! They use what a crate shows to every other. hart_cli is a program and shows nothing: it is tested as it is built (`tools/runs.py`).
-//! The calls of hart_c are tested from C (`tools/library_calls.c`).
+//! They see what a crate shows to every other. Runs of the built program come beside them (`tools/runs.py`). The calls of hart_c are
+//! tested from C (`tools/library_calls.c`).
 #![tactic(auto)]
 
+#[cfg(test)]
+mod cli;
 #[cfg(test)]
 mod commands;
 #[cfg(test)]

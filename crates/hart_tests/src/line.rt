@@ -11,13 +11,14 @@ use hart_values::{Address, MasterId};
 use std::alloc::{AllocError, Global};
 use std::test::Fail;
 
-/// Each fault and its text.
-const FAULTS: &[(LineFault, &str)] = &[
+/// Each fault but that of memory, its number and its text.
+const FAULTS: &[(LineFault, u8, &str)] = &[
     (
         LineFault::Undetected {
             event: 0,
             leg: Leg::Up,
         },
+        1,
         "undetected damage at event 0, up",
     ),
     (
@@ -25,6 +26,7 @@ const FAULTS: &[(LineFault, &str)] = &[
             event: 1,
             leg: Leg::Down,
         },
+        1,
         "undetected damage at event 1, down",
     ),
     (
@@ -32,20 +34,23 @@ const FAULTS: &[(LineFault, &str)] = &[
             event: 20,
             leg: Leg::Noise,
         },
+        1,
         "undetected damage at event 20, noise",
     ),
-    (LineFault::BadLine { number: 1 }, "bad line 1"),
+    (LineFault::BadLine { number: 1 }, 3, "bad line 1"),
 ];
 
 #[test]
-fn faults_have_their_texts(rt: HostRuntime) -> Result<(), Fail> {
-    for (row, (fault, text)) in FAULTS.iter().enumerate() {
+fn faults_have_numbers_and_texts(rt: HostRuntime) -> Result<(), Fail> {
+    for (row, (fault, number, text)) in FAULTS.iter().enumerate() {
+        hold(&rt, fault.number() == *number, "the number of row", row);
         hold_ok(&rt, has_text(rt.alloc(), fault, text), "row", row);
     }
     // No room is as large as that.
     let none = reserved::<u8>(rt.alloc(), usize::MAX).err().ok_or("room")?;
     assert!(rt; none.items() == usize::MAX);
-    assert!(rt; has_text(rt.alloc(), &LineFault::Memory(none), "out of memory")?);
+    let fault = LineFault::Memory(none);
+    assert!(rt; fault.number() == 2 && has_text(rt.alloc(), &fault, "out of memory")?);
     Ok(())
 }
 

@@ -5,16 +5,17 @@ use hart_master::*;
 use hart_values::{Address, MasterId};
 use std::test::Fail;
 
-/// Faults and their texts.
-const TEXTS: &[(MasterFault, &str)] = &[
-    (MasterFault::OutOfRange, "out of range"),
-    (MasterFault::Pending, "a request is pending"),
-    (MasterFault::WrongAddress, "wrong address"),
+/// Each fault, its number and its text.
+const FAULTS: &[(MasterFault, u8, &str)] = &[
+    (MasterFault::OutOfRange, 1, "out of range"),
+    (MasterFault::Pending, 2, "a request is pending"),
+    (MasterFault::WrongAddress, 3, "wrong address"),
 ];
 
 #[test]
-fn faults_have_texts(rt: HostRuntime) {
-    for (row, (fault, text)) in TEXTS.iter().enumerate() {
+fn faults_have_numbers_and_texts(rt: HostRuntime) {
+    for (row, (fault, number, text)) in FAULTS.iter().enumerate() {
+        hold(&rt, fault.number() == *number, "the number of row", row);
         hold_ok(&rt, has_text(rt.alloc(), fault, text), "row", row);
     }
 }

@@ -63,7 +63,7 @@ fn numbers_out_of_range_are_refused(rt: HostRuntime) {
         CommFaults::new(128).err(),
     ];
     for (row, fault) in faults.iter().enumerate() {
-        hold(&rt, *fault == Some(ValueFault::OutOfRange), "row", row);
+        hold(&rt, fault.map(ValueFault::number) == Some(4), "row", row);
     }
 }
 
@@ -214,16 +214,22 @@ fn status_bits_and_response_codes_have_names(rt: HostRuntime) {
     assert!(rt; codes == [0, 2, 5, 7, 9, 9, 12, 64]);
 }
 
-const TEXTS: &[(ValueFault, &str)] = &[
-    (ValueFault::WrongLength, "wrong length"),
-    (ValueFault::BadCharacter { place: 3 }, "bad character at 3"),
-    (ValueFault::BadDate, "bad date"),
-    (ValueFault::OutOfRange, "out of range"),
+/// Each fault, its number and its text.
+const FAULTS: &[(ValueFault, u8, &str)] = &[
+    (ValueFault::WrongLength, 1, "wrong length"),
+    (
+        ValueFault::BadCharacter { place: 3 },
+        2,
+        "bad character at 3",
+    ),
+    (ValueFault::BadDate, 3, "bad date"),
+    (ValueFault::OutOfRange, 4, "out of range"),
 ];
 
 #[test]
-fn faults_have_texts(rt: HostRuntime) {
-    for (row, (fault, want)) in TEXTS.iter().enumerate() {
-        hold_ok(&rt, has_text(rt.alloc(), fault, want), "row", row);
+fn faults_have_numbers_and_texts(rt: HostRuntime) {
+    for (row, (fault, number, text)) in FAULTS.iter().enumerate() {
+        hold(&rt, fault.number() == *number, "the number of row", row);
+        hold_ok(&rt, has_text(rt.alloc(), fault, text), "row", row);
     }
 }

@@ -2,7 +2,6 @@
 use super::images::{ENDING, IMAGE_2, image_with};
 use super::*;
 use hart_frame::{Message, encode};
-use std::alloc::Global;
 
 /// The place in an image from which the register stands that a row here writes.
 const ASSEMBLY: usize = 48;

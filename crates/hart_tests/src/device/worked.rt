@@ -2,7 +2,6 @@
 use super::*;
 use crate::rows::{bytes_of, chars_of_items};
 use hart_frame::{Message, encode};
-use std::alloc::Global;
 
 /// What a request to the device's own unique address has before its command.
 pub const REQUEST: &str = "FF FF FF FF FF 82 B7 42 0A 1B 2C ";

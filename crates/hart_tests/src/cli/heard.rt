@@ -1,0 +1,228 @@
+//! Calls on what was heard: `dump`, `explain` and `answer`.
+
+use super::calls::{Call, EMPTY, Given, NONE, READ, Row, Wanted, does, does_as, hold_rows};
+use super::fakes::After;
+use crate::device::worked::{HEARD, OWN, OwnRow, REPLY, REQUEST};
+use crate::rows::{hold_ok, text_of};
+use std::alloc::Global;
+use std::test::Fail;
+
+/// A message, and its line.
+pub const IDENTIFY: &str = "FF FF 02 80 00 00 82";
+
+pub const IDENTIFY_LINE: &str = "2 7 STX P 0 @0 - 0 -\n";
+
+/// The same with the separator that makes its last item whole.
+pub const IDENTIFY_WHOLE: &str = "FF FF 02 80 00 00 82 ";
+
+/// What is said of it in words.
+pub const IDENTIFY_SAID: &str =
+    "2-7: request of the primary master to the device at polling address 0, \
+    Command 0, read unique identifier\n";
+
+/// A message of each master, and their lines.
+pub const TWO_MESSAGES: &str = "FF FF 02 80 00 00 82 FF FF 02 00 00 00 02";
+
+pub const TWO_LINES: &str = "2 7 STX P 0 @0 - 0 -\n9 14 STX S 0 @0 - 0 -\n";
+
+/// A message that says that 255 bytes of payload follow, and a whole one within them; then the line of this one.
+const FALSE_START: &str = "FF FF 82 B7 42 0A 1B 2C 13 FF FF FF FF FF FF 02 80 00 00 82";
+
+const INNER_LINE: &str = "15 20 STX P 0 @0 - 0 -\n";
+
+const DUMPED: &[Row] = &[
+    ("", "", NONE),
+    (TWO_MESSAGES, TWO_LINES, NONE),
+    (
+        "FF FF 02 80 7D 00 FF FF 02 00 00 00 02",
+        "2 7 STX P 0 @0 - 125 -\n",
+        NONE,
+    ),
+    ("FF FF!40 02 80 00 00 82", "", NONE),
+    (FALSE_START, INNER_LINE, NONE),
+    ("FF FF 0G", "", (4, "bad hex at 6")),
+    (
+        "FF FF 02 80 00 00 82 8",
+        IDENTIFY_LINE,
+        (4, "bad hex at 21"),
+    ),
+    ("02!08", "", (4, "bad hex at 0")),
+];
+
+/// Inputs that cannot be read to their end. What follows its last digits makes an item whole, and a failed read is not that; bad hex
+/// before it comes first.
+const BROKEN_OFF: &[Row] = &[
+    ("", "", READ),
+    (IDENTIFY, "", READ),
+    (IDENTIFY_WHOLE, IDENTIFY_LINE, READ),
+    (
+        "FF FF 02 80 00 00 82 G",
+        IDENTIFY_LINE,
+        (4, "bad hex at 21"),
+    ),
+    ("FF FF 02 80 00 00 82 8", IDENTIFY_LINE, READ),
+];
+
+/// A text in which a part stands often, and what is written for it.
+type Long<'a> = (&'a str, &'a str, usize, &'a str, &'a str);
+
+/// Whether this is written for a long text, however it is read.
+fn is_dumped(rt: &impl Eprint, alloc: Global, long: &Long) -> Result<bool, Fail> {
+    let (prefix, part, times, suffix, text) = *long;
+    let input = text_of(alloc, prefix, part, times, suffix)?;
+    does_as(
+        rt,
+        alloc,
+        Call::Dump,
+        (input.as_str(), text, NONE),
+        After::End,
+    )
+}
+
+const LONG: &[Long] = &[
+    (FALSE_START, " 00", 246, "", INNER_LINE),
+    (FALSE_START, " 00", 245, "", INNER_LINE),
+];
+
+/// Whether this is written for a text that is read at once.
+fn is_dumped_at_once(rt: &impl Eprint, alloc: Global, long: &Long) -> Result<bool, Fail> {
+    let (prefix, part, times, suffix, text) = *long;
+    let input = text_of(alloc, prefix, part, times, suffix)?;
+    let given = Given {
+        input: input.as_str(),
+        ..EMPTY
+    };
+    let wanted = Wanted {
+        fault: NONE,
+        text,
+        reads: None,
+        writes: None,
+    };
+    does(rt, alloc, Call::Dump, &given, &wanted)
+}
+
+const PREAMBLES: &[Long] = &[
+    ("", "FF", 100_000, "", ""),
+    (
+        "",
+        "FF",
+        100_000,
+        "02 80 00 00 82",
+        "100000 100005 STX P 0 @0 - 0 -\n",
+    ),
+];
+
+/// Whether the longest message, with 20 preamble bytes, has its line.
+fn is_longest_dumped(rt: &impl Eprint, alloc: Global) -> Result<bool, Fail> {
+    let start = text_of(alloc, "", "FF", 20, "E28000000000000000 00FF")?;
+    let input = text_of(alloc, start.as_str(), "00", 255, "9D")?;
+    let text = text_of(alloc, "20 287 STX P 0 all 000000 0 ", "00", 255, "\n")?;
+    does_as(
+        rt,
+        alloc,
+        Call::Dump,
+        (input.as_str(), text.as_str(), NONE),
+        After::End,
+    )
+}
+
+#[test]
+fn frames_in_noise_have_a_line_each(rt: HostRuntime) {
+    let alloc = rt.alloc();
+    hold_rows(&rt, alloc, Call::Dump, After::End, "row", DUMPED);
+    hold_rows(
+        &rt,
+        alloc,
+        Call::Dump,
+        After::Failure,
+        "row broken off",
+        BROKEN_OFF,
+    );
+    for (number, long) in LONG.iter().enumerate() {
+        hold_ok(&rt, is_dumped(&rt, alloc, long), "long row", number);
+    }
+    for (number, long) in PREAMBLES.iter().enumerate() {
+        hold_ok(
+            &rt,
+            is_dumped_at_once(&rt, alloc, long),
+            "row of preamble bytes",
+            number,
+        );
+    }
+    hold_ok(&rt, is_longest_dumped(&rt, alloc), "payload of zeros", 255);
+}
+
+const EXPLAINED: &[Row] = &[
+    ("", "", NONE),
+    (IDENTIFY, IDENTIFY_SAID, NONE),
+    (
+        "FF FF 02 80 00 00 83",
+        "2: no message: the check byte is 0x83 at 6, and 0x82 would fit\n",
+        NONE,
+    ),
+    (
+        "FF FF 02 80 00 00 82 FF FF 06 80 0G",
+        "2-7: request of the primary master to the device at polling address 0, \
+        Command 0, read unique identifier\n9: no message: it ends before its byte count\n",
+        (4, "bad hex at 33"),
+    ),
+];
+
+#[test]
+fn what_was_heard_is_said_in_words(rt: HostRuntime) {
+    hold_rows(&rt, rt.alloc(), Call::Explain, After::End, "row", EXPLAINED);
+}
+
+/// Deliveries that are no list of items.
+const NOT_ANSWERED: &[Row] = &[
+    ("FF FF 0G", "", (4, "bad hex at 6")),
+    ("02!08", "", (4, "bad hex at 0")),
+];
+
+/// Whether a reply is written for what is heard, on a line of its own, and nothing if it is empty.
+fn is_answered(rt: &impl Eprint, alloc: Global, heard: &str, reply: &str) -> Result<bool, Fail> {
+    let end = if reply.is_empty() { "" } else { "\n" };
+    let line = format!(in alloc; "{reply}{end}")?;
+    does_as(
+        rt,
+        alloc,
+        Call::Answer(None),
+        (heard, line.as_str(), NONE),
+        After::End,
+    )
+}
+
+/// The same of a request to the device's own address.
+fn is_answered_on_its_own(
+    rt: &impl Eprint,
+    alloc: Global,
+    (asked, replied, _): &OwnRow,
+) -> Result<bool, Fail> {
+    let request = format!(in alloc; "{REQUEST}{asked}")?;
+    let reply = format!(in alloc; "{REPLY}{replied}")?;
+    is_answered(rt, alloc, request.as_str(), reply.as_str())
+}
+
+#[test]
+fn deliveries_are_answered(rt: HostRuntime) {
+    let alloc = rt.alloc();
+    for (number, (heard, reply)) in HEARD.iter().enumerate() {
+        hold_ok(
+            &rt,
+            is_answered(&rt, alloc, heard, reply),
+            "heard row",
+            number,
+        );
+    }
+    for (number, row) in OWN.iter().enumerate() {
+        hold_ok(&rt, is_answered_on_its_own(&rt, alloc, row), "row", number);
+    }
+    hold_rows(
+        &rt,
+        alloc,
+        Call::Answer(None),
+        After::End,
+        "bad row",
+        NOT_ANSWERED,
+    );
+}

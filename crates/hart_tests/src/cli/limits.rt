@@ -1,0 +1,158 @@
+//! Inputs that are as long as they may be, longer, and without end.
+
+use super::calls::{Call, EMPTY, Fault, Given, NONE, TOO_LONG, Wanted, does_by_name};
+use super::fakes::After;
+use super::heard::{IDENTIFY, IDENTIFY_LINE, IDENTIFY_SAID, IDENTIFY_WHOLE};
+use super::streams::{AS_NEW, Written};
+use crate::rows::hold_ok;
+use hart_cli::INPUT_LIMIT;
+use std::alloc::Global;
+use std::test::Fail;
+
+/// A call, a number of spaces, the items after them, and what comes after those; then the fault, and what is written.
+type Spaced<'a> = (Call<'a>, usize, &'a str, After, Fault<'a>, &'a str);
+
+/// Inputs that are as long as they may be.
+const LONGEST: &[Spaced] = &[
+    (Call::Dump, INPUT_LIMIT, "", After::End, NONE, ""),
+    (Call::Explain, INPUT_LIMIT, "", After::End, NONE, ""),
+    (Call::Answer(None), INPUT_LIMIT, "", After::End, NONE, ""),
+    (
+        Call::Simulate(None),
+        INPUT_LIMIT,
+        "",
+        After::End,
+        NONE,
+        AS_NEW,
+    ),
+    (
+        Call::Dump,
+        INPUT_LIMIT - IDENTIFY.len(),
+        IDENTIFY,
+        After::End,
+        NONE,
+        IDENTIFY_LINE,
+    ),
+];
+
+/// Inputs with a byte more. An item that ends with the longest input is whole only if a byte follows that is read within it.
+const LONGER: &[Spaced] = &[
+    (Call::Dump, INPUT_LIMIT + 1, "", After::End, TOO_LONG, ""),
+    (Call::Explain, INPUT_LIMIT + 1, "", After::End, TOO_LONG, ""),
+    (
+        Call::Answer(None),
+        INPUT_LIMIT + 1,
+        "",
+        After::End,
+        TOO_LONG,
+        "",
+    ),
+    (
+        Call::Simulate(None),
+        INPUT_LIMIT + 1,
+        "",
+        After::End,
+        TOO_LONG,
+        "",
+    ),
+    (
+        Call::Dump,
+        INPUT_LIMIT - IDENTIFY.len(),
+        IDENTIFY,
+        After::Spaces,
+        TOO_LONG,
+        "",
+    ),
+    (
+        Call::Dump,
+        INPUT_LIMIT - IDENTIFY_WHOLE.len(),
+        IDENTIFY_WHOLE,
+        After::Spaces,
+        TOO_LONG,
+        IDENTIFY_LINE,
+    ),
+];
+
+/// Whether an input with so many spaces is taken or refused as its row says.
+fn has_its_length(rt: &impl Eprint, alloc: Global, row: &Spaced) -> Result<bool, Fail> {
+    let (call, spaces, input, after, fault, text) = *row;
+    let given = Given {
+        spaces,
+        input,
+        after,
+        ..EMPTY
+    };
+    does_by_name(
+        rt,
+        alloc,
+        call,
+        &given,
+        &Wanted {
+            fault,
+            text,
+            reads: None,
+            writes: None,
+        },
+    )
+}
+
+#[test]
+fn the_longest_inputs_are_taken(rt: HostRuntime) {
+    for (number, row) in LONGEST.iter().enumerate() {
+        hold_ok(&rt, has_its_length(&rt, rt.alloc(), row), "row", number);
+    }
+}
+
+#[test]
+fn longer_inputs_are_refused(rt: HostRuntime) {
+    for (number, row) in LONGER.iter().enumerate() {
+        hold_ok(&rt, has_its_length(&rt, rt.alloc(), row), "row", number);
+    }
+}
+
+/// The number of reads of 64 bytes that give more bytes than an input may have, also if the first gives fewer.
+const READS_TO_THE_LIMIT: usize = 16_385;
+
+/// Calls, what each reads before spaces without end, and what it writes.
+const WITHOUT_END: &[Written] = &[
+    (Call::Dump, "", ""),
+    (Call::Dump, IDENTIFY_WHOLE, IDENTIFY_LINE),
+    (Call::Explain, IDENTIFY_WHOLE, IDENTIFY_SAID),
+    (Call::Answer(None), IDENTIFY_WHOLE, ""),
+    (Call::Simulate(None), IDENTIFY_WHOLE, ""),
+    (Call::Simulate(None), "turn P ok ok\n", ""),
+];
+
+/// Whether an input without end, of which each read gives 64 bytes, is refused at the first byte after the longest input.
+fn is_refused(
+    rt: &impl Eprint,
+    alloc: Global,
+    (call, input, text): &Written,
+) -> Result<bool, Fail> {
+    let given = Given {
+        input,
+        after: After::Spaces,
+        most_read: 64,
+        ..EMPTY
+    };
+    let reads = Some(READS_TO_THE_LIMIT);
+    does_by_name(
+        rt,
+        alloc,
+        *call,
+        &given,
+        &Wanted {
+            fault: TOO_LONG,
+            text,
+            reads,
+            writes: None,
+        },
+    )
+}
+
+#[test]
+fn an_input_without_end_is_too_long(rt: HostRuntime) {
+    for (number, row) in WITHOUT_END.iter().enumerate() {
+        hold_ok(&rt, is_refused(&rt, rt.alloc(), row), "row", number);
+    }
+}

@@ -1,0 +1,120 @@
+//! Readers and writers of the standard library.
+
+ghost use Rattle.std.specs.Prelude.{◌≡◌, IfOk};
+
+use super::streams::{WRITTEN, Written};
+use crate::rows::hold_ok;
+use hart_cli::{DONE, Failed, Plain, Sink, Source, program};
+use std::alloc::Global;
+use std::io;
+use std::io::{ErrorKind, Read, Write};
+use std::test::Fail;
+
+/// Whether a call on readers and writers of the standard library writes its text, by its name and by its words.
+fn serves(alloc: Global, (call, input, text): &Written) -> Result<bool, Fail> {
+    let mut output = Plain::new(Vec::new(alloc));
+    let result = call.make(alloc, &mut Plain::new(input.as_bytes()), &mut output)?;
+    let written = output.into_inner();
+    let words = call.words(alloc)?;
+    let mut reader = Plain::new(input.as_bytes());
+    let mut output = Plain::new(Vec::new(alloc));
+    let mut errors = Plain::new(Vec::new(alloc));
+    let status = program(
+        alloc,
+        words.as_slice(),
+        &mut reader,
+        &mut output,
+        &mut errors,
+    );
+    let is_named = result.is_ok() && written.as_slice() == text.as_bytes();
+    let is_run = status == DONE && output.into_inner().as_slice() == text.as_bytes();
+    Ok(is_named && is_run && errors.into_inner().is_empty())
+}
+
+/// Whether a call whose output is a slice, which takes no byte once it is full, fills it with the beginning of its text, and ends
+/// with a write fault.
+fn fills_a_slice(alloc: Global, (call, input, text): &Written) -> Result<bool, Fail> {
+    let mut room = [0; 25];
+    let mut output = Plain::new(&mut room[..]);
+    let result = call.make(alloc, &mut Plain::new(input.as_bytes()), &mut output)?;
+    let fault = result.err().ok_or("a fault")?;
+    Ok(fault.number() == 2 && text.as_bytes().starts_with(room.as_slice()))
+}
+
+#[test]
+fn readers_and_writers_of_the_standard_library_serve(rt: HostRuntime) {
+    for (row, written) in WRITTEN.iter().enumerate() {
+        hold_ok(&rt, serves(rt.alloc(), written), "row", row);
+        hold_ok(&rt, fills_a_slice(rt.alloc(), written), "slice of row", row);
+    }
+}
+
+/// Counts the calls that are made of it, and gives or takes all that it can, or is interrupted each time.
+#[derive(Drop)]
+struct Counted {
+    calls: u64,
+    fails: bool,
+}
+
+impl Counted {
+    fn call(&mut self, all: usize) -> io::Result<usize>
+        ensures { IfOk result (λ n. n ≡ all) }
+    {
+        self.calls = self.calls.saturating_add(1);
+        if self.fails {
+            return Err(ErrorKind::Interrupted.into());
+        }
+        Ok(all)
+    }
+}
+
+impl Read for Counted {
+    fn read(&mut self, buf: &mut [u8]) -> io::Result<usize> {
+        self.call(buf.len())
+    }
+}
+
+impl Write for Counted {
+    fn write(&mut self, buf: &[u8]) -> io::Result<usize> {
+        self.call(buf.len())
+    }
+
+    fn flush(&mut self) -> io::Result<()> {
+        Ok(())
+    }
+}
+
+/// Whether one read and one write of `size` bytes succeed, or are failures if what is inside is interrupted, and make one call of it
+/// each.
+fn makes_one_call(alloc: Global, size: usize, fails: bool) -> Result<bool, Fail> {
+    let want = if fails { Err(Failed) } else { Ok(size) };
+    let mut bytes = vec![in alloc; 0; size]?;
+    let mut reader = Plain::new(Counted { calls: 0, fails });
+    let read = reader.read(bytes.as_mut_slice());
+    let mut writer = Plain::new(Counted { calls: 0, fails });
+    let written = writer.write(bytes.as_slice());
+    let is_one = reader.into_inner().calls == 1 && writer.into_inner().calls == 1;
+    Ok(read == want && written == want && is_one)
+}
+
+#[test]
+fn each_call_is_one_call_of_what_is_inside(rt: HostRuntime) {
+    for size in [0, 1, 4096] {
+        hold_ok(&rt, makes_one_call(rt.alloc(), size, false), "size", size);
+        hold_ok(
+            &rt,
+            makes_one_call(rt.alloc(), size, true),
+            "failing size",
+            size,
+        );
+    }
+}
+
+#[test]
+fn a_write_that_takes_no_byte_is_a_failure(rt: HostRuntime) {
+    let mut room = [0; 2];
+    let mut writer = Plain::new(&mut room[..]);
+    assert!(rt; writer.write(b"hart") == Ok(2));
+    assert!(rt; writer.write(b"rt") == Err(Failed));
+    assert!(rt; writer.write(b"") == Ok(0));
+}
