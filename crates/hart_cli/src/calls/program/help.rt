@@ -147,7 +147,8 @@ line for each thing that the message says:
   data              of a command that hart does not know, or too few, in hex
 and if the data do not fit the command: too few data; refused, with the response
 code that refuses them and why; data that are no reply.
-Bytes in hex begin with 0x, as 0x41C80000; all other numbers are decimal.
+Bytes in hex begin with 0x, as 0x41C80000, but for the ten digits that name a
+device. All other numbers are decimal.
 For each place at which a message seems to start and none stands, a line with
 that place and why. A message seems to start after two preamble bytes FF that
 came whole; of a whole message after one FF alone it says so.
