@@ -1,5 +1,5 @@
 //! What follows from the contracts for a caller.
-ghost use Rattle.std.specs.Prelude.{◌≡◌, ◌≢◌, ◌<◌, ◌≤◌, ◌-◌, ◌/◌, [], ◌∷◌, List, Bool, ℕ, Option, Some, false, true, if◌then◌else◌};
+ghost use Rattle.std.specs.Prelude.{◌≡◌, ◌≢◌, ◌<◌, ◌≤◌, ◌-◌, ◌/◌, [], ◌∷◌, List, Bool, ℕ, Ok, Option, Some, false, true, if◌then◌else◌};
 ghost use Rattle.std.specs.Prelude.{All, length, slice_get, slice_index, take};
 ghost use Rattle.hart_frame.specs.heard.Character.{Character};
 ghost use Rattle.hart_frame.specs.heard.Frames.{AreFrames};
@@ -8,6 +8,7 @@ ghost use Rattle.hart_commands.specs.Fields.{command_name};
 ghost use Rattle.hart_commands.specs.ReplyData.{reply_reading};
 ghost use Rattle.hart_commands.specs.RequestData.{request_reading};
 ghost use Rattle.hart_commands.specs.declared.reply.Reply.{Reply};
+ghost use Rattle.hart_commands.specs.declared.request.Request.{Request};
 ghost use Rattle.hart_device.specs.Device.{DeviceState, IsDevice};
 ghost use Rattle.hart_device.specs.declared.identity_parts.IdentityParts.{IdentityParts};
 ghost use Rattle.hart_c.specs.declared.data.HartField.{HartField};
@@ -30,6 +31,7 @@ ghost use Rattle.hart_c.specs.Frames.{found_in, frame_in};
 ghost use Rattle.hart_c.specs.Master.{AcceptOutcome};
 ghost use Rattle.hart_c.specs.Names.{NameOutcome, field_name};
 
+use hart_commands::{read_data_begin_as_written, written_payloads_are_read_again};
 use hart_device::bytes_have_one_image_fault;
 use hart_frame::{bytes_have_one_fault, messages_are_short};
 
@@ -74,6 +76,22 @@ pub fn sixteen_fields_and_names_of_64_bytes_have_room()
     ensures field_names { (is_reply : Bool) (command index : ℕ) (before after : List ℕ) (outcome : HartOutcome) → 64 ≤ length before
         → NameOutcome (field_name is_reply command index) before after outcome → outcome.fault ≢ 12 }
 {}
+
+/// What is not taken is ignored: of the bytes that are taken alone, the same is read, told and shown. Of a reply two bytes at least are
+/// taken, its response code and its device status.
+pub fn bytes_that_are_not_taken_are_ignored()
+    ensures requests { (command : ℕ) (bytes : List ℕ) (request : Request) (before after : List HartField) (reading : HartReading)
+        → All (λ byte. byte < 256) bytes → request_reading command bytes ≡ Ok request
+        → RequestOutcome command bytes before after reading → RequestOutcome command (take reading.taken bytes) before after reading }
+    ensures replies { (command : ℕ) (payload : List ℕ) (reply : Reply) (before after : List HartField) (reading : HartReading)
+        → reply_reading command payload ≡ Some reply
+        → ReplyOutcome command payload before after reading → ReplyOutcome command (take reading.taken payload) before after reading }
+    ensures two { (command : ℕ) (payload : List ℕ) (reply : Reply) (before after : List HartField) (reading : HartReading)
+        → reply_reading command payload ≡ Some reply → ReplyOutcome command payload before after reading → 2 ≤ reading.taken }
+{
+    read_data_begin_as_written();
+    written_payloads_are_read_again();
+}
 
 /// A frame that a call shows can be written as it is: its address is in range, it has at most three expansion bytes, and a reply has its
 /// two status bytes.

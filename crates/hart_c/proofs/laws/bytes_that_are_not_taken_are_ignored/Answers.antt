@@ -1,0 +1,82 @@
+use Rattle.std.proofs.Common.{◌≡◌, ◌≤◌, ◌⊎◌, inl, inr, ℕ, List, ◌∷◌, Ok, Some, ap, arith, length, take, refl, subst, sym}
+use Rattle.std.proofs.lemmas.Grind.{common_steps}
+use Rattle.std.proofs.lemmas.List.{length-take, take_all, take_min}
+use Rattle.hart_commands.specs.Fields.{Field, fields_of, request_rows}
+use Rattle.hart_commands.specs.RequestData.{request_data, request_reading}
+use Rattle.hart_commands.specs.ReplyData.{reply_payload, reply_reading}
+use Rattle.hart_commands.specs.declared.reply.Reply.{Reply}
+use Rattle.hart_commands.specs.declared.request.Request.{Request}
+use Rattle.hart_commands.proofs.lemmas.Laws.{requests_have_their_command, written_data_are_their_request}
+use Rattle.hart_c.specs.Data.{IsShown, ReplyOutcome, ReplyShown, RequestOutcome, RequestShown, reply_fields}
+use Rattle.hart_c.specs.declared.data.HartField.{HartField}
+use Rattle.hart_c.specs.declared.data.HartReading.{HartReading}
+use Rattle.hart_c.proofs.laws.bytes_that_are_not_taken_are_ignored.Goals as goal
+
+-- the first bytes of the first bytes are the same
+again : (n : ℕ) (bytes : List ℕ) → take n (take n bytes) ≡ take n bytes
+again n bytes = take_all n (take n bytes) (omega (arith, length-take n bytes))
+
+-- and so are as many as they are
+as_many : (n : ℕ) (bytes : List ℕ) → take (length (take n bytes)) bytes ≡ take n bytes
+as_many n bytes = rw length-take (take_min n bytes)
+
+-- the front of a payload that is read as the same reply has the same fields
+same_fields : (command code status : ℕ) (bytes : List ℕ) (reply : Reply)
+    → reply_fields command (take (length (reply_payload reply)) (code ∷ status ∷ bytes)) reply
+    ≡ reply_fields command (code ∷ status ∷ bytes) reply
+same_fields command code status bytes reply = grind (arith, common_steps, again)
+
+-- so the same is told and shown of it
+reply_alike : (command : ℕ) (payload front : List ℕ) (reply : Reply) (before after : List HartField) (reading : HartReading)
+    → reply_reading command payload ≡ Some reply → reply_reading command front ≡ Some reply
+    → reply_fields command front reply ≡ reply_fields command payload reply → ReplyOutcome command payload before after reading
+    → (reading.taken ≡ length (reply_payload reply)) × ReplyOutcome command front before after reading
+reply_alike command payload front reply before after reading read is fields told =
+    let P = λ (fs : List Field). IsShown 2 fs (length (reply_payload reply)) reply.code reply.status.0 before after reading in
+    let shown : ReplyShown command payload (Some reply) before after reading = rw read at told in
+    (ap (λ (r : HartReading). r.taken) shown.told, rw is (subst P (sym fields) shown))
+
+pub returns-clause-replies : goal.returns-clause-replies
+returns-clause-replies c command (code ∷ status ∷ bytes) reply before after reading read told =
+    let laws = c.written_payloads_are_read_again.ensures in
+    let payload = code ∷ status ∷ bytes in
+    let front = take (length (reply_payload reply)) payload in
+    let kept = laws.kept command payload reply read in
+    let made = laws.well_made command payload reply read in
+    let own = λ (number : ℕ). reply_reading number (reply_payload reply) ≡ Some reply in
+    let read_as = λ (front : List ℕ). reply_reading command front ≡ Some reply in
+    let is : reply_reading command front ≡ Some reply = subst read_as kept (subst own made.1 (laws.again reply made.0)) in
+    let alike = reply_alike command payload front reply before after reading read is (same_fields command code status bytes reply) told in
+    let P = λ (taken : ℕ). ReplyOutcome command (take taken payload) before after reading in
+    subst P (sym alike.0) alike.1
+returns-clause-replies c command payload reply before after reading read told = cc
+
+pub returns-clause-two : goal.returns-clause-two
+returns-clause-two c command payload reply before after reading read told =
+    let taken = (reply_alike command payload payload reply before after reading read read refl told).0 in omega (arith, taken)
+
+-- the same of a request
+request_alike : (command : ℕ) (bytes front : List ℕ) (request : Request) (before after : List HartField) (reading : HartReading)
+    → request_reading command bytes ≡ Ok request → request_reading command front ≡ Ok request
+    → take (length (request_data request)) front ≡ take (length (request_data request)) bytes
+    → RequestOutcome command bytes before after reading
+    → (reading.taken ≡ length (take (length (request_data request)) bytes)) × RequestOutcome command front before after reading
+request_alike command bytes front request before after reading read is same told =
+    let P = λ (taken : List ℕ). IsShown 0 (fields_of (request_rows command) taken) (length taken) 0 0 before after reading in
+    let shown : RequestShown command bytes (Ok request) before after reading = rw read at told in
+    (ap (λ (r : HartReading). r.taken) shown.told, rw is (subst P (sym same) shown))
+
+pub returns-clause-requests : goal.returns-clause-requests
+returns-clause-requests c command bytes request before after reading fit read told =
+    let laws = c.read_data_begin_as_written.ensures in
+    let n = length (request_data request) in
+    let front = take n bytes in
+    let made = requests_have_their_command command bytes request read in
+    let whole : n ≤ length bytes → request_reading command front ≡ Ok request =
+    λ enough. rw (laws.whole command bytes request fit read enough, ← made.0) (written_data_are_their_request request made.1) in
+    let few : length bytes ≤ n → request_reading command front ≡ Ok request = λ short. rw (take_all n bytes short) read in
+    let cases : (n ≤ length bytes) ⊎ (length bytes ≤ n) = grind arith in
+    let is : request_reading command front ≡ Ok request = elim cases [ inl enough ↦ whole enough | inr short ↦ few short ] in
+    let alike = request_alike command bytes front request before after reading read is (again n bytes) told in
+    let P = λ (taken : ℕ). RequestOutcome command (take taken bytes) before after reading in
+    subst P (sym alike.0) (rw as_many alike.1)
