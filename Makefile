@@ -1,8 +1,11 @@
 # hart: HART messages, found, read and written by proved code.
 #
 #   make                      builds the proved program and leaves it as ./hart
+#   make quick                builds ./hart-unproved, of which nothing is proved, for a first look within two minutes
 #   make check                runs every proof and every test, and ends with the count of what passed and what failed
 #   make test                 proves every crate and runs every test and script, but tries no wrong body: the quick one of the two
+#   make mistakes             tries the wrong bodies of crates/NAME/mistakes in batches, as make check does
+#   make mistakes-table       tries all wrong bodies in batches, and writes the table of docs/WRONG_BODIES.md
 #   make refused-growths      refuses each allocation of ./hart and of each call by its name in turn, as make check does
 #   make runs                 runs ./hart on rows of words and inputs, with reads and writes cut short, as make check does
 #   make streams              runs ./hart on streams that fail and for its texts, as make check does
@@ -24,7 +27,7 @@ TESTS := crates/hart_tests/out/hart_tests_tests
 GUIDE := docs/GUIDE.md docs/COMMANDS.md docs/PROTOCOL.md docs/vectors.tsv
 SOURCES := crates.txt $(shell find crates -name out -prune -o \( -name '*.rt' -o -name '*.antt' \) -print)
 
-.PHONY: all check test runs refused-growths streams examples vectors manual held-view library library-examples fuzz bench install install-library clean
+.PHONY: all quick check test mistakes mistakes-table runs refused-growths streams examples vectors manual held-view library library-examples fuzz bench install install-library clean
 
 all: hart
 
@@ -34,6 +37,9 @@ hart: $(SOURCES)
 
 $(TESTS): $(SOURCES)
 	cd crates/hart_tests && rt test
+
+quick:
+	sh tools/quick.sh
 
 # The program is proved and built once, by the gate, and then run.
 check:
@@ -49,6 +55,13 @@ test: hart
 	sh tools/manual.sh
 	sh tools/held-view.sh
 	sh tools/library-examples.sh
+
+mistakes:
+	python3 tools/mistakes.py
+	python3 tools/mistakes.py --can-fail
+
+mistakes-table:
+	python3 tools/mistakes.py --table
 
 held-view:
 	sh tools/held-view.sh
@@ -90,4 +103,4 @@ install-library: library
 	sed 's|@PREFIX@|$(PREFIX)|' include/hart.pc.in >$(PREFIX)/lib/pkgconfig/hart.pc
 
 clean:
-	rm -rf build hart $(PROGRAM)/out.tmp crates/*/out
+	rm -rf build hart hart-unproved $(PROGRAM)/out.tmp crates/*/out

@@ -6,8 +6,13 @@
 #
 # A C compiler and Python are needed. C++ and Rust are tried where they are found, and so are the sanitizers of the C compiler.
 #
-# Usage: tools/library-examples.sh [PROGRAM]; PROGRAM is the ./hart of the repository if absent.
+# Usage: tools/library-examples.sh [--gate] [PROGRAM]; PROGRAM is the ./hart of the repository if absent. `--gate` is for tools/library.sh.
 set -eu
+after=
+if [ "${1:-}" = --gate ]; then
+    after=--gate
+    shift
+fi
 program=$(realpath "${1:-$(dirname "$0")/../hart}")
 cd "$(dirname "$0")/.."
 work=$(mktemp -d)
@@ -18,7 +23,7 @@ strict='-O2 -Wall -Wextra -Wpedantic -Werror'
 sanitized='-fsanitize=address,undefined -fno-sanitize-recover=all'
 
 python3 tools/header.py
-sh tools/library.sh "$work"
+sh tools/library.sh $after "$work"
 
 # The calls that a file in C names.
 calls_in() {

@@ -3,8 +3,14 @@
 # offer the calls of include/hart.h and no other symbol. libhart.so is a link to libhart.so.0, whose number grows when a program that was
 # built before would not run with it.
 #
-# Usage: tools/library.sh FOLDER; the folder is where both are put.
+# Usage: tools/library.sh [--gate] FOLDER; the folder is where both are put. With `--gate`, hart_c is proved and built over the libraries
+# that the gate has just built. Else `rt lib` builds it, and proves again what does not stand proved below it, which takes some minutes.
 set -eu
+over=rt
+if [ "$1" = --gate ]; then
+    over=gate
+    shift
+fi
 folder=$(realpath "$1")
 cd "$(dirname "$0")/.."
 kit=$(dirname "$(rt doc)")
@@ -12,11 +18,14 @@ work=$(mktemp -d)
 trap 'rm -rf "$work"' EXIT
 cc=${CC:-cc}
 
-(cd crates/hart_c && rt lib) >"$work/said" 2>&1 || {
-    cat "$work/said" >&2
-    exit 1
-}
 made=crates/hart_c/out/libhart_c.a
+mkdir -p crates/hart_c/out
+if [ "$over" != gate ] || ! python3 tools/gate_library.py "$made" >"$work/said" 2>&1; then
+    (cd crates/hart_c && rt lib) >"$work/said" 2>&1 || {
+        cat "$work/said" >&2
+        exit 1
+    }
+fi
 
 "$cc" -r -nostdlib -o "$work/hart.o" -Wl,--whole-archive "$made" -Wl,--no-whole-archive "$kit/c/liblibc_c.a"
 objcopy -w --keep-global-symbol='hart_*' "$work/hart.o"

@@ -1,0 +1,78 @@
+"""Calls the prover as the toolchain's command `rt` does, on copies of a crate. It never changes the tree."""
+
+import contextlib
+import importlib.machinery
+import importlib.util
+import os
+import shutil
+import subprocess
+import sys
+import tempfile
+import threading
+
+ROOT = os.path.realpath(f"{os.path.dirname(__file__)}/..")
+
+
+def load():
+    """The command `rt` as a module."""
+    page = subprocess.run(["rt", "doc"], capture_output=True, text=True, check=True).stdout.strip()
+    loader = importlib.machinery.SourceFileLoader("rt", f"{os.path.dirname(page)}/bin/rt")
+    module = importlib.util.module_from_spec(importlib.util.spec_from_loader("rt", loader))
+    sys.modules["rt"] = module
+    loader.exec_module(module)
+    # Its first call sets a signal's handler, which only the main thread may.
+    module.rtlib.guarded()
+    return module
+
+
+class Kit:
+    """The crates of the repository, and checks of copies of them.
+
+    `proved` is a folder with what the gate proved of crates, by their names."""
+
+    def __init__(self, proved=None):
+        self.rt, self.proved = load(), proved
+        self.crates = {it.name: it for it in self.rt.rtlib.crates_below(ROOT)}
+        self.built = threading.Lock()
+
+    def has_gates_libraries(self):
+        """Whether all libraries that stand built are those of the gate, which have no stamp."""
+        made = [it for it in self.crates.values() if it.makes_rlib()]
+        return all(os.path.isfile(f"{it.rlib}/format") and not os.path.exists(f"{os.path.dirname(it.rlib)}/stamp") for it in made)
+
+    def build_below(self, name):
+        """Builds the libraries below a crate that do not stand built, and returns whether they stand then."""
+        with self.built:
+            return not any(it.build_rlib(["--jobs", "1"], anew=False) for it in self.crates[name].below())
+
+    @contextlib.contextmanager
+    def kept(self, name):
+        """A folder for what checks of a crate prove, which later ones need not prove again.
+
+        It begins with what the gate has proved, or else with what `rt check` has kept in the tree."""
+        begun = [f"{self.proved}/{name}"] * bool(self.proved) + [f"{self.crates[name].folder}/out/incremental"]
+        begun = next((it for it in begun if os.path.isdir(it)), None)
+        with tempfile.TemporaryDirectory(prefix="mistakes-") as room:
+            folder = f"{room}/kept"
+            if begun:
+                self.rt.linked(begun, folder)
+            else:
+                os.mkdir(folder)
+            yield folder
+
+    def check(self, name, texts, functions, kept=None):
+        """Checks these functions, and what they call, in a copy of a crate with these texts, and returns what the prover printed."""
+        flags = ["--jobs", "1", *[word for it in functions for word in ("--only", it)]]
+        return self.rt.checked(self.crates[name], texts, flags, kept).stdout
+
+    def build_static(self, name, to):
+        """Proves a static library and builds it over the libraries that stand built. Returns what the prover printed, and its status."""
+        crate = self.crates[name]
+        words = [*crate.words(["--jobs", "1"], keeps=False), "--toolchain", f"{self.rt.KIT}/toolchain", "--backend", "llvm", "-o", to]
+        with tempfile.TemporaryDirectory(prefix="library-") as room:
+            for part in self.rt.rtlib.PARTS:
+                if os.path.isdir(f"{crate.folder}/{part}"):
+                    shutil.copytree(f"{crate.folder}/{part}", f"{room}/{part}")
+            how = {"cwd": room, "stdin": subprocess.DEVNULL, "stdout": subprocess.PIPE, "stderr": subprocess.STDOUT, "errors": "replace"}
+            ran = subprocess.run([*self.rt.rtlib.guarded(), self.rt.rtlib.RATTLE, "build", *words], **how)
+            return ran.stdout, ran.returncode

@@ -1,0 +1,114 @@
+#!/usr/bin/env python3
+"""Tries wrong bodies in batches: each has to be refused at a goal of the function that it changes.
+
+Usage: tools/mistakes.py [--gate FOLDER] [--table] [CRATE | MISTAKE ..]
+       tools/mistakes.py --can-fail
+
+Without names it tries all of `crates/NAME/mistakes/`, and then holds the table of docs/WRONG_BODIES.md against what it saw. `--table` tries
+those of `must-fail/` too, which the gate tries one by one, and writes the table. `--gate` is for a run right after the gate: it takes the
+libraries that the gate has built, and the folder has what it proved of each crate. `--can-fail` shows that a run fails by edits that are
+no mistakes.
+"""
+
+import argparse
+import os
+import sys
+from concurrent.futures import ThreadPoolExecutor, as_completed
+
+from mistakes import planted, table
+from mistakes.edits import BadEdit, batches_of, edits_of, mistake_of, texts_of
+from kit import Kit
+from mistakes.verdicts import Verdict, verdict_of
+
+
+def judged(kit, batch, kept=None):
+    """The verdict on each mistake of a batch. What is not refused beside others is tried once more, alone."""
+    crate = os.path.basename(batch[0].edit.crate)
+    functions = sorted({it.path for mistake in batch for it in mistake.functions})
+    said = kit.check(crate, texts_of(batch), functions, kept)
+    found = [(it, verdict_of(said, crate, it)) for it in batch]
+    if len(batch) == 1:
+        return found
+    return [pair if pair[1].is_refused() else judged(kit, [pair[0]], kept)[0] for pair in found]
+
+
+def judged_crate(kit, crate, mistakes):
+    """The verdict on each mistake of a crate. A batch is checked over what those before it proved."""
+    with kit.kept(crate) as kept:
+        return [pair for batch in batches_of(mistakes) for pair in judged(kit, batch, kept)]
+
+
+def mistakes_of(edits):
+    """The mistakes that these edits are, and the verdict on each edit that is none."""
+    found, bad = [], []
+    for edit in edits:
+        try:
+            found.append(mistake_of(edit))
+        except BadEdit as why:
+            bad.append((edit, Verdict((), str(why))))
+    return found, bad
+
+
+def crates_with_libraries(kit, names, is_after_gate):
+    """Those of these crates below which every library stands built."""
+    if is_after_gate and kit.has_gates_libraries():
+        return names
+    return [it for it in names if kit.build_below(it)]
+
+
+def tried(kit, edits, is_after_gate):
+    """Each edit with its functions and its verdict, as they are decided. A crate is one task."""
+    mistakes, bad = mistakes_of(edits)
+    yield from ((edit, (), verdict) for edit, verdict in bad)
+    of_crates = {}
+    for it in mistakes:
+        of_crates.setdefault(os.path.basename(it.edit.crate), []).append(it)
+    ready = crates_with_libraries(kit, list(of_crates), is_after_gate)
+    for name in of_crates.keys() - ready:
+        yield from ((it.edit, it.functions, Verdict((), "a library below its crate is not proved")) for it in of_crates[name])
+    with ThreadPoolExecutor(max_workers=int(os.environ.get("RT_JOBS") or kit.rt.processors())) as pool:
+        tasks = [pool.submit(judged_crate, kit, it, of_crates[it]) for it in sorted(ready, key=lambda it: -kit.crates[it].count(rb"\n"))]
+        for task in as_completed(tasks):
+            yield from ((mistake.edit, mistake.functions, verdict) for mistake, verdict in task.result())
+
+
+def is_asked(edit, names):
+    crate = os.path.basename(edit.crate)
+    return not names or crate in names or edit.name in names or f"{crate}/{edit.name}" in names
+
+
+def chosen_edits(kit, words):
+    """The edits that the words ask for; a word that names none ends the run."""
+    every = [it for crate in kit.crates.values() for it in edits_of(crate.folder)]
+    for word in words.names:
+        if not any(is_asked(it, [word]) for it in every):
+            sys.exit(f"mistakes: no crate and no wrong body is named {word}")
+    with_named = words.table or words.names
+    return [it for it in every if is_asked(it, words.names) and (with_named or it.folder == "mistakes")]
+
+
+def main():
+    parser = argparse.ArgumentParser(description="Tries wrong bodies in batches.")
+    parser.add_argument("--gate", metavar="FOLDER", help="take the libraries that the gate has just built, and what it proved")
+    parser.add_argument("--table", action="store_true", help="write the table of docs/WRONG_BODIES.md")
+    parser.add_argument("--can-fail", action="store_true", help="show that a run fails by edits that are no mistakes")
+    parser.add_argument("names", nargs="*", metavar="CRATE | MISTAKE")
+    words = parser.parse_args()
+    kit = Kit(words.gate)
+    if words.can_fail:
+        sys.exit(planted.run(kit, judged, mistakes_of))
+    rows, failed = [], []
+    for edit, functions, verdict in tried(kit, chosen_edits(kit, words), bool(words.gate)):
+        name = f"{os.path.basename(edit.crate)}/{edit.name}"
+        at = ", ".join(it.path for it in functions)
+        print(f"{name}: {'refused at ' + at + ': ' + verdict.words() if verdict.is_refused() else 'NOT REFUSED: ' + verdict.why}", flush=True)
+        rows.append(table.Row(edit, functions, verdict))
+        failed += [] if verdict.is_refused() else [name]
+    if not words.names:
+        failed += table.write(rows) if words.table else table.differences(rows)
+    print(f"mistakes: {sum(it.verdict.is_refused() for it in rows)} refused, {len(failed)} failed{': ' + ' '.join(failed) if failed else ''}")
+    sys.exit(1 if failed else 0)
+
+
+if __name__ == "__main__":
+    main()

@@ -1,0 +1,1 @@
+"""What `make mistakes` is made of: wrong bodies, the functions that they change, and what the prover says of them."""

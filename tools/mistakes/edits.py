@@ -1,0 +1,180 @@
+"""Reads wrong bodies, applies them to the texts of a crate, and puts as many as can stand together into one batch."""
+
+import glob
+import os
+import re
+from typing import NamedTuple
+
+from mistakes.functions import functions_in, modules_of_types, source_files
+
+FOLDERS = ("mistakes", "must-fail")
+
+
+class BadEdit(Exception):
+    """Why a wrong body cannot be tried."""
+
+
+class Change(NamedTuple):
+    """One place of an edit: the text `old`, which stands once in a file, becomes `new`."""
+
+    file: str
+    old: str
+    new: str
+
+
+class Edit(NamedTuple):
+    """A wrong body: its name, the crate's folder, the folder in which it stands, the function it says refuses it, and its changes."""
+
+    name: str
+    crate: str
+    folder: str
+    refused_at: str
+    changes: tuple
+
+
+class Mistake(NamedTuple):
+    """A wrong body with the functions that it changes. It stands alone if it changes what is no body."""
+
+    edit: Edit
+    functions: tuple
+    is_alone: bool
+
+
+def read_edit(text, name, crate, folder):
+    """Reads the text form of an edit: `file:`, `old:` and `new:`, a line each, and `refused-at:` if it changes no body."""
+    file = old = refused_at = ""
+    changes = []
+    for line in text.split("\n"):
+        word, _, rest = line.partition(":")
+        rest = rest.removeprefix(" ")
+        if word == "file":
+            file = rest.strip()
+        elif word == "refused-at":
+            refused_at = rest.strip()
+        elif word == "old":
+            old = rest
+        elif word == "new":
+            changes.append(Change(file, old, rest))
+    return Edit(name, crate, folder, refused_at, tuple(changes))
+
+
+def edits_of(crate):
+    """All edits of a crate, by folder and name."""
+    found = []
+    for folder in FOLDERS:
+        for path in sorted(glob.glob(f"{crate}/{folder}/*.edit")):
+            with open(path, encoding="utf-8") as it:
+                found.append(read_edit(it.read(), os.path.basename(path).removesuffix(".edit"), crate, folder))
+    return found
+
+
+class Texts:
+    """The texts of a crate's files, with the edits that were applied to them."""
+
+    def __init__(self, crate):
+        self.crate, self.changed = crate, {}
+
+    def text(self, file):
+        if file not in self.changed:
+            path = f"{self.crate}/{file}"
+            if not file.startswith("src/") or not os.path.isfile(path):
+                raise BadEdit(f"there is no file {file} of code")
+            with open(path, encoding="utf-8") as it:
+                return it.read()
+        return self.changed[file]
+
+    def apply(self, edit):
+        """Applies all changes of an edit, or none, and gives the lines that it changed, each with its file and the text at that time."""
+        before, places = dict(self.changed), []
+        try:
+            for change in edit.changes:
+                text = self.text(change.file)
+                if not change.old or text.count(change.old) != 1:
+                    raise BadEdit(f"an `old` text stands {text.count(change.old) if change.old else 0} times in {change.file}, and not once")
+                places.append((change.file, text.count("\n", 0, text.index(change.old)), text))
+                self.changed[change.file] = text.replace(change.old, change.new)
+            if not edit.changes or all(it.old == it.new for it in edit.changes):
+                raise BadEdit("it changes nothing")
+        except BadEdit:
+            self.changed = before
+            raise
+        return places
+
+
+def mistake_of(edit):
+    """Finds the functions that an edit changes, by the tree as it stands."""
+    modules = modules_of_types(edit.crate)
+    found, is_alone = {}, False
+    for file, line, text in Texts(edit.crate).apply(edit):
+        inside = [it for it in functions_in(file, text, modules) if it.body <= line < it.last]
+        is_alone = is_alone or not inside
+        found.update({it.path: it for it in inside[-1:]})
+    if edit.refused_at:
+        return Mistake(edit, (function_at(edit, modules),), True)
+    if is_alone:
+        raise BadEdit("it changes more than bodies of functions, and has no line `refused-at:` that names the function whose goal fails")
+    return Mistake(edit, tuple(found.values()), False)
+
+
+def function_at(edit, modules):
+    """The function that a line `refused-at:` names by its path below the crate."""
+    texts = Texts(edit.crate)
+    for file in source_files(edit.crate):
+        for function in functions_in(file, texts.text(file), modules):
+            if function.path == edit.refused_at:
+                return function
+    raise BadEdit(f"there is no function {edit.refused_at}")
+
+
+def has_written_proofs(crate, function):
+    return bool(glob.glob(f"{crate}/{function.proofs()}/*.antt"))
+
+
+def calls(crate, caller, callee):
+    """Whether the body of a function names another one. What it names by another name is not seen; such a batch is tried once more, apart."""
+    with open(f"{crate}/{caller.file}", encoding="utf-8") as it:
+        body = it.read().split("\n")[caller.body : caller.last]
+    return bool(re.search(rf"\b{callee.name()}\b", "\n".join(body)))
+
+
+def can_stand_beside(one, other):
+    """Whether two mistakes can be refused in one check: no function is changed twice, and none with written proofs calls a changed one."""
+    crate = one.edit.crate
+    for mine in one.functions:
+        for its in other.functions:
+            if mine.path == its.path:
+                return False
+            for caller, callee in ((mine, its), (its, mine)):
+                if has_written_proofs(crate, caller) and calls(crate, caller, callee):
+                    return False
+    return True
+
+
+def batches_of(mistakes):
+    """Puts mistakes into as few batches as a first fit finds. One that stands alone has a batch of its own."""
+    batches = []
+    for mistake in mistakes:
+        for batch in batches if not mistake.is_alone else ():
+            if not batch[0].is_alone and all(can_stand_beside(mistake, it) for it in batch) and applies_with(mistake, batch):
+                batch.append(mistake)
+                break
+        else:
+            batches.append([mistake])
+    return batches
+
+
+def applies_with(mistake, batch):
+    """Whether the changes of a mistake can be made after those of a batch."""
+    try:
+        texts_of([*batch, mistake])
+    except BadEdit:
+        return False
+    return True
+
+
+def texts_of(mistakes):
+    """The texts of the files that these mistakes change, by their paths in the crate."""
+    texts = Texts(mistakes[0].edit.crate)
+    for mistake in mistakes:
+        texts.apply(mistake.edit)
+    return texts.changed

@@ -1,0 +1,103 @@
+"""Finds the functions of a crate by the layout that `rt fmt` gives its files."""
+
+import os
+import re
+from typing import NamedTuple
+
+HEAD = re.compile(r"( *)(?:pub(?:\([^)]*\))? )?(?:const )?(?:unsafe )?(?:extern \"C\" )?fn (\w+)")
+BLOCK = re.compile(r"(?:pub(?:\([^)]*\))? )?(impl|trait|mod)\b(.*) \{$")
+DECLARED = re.compile(r"^(?:pub(?:\([^)]*\))? )?(?:struct|enum) (\w+)", re.M)
+
+
+class Function(NamedTuple):
+    """A function with a body: its path below the crate, and the lines on which it starts, its body starts, and it ends."""
+
+    path: str
+    file: str
+    first: int
+    body: int
+    last: int
+
+    def proofs(self):
+        """The folder in which its written proofs stand, below the crate's."""
+        return f"proofs/{self.path.replace('::', '/')}"
+
+    def name(self):
+        return self.path.rsplit("::", 1)[-1]
+
+
+def module_of(file):
+    """The path of the module that a file below src/ is, "" for the crate's root."""
+    inside = file.removeprefix("src/").removesuffix(".rt")
+    return "" if inside in ("lib", "main") else inside.replace("/", "::")
+
+
+def joined(*parts):
+    return "::".join(it for it in parts if it)
+
+
+def bare(type_text):
+    """The name of a type without its path, its parameters and what stands before it."""
+    return re.sub(r"<.*", "", type_text.strip().lstrip("&")).rsplit("::", 1)[-1].strip()
+
+
+def owner_of(head, module, modules):
+    """The path under which the prover names the functions of an `impl` block. Those of a type stand where the type is declared."""
+    head = re.sub(r"^<(?:[^<>]|<[^<>]*>)*>", "", head.strip()).strip()
+    trait, is_for, of = head.partition(" for ")
+    if is_for:
+        return joined(module, bare(of) + bare(trait))
+    return joined(modules.get(bare(head), module), bare(head))
+
+
+def modules_of_types(crate):
+    """The module in which each type of the crate is declared, by the type's name."""
+    found = {}
+    for file in source_files(crate):
+        with open(f"{crate}/{file}", encoding="utf-8") as it:
+            found.update({name: module_of(file) for name in DECLARED.findall(it.read())})
+    return found
+
+
+def source_files(crate):
+    """The files of a crate below src/, by their paths in the crate."""
+    files = [os.path.relpath(f"{at}/{name}", crate) for at, _, names in os.walk(f"{crate}/src") for name in names]
+    return sorted(it for it in files if it.endswith(".rt"))
+
+
+def body_of(lines, first, indent):
+    """The first line of the body of the function that starts on a line, and the line on which it ends; None if it has no body.
+
+    A body that comes after a contract starts on a line of its own, and every line of the contract stands further in."""
+    has_contract, start = False, None
+    for number in range(first, len(lines)):
+        line = lines[number]
+        has_contract = has_contract or bool(re.match(r" *(requires|ensures|ghost)\b", line))
+        if line == f"{indent}{{}}":
+            return number, number
+        if line == f"{indent}{{" or not has_contract and line.endswith(" {"):
+            start = number + 1
+            break
+        stands_out = line.strip() and not line.startswith(f"{indent} ")
+        if has_contract and stands_out or not has_contract and line.endswith((";", "}")):
+            return None
+    last = start and next((at for at in range(start, len(lines)) if lines[at] == f"{indent}}}"), None)
+    return last and (start, last)
+
+
+def functions_in(file, text, modules):
+    """The functions of a file that have bodies of more than one line."""
+    lines, found, owner = text.split("\n"), [], module_of(file)
+    for number, line in enumerate(lines):
+        block = BLOCK.match(line)
+        if block and block[1] == "impl":
+            owner = owner_of(block[2], module_of(file), modules)
+        elif block:
+            owner = joined(module_of(file), re.match(r" (\w+)", block[2])[1])
+        elif line == "}":
+            owner = module_of(file)
+        head = HEAD.match(line)
+        body = head and body_of(lines, number, head[1])
+        if body:
+            found.append(Function(joined(owner, head[2]), file, number, *body))
+    return found

@@ -1,0 +1,97 @@
+"""Shows that a run can fail: edits of hart_values that are no mistakes, and a mistake under a contract that was made weak."""
+
+import re
+from typing import NamedTuple
+
+from mistakes.edits import read_edit, texts_of
+from mistakes.verdicts import verdict_of
+
+CRATE = "hart_values"
+HALVED = """
+file: src/byte_list.rt
+old:         self.bytes.len()
+new:         self.bytes.len() / 2
+"""
+
+
+class Planted(NamedTuple):
+    """An edit, and what the verdict on it has to say; "" if it is a mistake that is refused."""
+
+    name: str
+    text: str
+    wanted: str
+
+
+TOGETHER = (
+    Planted("a_mistake", HALVED, ""),
+    Planted(
+        "the_same_in_other_words",
+        """
+file: src/byte_list.rt
+old:         self.bytes.is_empty()
+new:         self.bytes.len() == 0
+""",
+        "is still proved",
+    ),
+    Planted(
+        "a_typing_error",
+        """
+file: src/byte_list.rt
+old:         self.bytes.as_slice()
+new:         self.bytes.len()
+""",
+        "does not read it",
+    ),
+)
+UNREAD = (
+    Planted("stands_nowhere", "file: src/byte_list.rt\nold: self.octets.len()\nnew: 0\n", "stands 0 times"),
+    Planted("changes_nothing", "file: src/byte_list.rt\nold:         self.bytes.len()\nnew:         self.bytes.len()\n", "changes nothing"),
+    Planted(
+        "changes_a_contract",
+        "file: src/byte_list.rt\nold:         ensures value { result ≡ length self.now }\nnew:         ensures value { result ≤ length self.now }\n",
+        "more than bodies",
+    ),
+    Planted("changes_a_definition", "file: specs/FaultNumbers.antt\nold: 1\nnew: 2\n", "no file"),
+)
+# The first clause of `len` says the length. This says half of what it says, and the mistake halves it.
+WEAKENED = ("src/byte_list.rt", "ensures value { result ≡ length self.now }", "ensures value { result ≤ length self.now }")
+
+
+def edit_of(crate, planted):
+    return read_edit(planted.text, planted.name, crate, "planted")
+
+
+def differs(planted, verdict):
+    """What is said if the verdict is not the wanted one, or None."""
+    is_wanted = verdict.is_refused() if not planted.wanted else bool(re.search(planted.wanted, verdict.why))
+    print(f"planted {planted.name}: {'refused: ' + verdict.words() if verdict.is_refused() else verdict.why}")
+    return None if is_wanted else f"planted {planted.name}: this is not `{planted.wanted or 'refused'}`"
+
+
+def weak_verdict(kit, mistake, kept):
+    """The verdict on a mistake under the contract that was made weak."""
+    file, old, new = WEAKENED
+    texts = texts_of([mistake])
+    if texts[file].count(old) != 1:
+        raise SystemExit(f"mistakes: {file} has no clause `{old}`: mend the planted edits")
+    texts[file] = texts[file].replace(old, new)
+    return verdict_of(kit.check(CRATE, texts, [it.path for it in mistake.functions], kept), CRATE, mistake)
+
+
+def run(kit, judged, mistakes_of):
+    """Tries all of them, and returns 0 if each verdict is the wanted one."""
+    crate = kit.crates[CRATE].folder
+    by_name = {it.name: it for it in (*TOGETHER, *UNREAD)}
+    _, bad = mistakes_of([edit_of(crate, it) for it in UNREAD])
+    batch, none = mistakes_of([edit_of(crate, it) for it in TOGETHER])
+    weak = Planted("a_mistake_under_a_weak_clause", HALVED, "is still proved")
+    found = [differs(by_name[edit.name], verdict) for edit, verdict in bad + none]
+    with kit.kept(CRATE) as kept:
+        found += [differs(by_name[it.edit.name], verdict) for it, verdict in judged(kit, batch, kept)]
+        found.append(differs(weak, weak_verdict(kit, batch[0], kept)))
+    lacking = len(by_name) + 1 - len(found)
+    for it in filter(None, found):
+        print(it)
+    wrong = sum(it is not None for it in found) + lacking
+    print(f"mistakes: of {len(by_name) + 1} planted edits {wrong} had another verdict than they must have")
+    return 1 if wrong else 0
