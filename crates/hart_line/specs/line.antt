@@ -3,3 +3,4 @@ pub mod Masters
 pub mod Leg
 pub mod Line
 pub mod Room
+pub mod Log

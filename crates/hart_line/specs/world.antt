@@ -3,6 +3,7 @@ pub mod Spoken
 pub mod Damage
 pub mod World
 pub mod Step
+pub mod Led
 pub mod Needs
 pub mod Faults
 pub mod Noted

@@ -1,31 +1,34 @@
 //! Laws over the definitions alone, for the crates above.
-ghost use Rattle.std.specs.Prelude.{◌≡◌, ◌<◌, ◌^◌, [], List, ℕ, Some};
+ghost use Rattle.std.specs.Prelude.{◌≡◌, ◌<◌, ◌≤◌, ◌^◌, [], List, ℕ, Some};
 ghost use Rattle.std.specs.List.{AllPass};
 ghost use Rattle.hart_values.specs.declared.address.Address.{Address};
 ghost use Rattle.hart_values.specs.declared.address.Address.TheVariants.{Unique};
 ghost use Rattle.hart_values.specs.declared.master_id.MasterId.{MasterId};
 ghost use Rattle.hart_commands.specs.declared.content.ReplyContent.TheVariants.{Identity};
 ghost use Rattle.hart_commands.specs.declared.reply.Reply.{Reply};
+ghost use Rattle.hart_device.specs.Device.{DeviceState};
 ghost use Rattle.hart_device.specs.Identity.{AreIdentityParts, identity_content, own_numbers};
-ghost use Rattle.hart_device.specs.answer.Answer.{after_refusal, reply_of};
+ghost use Rattle.hart_device.specs.answer.Answer.{after_refusal};
 ghost use Rattle.hart_device.specs.declared.identity_parts.IdentityParts.{IdentityParts};
-ghost use Rattle.hart_master.specs.Master.{MasterState};
 ghost use Rattle.hart_master.specs.Unique.{unique_in};
 ghost use Rattle.hart_line.specs.script.Rows.{HasFirstBadLine, IsScript, IsScriptFault, is_skipped, lines_in_words};
 ghost use Rattle.hart_line.specs.script.Words.{IsAddressWord, IsCommandWord, IsDataWord, IsWho};
-ghost use Rattle.hart_line.specs.world.Faults.{AreAllDetected, IsFault};
+ghost use Rattle.hart_line.specs.world.Faults.{AreAllDetected, IsFault, IsNotDetectable};
 ghost use Rattle.hart_line.specs.world.Kept.{KeepsPromises};
+ghost use Rattle.hart_line.specs.world.Led.{Led};
 ghost use Rattle.hart_line.specs.world.Noted.{IsLoggedFault};
-ghost use Rattle.hart_line.specs.world.Promises.{AnswersLastSending, IsRefusedByDevice, start_from};
-ghost use Rattle.hart_line.specs.world.Step.{IsLast, spoken_request};
+ghost use Rattle.hart_line.specs.world.Promises.{AreWellMade, IsRefusedByDevice, IsWellMadeStart};
+ghost use Rattle.hart_line.specs.world.Step.{IsLast};
 ghost use Rattle.hart_line.specs.world.World.{Start, World, first_world, state_of};
 ghost use Rattle.hart_line.specs.declared.event.LineEvent.{LineEvent};
 ghost use Rattle.hart_line.specs.declared.fault.Leg.{Leg};
+ghost use Rattle.hart_line.specs.declared.fault.LineFault.{LineFault};
 ghost use Rattle.hart_line.specs.declared.fault.LineFault.TheVariants.{Memory, Undetected};
+ghost use Rattle.hart_line.specs.declared.line.report.Outcome.{Outcome};
+ghost use Rattle.hart_line.specs.declared.line.report.Spoken.{Spoken};
 ghost use Rattle.hart_line.specs.declared.memory.NoRoom.{NoRoom};
 
 use crate::Log;
-use hart_device::{Device, Process, RegisterStore, processes_are_well_made};
 
 /// A word is that of one master, of one address, of one command and of one list of data at most.
 pub fn words_have_one_value()
@@ -61,7 +64,8 @@ pub fn scripts_have_one_last_world()
 /// Want of memory is no fault of a script without events, and none of a text whose lines are all skipped.
 pub fn empty_scripts_need_no_room<L: Log>()
     ensures events { (start : Start) (none : NoRoom) → IsFault start [] (Memory none) → ⊥ }
-    ensures noted { (start : Start) (none : NoRoom) → IsLoggedFault L.needs start [] (Memory none) → ⊥ }
+    ensures noted { (old new : L) (start : Start) (none : NoRoom)
+        → IsLoggedFault L.needs (λ spoken. L.notes old spoken new) start [] (Memory none) → ⊥ }
     ensures text { (text : List ℕ) (none : NoRoom) → AllPass is_skipped (lines_in_words text)
         → IsScriptFault text (Memory none) → ⊥ }
 {}
@@ -81,22 +85,13 @@ pub fn refused_turns_change_nothing()
         → state_of start.device next ≡ after_refusal (state_of start.device before) refused.frame }
 {}
 
-/// In every script of every device, whatever process it is handed, an accepted reply is the one that the device made: a master reads
-/// the code, the status and the data that the device replied.
-pub fn accepted_replies_are_the_devices_own<S: RegisterStore>(device: &Device<S>, process: &Process)
-    ensures { (primary secondary : MasterState) (events : List LineEvent) (number : ℕ) (reply : Reply) (sendings : ℕ)
-        (answers : AnswersLastSending (start_from device.now process.now primary secondary) events number reply sendings)
-        → reply ≡ reply_of (state_of device.now answers.last_turn.before) process.now
-        (spoken_request answers.last_turn.who answers.last_turn.held).frame }
-{
-    // No-ops: their contracts say that device and process are well made.
-    device.response_preambles();
-    processes_are_well_made(process);
-}
-
-/// All that [`run`](crate::run) promises of a script: of its first world, which the device stands for, and of its turns, its last
-/// world and its fault. If a promise asks for well-made requests, each value of [`Request`](hart_commands::Request) is one.
+/// All that [`run`](crate::run) promises of a script: of its first world, which the device stands for; of what it leads to, if device,
+/// process and requests are well made, as each value of their types is; and of its fault.
 pub fn scripts_keep_their_promises()
     ensures first_world { (start : Start) → start.device.counter < 2 ^ 16 → state_of start.device (first_world start) ≡ start.device }
-    ensures kept { (start : Start) (events : List LineEvent) → KeepsPromises start events }
+    ensures kept { (start : Start) (events : List LineEvent) (device : DeviceState) (outcomes : List Outcome) (spoken : List Spoken)
+        → IsWellMadeStart start → AreWellMade events → Led start events device outcomes spoken
+        → KeepsPromises start events device outcomes }
+    ensures detected { (start : Start) (events : List LineEvent) (fault : LineFault)
+        → 5 ≤ start.device.identity.response_preambles → IsFault start events fault → IsNotDetectable start events fault }
 {}

@@ -39,9 +39,9 @@ pub use fault::{Leg, LineFault};
 pub use fault_text::FaultText;
 pub use filling::Filling;
 pub use laws::{
-    accepted_replies_are_the_devices_own, empty_scripts_need_no_room,
-    identities_give_their_address, refused_turns_change_nothing, scripts_have_one_last_world,
-    scripts_keep_their_promises, texts_have_one_script, words_have_one_value,
+    empty_scripts_need_no_room, identities_give_their_address, refused_turns_change_nothing,
+    scripts_have_one_last_world, scripts_keep_their_promises, texts_have_one_script,
+    words_have_one_value,
 };
 pub use line::log::Log;
 pub use line::logged::run_logged;

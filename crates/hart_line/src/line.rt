@@ -1,5 +1,5 @@
 //! The HART line: a device and its two masters, and what an event does to them.
-ghost use Rattle.std.specs.Prelude.{◌≡◌, ◌<◌, [], ◌∷◌, ◌++◌, Any, List, IfErr, OnOk};
+ghost use Rattle.std.specs.Prelude.{◌≡◌, ◌<◌, [], ◌∷◌, Any, IfErr, OnOk};
 ghost use Rattle.std.specs.Option.{option_copied};
 ghost use Rattle.hart_values.specs.EachMaster.{of_master};
 ghost use Rattle.hart_commands.specs.RequestData.{IsRequest};
@@ -12,17 +12,14 @@ ghost use Rattle.hart_line.specs.world.Spoken.{frame_if, party_of};
 ghost use Rattle.hart_line.specs.world.Step.{submission_fault, submitted};
 ghost use Rattle.hart_line.specs.world.World.{Start, World, MarksWithin};
 ghost use Rattle.hart_line.specs.declared.event.LineEvent.TheVariants.{Noise, Submit, Turn};
-ghost use Rattle.hart_line.specs.declared.line.report.Spoken.{Spoken};
 
+use crate::line::event_frames::EventFrames;
 use crate::line::leg::{answer_among, answer_in, arrived_in};
-use crate::line::log::{Log, note_all};
+use crate::line::log::Log;
 use crate::line::masters::{Masters, Submitter};
 use crate::line::report::Ending;
-use crate::line::room::ScriptRoom;
 use crate::line::undetected::Undetected;
-use crate::{
-    Filling, Heard, Leg, LineEvent, NoRoom, Outcome, Outcomes, Party, Report, Spoken, SpokenList,
-};
+use crate::{Filling, Heard, Leg, LineEvent, NoRoom, Outcome, Outcomes, Party};
 use hart_commands::Request;
 use hart_device::{Device, Process, RegisterStore};
 use hart_frame::{Char, Frame};
@@ -30,6 +27,7 @@ use hart_master::Master;
 use hart_values::{Address, MasterId, Payload};
 use std::marker::Model;
 
+pub mod event_frames;
 pub mod leg;
 pub mod log;
 pub mod logged;
@@ -42,13 +40,13 @@ pub mod undetected;
 /// The number of preamble bytes that a master puts before a request.
 const MASTER_PREAMBLES: u8 = 20;
 
-/// A HART line: a device, its two masters, what became of each submission so far, and what was spoken.
+/// A HART line: a device, its two masters, what became of each submission so far, and what was spoken in the last event.
 #[derive(Drop)]
 pub struct Line<S: RegisterStore> {
     device: Device<S>,
     masters: Masters,
     outcomes: Filling<Outcome>,
-    spoken: Filling<Spoken>,
+    spoken: EventFrames,
     /// The number of preamble bytes of the device's replies.
     response_preambles: u8,
     /// The frames of an event are written here: each is some 300 bytes.
@@ -66,9 +64,8 @@ impl<S: RegisterStore> Model for Line<S> {
       device = line.device;
       masters = line.masters;
       outcomes = line.outcomes.items;
-      spoken = line.spoken.items;
+      spoken = line.spoken;
       outcomes_room = line.outcomes.room;
-      spoken_room = line.spoken.room;
       response_preambles = line.response_preambles;
     } };
 
@@ -76,18 +73,22 @@ impl<S: RegisterStore> Model for Line<S> {
 }
 
 impl<S: RegisterStore> Line<S> {
-    /// The HART line of this device and these masters, on which nothing has happened yet, with this room for what will.
-    pub fn new(room: ScriptRoom, device: Device<S>, primary: Master, secondary: Master) -> Self
+    /// Returns the HART line of this device and these masters, on which nothing has happened yet, with this room for outcomes.
+    pub fn new(
+        outcomes: Filling<Outcome>,
+        device: Device<S>,
+        primary: Master,
+        secondary: Master,
+    ) -> Self
         ensures line { result ≡ record {
           device = device;
           masters = record {
             primary = record { master = primary; place = 0 };
             secondary = record { master = secondary; place = 0 };
           };
-          outcomes = room.outcomes.items;
-          spoken = room.spoken.items;
-          outcomes_room = room.outcomes.room;
-          spoken_room = room.spoken.room;
+          outcomes = outcomes.items;
+          spoken = [];
+          outcomes_room = outcomes.room;
           response_preambles = device.identity.response_preambles;
         } }
         ensures device { IsDevice device }
@@ -99,8 +100,8 @@ impl<S: RegisterStore> Line<S> {
                 primary: Submitter::new(primary),
                 secondary: Submitter::new(secondary),
             },
-            outcomes: room.outcomes,
-            spoken: room.spoken,
+            outcomes,
+            spoken: EventFrames::new(),
             response_preambles,
             request: no_frame(),
             reply: no_frame(),
@@ -114,12 +115,11 @@ impl<S: RegisterStore> Line<S> {
     /// [`NoRoom`] at the first frame that the log has no room for.
     pub fn tell<L: Log>(&mut self, log: &mut L) -> Result<(), NoRoom>
         ensures line { OnOk result (self.new ≡ record self.old { spoken = [] }) }
-        ensures noted { OnOk result
-            ((noted : List Spoken) → L.has_noted log.old noted → L.has_noted log.new (noted ++ self.old.spoken)) }
+        ensures noted { OnOk result (L.notes log.old self.old.spoken log.new) }
         ensures refused { IfErr result (λ none. (0 < none.items) × Any (λ said. L.needs said none.items) self.old.spoken) }
     {
-        note_all(log, self.spoken.as_slice())?;
-        self.spoken.clear();
+        self.spoken.note_in(log)?;
+        self.spoken = EventFrames::new();
         Ok(())
     }
 
@@ -136,28 +136,6 @@ impl<S: RegisterStore> Line<S> {
         Ending {
             device,
             outcomes: Outcomes::new(outcomes.finish()),
-        }
-    }
-
-    /// What is reported of the HART line.
-    pub fn into_report(self) -> Report<S>
-        ensures device { result.device ≡ self.device }
-        ensures outcomes { result.outcomes ≡ self.outcomes }
-        ensures spoken { result.spoken ≡ self.spoken }
-    {
-        let Line {
-            device,
-            masters: _,
-            outcomes,
-            spoken,
-            response_preambles: _,
-            request: _,
-            reply: _,
-        } = self;
-        Report {
-            device,
-            outcomes: Outcomes::new(outcomes.finish()),
-            spoken: SpokenList::new(spoken.finish()),
         }
     }
 

@@ -3,15 +3,15 @@ use Rattle.std.specs.Prelude.{◌≡◌, ◌⊎◌, ◌<◌, ℕ, List, Option}
 use Rattle.hart_device.specs.Bench.{bench_process}
 use Rattle.hart_device.specs.Device.{DeviceState}
 use Rattle.hart_line.specs.world.Faults.{IsFault}
-use Rattle.hart_line.specs.world.Needs.{IsNeededForEach}
+use Rattle.hart_line.specs.world.Led.{Led}
+use Rattle.hart_line.specs.world.Needs.{IsNeededForOutcomes}
 use Rattle.hart_line.specs.world.Noted.{IsNeededByNoting}
 use Rattle.hart_line.specs.script.Rows.{HasFirstBadLine, IsNeededByText, IsScript}
-use Rattle.hart_line.specs.world.Spoken.{AreSpoken}
-use Rattle.hart_line.specs.world.Step.{IsLast}
-use Rattle.hart_line.specs.world.World.{Start, World, state_of}
+use Rattle.hart_line.specs.world.World.{Start}
 use Rattle.hart_line.specs.declared.event.LineEvent.{LineEvent}
 use Rattle.hart_line.specs.declared.fault.LineFault.{LineFault}
 use Rattle.hart_line.specs.declared.fault.LineFault.TheVariants as line_faults
+use Rattle.hart_line.specs.declared.line.report.Outcome.{Outcome}
 use Rattle.hart_line.specs.declared.line.report.Spoken.{Spoken}
 use Rattle.hart_cli.specs.declared.fault.CliFault.{CliFault}
 use Rattle.hart_cli.specs.declared.fault.CliFault.TheVariants.{Line, Memory}
@@ -28,20 +28,16 @@ start_with device = record {
   retries = record { primary = 3; secondary = 3 };
 }
 
--- The text of a world gives the frames that were spoken, what became of each submission, and the counter and the image of the
--- device as it is then.
-pub record IsWorldText (start : Start) (world : World) (text : List ℕ) : Type 0 where
-  pub spoken : List Spoken
-  pub are_spoken : AreSpoken world.spoken spoken
-  pub gives : text ≡ sim_text spoken world.outcomes (state_of start.device world)
-
--- The text for an input is the text of the last world of its script.
+-- The text for an input gives the frames that were spoken in the last world of its script, what became of each submission, and the
+-- counter and the image of the device as it is then.
 pub record IsSimulation (device : DeviceState) (input text : List ℕ) : Type 0 where
   pub events : List LineEvent
   pub script : IsScript input events
-  pub world : World
-  pub last : IsLast (start_with device) events world
-  pub world_text : IsWorldText (start_with device) world text
+  pub after : DeviceState
+  pub outcomes : List Outcome
+  pub spoken : List Spoken
+  pub led : Led (start_with device) events after outcomes spoken
+  pub gives : text ≡ sim_text spoken outcomes after
 
 -- An input is a script whose events have this fault.
 pub record IsScriptWithFault (device : DeviceState) (input : List ℕ) (fault : LineFault) : Type 0 where
@@ -59,9 +55,11 @@ HasLineFault device input (line_faults.Memory none) = ⊥
 -- A script leads to a last world, and the line of one of its submissions, or the last two lines, need room for this number of bytes,
 -- which is 1 at least.
 pub record IsNeededByLastLines (start : Start) (events : List LineEvent) (items : ℕ) : Type 0 where
-  pub world : World
-  pub last : IsLast start events world
-  pub needed : IsNeededByOutcomes world.outcomes items ⊎ IsNeededByDevice (state_of start.device world) items
+  pub after : DeviceState
+  pub outcomes : List Outcome
+  pub spoken : List Spoken
+  pub led : Led start events after outcomes spoken
+  pub needed : IsNeededByOutcomes outcomes items ⊎ IsNeededByDevice after items
   pub some : 0 < items
 
 -- An input needs room for this number of items: to be read as a script, to have its events carried out, or for a line of its text, which
@@ -70,7 +68,7 @@ abbrev pub IsNeededForSimulation : DeviceState → List ℕ → ℕ → Type 0
 IsNeededForSimulation device input items =
     IsNeededByText input items
     ⊎ ((events : List LineEvent) × IsScript input events
-    × (IsNeededForEach events items
+    × (IsNeededForOutcomes events items
     ⊎ IsNeededByNoting IsNeededByFrame (start_with device) events items
     ⊎ IsNeededByLastLines (start_with device) events items))
 

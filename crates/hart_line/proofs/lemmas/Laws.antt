@@ -1,21 +1,25 @@
 -- The laws of scripts and of their worlds, for the proofs of this crate and of those above.
-use Rattle.std.proofs.Common.{arith, length, ◌≡◌, ◌<◌, ◌^◌, ℕ, List}
+use Rattle.std.proofs.Common.{arith, length, take, refl, ◌≡◌, ◌<◌, ◌≤◌, ◌^◌, ℕ, List}
 use Rattle.std.proofs.Math.Nat.{mod-eq_of_lt}
 use Rattle.std.proofs.lemmas.Grind.{common_steps}
 use Rattle.std.proofs.lemmas.List.{take_all}
 use Rattle.std.proofs.lemmas.Option.{slice_get_within}
+use Rattle.hart_device.specs.Device.{DeviceState}
 use Rattle.hart_device.specs.answer.Answer.{after_refusal}
 use Rattle.hart_device.proofs.lemmas.Laws.{registers_of_lists-none}
 use Rattle.hart_line.specs.declared.event.LineEvent.{LineEvent}
 use Rattle.hart_line.specs.declared.fault.Leg.{Leg}
+use Rattle.hart_line.specs.declared.fault.LineFault.{LineFault}
 use Rattle.hart_line.specs.declared.fault.LineFault.TheVariants.{Undetected}
-use Rattle.hart_line.specs.world.Faults.{AreAllDetected, IsFault}
+use Rattle.hart_line.specs.declared.line.report.Outcome.{Outcome}
+use Rattle.hart_line.specs.declared.line.report.Spoken.{Spoken}
+use Rattle.hart_line.specs.world.Faults.{AreAllDetected, IsFault, IsNotDetectable}
 use Rattle.hart_line.specs.world.Kept.{KeepsPromises}
-use Rattle.hart_line.specs.world.Promises.{IsRefusedByDevice}
+use Rattle.hart_line.specs.world.Led.{Led}
+use Rattle.hart_line.specs.world.Promises.{AreWellMade, IsRefusedByDevice, IsWellMadeStart}
 use Rattle.hart_line.specs.world.Step.{IsLast}
 use Rattle.hart_line.specs.world.World.{Start, World, first_world, state_of}
 use Rattle.hart_line.proofs.lemmas.world.Answered.{answered_last}
-use Rattle.hart_line.proofs.lemmas.world.Basics.{some_one}
 use Rattle.hart_line.proofs.lemmas.world.Leads.{fault_before, fault_not_detectable, leads_exists, leads_one, undetected_one}
 use Rattle.hart_line.proofs.lemmas.world.Reset.{refused_last, refused_step, unseen}
 use Rattle.hart_line.proofs.lemmas.world.Submitted.{executed_at_most}
@@ -36,13 +40,23 @@ scripts_have_one_last_world-no_fault start events world number leg run f =
     let within = slice_get_within events number f.1 f.3 in
     fault_before start events number (length events) leg world within f (rw (take_all (length events) events (omega arith)) run)
 
+same_number : (m n : ℕ) → (m < n → ⊥) → (n < m → ⊥) → m ≡ n
+same_number m n below above = grind arith
+
+same_leg : (start : Start) (events : List LineEvent) (number : ℕ) (leg another : Leg)
+    → IsFault start events (Undetected number leg) → IsFault start events (Undetected number another) → leg ≡ another
+same_leg start events number leg another f g =
+    let same = leads_one start (take number events) (first_world start) f.0 g.0 f.2 g.2 in
+    let same_event : f.1 ≡ g.1 = cc in
+    undetected_one start g.0 g.1 leg another (rw (same, same_event) at f.4) g.4
+
 pub scripts_have_one_last_world-one_fault : (start : Start) (events : List LineEvent) (number other : ℕ) (leg another : Leg)
     → IsFault start events (Undetected number leg) → IsFault start events (Undetected other another)
     → (number ≡ other) × (leg ≡ another)
 scripts_have_one_last_world-one_fault start events number other leg another f g =
-    let early = λ (h : number < other). fault_before start events number other leg g.0 h f g.2 in
-    let late = λ (h : other < number). fault_before start events other number another f.0 h g f.2 in
-    grind (arith, common_steps, leads_one, some_one, undetected_one)
+    let same = same_number number other
+    (λ h. fault_before start events number other leg g.0 h f g.2) (λ h. fault_before start events other number another f.0 h g f.2) in
+    (same, same_leg start events other leg another (rw same at f) g)
 
 pub refused_turns_change_nothing : (start : Start) (events : List LineEvent) (before next : World)
     (refused : IsRefusedByDevice start events before next)
@@ -53,16 +67,28 @@ pub scripts_keep_their_promises-first_world : (start : Start) → start.device.c
     → state_of start.device (first_world start) ≡ start.device
 scripts_keep_their_promises-first_world start small = grind (arith, common_steps, same_state, registers_of_lists-none, mod-eq_of_lt)
 
-pub scripts_keep_their_promises-kept : (start : Start) (events : List LineEvent) → KeepsPromises start events
-scripts_keep_their_promises-kept start events = assumption (
-  answered_last start events,
-  registers_last start events,
-  refused_last start events,
-  refused_step start events,
-  turn_executed start events,
-  step_stays start events,
-  answered_executed start events,
-  executed_at_most start events,
-  unseen start events,
-  fault_not_detectable start events,
-)
+pub scripts_keep_their_promises-kept : (start : Start) (events : List LineEvent) (device : DeviceState) (outcomes : List Outcome)
+    (spoken : List Spoken) → IsWellMadeStart start → AreWellMade events → Led start events device outcomes spoken
+    → KeepsPromises start events device outcomes
+scripts_keep_their_promises-kept start events device outcomes spoken made well_made led =
+    let here = answered_last start events made led.world led.last in
+    rw (led.device_is, led.outcomes_are) (record {
+      well_made = well_made;
+      accepted_reply_answers_last_sending = here;
+      registers_follow_last_executions = λ world last. rw (leads_one start events (first_world start) world led.world last led.last)
+          (registers_last start events led.world led.last well_made);
+      counter_counts_executions = λ world last. rw (leads_one start events (first_world start) world led.world last led.last) refl;
+      refused_commands_change_nothing = refused_last start events led.world led.last;
+      refused_turns_change_nothing = refused_step start events;
+      unrefused_writes_are_executed = turn_executed start events well_made;
+      nothing_else_is_executed = step_stays start events;
+      executed_in_its_turn = λ number request reply sendings submitted write is.
+          answered_executed start events well_made number request reply sendings (here number reply sendings is) submitted write;
+      at_most_once_a_sending = λ world last. rw (leads_one start events (first_world start) world led.world last led.last)
+          (executed_at_most start events led.world led.last);
+      no_change_unseen = unseen start events led.world led.last;
+    })
+
+pub scripts_keep_their_promises-detected : (start : Start) (events : List LineEvent) (fault : LineFault)
+    → 5 ≤ start.device.identity.response_preambles → IsFault start events fault → IsNotDetectable start events fault
+scripts_keep_their_promises-detected = fault_not_detectable

@@ -3,3 +3,4 @@ pub mod Leg
 pub mod Turn
 pub mod Room
 pub mod Reached
+pub mod Log

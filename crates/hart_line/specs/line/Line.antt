@@ -10,15 +10,14 @@ use Rattle.hart_line.specs.declared.line.masters.Masters.{Masters}
 use Rattle.hart_line.specs.declared.line.report.Outcome.{Outcome}
 use Rattle.hart_line.specs.declared.line.report.Spoken.{Spoken}
 
--- A line is a device, its two masters, what became of each submission so far, what was spoken, for how many outcomes and spoken
--- frames there is room in all, and how many preamble bytes the device puts before a reply.
+-- A line is a device, its two masters, what became of each submission so far, what was spoken in the last event, for how many outcomes
+-- there is room in all, and how many preamble bytes the device puts before a reply.
 pub record LineState : Type 0 where
   pub device : DeviceState
   pub masters : Masters
   pub outcomes : List Outcome
   pub spoken : List Spoken
   pub outcomes_room : ℕ
-  pub spoken_room : ℕ
   pub response_preambles : ℕ
 
 -- A line stands for a world: its parts are those of the world, and its device's replies have as many preamble bytes as the identity says.

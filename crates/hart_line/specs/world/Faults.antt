@@ -5,8 +5,10 @@ use Rattle.hart_values.specs.EachMaster.{of_master}
 use Rattle.hart_device.specs.answer.Delivery.{Brought}
 use Rattle.hart_line.specs.world.Damage.{Arrives, IsDetectable, IsUndetected, Reaches}
 use Rattle.hart_line.specs.world.Needs.{IsNeededBy}
+use Rattle.hart_line.specs.world.Spoken.{SpokenFrame}
 use Rattle.hart_line.specs.world.Step.{IsLast, Step, sent_back, sent_by}
 use Rattle.hart_line.specs.world.World.{Start, World}
+use Rattle.hart_line.specs.declared.event.Heard.{Heard}
 use Rattle.hart_line.specs.declared.event.Heard.TheVariants.{Chars}
 use Rattle.hart_line.specs.declared.event.LineEvent.{LineEvent}
 use Rattle.hart_line.specs.declared.event.LineEvent.TheVariants.{Turn, Noise}
@@ -15,14 +17,19 @@ use Rattle.hart_line.specs.declared.fault.Leg.TheVariants as legs
 use Rattle.hart_line.specs.declared.fault.LineFault.{LineFault}
 use Rattle.hart_line.specs.declared.fault.LineFault.TheVariants.{BadLine, Memory, Undetected}
 
--- A turn has undetected damage in what goes up or, if that is detected, in what comes down; noise has it if a frame is heard;
--- nothing else has any.
+-- What is heard in a leg of an event, and what was sent in it: in a turn what goes up, by its master, and, by what that brings the
+-- device, what comes down, which the device sends back; and what is heard at noise, in which nothing is sent. No other event has a leg.
+abbrev pub HeardIn : Start → World → LineEvent → Leg → Heard → Option SpokenFrame → Type 0
+HeardIn start world (Turn who up down) legs.Up heard sent = (heard ≡ up) × (sent ≡ sent_by who (of_master who world.hands))
+HeardIn start world (Turn who up down) legs.Down heard sent = (heard ≡ down) × (brought : Brought)
+    × Reaches start.device.identity up (sent_by who (of_master who world.hands)) brought × (sent ≡ sent_back start world brought)
+HeardIn start world (Noise chars) legs.Noise heard sent = (heard ≡ Chars chars) × (sent ≡ None)
+HeardIn start world _ _ heard sent = ⊥
+
+-- A leg has undetected damage if what is heard in it has, by what was sent in it.
 abbrev pub HasUndetected : Start → World → LineEvent → Leg → Type 0
-HasUndetected start world (Turn who up down) legs.Up = IsUndetected up (sent_by who (of_master who world.hands))
-HasUndetected start world (Turn who up down) legs.Down = (brought : Brought)
-    × Reaches start.device.identity up (sent_by who (of_master who world.hands)) brought × IsUndetected down (sent_back start world brought)
-HasUndetected start world (Noise chars) legs.Noise = IsUndetected (Chars chars) None
-HasUndetected start world _ _ = ⊥
+HasUndetected start world event leg =
+    (heard : Heard) × (sent : Option SpokenFrame) × HeardIn start world event leg heard sent × IsUndetected heard sent
 
 -- The fault of a script is undetected damage in a leg of an event, the events being numbered from 0, if no event before it has
 -- any; or refused memory for as many items as the events need room for. A bad line is a fault of a text, never of events.
@@ -32,12 +39,10 @@ IsFault start events (Undetected number leg) = (world : World) × (event : LineE
 IsFault start events (Memory room) = IsNeededBy events room.items
 IsFault start events (BadLine line) = ⊥
 
--- What is heard in a leg of a turn is detectable, by what is sent in that leg. Of noise nothing is said, since nobody sends it.
+-- What is heard in a leg is detectable, by what was sent in it. Noise never is, since nobody sends it.
 abbrev pub HasDetectable : Start → World → LineEvent → Leg → Type 0
-HasDetectable start world (Turn who up down) legs.Up = IsDetectable up (sent_by who (of_master who world.hands))
-HasDetectable start world (Turn who up down) legs.Down = (brought : Brought)
-    × Reaches start.device.identity up (sent_by who (of_master who world.hands)) brought × IsDetectable down (sent_back start world brought)
-HasDetectable start world _ _ = ⊥
+HasDetectable start world event leg =
+    (heard : Heard) × (sent : Option SpokenFrame) × HeardIn start world event leg heard sent × IsDetectable heard sent
 
 -- Undetected damage is in no leg in which what is heard is detectable.
 abbrev pub IsNotDetectable : Start → List LineEvent → LineFault → Type 0
@@ -46,15 +51,10 @@ IsNotDetectable start events (Undetected number leg) = (world : World) (event : 
 IsNotDetectable start events (Memory room) = Unit {0}
 IsNotDetectable start events (BadLine line) = Unit {0}
 
--- The damage of each leg of an event is detected: in a turn that of what goes up and then, whatever that brings the device, that of
--- what comes down; in noise, which nobody sent, no frame arrives.
+-- The damage of each leg of an event is detected, by what was sent in it: of what comes down whatever what goes up brings the device.
 abbrev pub LegsAreDetected : Start → World → LineEvent → Type 0
-LegsAreDetected start world (Turn who up down) = (brought : Option FrameParts)
-    × Arrives up (sent_by who (of_master who world.hands)) brought
-    × ((brought : Brought) → Reaches start.device.identity up (sent_by who (of_master who world.hands)) brought
-    → (returned : Option FrameParts) × Arrives down (sent_back start world brought) returned)
-LegsAreDetected start world (Noise chars) = Arrives (Chars chars) None None
-LegsAreDetected start world _ = Unit {0}
+LegsAreDetected start world event = (leg : Leg) (heard : Heard) (sent : Option SpokenFrame)
+    → HeardIn start world event leg heard sent → (arrived : Option FrameParts) × Arrives heard sent arrived
 
 -- The damage of each leg of these events is detected, one event after another.
 abbrev pub AreAllDetected : Start → World → List LineEvent → Type 0

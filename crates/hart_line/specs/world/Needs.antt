@@ -1,5 +1,5 @@
 -- The room that a script needs (own profile).
-use Rattle.std.specs.Prelude.{◌≡◌, ◌⊎◌, ℕ, ◌+◌, ◌*◌, ◌<◌, min, nat_lt, if◌then◌else◌, Bool, true, false, List, count_by}
+use Rattle.std.specs.Prelude.{◌≡◌, ◌⊎◌, ℕ, ◌+◌, ◌*◌, ◌<◌, Bool, true, false, List, count_by}
 use Rattle.hart_line.specs.declared.event.LineEvent.{LineEvent}
 use Rattle.hart_line.specs.declared.event.LineEvent.TheVariants.{Submit, Turn, Noise}
 
@@ -22,15 +22,10 @@ is_noise event = false
 abbrev pub most_spoken : List LineEvent → ℕ
 most_spoken events = 2 * count_by is_turn events + count_by is_noise events
 
--- The most frames that are spoken in one of these events: two if there is a turn, otherwise one if there is noise.
-abbrev pub most_spoken_in_one : List LineEvent → ℕ
-most_spoken_in_one events = if nat_lt 0 (count_by is_turn events) then 2 else min 1 (count_by is_noise events)
-
 -- Events need room for an outcome of each submission, and for the most frames that are spoken in them. Room for none is no need.
 abbrev pub IsNeededBy : List LineEvent → ℕ → Type 0
 IsNeededBy events items = (0 < items) × ((items ≡ count_by is_submission events) ⊎ (items ≡ most_spoken events))
 
--- If what is spoken is noted after each event, they need room for an outcome of each submission, and for the most frames that are
--- spoken in one of them.
-abbrev pub IsNeededForEach : List LineEvent → ℕ → Type 0
-IsNeededForEach events items = (0 < items) × ((items ≡ count_by is_submission events) ⊎ (items ≡ most_spoken_in_one events))
+-- If what is spoken is noted after each event, they need room for an outcome of each submission alone.
+abbrev pub IsNeededForOutcomes : List LineEvent → ℕ → Type 0
+IsNeededForOutcomes events items = (0 < items) × (items ≡ count_by is_submission events)

@@ -1,7 +1,7 @@
 -- Scripts whose spoken frames are noted in a log while they are carried out (own profile).
 use Rattle.std.specs.Prelude.{◌⊎◌, ◌<◌, ℕ, Any, List, take}
 use Rattle.hart_line.specs.world.Faults.{IsFault}
-use Rattle.hart_line.specs.world.Needs.{IsNeededForEach}
+use Rattle.hart_line.specs.world.Needs.{IsNeededForOutcomes}
 use Rattle.hart_line.specs.world.Spoken.{AreSpoken}
 use Rattle.hart_line.specs.world.Step.{IsLast}
 use Rattle.hart_line.specs.world.World.{Start, World}
@@ -21,15 +21,16 @@ pub record IsNeededByNoting (Needs : Spoken → ℕ → Type 0) (start : Start) 
   pub needed : Any (λ frame. Needs frame items) spoken
   pub some : 0 < items
 
--- The fault of a script whose frames are noted is undetected damage, as without a log; or memory was refused that its events need, or that
--- noting one of its frames needs.
-abbrev pub IsLoggedFault : (Spoken → ℕ → Type 0) → Start → List LineEvent → LineFault → Type 0
-IsLoggedFault Needs start events (Undetected number leg) = IsFault start events (Undetected number leg)
-IsLoggedFault Needs start events (Memory room) = IsNeededForEach events room.items ⊎ IsNeededByNoting Needs start events room.items
-IsLoggedFault Needs start events (BadLine line) = ⊥
+-- While the events of a script are carried out with a log, its fault is undetected damage, as without a log, and all that was spoken before
+-- the event of that has been noted; or memory was refused that noting one of its frames needs.
+abbrev pub IsNotingFault : (Needs : Spoken → ℕ → Type 0) → (AreNoted : List Spoken → Type 0) → Start → List LineEvent → LineFault → Type 0
+IsNotingFault Needs AreNoted start events (Undetected number leg) = (undetected : IsFault start events (Undetected number leg))
+    × (spoken : List Spoken) × AreSpoken undetected.0.spoken spoken × AreNoted spoken
+IsNotingFault Needs AreNoted start events (Memory room) = IsNeededByNoting Needs start events room.items
+IsNotingFault Needs AreNoted start events (BadLine line) = ⊥
 
--- If undetected damage stops a script, all that was spoken before its event has been noted.
-abbrev pub IsNotedBefore : (List Spoken → Type 0) → Start → List LineEvent → LineFault → Type 0
-IsNotedBefore HasNoted start events (Undetected number leg) = (world : World) → IsLast start (take number events) world
-    → (spoken : List Spoken) × AreSpoken world.spoken spoken × HasNoted spoken
-IsNotedBefore HasNoted start events _ = Unit {0}
+-- The fault of a script with a log is such a one; or memory was refused that its outcomes need.
+abbrev pub IsLoggedFault : (Needs : Spoken → ℕ → Type 0) → (AreNoted : List Spoken → Type 0) → Start → List LineEvent → LineFault → Type 0
+IsLoggedFault Needs AreNoted start events (Memory room) =
+    IsNeededForOutcomes events room.items ⊎ IsNotingFault Needs AreNoted start events (Memory room)
+IsLoggedFault Needs AreNoted start events fault = IsNotingFault Needs AreNoted start events fault

@@ -95,8 +95,8 @@ pub record IsWellMadeStart (start : Start) : Type 0 where
 pub record AnswersLastSending (start : Start) (events : List LineEvent) (number : ℕ) (reply : Reply) (sendings : ℕ) : Type 0 where
   pub last_turn : AnswersLastSendingFrom start (first_world start) events number reply sendings
   pub submitted_as : slice_get (submissions_of events) number ≡ Some (submission_in last_turn.who last_turn.held)
-  pub reply_is : IsWellMadeStart start
-      → reply ≡ reply_of (state_of start.device last_turn.before) start.process (spoken_request last_turn.who last_turn.held).frame
+  pub reply_is : reply
+      ≡ reply_of (state_of start.device last_turn.before) start.process (spoken_request last_turn.who last_turn.held).frame
 
 -- The requests that are submitted, in order, refused ones too.
 abbrev pub requests_of : List LineEvent → List Request

@@ -1,13 +1,13 @@
 //! What is spoken on a line is noted while it is spoken.
-ghost use Rattle.std.specs.Prelude.{◌<◌, [], ◌∷◌, ◌++◌, ℕ, Any, IfErr, List, OnOk};
+ghost use Rattle.std.specs.Prelude.{◌<◌, [], ◌∷◌, ◌++◌, ℕ, IfErr, List, OnOk};
 ghost use Rattle.hart_line.specs.declared.line.report.Spoken.{Spoken};
 
-use crate::{NoRoom, Spoken};
+use crate::{Filling, NoRoom, Spoken};
 
 /// Who notes what is spoken on a line, however it is kept.
 pub trait Log {
-    // What is kept is what these frames leave, noted in this order.
-    ghost has_noted: { Self → List Spoken → Type 0 };
+    // The one log becomes the other if these frames are noted in it, in this order.
+    ghost notes: { Self → List Spoken → Self → Type 0 };
 
     // Noting this frame may need room for this number of items.
     ghost needs: { Spoken → ℕ → Type 0 };
@@ -18,22 +18,33 @@ pub trait Log {
     ///
     /// [`NoRoom`] if memory for it was refused. It is not known then what is kept.
     fn note(&mut self, spoken: &Spoken) -> Result<(), NoRoom>
-        ensures noted { OnOk result
-            ((noted : List Spoken) → has_noted self.old noted → has_noted self.new (noted ++ spoken.now ∷ [])) }
+        ensures noted { OnOk result (notes self.old (spoken.now ∷ []) self.new) }
         ensures refused { IfErr result (λ none. (0 < none.items) × needs spoken.now none.items) };
+
+    // A log in which nothing is noted stays, and frames may be noted after others.
+    ghost none: { (log : Self) → notes log [] log };
+
+    ghost more: { (a b c : Self) (xs ys : List Spoken) → notes a xs b → notes b ys c → notes a (xs ++ ys) c };
 }
 
-/// Notes frames that were spoken, in order.
-///
-/// # Errors
-///
-/// [`NoRoom`] at the first frame that the log has no room for. The frames after it are not noted.
-pub fn note_all<L: Log>(log: &mut L, spoken: &[Spoken]) -> Result<(), NoRoom>
-    ensures noted { OnOk result ((noted : List Spoken) → L.has_noted log.old noted → L.has_noted log.new (noted ++ spoken.now)) }
-    ensures refused { IfErr result (λ none. (0 < none.items) × Any (λ said. L.needs said none.items) spoken.now) }
-{
-    for said in spoken {
-        log.note(said)?;
+/// A list keeps what is noted as far as there is room for it, and asks for no more room.
+impl Log for Filling<Spoken> {
+    ghost use Rattle.std.proofs.Common.{arith};
+    ghost use Rattle.std.proofs.lemmas.Grind.{common_steps};
+    ghost use Rattle.hart_line.specs.line.Log.{NotesWithin};
+
+    ghost notes = { λ old noted new. NotesWithin old noted new };
+
+    ghost needs = { λ spoken items. ⊥ };
+
+    fn note(&mut self, spoken: &Spoken) -> Result<(), NoRoom> {
+        if self.spare() > 0 {
+            self.push(spoken.copied());
+        }
+        Ok(())
     }
-    Ok(())
+
+    ghost none = { λ list. Prim.grind (arith, common_steps) };
+
+    ghost more = { λ a b c xs ys first next. Prim.grind (arith, common_steps) };
 }

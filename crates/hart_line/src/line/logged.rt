@@ -1,22 +1,21 @@
 //! Scripts are carried out, and what is spoken is noted while they are.
-ghost use Rattle.std.specs.Prelude.{◌≡◌, [], List, IfErr, IfOk};
+ghost use Rattle.std.specs.Prelude.{◌≡◌, List, IfErr, IfOk};
 ghost use Rattle.hart_values.specs.declared.master_id.MasterId.TheVariants.{Primary, Secondary};
 ghost use Rattle.hart_master.specs.declared.hand.Hand.TheVariants.{Empty};
+ghost use Rattle.hart_line.specs.line.Room.{IsRoomFor};
 ghost use Rattle.hart_line.specs.world.Faults.{IsNotDetectable};
 ghost use Rattle.hart_line.specs.world.Kept.{KeepsPromises};
-ghost use Rattle.hart_line.specs.world.Noted.{IsLoggedFault, IsNotedBefore};
-ghost use Rattle.hart_line.specs.world.Promises.{AreWellMade, start_from};
-ghost use Rattle.hart_line.specs.world.Spoken.{AreSpoken};
-ghost use Rattle.hart_line.specs.world.Step.{IsLast};
-ghost use Rattle.hart_line.specs.world.World.{World, state_of};
+ghost use Rattle.hart_line.specs.world.Led.{Led};
+ghost use Rattle.hart_line.specs.world.Noted.{IsLoggedFault, IsNotingFault};
+ghost use Rattle.hart_line.specs.world.Promises.{start_from};
 ghost use Rattle.hart_line.specs.declared.line.report.Spoken.{Spoken};
 
 use crate::line::Line;
 use crate::line::log::Log;
 use crate::line::report::Ending;
-use crate::line::room::ScriptRoom;
-use crate::{LineEvent, LineFault};
-use hart_device::{Device, Process, RegisterStore};
+use crate::line::room::room_for_outcomes;
+use crate::{Filling, LineEvent, LineFault, Outcome};
+use hart_device::{Device, Process, RegisterStore, processes_are_well_made};
 use hart_master::Master;
 use std::alloc::Global;
 
@@ -24,10 +23,9 @@ use std::alloc::Global;
 ///
 /// # Errors
 ///
-/// [`LineFault::Memory`] if room was refused: before the first event, for an outcome of each submission and for the most frames that
-/// are spoken in one event; or after an event, if the log has no room for a frame that was spoken in it. [`LineFault::Undetected`] as
-/// [`run`](crate::run) gives it, if no room was refused before that event; what was spoken before it has been noted then. Only the
-/// fault is given back.
+/// [`LineFault::Memory`] if room was refused: before the first event, for an outcome of each submission; or after an event, if the log
+/// has no room for a frame that was spoken in it. [`LineFault::Undetected`] as [`run`](crate::run) gives it, if no room was refused before
+/// that event; what was spoken before it has been noted then. Only the fault is given back.
 pub fn run_logged<S: RegisterStore + Drop, L: Log>(
     alloc: Global,
     device: Device<S>,
@@ -39,35 +37,54 @@ pub fn run_logged<S: RegisterStore + Drop, L: Log>(
 ) -> Result<Ending<S>, LineFault>
     requires primary { (primary.id ≡ Primary) × (primary.hand ≡ Empty) }
     requires secondary { (secondary.id ≡ Secondary) × (secondary.hand ≡ Empty) }
-    requires fresh { L.has_noted log.old [] }
     // The script has a last world; device, outcomes and what was noted are that world's.
-    ensures world { let start = start_from device process.now primary secondary in IfOk result (λ _.
-        (world : World) × IsLast start events.now world) }
-    ensures device { let start = start_from device process.now primary secondary in IfOk result (λ ending.
-        (world : World) → IsLast start events.now world → ending.device ≡ state_of device world) }
-    ensures outcomes { let start = start_from device process.now primary secondary in IfOk result (λ ending.
-        (world : World) → IsLast start events.now world → ending.outcomes ≡ world.outcomes) }
-    ensures noted { let start = start_from device process.now primary secondary in IfOk result (λ _.
-        (world : World) → IsLast start events.now world
-        → (spoken : List Spoken) × AreSpoken world.spoken spoken × L.has_noted log.new spoken) }
-    ensures identity { IfOk result (λ ending. ending.device.identity ≡ device.identity) }
-    // All that run promises of a script, of its turns and of its last world holds of this one, and each request of it is well made.
-    ensures well_made { IfOk result (λ _. AreWellMade events.now) }
-    ensures promises { IfOk result (λ _. KeepsPromises (start_from device process.now primary secondary) events.now) }
-    // A fault names the first leg whose damage is undetected; the outcomes or the frames of one event that there is no room for; or
-    // the room that noting a spoken frame needs.
-    ensures fault { IfErr result (IsLoggedFault L.needs (start_from device process.now primary secondary) events.now) }
-    // What was spoken before an event with undetected damage has been noted.
-    ensures noted_before { IfErr result
-        (IsNotedBefore (L.has_noted log.new) (start_from device process.now primary secondary) events.now) }
+    ensures led { let start = start_from device process.now primary secondary in IfOk result (λ ending.
+        (spoken : List Spoken) × Led start events.now ending.device ending.outcomes spoken × L.notes log.old spoken log.new) }
+    // What is promised of a script holds of this one, and of what is given back.
+    ensures promises { IfOk result (λ ending.
+        KeepsPromises (start_from device process.now primary secondary) events.now ending.device ending.outcomes) }
+    // A fault names the first leg whose damage is undetected, and what was spoken before that event has been noted; or the outcomes that
+    // there is no room for, or the room that noting a spoken frame needs.
+    ensures fault { let start = start_from device process.now primary secondary in
+        IfErr result (IsLoggedFault L.needs (λ spoken. L.notes log.old spoken log.new) start events.now) }
     // No leg that is clean, lost, or marked or check damage of the message that was sent in it stops a script.
     ensures detectable_damage_is_detected { IfErr result (IsNotDetectable (start_from device process.now primary secondary) events.now) }
 {
-    let room = ScriptRoom::reserve_for_each(alloc, events)?;
-    let mut line = Line::new(room, device, primary, secondary);
+    let outcomes = room_for_outcomes(alloc, events)?;
+    carry_out(outcomes, device, primary, secondary, events, process, log)
+}
+
+/// Carries out a script in room that was reserved for its outcomes, and notes what is spoken after each event.
+///
+/// # Errors
+///
+/// Those of [`run_logged`] once its events are carried out. Memory is refused by the log alone.
+pub fn carry_out<S: RegisterStore + Drop, L: Log>(
+    outcomes: Filling<Outcome>,
+    device: Device<S>,
+    primary: Master,
+    secondary: Master,
+    events: &[LineEvent],
+    process: &Process,
+    log: &mut L,
+) -> Result<Ending<S>, LineFault>
+    requires room { IsRoomFor events.now outcomes }
+    requires primary { (primary.id ≡ Primary) × (primary.hand ≡ Empty) }
+    requires secondary { (secondary.id ≡ Secondary) × (secondary.hand ≡ Empty) }
+    ensures led { let start = start_from device process.now primary secondary in IfOk result (λ ending.
+        (spoken : List Spoken) × Led start events.now ending.device ending.outcomes spoken × L.notes log.old spoken log.new) }
+    ensures promises { IfOk result (λ ending.
+        KeepsPromises (start_from device process.now primary secondary) events.now ending.device ending.outcomes) }
+    ensures fault { let start = start_from device process.now primary secondary in
+        IfErr result (IsNotingFault L.needs (λ spoken. L.notes log.old spoken log.new) start events.now) }
+    ensures detectable_damage_is_detected { IfErr result (IsNotDetectable (start_from device process.now primary secondary) events.now) }
+{
+    // A no-op: its contract says that the process is well made.
+    processes_are_well_made(process);
+    let mut line = Line::new(outcomes, device, primary, secondary);
     for (index, event) in events.iter().enumerate() {
         if let Err(damage) = line.step(event, process) {
-            return Err(LineFault::from(damage.at(index)));
+            return Err(damage.at(index));
         }
         line.tell(log)?;
     }

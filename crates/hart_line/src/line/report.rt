@@ -1,11 +1,9 @@
-ghost use Rattle.std.specs.Prelude.{◌≡◌, ◌+◌, ◌<◌, ◌≤◌, length};
-ghost use Rattle.std.specs.Option.{option_copied};
-ghost use Rattle.hart_line.specs.world.Spoken.{Speaks, spoken_by};
+ghost use Rattle.std.specs.Prelude.{◌≡◌};
 
-use crate::{Filling, PlainList};
+use crate::PlainList;
 use hart_commands::Reply;
 use hart_device::{Device, RegisterStore};
-use hart_frame::{Body, Frame};
+use hart_frame::Body;
 use hart_master::MasterFault;
 
 /// Who speaks on the line.
@@ -30,6 +28,21 @@ pub struct Spoken {
     pub bytes: Body,
 }
 
+impl Spoken {
+    /// Returns the same frame once more.
+    pub(crate) fn copied(&self) -> Self
+        ensures { result ≡ self.now }
+    {
+        let mut bytes = Body::new();
+        bytes.extend_from_slice(self.bytes.as_slice());
+        Spoken {
+            party: self.party,
+            preambles: self.preambles,
+            bytes,
+        }
+    }
+}
+
 /// What became of a submission.
 #[derive(Debug, Drop, PartialEq, Eq)]
 pub enum Outcome {
@@ -48,26 +61,6 @@ pub type Outcomes = PlainList<Outcome>;
 
 /// What was spoken, in order.
 pub type SpokenList = PlainList<Spoken>;
-
-impl Filling<Spoken> {
-    /// Adds this frame, which this party speaks after so many preamble bytes; without a frame nothing is spoken.
-    pub(crate) fn speak(&mut self, party: Party, preambles: u8, frame: Option<&Frame>)
-        requires { length self.old.items < self.old.room }
-        ensures speaks { Speaks (spoken_by party preambles (option_copied frame.entry)) self.old.items self.new.items }
-        ensures one { length self.new.items ≤ length self.old.items + 1 }
-        ensures room { self.new.room ≡ self.old.room }
-    {
-        if let Some(frame) = frame {
-            let mut spoken = Spoken {
-                party,
-                preambles,
-                bytes: Body::new(),
-            };
-            frame.write_body(&mut spoken.bytes);
-            self.push(spoken);
-        }
-    }
-}
 
 /// What a script leads to.
 #[derive(Debug, Drop)]

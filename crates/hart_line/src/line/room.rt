@@ -1,51 +1,32 @@
 //! The room that a script needs.
 ghost use Rattle.std.specs.Prelude.{◌≡◌, ◌≤◌, ◌*◌, [], IfErr, IfOk, count_by, length};
-ghost use Rattle.hart_line.specs.world.Needs.{IsNeededBy, IsNeededForEach, is_noise, is_submission, is_turn, most_spoken};
-ghost use Rattle.hart_line.specs.world.Needs.{most_spoken_in_one};
+ghost use Rattle.hart_line.specs.world.Needs.{IsNeededBy, IsNeededForOutcomes, is_noise, is_submission, is_turn, most_spoken};
 
 use crate::{Filling, LineEvent, NoRoom, Outcome, Spoken};
 use std::alloc::Global;
 
-/// Room for what a script leads to.
-#[derive(Drop)]
-pub struct ScriptRoom {
-    /// For an outcome of each submission.
-    pub outcomes: Filling<Outcome>,
-    /// For the spoken frames of all events, or of any one of them: two in a turn, and one in noise.
-    pub spoken: Filling<Spoken>,
+/// Reserves room for an outcome of each submission among these events.
+///
+/// # Errors
+///
+/// [`NoRoom`] with the number of them.
+pub fn room_for_outcomes(alloc: Global, events: &[LineEvent]) -> Result<Filling<Outcome>, NoRoom>
+    ensures empty { IfOk result (λ outcomes. outcomes ≡ record { items = []; room = count_by is_submission events.now }) }
+    ensures refused { IfErr result (λ none. IsNeededForOutcomes events.now none.items) }
+{
+    Filling::with_room(alloc, submissions(events))
 }
 
-impl ScriptRoom {
-    /// Reserves room for what these events lead to.
-    ///
-    /// # Errors
-    ///
-    /// [`NoRoom`] for an outcome of each submission, or for the most frames that are spoken in all events.
-    pub fn reserve(alloc: Global, events: &[LineEvent]) -> Result<Self, NoRoom>
-        ensures outcomes { IfOk result (λ room. room.outcomes ≡ record { items = []; room = count_by is_submission events.now }) }
-        ensures spoken { IfOk result (λ room. room.spoken ≡ record { items = []; room = most_spoken events.now }) }
-        ensures refused { IfErr result (λ none. IsNeededBy events.now none.items) }
-    {
-        Ok(ScriptRoom {
-            outcomes: Filling::with_room(alloc, submissions(events))?,
-            spoken: Filling::with_room(alloc, most_spoken(events))?,
-        })
-    }
-
-    /// Reserves room for the outcomes of these events, and for what is spoken in any one of them.
-    ///
-    /// # Errors
-    ///
-    /// [`NoRoom`] for an outcome of each submission, or for the most frames that are spoken in one event.
-    pub fn reserve_for_each(alloc: Global, events: &[LineEvent]) -> Result<Self, NoRoom>
-        ensures outcomes { IfOk result (λ room. room.outcomes ≡ record { items = []; room = count_by is_submission events.now }) }
-        ensures spoken { IfOk result (λ room. room.spoken ≡ record { items = []; room = most_spoken_in_one events.now }) }
-        ensures refused { IfErr result (λ none. IsNeededForEach events.now none.items) }
-    {
-        let outcomes = Filling::with_room(alloc, submissions(events))?;
-        let spoken = Filling::with_room(alloc, most_spoken_in_one(events))?;
-        Ok(ScriptRoom { outcomes, spoken })
-    }
+/// Reserves room for the most frames that are spoken in all these events.
+///
+/// # Errors
+///
+/// [`NoRoom`] with the number of them.
+pub fn room_for_all_spoken(alloc: Global, events: &[LineEvent]) -> Result<Filling<Spoken>, NoRoom>
+    ensures empty { IfOk result (λ spoken. spoken ≡ record { items = []; room = most_spoken events.now }) }
+    ensures refused { IfErr result (λ none. IsNeededBy events.now none.items) }
+{
+    Filling::with_room(alloc, most_spoken(events))
 }
 
 /// The number of submissions among these events.
@@ -64,17 +45,6 @@ fn most_spoken(events: &[LineEvent]) -> usize
     ensures { result ≡ most_spoken events.now }
 {
     2 * turns(events) + noises(events)
-}
-
-/// Returns the most frames that are spoken in one of these events: two if there is a turn, otherwise one if there is noise.
-fn most_spoken_in_one(events: &[LineEvent]) -> usize
-    ensures { result ≡ most_spoken_in_one events.now }
-{
-    if turns(events) > 0 {
-        2
-    } else {
-        noises(events).min(1)
-    }
 }
 
 /// The number of turns among these events.

@@ -10,32 +10,13 @@ pub struct Undetected {
 }
 
 impl Undetected {
-    /// Where a script stops, if this is at the event with this number.
-    pub fn at(self, event: usize) -> UndetectedAt
-        ensures { result ≡ record { event = event; leg = self.leg } }
+    /// The fault of a script, if this is the first and at the event with this number, counted from 0.
+    pub fn at(self, event: usize) -> LineFault
+        ensures { result ≡ LineFault.Undetected event self.leg }
     {
-        UndetectedAt {
+        LineFault::Undetected {
             event,
             leg: self.leg,
         }
-    }
-}
-
-/// Where a script stops: at the event with this number, counted from 0, in which the damage of this leg is undetected.
-#[derive(Clone, Copy)]
-pub struct UndetectedAt {
-    pub event: usize,
-    pub leg: Leg,
-}
-
-impl From<UndetectedAt> for LineFault {
-    ghost use Rattle.std.specs.Prelude.{◌≡◌};
-    ghost use Rattle.hart_line.specs.declared.fault.LineFault.TheVariants.{Undetected};
-
-    ghost from_gives = { λ undetected fault. fault ≡ Undetected undetected.event undetected.leg };
-
-    fn from(undetected: UndetectedAt) -> LineFault {
-        let UndetectedAt { event, leg } = undetected;
-        LineFault::Undetected { event, leg }
     }
 }

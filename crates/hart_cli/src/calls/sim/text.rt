@@ -75,11 +75,13 @@ impl SimText {
 }
 
 impl Log for SimText {
-    ghost use Rattle.std.specs.Prelude.{◌≡◌};
+    ghost use Rattle.std.proofs.Common.{append_assoc, append-nil, arith};
+    ghost use Rattle.std.proofs.lemmas.Grind.{flat_map-append};
+    ghost use Rattle.std.specs.Prelude.{◌≡◌, ◌++◌};
     ghost use Rattle.std.specs.List.{flat_map};
     ghost use Rattle.hart_cli.specs.sim.Text.{IsNeededByFrame, spoken_line};
 
-    ghost has_noted = { λ text noted. text.text.items ≡ flat_map spoken_line noted };
+    ghost notes = { λ old noted new. new.text.items ≡ old.text.items ++ flat_map spoken_line noted };
 
     ghost needs = { λ spoken items. IsNeededByFrame spoken items };
 
@@ -87,6 +89,10 @@ impl Log for SimText {
         make_spoken_line(&mut self.line, &self.pairs, spoken);
         push_bytes(&mut self.text, self.line.as_slice())
     }
+
+    ghost none = { λ text. Prim.grind (arith, append-nil) };
+
+    ghost more = { λ a b c xs ys first next. Prim.rw (next, first, flat_map-append spoken_line xs ys) (Prim.simp append_assoc) };
 }
 
 /// Adds bytes to a text.

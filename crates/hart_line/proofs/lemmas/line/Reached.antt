@@ -15,10 +15,11 @@ use Rattle.hart_line.specs.world.Faults.{HasUndetected}
 use Rattle.hart_line.specs.world.Promises.{start_from, AreWellMade}
 use Rattle.hart_line.specs.world.Step.{IsLast, Step}
 use Rattle.hart_line.specs.world.World.{MarksWithin, Start, World, first_world}
+use Rattle.hart_line.specs.declared.line.report.Outcome.{Outcome}
 use Rattle.hart_line.specs.declared.line.report.Spoken.{Spoken}
+use Rattle.hart_line.specs.world.Led.{Led}
 use Rattle.hart_line.specs.world.Spoken.{AreSpoken, SpokenFrame}
 use Rattle.hart_line.proofs.lemmas.Laws.{scripts_keep_their_promises-first_world}
-use Rattle.hart_line.proofs.lemmas.world.Leads.{leads_one}
 use Rattle.hart_line.proofs.lemmas.world.Steps.{entered, leads_more, marks_kept}
 use Rattle.hart_line.proofs.lemmas.world.Submitted.{made_more}
 use Rattle.hart_line.proofs.lemmas.line.Leg.{AreSpoken-append}
@@ -66,10 +67,17 @@ reached_first device process primary secondary line is one other same master ano
       well_made = search rules;
     }
 
--- What holds of the world that a script led to holds of each last world.
-pub of_last : (P : World → Type 0) {start : Start} {events : List LineEvent} {line : LineState} → (r : IsReached start events line)
-    → P r.world → (world : World) → IsLast start events world → P world
-of_last P {start = start} {events = events} r holds world last = grind (arith, common_steps, leads_one)
+-- What such a line gives back is what the events led to.
+pub reached_led : {start : Start} {events : List LineEvent} {line : LineState} (device : DeviceState) (outcomes : List Outcome)
+    → (r : IsReached start events line) → device ≡ line.device → outcomes ≡ line.outcomes
+    → Led start events device outcomes line.spoken
+reached_led device outcomes r device_is outcomes_are = record {
+  world = r.world;
+  last = r.is_last;
+  device_is = device_is ∙ r.stands.device_is;
+  outcomes_are = outcomes_are ∙ r.stands.outcomes_are;
+  spoken_are = r.stands.spoken_are;
+}
 
 -- If something holds of an element of a list, it does of one of a list that ends so.
 pub Any-append : {X : Type 0} (P : X → Type 0) (xs ys : List X) → Any P ys → Any P (xs ++ ys)

@@ -4,7 +4,7 @@ use Rattle.std.proofs.lemmas.Grind.{common_steps}
 use Rattle.std.proofs.lemmas.List.{drop_more}
 use Rattle.hart_line.specs.declared.event.LineEvent.{LineEvent}
 use Rattle.hart_line.specs.line.Line.{LineState}
-use Rattle.hart_line.specs.line.Room.{HasRoomFor, HasRoomForEach, LeavesRoom}
+use Rattle.hart_line.specs.line.Room.{HasRoomFor, LeavesRoom}
 
 -- Where there is room for the events from this one on, there is room for this one, and then for those after it.
 pub room_here : (events : List LineEvent) (n : ℕ) (unused : LineEvent) (line : LineState) → n < length events
@@ -12,15 +12,6 @@ pub room_here : (events : List LineEvent) (n : ℕ) (unused : LineEvent) (line :
 room_here events n unused line here room = grind (arith, common_steps, drop_more)
 
 pub room_after : (events : List LineEvent) (n : ℕ) (unused : LineEvent) (line line' : LineState) → n < length events
-    → HasRoomFor (drop n events) line → LeavesRoom (get_or events n unused) line line' → HasRoomFor (drop (n + 1) events) line'
+    → HasRoomFor (drop n events) line → LeavesRoom (get_or events n unused) line line'
+    → HasRoomFor (drop (n + 1) events) (record line' { spoken = [] })
 room_after events n unused line line' here room leaves = grind (arith, common_steps, drop_more)
-
--- So it is where what was spoken is let go after each event.
-pub room_here_each : (events : List LineEvent) (n : ℕ) (unused : LineEvent) (line : LineState) → n < length events
-    → HasRoomForEach (drop n events) line → HasRoomFor (get_or events n unused ∷ []) line
-room_here_each events n unused line here room = grind (arith, common_steps, drop_more)
-
-pub room_after_each : (events : List LineEvent) (n : ℕ) (unused : LineEvent) (line line' : LineState) → n < length events
-    → HasRoomForEach (drop n events) line → LeavesRoom (get_or events n unused) line line'
-    → HasRoomForEach (drop (n + 1) events) (record line' { spoken = [] })
-room_after_each events n unused line line' here room leaves = grind (arith, common_steps, drop_more)

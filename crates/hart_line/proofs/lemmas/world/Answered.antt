@@ -103,20 +103,20 @@ not_answered : (world : World) (who : MasterId) (address : Address) (request : R
 not_answered world who address request fault number reply sendings is = grind (arith, slice_get-append)
 
 -- The request that was answered is the one that was submitted.
-as_submitted : (start : Start) (events : List LineEvent) (number : ℕ) (reply : Reply) (sendings : ℕ)
+as_submitted : (start : Start) (events : List LineEvent) (number : ℕ) (reply : Reply) (sendings : ℕ) → IsWellMadeStart start
     → AnswersLastSendingFrom start (first_world start) events number reply sendings
     → AnswersLastSending start events number reply sendings
-as_submitted start events number reply sendings a = record {
+as_submitted start events number reply sendings made a = record {
   last_turn = a;
   submitted_as = ap (slice_get (submissions_of events)) (sym a.of_submission)
       ∙ (held_in start events a.turn a.who a.held a.in_hand).submitted_as;
-  reply_is = device_replied start events number reply sendings a;
+  reply_is = device_replied start events number reply sendings a made;
 }
 
-pub answered_last : (start : Start) (events : List LineEvent) (last : World) → IsLast start events last
+pub answered_last : (start : Start) (events : List LineEvent) → IsWellMadeStart start → (last : World) → IsLast start events last
     → (number : ℕ) (reply : Reply) (sendings : ℕ) → slice_get last.outcomes number ≡ Some (Answered reply sendings)
     → AnswersLastSending start events number reply sendings
-answered_last start events last run number reply sendings is = as_submitted start events number reply sendings
+answered_last start events made last run number reply sendings is = as_submitted start events number reply sendings made
     (along start (first_world start) events (λ es. Known) step_known (λ none. cc) last run is)
   where
     Known : World → Type 0

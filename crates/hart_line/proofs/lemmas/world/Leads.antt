@@ -1,5 +1,5 @@
 -- A script leads to one world, if all damage is detected, and past no undetected damage; and detectable damage is detected.
-use Rattle.std.proofs.Common.{append-nil, ◌≡◌, ℕ, ◌<◌, ◌∙◌, sym, arith, Option, None, Some, List, [], ◌∷◌, ◌++◌, suc, pred, take}
+use Rattle.std.proofs.Common.{append-nil, ap, ◌≡◌, ℕ, ◌<◌, ◌∙◌, sym, arith, Option, None, Some, List, [], ◌∷◌, ◌++◌, suc, pred, take}
 use Rattle.std.proofs.Common.{drop, ◌≤◌, refl, inl, inr}
 use Rattle.std.proofs.lemmas.Grind.{common_steps}
 use Rattle.std.specs.List.{slice_get}
@@ -24,7 +24,7 @@ use Rattle.hart_line.specs.declared.event.LineEvent.TheVariants.{Turn, Noise}
 use Rattle.hart_line.specs.declared.fault.Leg.{Leg}
 use Rattle.hart_line.specs.declared.fault.LineFault.TheVariants.{Undetected}
 use Rattle.hart_line.specs.world.Damage.{AreHeard, Arrives, ArrivesAmong, IsUndetected, Reaches, ReachesAmong, IsDetectable, IsDetected}
-use Rattle.hart_line.specs.world.Faults.{HasUndetected, IsFault, AreAllDetected, HasDetectable, IsNotDetectable, LegsAreDetected}
+use Rattle.hart_line.specs.world.Faults.{HasUndetected, HeardIn, IsFault, AreAllDetected, HasDetectable, IsNotDetectable, LegsAreDetected}
 use Rattle.hart_line.specs.world.Spoken.{SpokenFrame, frame_of}
 use Rattle.hart_line.specs.world.Step.{Accepts, IsLast, LeadsTo, Step, sent_back, sent_by}
 use Rattle.hart_line.specs.world.World.{InHand, Start, World, first_world}
@@ -86,24 +86,44 @@ pub leads_one : (start : Start) (events : List LineEvent) (world a b : World)
 leads_one start events world a b s t = leads_on start events [] world b a (rw append-nil s) t
 
 -- FAULTS
--- An event that leads on has no undetected damage, and no other has it in two legs.
+-- What is heard in a leg, and what was sent in it, is one.
+HeardIn-one : (start : Start) (world : World) (event : LineEvent) (leg : Leg) (a b : Heard) (s t : Option SpokenFrame)
+    → HeardIn start world event leg a s → HeardIn start world event leg b t → (a ≡ b) × (s ≡ t)
+HeardIn-one start world (Turn who up down) legs.Down a b s t x y =
+    let same = Reaches-one start.device.identity up (sent_by who (of_master who world.hands)) x.1 y.1 x.2 y.2 in
+    (x.0 ∙ sym y.0, x.3 ∙ ap (sent_back start world) same ∙ sym y.3)
+HeardIn-one start world event leg a b s t x y = grind arith
+
+-- What brings the device something arrives, whatever it is.
+arrived_of : {identity : IdentityParts} {heard : Heard} {sent : Option SpokenFrame} {brought : Brought}
+    → Reaches identity heard sent brought → (arrived : Option FrameParts) × Arrives heard sent arrived
+arrived_of r = (r.among.frame, record { chars = r.chars; are_heard = r.are_heard; among = r.among.arrives })
+
+-- In each leg of an event that leads on damage is detected.
+step_hears : (start : Start) (world : World) (event : LineEvent) (next : World) (leg : Leg) (heard : Heard) (sent : Option SpokenFrame)
+    → Step start world event next → HeardIn start world event leg heard sent → (arrived : Option FrameParts) × Arrives heard sent arrived
+step_hears start world (Turn who up down) next legs.Up heard sent step h = rw (h.0, h.1) (arrived_of step.arrives)
+step_hears start world (Turn who up down) next legs.Down heard sent step h =
+    let same = Reaches-one start.device.identity up (sent_by who (of_master who world.hands)) h.1 step.brought h.2 step.arrives in
+    rw (h.0, h.3, same) (step.returned, step.returns)
+step_hears start world (Noise chars) next legs.Noise heard sent step h = rw (h.0, h.1) (arrived_of step.arrives)
+step_hears start world event next leg heard sent step h = absurd h
+
+-- So it has no undetected damage, and no other event has it in two legs.
 step_detected : (start : Start) (world : World) (event : LineEvent) (next : World) (leg : Leg)
     → Step start world event next → HasUndetected start world event leg → ⊥
-step_detected start world (Turn who up down) next legs.Up step undetected =
-    among_detected up _ step.arrives.chars _ step.arrives.are_heard step.arrives.among.arrives undetected
-step_detected start world (Turn who up down) next legs.Down step undetected =
-    let brought = Reaches-one start.device.identity up _ step.brought undetected.0 step.arrives undetected.1 in
-    among_detected down _ step.returns.chars _ (rw brought at step.returns.are_heard) (rw brought at step.returns.among) undetected.2
-step_detected start world (Noise chars) next legs.Noise step undetected =
-    among_detected (Chars chars) None step.arrives.chars _ step.arrives.are_heard step.arrives.among.arrives undetected
-step_detected start world event next leg step undetected = undetected
+step_detected start world event next leg step u =
+    let a = step_hears start world event next leg u.0 u.1 step u.2 in
+    among_detected u.0 u.1 a.1.chars a.0 a.1.are_heard a.1.among u.3
 
 pub undetected_one : (start : Start) (world : World) (event : LineEvent) (leg another : Leg)
     → HasUndetected start world event leg → HasUndetected start world event another → leg ≡ another
 undetected_one start world (Turn who up down) legs.Up legs.Down u v =
-    absurd (among_detected up _ v.1.chars _ v.1.are_heard v.1.among.arrives u)
+    let up_ = arrived_of v.2.2 in
+    absurd (among_detected up _ up_.1.chars up_.0 up_.1.are_heard up_.1.among (rw (u.2.0, u.2.1) at u.3))
 undetected_one start world (Turn who up down) legs.Down legs.Up u v =
-    absurd (among_detected up _ u.1.chars _ u.1.are_heard u.1.among.arrives v)
+    let up_ = arrived_of u.2.2 in
+    absurd (among_detected up _ up_.1.chars up_.0 up_.1.are_heard up_.1.among (rw (v.2.0, v.2.1) at v.3))
 undetected_one start world event leg another u v = grind arith
 
 take-past : {A : Type 0} (number other : ℕ) (xs : List A) (x : A) → slice_get xs number ≡ Some x → number < other
@@ -140,17 +160,24 @@ heard_detected (Chars chars) (Some said) long (inr check) u =
     not_undetected chars [] None u u.are_heard (damaged_messages_have_no_other_frame-check said.frame said.preambles chars check) refl
 heard_detected heard sent long d u = not_undetected [] [] None u u.are_heard messages_have_their_frame_alone-nothing refl
 
+-- What is sent has two preamble bytes before it at least.
+sent_long : (start : Start) (world : World) (event : LineEvent) (leg : Leg) (heard : Heard) (sent : Option SpokenFrame)
+    → 5 ≤ start.device.identity.response_preambles → HeardIn start world event leg heard sent
+    → (said : SpokenFrame) → sent ≡ Some said → 2 ≤ said.preambles
+sent_long start world event leg heard sent enough h said is = grind arith
+
 leg_detected : (start : Start) (world : World) (event : LineEvent) (leg : Leg)
     → 5 ≤ start.device.identity.response_preambles → HasDetectable start world event leg → HasUndetected start world event leg → ⊥
-leg_detected start world (Turn who up down) legs.Up enough d u = heard_detected up _ (λ said is. grind arith) d u
-leg_detected start world (Turn who up down) legs.Down enough d u =
-    let same = Reaches-one start.device.identity up (sent_by who (of_master who world.hands)) d.0 u.0 d.1 u.1 in
-    heard_detected down _ (λ said is. grind arith) (rw same at d.2) u.2
-leg_detected start world event leg enough d u = d
+leg_detected start world event leg enough d u =
+    let same = HeardIn-one start world event leg d.0 u.0 d.1 u.1 d.2 u.2 in
+    heard_detected u.0 u.1 (sent_long start world event leg u.0 u.1 enough u.2) (rw (same.0, same.1) at d.3) u.3
 
 pub fault_not_detectable : (start : Start) (events : List LineEvent) (fault : LineFault)
     → 5 ≤ start.device.identity.response_preambles → IsFault start events fault → IsNotDetectable start events fault
-fault_not_detectable start events (Undetected number leg) enough f = grind (arith, common_steps, leads_one, leg_detected)
+fault_not_detectable start events (Undetected number leg) enough f = λ world event last here detectable.
+    let same = leads_one start (take number events) (first_world start) world f.0 last f.2 in
+    let same_event : event ≡ f.1 = cc in
+    leg_detected start f.0 f.1 leg enough (rw (same, same_event) at detectable) f.4
 fault_not_detectable start events fault enough f = tt
 
 -- SCRIPTS WHOSE DAMAGE IS DETECTED
@@ -175,8 +202,9 @@ step_exists : (start : Start) (world : World) (event : LineEvent) → LegsAreDet
     → (next : World) × Step start world event next
 step_exists start world (Turn who up down) detected =
     let hand = of_master who world.hands in
-    let brought = reaches_one start.device.identity up (sent_by who hand) detected.0 detected.1 in
-    let back = detected.2 brought.0 brought.1 in
+    let arrived = detected legs.Up up (sent_by who hand) (refl, refl) in
+    let brought = reaches_one start.device.identity up (sent_by who hand) arrived.0 arrived.1 in
+    let back = detected legs.Down down (sent_back start world brought.0) (refl, brought.0, brought.1, refl) in
     let a = accepted_of who hand back.0 in (
       _,
       record {
@@ -190,7 +218,8 @@ step_exists start world (Turn who up down) detected =
       },
     )
 step_exists start world (Noise chars) detected =
-    let brought = reaches_one start.device.identity (Chars chars) None None detected in
+    let arrived = detected legs.Noise (Chars chars) None (refl, refl) in
+    let brought = reaches_one start.device.identity (Chars chars) None arrived.0 arrived.1 in
     (_, record { brought = brought.0; arrives = brought.1; next_is = refl })
 step_exists start world event detected = (_, refl)
 

@@ -16,7 +16,7 @@ AreSpoken-one _ xs ys p q = grind arith
 
 pub returns-clause-one_text : goal.returns-clause-one_text
 returns-clause-one_text c device input xs ys p q =
-    grind (arith, scripts_have_one_last_world-one_world (start_with device) q.events p.world q.world, AreSpoken-one)
+    grind (arith, scripts_have_one_last_world-one_world (start_with device) q.events p.led.world q.led.world, AreSpoken-one)
 
 pub returns-clause-one_fault : goal.returns-clause-one_fault
 returns-clause-one_fault c device input (line_faults.Undetected number leg) (line_faults.Undetected other another) p q =
@@ -25,5 +25,5 @@ returns-clause-one_fault c device input _ other p q = grind arith
 
 pub returns-clause-no_fault : goal.returns-clause-no_fault
 returns-clause-no_fault c device input text (line_faults.Undetected number leg) p damage =
-    grind (arith, scripts_have_one_last_world-no_fault (start_with device) damage.events p.world number leg)
+    grind (arith, scripts_have_one_last_world-no_fault (start_with device) damage.events p.led.world number leg)
 returns-clause-no_fault c device input text _ p bad = grind arith

@@ -8,10 +8,9 @@ use Rattle.hart_line.specs.declared.fault.LineFault.TheVariants.{BadLine, Memory
 use Rattle.hart_line.specs.declared.line.report.Outcome.{Outcome}
 use Rattle.hart_line.specs.declared.line.report.Spoken.{Spoken}
 use Rattle.hart_line.specs.script.Rows.{IsScript}
+use Rattle.hart_line.specs.world.Led.{Led}
 use Rattle.hart_line.specs.world.Noted.{IsLoggedFault}
-use Rattle.hart_line.specs.world.Spoken.{AreSpoken}
-use Rattle.hart_line.specs.world.Step.{IsLast}
-use Rattle.hart_line.specs.world.World.{Start, World, state_of}
+use Rattle.hart_line.specs.world.World.{Start}
 use Rattle.hart_cli.specs.FaultText.{call_fault}
 use Rattle.hart_cli.specs.sim.Sim.{IsNeededForSimulation, IsSimulationFault, start_with}
 use Rattle.hart_cli.specs.sim.Text.{IsNeededByDevice, IsNeededByFrame, IsNeededByOutcomes, spoken_line}
@@ -19,73 +18,70 @@ use Rattle.hart_cli.proofs.calls.sim.simulation.Goals.{After-push_outcomes}
 use Rattle.hart_cli.proofs.calls.sim.simulation.Goals as goal
 
 -- the fault of a script is that of its input
-logged_fault : (device : DeviceState) (input : List ℕ) (start : Start) (events : List LineEvent) (fault : LineFault)
-    → IsScript input events → start ≡ start_with device
-    → IsLoggedFault IsNeededByFrame start events fault
+logged_fault : (device : DeviceState) (input : List ℕ) (start : Start) (AreNoted : List Spoken → Type 0) (events : List LineEvent)
+    (fault : LineFault) → IsScript input events → start ≡ start_with device
+    → IsLoggedFault IsNeededByFrame AreNoted start events fault
     → IsSimulationFault device input (call_fault fault)
-logged_fault device input start events (Undetected number leg) script same is =
-    record { events = events; script = script; is_fault = rw same at is }
-logged_fault device input start events (Memory none) script same (inl needed) = inr (events, script, inl needed)
-logged_fault device input start events (Memory none) script same (inr noting) =
+logged_fault device input start AreNoted events (Undetected number leg) script same is =
+    record { events = events; script = script; is_fault = rw same at is.0 }
+logged_fault device input start AreNoted events (Memory none) script same (inl needed) = inr (events, script, inl needed)
+logged_fault device input start AreNoted events (Memory none) script same (inr noting) =
     inr (events, script, inr (inl (rw same at noting)))
-logged_fault device input start events (BadLine number) script same is = absurd is
+logged_fault device input start AreNoted events (BadLine number) script same is = absurd is
 
--- a script was carried out: its frames were noted as this text, and these are its outcomes and the device after it
+-- what a script led to, on a line with these masters, its frames noted as this text
 record IsCarriedOut (device : DeviceState) (events : List LineEvent) (noted : List ℕ) (outcomes : List Outcome) (after : DeviceState)
     : Type 0 where
-  pub world : World
-  pub last : IsLast (start_with device) events world
   pub spoken : List Spoken
-  pub are_spoken : AreSpoken world.spoken spoken
+  pub led : Led (start_with device) events after outcomes spoken
   pub noted_is : noted ≡ flat_map spoken_line spoken
-  pub outcomes_are : outcomes ≡ world.outcomes
-  pub after_is : after ≡ state_of device world
+
+led_with : (device : DeviceState) (start : Start) (events : List LineEvent) (after : DeviceState) (outcomes : List Outcome)
+    (spoken : List Spoken) → start ≡ start_with device → Led start events after outcomes spoken
+    → Led (start_with device) events after outcomes spoken
+led_with device start events after outcomes spoken same led = rw same at led
 
 carried_out : (c : After-push_outcomes) → IsCarriedOut c.args.device c.as_slice.result.now c.run_logged.new.log.text.items
     c.as_slice-2.result.now c.in_ok-ending.ending.device
 carried_out c =
-    let ending = c.in_ok-ending.ensures in
-    let world = ending.world.0 in
-    let noted = ending.noted world ending.world.1 in
-    let outcomes = ending.outcomes world ending.world.1 in record {
-      world = world;
-      last = grind (arith, ending.world.1);
-      spoken = noted.0;
-      are_spoken = noted.1;
-      noted_is = noted.2;
-      outcomes_are = rw c.as_slice-2.ensures outcomes;
-      after_is = ending.device world ending.world.1;
+    let (spoken, led, noted) = c.in_ok-ending.ensures.led in record {
+      spoken = spoken;
+      led = rw c.as_slice-2.ensures (led_with c.args.device _ _ _ _ spoken (grind arith) led);
+      noted_is = rw c.new-text.ensures at noted;
     }
 
 -- what its last lines need its input needs
 written : {device : DeviceState} {events : List LineEvent} {noted : List ℕ} {outcomes : List Outcome} {after : DeviceState}
     → (done : IsCarriedOut device events noted outcomes after) → (input : List ℕ) (items : ℕ) → IsScript input events → 0 < items
-    → IsNeededByOutcomes done.world.outcomes items ⊎ IsNeededByDevice (state_of device done.world) items
+    → IsNeededByOutcomes outcomes items ⊎ IsNeededByDevice after items
     → IsNeededForSimulation device input items
-written {events = events} done input items script some needed =
-    inr (events, script, inr (inr (record { world = done.world; last = done.last; needed = needed; some = some })))
+written done input items script some needed =
+    inr (_, script, inr (inr (record { after = _; outcomes = _; spoken = done.spoken; led = done.led; needed = needed; some = some })))
 
 pub returns-clause-text : goal.returns-clause-text
 returns-clause-text c =
-    let done = carried_out (goal.at.returns-clause-text c).After-push_outcomes in record {
+    let done = carried_out (goal.at.returns-clause-text c).After-push_outcomes in
+    let noted = done.noted_is in record {
       events = c.as_slice.result.now;
       script = rw c.as_slice.ensures.value c.in_ok-events.ensures.events;
-      world = done.world;
-      last = done.last;
-      world_text = record { spoken = done.spoken; are_spoken = done.are_spoken; gives = grind arith };
+      after = c.in_ok-ending.ending.device;
+      outcomes = c.as_slice-2.result.now;
+      spoken = done.spoken;
+      led = done.led;
+      gives = grind arith;
     }
 
 pub returns-in_err-ending-clause-fault : goal.returns-in_err-ending-clause-fault
 returns-in_err-ending-clause-fault c =
     let stop = err_from_is_err_and c.from_residual-in_err-ending.result c.from_residual-in_err-ending.ensures.1 in
-    rw (stop.1, stop.2) (logged_fault c.args.device c.args.input.now _ c.as_slice.result.now _
+    rw (stop.1, stop.2) (logged_fault c.args.device c.args.input.now _ _ c.as_slice.result.now _
     (rw c.as_slice.ensures.value c.in_ok-events.ensures.events) (grind arith) c.in_err-ending.ensures.fault)
 
 pub returns-in_err-push_outcomes-clause-fault : goal.returns-in_err-push_outcomes-clause-fault
 returns-in_err-push_outcomes-clause-fault c =
     let done = carried_out (goal.at.returns-in_err-push_outcomes-clause-fault c).After-push_outcomes in
     let stop = err_from_is_err_and c.from_residual-in_err-push_outcomes.result c.from_residual-in_err-push_outcomes.ensures.1 in
-    let needed = rw done.outcomes_are at c.in_err-push_outcomes.ensures.refused in
+    let needed = c.in_err-push_outcomes.ensures.refused in
     rw (stop.1, stop.2)
     (written done c.args.input.now _ (rw c.as_slice.ensures.value c.in_ok-events.ensures.events) needed.0 (inl needed.1))
 
@@ -93,6 +89,6 @@ pub returns-in_err-finish-clause-fault : goal.returns-in_err-finish-clause-fault
 returns-in_err-finish-clause-fault c =
     let done = carried_out (goal.at.returns-in_err-finish-clause-fault c).After-push_outcomes in
     let stop = err_from_is_err_and c.from_residual-in_err-finish.result c.from_residual-in_err-finish.ensures.1 in
-    let needed = rw done.after_is at c.in_err-finish.ensures.refused in
+    let needed = c.in_err-finish.ensures.refused in
     rw (stop.1, stop.2)
     (written done c.args.input.now _ (rw c.as_slice.ensures.value c.in_ok-events.ensures.events) needed.0 (inr needed.1))

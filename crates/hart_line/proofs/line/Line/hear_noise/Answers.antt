@@ -1,9 +1,20 @@
 use Rattle.std.proofs.Common.{arith, None, refl}
+use Rattle.std.proofs.lemmas.Result.{err_from_is_err_and}
 use Rattle.hart_line.specs.declared.event.Heard.TheVariants.{Chars}
 use Rattle.hart_line.specs.world.Step.{replied}
 use Rattle.hart_line.proofs.lemmas.line.Leg.{noise_answers}
 use Rattle.hart_line.proofs.lemmas.line.Turn.{answered, replied_stands}
 use Rattle.hart_line.proofs.line.Line.hear_noise.Goals as goal
+
+pub returns-in_err-is_answered-clause-stopped : goal.returns-in_err-is_answered-clause-stopped
+returns-in_err-is_answered-clause-stopped g c =
+    let stop = err_from_is_err_and c.from_residual.result c.from_residual.ensures.1 in
+    rw (stop.1, stop.2, c.in_err-is_answered.ensures.leg) (λ start world process stands. (
+      Chars c.args.chars.now,
+      None,
+      (refl, refl),
+      record { chars = c.args.chars.now; are_heard = refl; among = c.in_err-is_answered.ensures.undetected },
+    ))
 
 pub returns-clause-stepped : goal.returns-clause-stepped
 returns-clause-stepped g c = λ start world process stands.

@@ -12,7 +12,7 @@ returns-in_err-is_answered-clause-stopped g c =
     let sends = c.send-is_sent.ensures start.retries world.hands (rw (← c.self.view_is) at stands.masters_are) in
     let says = says_request _ _ c.args.who _ _ _ _ (rw (← c.frame_if-sent.ensures) at sends)
     (rw c.party_of.ensures at c.speak.ensures.speaks) in
-    c.in_err-is_answered.ensures.undetected _ says.1)
+    (_, _, (refl, refl), c.in_err-is_answered.ensures.undetected _ says.1))
 
 pub returns-in_err-returned-clause-stopped : goal.returns-in_err-returned-clause-stopped
 returns-in_err-returned-clause-stopped g c =
@@ -22,7 +22,7 @@ returns-in_err-returned-clause-stopped g c =
     let a = turn_answered start world c.args.who c.args.up.now _ _ _ _ _ _ _ _ _ (rw (← c.self.view_is) at stands) process
     (rw (← c.frame_if-sent.ensures) at sends) (rw c.party_of.ensures at c.speak.ensures.speaks)
     (rw (← c.frame_if-sent_back.ensures) at c.in_ok-is_answered.ensures.answers) c.self.invariant c.speak-2.ensures.speaks in
-    (a.brought, a.arrives, c.in_err-returned.ensures.undetected (sent_back start world a.brought) a.was_sent))
+    (_, _, (refl, a.brought, a.arrives, refl), c.in_err-returned.ensures.undetected (sent_back start world a.brought) a.was_sent))
 
 pub returns-clause-stepped : goal.returns-clause-stepped
 returns-clause-stepped g c = λ start world process within stands.

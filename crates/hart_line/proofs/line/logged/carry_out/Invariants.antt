@@ -1,13 +1,13 @@
 use Rattle.std.proofs.Common.{List, drop, take}
 use Rattle.hart_line.specs.declared.line.report.Spoken.{Spoken}
-use Rattle.hart_line.specs.line.Room.{HasRoomForEach}
+use Rattle.hart_line.specs.line.Room.{HasRoomFor}
 use Rattle.hart_line.specs.world.Promises.{start_from}
 use Rattle.hart_line.proofs.lemmas.line.Reached.{IsReached}
-use Rattle.hart_line.proofs.line.logged.run_logged.Given as goal
+use Rattle.hart_line.proofs.line.logged.carry_out.Given as goal
 
 abbrev pub invariant-loop-index : goal.invariant-loop-index
 invariant-loop-index g l = record {
-  told : (noted : List Spoken) × g.L.Log.has_noted l.log noted
+  told : (noted : List Spoken) × g.L.Log.notes l.fn.log noted l.log
       × IsReached (start_from l.fn.device l.process l.fn.primary l.fn.secondary) (take l.index l.events) (record l.line { spoken = noted });
-  room : HasRoomForEach (drop l.index l.events) l.line;
+  room : HasRoomFor (drop l.index l.events) l.line;
 }

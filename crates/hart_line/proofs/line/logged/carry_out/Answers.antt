@@ -1,34 +1,34 @@
-use Rattle.std.proofs.Common.{◌∙◌, ◌+◌, ◌++◌, [], ap, arith, inr, refl, take}
+use Rattle.std.proofs.Common.{◌+◌, ◌++◌, [], arith, refl, take}
 use Rattle.std.proofs.lemmas.List.{take_all}
 use Rattle.std.proofs.lemmas.Option.{slice_get-get_or}
 use Rattle.std.proofs.lemmas.Result.{err_from_is_err_and}
-use Rattle.hart_device.specs.Device.{DeviceState}
+use Rattle.hart_line.specs.world.Faults.{IsFault}
 use Rattle.hart_line.specs.declared.fault.LineFault.TheVariants.{Undetected}
 use Rattle.hart_line.specs.world.Promises.{start_from}
-use Rattle.hart_line.proofs.lemmas.Laws.{scripts_keep_their_promises-kept}
-use Rattle.hart_line.proofs.lemmas.line.Reached.{Any-append, IsReached, of_last, reached_first, reached_more, noted_stands, stepped_on}
+use Rattle.hart_line.proofs.lemmas.Laws.{scripts_keep_their_promises-detected, scripts_keep_their_promises-kept}
+use Rattle.hart_line.proofs.lemmas.line.Reached.{Any-append, IsReached, reached_first, reached_led, reached_more, noted_stands, stepped_on}
 use Rattle.hart_line.proofs.lemmas.line.Reached.{undetected_on, with_spoken}
-use Rattle.hart_line.proofs.lemmas.line.Room.{room_after_each, room_here_each}
-use Rattle.hart_line.proofs.line.logged.run_logged.Given.{Over}
-use Rattle.hart_line.proofs.line.logged.run_logged.Goals.{After-tell}
-use Rattle.hart_line.proofs.line.logged.run_logged.Goals as goal
+use Rattle.hart_line.proofs.lemmas.line.Room.{room_after, room_here}
+use Rattle.hart_line.proofs.line.logged.carry_out.Given.{Over}
+use Rattle.hart_line.proofs.line.logged.carry_out.Goals.{After-tell}
+use Rattle.hart_line.proofs.line.logged.carry_out.Goals as goal
 
 pub loop-index-init : goal.loop-index-init
 loop-index-init g c =
-    rw (c.new-line.ensures.line, c.in_ok-room.ensures.outcomes, c.in_ok-room.ensures.spoken) (record {
+    rw (c.new-line.ensures.line, c.requires.room.empty) (record {
       told = (
         [],
-        c.requires.fresh,
+        g.met.L.Log.none _,
         reached_first c.args.device c.args.process.now c.args.primary c.args.secondary _ c.new-line.ensures.device
             c.requires.primary c.requires.secondary refl refl refl refl refl refl,
       );
-      room = record { outcomes = omega arith; nothing_spoken = refl; spoken = omega arith };
+      room = record { outcomes = omega (arith, c.requires.room.room); nothing_spoken = refl };
     })
 
 pub step-requires : goal.step-requires
 step-requires g c = record {
   room = rw c.index-events-index.is
-      (room_here_each c.args.events.now c.loop-index.index _ _ c.loop-index-test.true c.loop-index.invariant.room);
+      (room_here c.args.events.now c.loop-index.index _ _ c.loop-index-test.true c.loop-index.invariant.room);
 }
 
 pub returns-in-Err-clause-fault : goal.returns-in-Err-clause-fault
@@ -37,27 +37,28 @@ returns-in-Err-clause-fault g c =
     let (noted, has, reached) = c.loop-index.invariant.told in
     let stands = noted_stands start reached.world _ noted c.loop-index.invariant.room.nothing_spoken reached.stands in
     let here = slice_get-get_or c.args.events.now c.loop-index.index _ c.loop-index-test.true in
-    rw (c.from.ensures, c.at.ensures) (
-      reached.world,
-      _,
-      reached.is_last,
-      here,
-      undetected_on start reached.world _ _
-          (rw c.index-events-index.is at (c.in-Err.ensures.stopped start (with_spoken [] reached.world) refl stands)),
+    rw c.at.ensures (
+      (
+        reached.world,
+        _,
+        reached.is_last,
+        here,
+        undetected_on start reached.world _ _
+            (rw c.index-events-index.is at (c.in-Err.ensures.stopped start (with_spoken [] reached.world) refl stands)),
+      ),
+      noted,
+      reached.stands.spoken_are,
+      has,
     )
-
-pub returns-in-Err-clause-noted_before : goal.returns-in-Err-clause-noted_before
-returns-in-Err-clause-noted_before g c =
-    let (noted, has, reached) = c.loop-index.invariant.told in
-    rw (c.from.ensures, c.at.ensures) (of_last _ reached (noted, reached.stands.spoken_are, has))
 
 pub returns-in-Err-clause-detectable_damage_is_detected : goal.returns-in-Err-clause-detectable_damage_is_detected
 returns-in-Err-clause-detectable_damage_is_detected g c =
     let enough = c.new-line.ensures.device.identity.in_range.response_preambles.0 in
-    let fault = rw (c.from.ensures, c.at.ensures) at (returns-in-Err-clause-fault g c) in
-    rw (c.from.ensures, c.at.ensures) ((scripts_keep_their_promises-kept
-    (start_from c.args.device c.args.process.now c.args.primary c.args.secondary) c.args.events.now).detectable_damage_is_detected
-    (Undetected c.loop-index.index c.in-Err.damage.leg) enough fault)
+    let start = start_from c.args.device c.args.process.now c.args.primary c.args.secondary in
+    let fault : IsFault start c.args.events.now (Undetected c.loop-index.index c.in-Err.damage.leg) =
+    (rw c.at.ensures at (returns-in-Err-clause-fault g c)).0 in
+    rw c.at.ensures
+    (scripts_keep_their_promises-detected start c.args.events.now (Undetected c.loop-index.index c.in-Err.damage.leg) enough fault)
 
 -- An event more is carried out, and what is spoken in it is not noted yet.
 carried_out : (g : Over) (c : After-tell g) → IsReached (start_from c.args.device c.args.process.now c.args.primary c.args.secondary)
@@ -76,18 +77,18 @@ pub loop-index-preserved : goal.loop-index-preserved
 loop-index-preserved g c = record {
   told = rw c.in_ok-tell.ensures.line (
     _,
-    c.in_ok-tell.ensures.noted _ c.loop-index.invariant.told.1,
+    g.met.L.Log.more _ _ _ c.loop-index.invariant.told.0 _ c.loop-index.invariant.told.1 c.in_ok-tell.ensures.noted,
     carried_out g (goal.at.loop-index-preserved g c).After-tell,
   );
-  room = rw c.in_ok-tell.ensures.line (room_after_each c.args.events.now c.loop-index.index _ _ _ c.loop-index-test.true
+  room = rw c.in_ok-tell.ensures.line (room_after c.args.events.now c.loop-index.index _ _ _ c.loop-index-test.true
       c.loop-index.invariant.room (rw c.index-events-index.is at c.in_default.ensures.room));
 }
 
 pub returns-in_err-tell-clause-fault : goal.returns-in_err-tell-clause-fault
 returns-in_err-tell-clause-fault g c =
     let reached = carried_out g (goal.at.returns-in_err-tell-clause-fault g c).After-tell in
-    let stop = err_from_is_err_and c.from_residual-in_err-tell.result c.from_residual-in_err-tell.ensures.1 in
-    rw (stop.1, stop.2) (inr (record {
+    let stop = err_from_is_err_and c.from_residual.result c.from_residual.ensures.1 in
+    rw (stop.1, stop.2) (record {
       number = c.loop-index.index + 1;
       world = reached.world;
       is_last = reached.is_last;
@@ -95,22 +96,20 @@ returns-in_err-tell-clause-fault g c =
       are_spoken = reached.stands.spoken_are;
       needed = Any-append _ c.loop-index.invariant.told.0 _ c.in_err-tell.ensures.refused.1;
       some = c.in_err-tell.ensures.refused.0;
-    }))
+    })
 
 pub returns : goal.returns
 returns g c =
     let start = start_from c.args.device c.args.process.now c.args.primary c.args.secondary in
     let (noted, has, told) = c.loop-index.invariant.told in
     let reached = rw (take_all c.loop-index.index c.args.events.now (omega (arith, c.loop-index-test.false))) at told in
+    let led = reached_led _ _ reached c.into_ending.ensures.device c.into_ending.ensures.outcomes in
     record {
-      world = (reached.world, reached.is_last);
-      device = of_last _ reached (c.into_ending.ensures.device ∙ reached.stands.device_is);
-      outcomes = of_last _ reached (c.into_ending.ensures.outcomes ∙ reached.stands.outcomes_are);
-      noted = of_last _ reached (noted, reached.stands.spoken_are, has);
-      identity = ap (λ (d : DeviceState). d.identity) (c.into_ending.ensures.device ∙ reached.stands.device_is);
-      well_made = reached.well_made;
-      promises = scripts_keep_their_promises-kept start c.args.events.now;
+      led = (noted, led, has);
+      promises = scripts_keep_their_promises-kept start c.args.events.now _ _ noted (record {
+        device = c.new-line.ensures.device;
+        process = c.processes_are_well_made.ensures;
+      }) reached.well_made led;
       fault = tt;
-      noted_before = tt;
       detectable_damage_is_detected = tt;
     }

@@ -1,0 +1,18 @@
+-- What a script leads to, as it is given back (own profile).
+use Rattle.std.specs.Prelude.{◌≡◌, List}
+use Rattle.hart_device.specs.Device.{DeviceState}
+use Rattle.hart_line.specs.world.Spoken.{AreSpoken}
+use Rattle.hart_line.specs.world.Step.{IsLast}
+use Rattle.hart_line.specs.world.World.{Start, World, state_of}
+use Rattle.hart_line.specs.declared.event.LineEvent.{LineEvent}
+use Rattle.hart_line.specs.declared.line.report.Outcome.{Outcome}
+use Rattle.hart_line.specs.declared.line.report.Spoken.{Spoken}
+
+-- A script has led to a device, to outcomes and to what was spoken if it has a last world and they are those of it.
+pub record Led (start : Start) (events : List LineEvent) (device : DeviceState) (outcomes : List Outcome) (spoken : List Spoken)
+    : Type 0 where
+  pub world : World
+  pub last : IsLast start events world
+  pub device_is : device ≡ state_of start.device world
+  pub outcomes_are : outcomes ≡ world.outcomes
+  pub spoken_are : AreSpoken world.spoken spoken
