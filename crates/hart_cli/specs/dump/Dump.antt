@@ -5,7 +5,7 @@ use Rattle.hart_frame.specs.heard.Character.{Character}
 use Rattle.hart_frame.specs.heard.Frames.{AreFrames, IsUndecided}
 use Rattle.hart_frame.specs.declared.heard.found.Found.{Found}
 use Rattle.hart_cli.specs.declared.fault.CliFault.{CliFault}
-use Rattle.hart_cli.specs.declared.fault.CliFault.TheVariants.{BadHex, Read, TooLong, Write}
+use Rattle.hart_cli.specs.declared.fault.CliFault.TheVariants.{BadHex, Write}
 use Rattle.hart_cli.specs.declared.input.InputEnd.TheVariants.{Ended}
 use Rattle.hart_cli.specs.dump.Text.{dump_text}
 use Rattle.hart_cli.specs.input.Input.{CameTo, Ending, ReadsTo, most_at_once}
@@ -95,14 +95,10 @@ pub record StopsWriting (reader reader_after writer writer_after : Stream) : Typ
   pub fails : FailsToWrite writer writer_after lines
   pub in_time : WroteInTime input writer writer_after
 
--- At `Ok` all lines of the whole input were written, at a fault of the input those of its characters before the fault, and after a
--- failed write a prefix of the lines of what was scanned by then. There is no other fault: refused memory is none.
+-- At `Ok` all lines of the whole input were written, after a failed write a prefix of the lines of what was scanned by then, and at a
+-- fault of the input those of its characters before the fault. Refused memory is no such fault.
 abbrev pub DumpOutcome : Stream → Stream → Stream → Stream → Result (Unit {0}) CliFault → Type 0
 DumpOutcome reader reader_after writer writer_after (Ok done) =
     (lines : List ℕ) × HasDump reader reader_after None lines × WritesAll writer writer_after lines
 DumpOutcome reader reader_after writer writer_after (Err Write) = StopsWriting reader reader_after writer writer_after
-DumpOutcome reader reader_after writer writer_after (Err Read) = DumpsUpTo Read reader reader_after writer writer_after
-DumpOutcome reader reader_after writer writer_after (Err TooLong) = DumpsUpTo TooLong reader reader_after writer writer_after
-DumpOutcome reader reader_after writer writer_after (Err (BadHex place)) =
-    DumpsUpTo (BadHex place) reader reader_after writer writer_after
-DumpOutcome reader reader_after writer writer_after (Err _) = ⊥
+DumpOutcome reader reader_after writer writer_after (Err fault) = DumpsUpTo fault reader reader_after writer writer_after

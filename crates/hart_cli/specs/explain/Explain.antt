@@ -3,7 +3,7 @@ use Rattle.std.specs.Prelude.{◌≡◌, ◌⊎◌, ℕ, ◌/◌, List, length, 
 use Rattle.hart_frame.specs.heard.Character.{Character}
 use Rattle.hart_line.specs.declared.memory.NoRoom.{NoRoom}
 use Rattle.hart_cli.specs.declared.fault.CliFault.{CliFault}
-use Rattle.hart_cli.specs.declared.fault.CliFault.TheVariants.{BadHex, Memory, Read, TooLong, Write}
+use Rattle.hart_cli.specs.declared.fault.CliFault.TheVariants.{Memory, Write}
 use Rattle.hart_cli.specs.declared.input.InputEnd.{InputEnd}
 use Rattle.hart_cli.specs.explain.Explanation.{IsExplanationOf}
 use Rattle.hart_cli.specs.explain.Heard.{IsHeard}
@@ -43,17 +43,16 @@ pub record LacksCharRoom (reader reader_after : Stream) (none : NoRoom) : Type 0
   pub reads : Reads reader reader_after input end
   pub items : none.items ≡ length input / 2
 
--- At `Ok` the whole text of the whole input was written, at a fault of the input that of its characters before the fault, and after a
--- failed write a prefix of the text. If room was refused, for the input or for its characters, nothing was written. There is no other
--- fault.
+-- Memory was refused, for an input or for its characters.
+abbrev pub LacksRoomToExplain : Stream → Stream → CliFault → Type 0
+LacksRoomToExplain reader reader_after fault =
+    (none : NoRoom) × (fault ≡ Memory none) × (LacksInputRoom reader reader_after none ⊎ LacksCharRoom reader reader_after none)
+
+-- At `Ok` the whole text of the whole input was written, after a failed write a prefix of the text, and at a fault of the input that of
+-- its characters before the fault. If room was refused nothing was written.
 abbrev pub ExplainOutcome : Stream → Stream → Stream → Stream → Result (Unit {0}) CliFault → Type 0
 ExplainOutcome reader reader_after writer writer_after (Ok done) =
     (text : List ℕ) × HasExplanation reader reader_after None text × WritesAll writer writer_after text
 ExplainOutcome reader reader_after writer writer_after (Err Write) = StopsExplaining reader reader_after writer writer_after
-ExplainOutcome reader reader_after writer writer_after (Err Read) = ExplainsUpTo Read reader reader_after writer writer_after
-ExplainOutcome reader reader_after writer writer_after (Err TooLong) = ExplainsUpTo TooLong reader reader_after writer writer_after
-ExplainOutcome reader reader_after writer writer_after (Err (BadHex place)) =
-    ExplainsUpTo (BadHex place) reader reader_after writer writer_after
-ExplainOutcome reader reader_after writer writer_after (Err (Memory none)) =
-    (LacksInputRoom reader reader_after none ⊎ LacksCharRoom reader reader_after none) × WritesNothing writer writer_after
-ExplainOutcome reader reader_after writer writer_after (Err _) = ⊥
+ExplainOutcome reader reader_after writer writer_after (Err fault) = ExplainsUpTo fault reader reader_after writer writer_after
+    ⊎ (LacksRoomToExplain reader reader_after fault × WritesNothing writer writer_after)

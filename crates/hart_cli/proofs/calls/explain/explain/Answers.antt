@@ -13,9 +13,9 @@ use Rattle.hart_cli.proofs.calls.explain.explain.Goals as goal
 ends_with : (r r' w w' : Stream) (input : List ℕ) (end : InputEnd) (chars : List Character) (fault : CliFault)
     → IsHeard input end chars (Some fault) → (text : List ℕ) × HasExplanation r r' (Some fault) text × WritesAll w w' text
     → ExplainOutcome r r' w w' (Err fault)
-ends_with r r' w w' input _ _ _ (inl (HasChars.bad_hex _ place bad)) text = text
-ends_with r r' w w' input _ _ _ (inr (HasChars.decided_bad_hex _ place bad)) text = text
-ends_with r r' w w' input _ _ _ _ text = text
+ends_with r r' w w' input _ _ _ (inl (HasChars.bad_hex _ place bad)) text = inl text
+ends_with r r' w w' input _ _ _ (inr (HasChars.decided_bad_hex _ place bad)) text = inl text
+ends_with r r' w w' input _ _ _ _ text = inl text
 
 pub returns-in-Some : goal.returns-in-Some
 returns-in-Some g c = grind (arith, common_steps, ends_with)
