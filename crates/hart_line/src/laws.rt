@@ -1,9 +1,10 @@
 //! Laws over the definitions alone, for the crates above.
-ghost use Rattle.std.specs.Prelude.{◌≡◌, ◌<◌, ◌≤◌, ◌^◌, [], List, ℕ, Some};
+ghost use Rattle.std.specs.Prelude.{◌≡◌, ◌≢◌, ◌<◌, ◌≤◌, ◌^◌, ◌↔◌, [], List, ℕ, Some};
 ghost use Rattle.std.specs.List.{AllPass};
 ghost use Rattle.hart_values.specs.declared.address.Address.{Address};
 ghost use Rattle.hart_values.specs.declared.address.Address.TheVariants.{Unique};
 ghost use Rattle.hart_values.specs.declared.master_id.MasterId.{MasterId};
+ghost use Rattle.hart_frame.specs.heard.Character.{Character};
 ghost use Rattle.hart_commands.specs.declared.content.ReplyContent.TheVariants.{Identity};
 ghost use Rattle.hart_commands.specs.declared.reply.Reply.{Reply};
 ghost use Rattle.hart_device.specs.Device.{DeviceState};
@@ -11,6 +12,8 @@ ghost use Rattle.hart_device.specs.Identity.{AreIdentityParts, identity_content,
 ghost use Rattle.hart_device.specs.answer.Answer.{after_refusal};
 ghost use Rattle.hart_device.specs.declared.identity_parts.IdentityParts.{IdentityParts};
 ghost use Rattle.hart_master.specs.Unique.{unique_in};
+ghost use Rattle.hart_line.specs.script.ItemWords.{AreItems};
+ghost use Rattle.hart_line.specs.script.Items.{items_word_of};
 ghost use Rattle.hart_line.specs.script.Rows.{HasFirstBadLine, IsScript, IsScriptFault, is_skipped, lines_in_words};
 ghost use Rattle.hart_line.specs.script.Words.{IsAddressWord, IsCommandWord, IsDataWord, IsWho};
 ghost use Rattle.hart_line.specs.world.Faults.{AreAllDetected, IsFault, IsNotDetectable};
@@ -36,6 +39,12 @@ pub fn words_have_one_value()
     ensures address { (word : List ℕ) (m n : Address) → IsAddressWord word m → IsAddressWord word n → m ≡ n }
     ensures command { (word : List ℕ) (m n : ℕ) → IsCommandWord word m → IsCommandWord word n → m ≡ n }
     ensures payload { (word xs ys : List ℕ) → IsDataWord word xs → IsDataWord word ys → xs ≡ ys }
+{}
+
+/// A word has characters exactly if it is not empty and some valid items spell it, one after another, which mean these characters.
+pub fn words_have_the_characters_of_their_items()
+    ensures { (word : List ℕ) (chars : List Character)
+        → (items_word_of word ≡ Some chars) ↔ ((word ≢ []) × AreItems word chars) }
 {}
 
 /// The lines of a text say one script at most, a text has one first bad line at most, and none if it is a script.

@@ -1,2 +1,3 @@
 -- Scripts: texts of lines that say events.
 pub mod Items
+pub mod ItemWords

@@ -36,7 +36,7 @@ and_both : (a b : Bool) → (a && b) ≡ true → (a ≡ true) × (b ≡ true)
 and_both a b both = grind arith
 
 -- an item that passes the test is valid
-valid : (item : Item) → is_valid_item item ≡ true → IsValidItem item
+pub valid : (item : Item) → is_valid_item item ≡ true → IsValidItem item
 valid item test = grind (arith, and_both, fault_bits)
 
 -- the characters of a text that begins with an item are that of the item and those of the rest
