@@ -1,9 +1,10 @@
 -- What reading the data of a message promises to a caller in C (own profile).
 use Rattle.std.specs.Prelude.{◌≡◌, ◌+◌, ◌==◌, if◌then◌else◌, ℕ, List, [], ◌∷◌, ◌++◌, drop, length, take, Option, None, Some, Ok, Err}
 use Rattle.std.specs.Prelude.{◌≤◌, Bool, slice_get}
-use Rattle.hart_commands.specs.Commands.{content_bytes}
+use Rattle.hart_commands.specs.Parts.{content_bytes}
 use Rattle.hart_commands.specs.FieldWidths.{IsWidthOf}
-use Rattle.hart_commands.specs.Fields.{Field, Row, bytes_of, fields_of, reply_rows, request_rows}
+use Rattle.hart_commands.specs.Commands.{reply_rows, request_rows}
+use Rattle.hart_commands.specs.Fields.{Field, Row, bytes_of, fields_of}
 use Rattle.hart_commands.specs.ReplyData.{reply_payload, reply_reading}
 use Rattle.hart_commands.specs.RequestData.{Reading, request_data, request_reading}
 use Rattle.hart_commands.specs.declared.fields.FieldKind.{FieldKind}

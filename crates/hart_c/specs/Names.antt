@@ -1,7 +1,8 @@
 -- What telling a name promises to a caller in C (own profile).
 use Rattle.std.specs.Prelude.{◌≡◌, ◌<◌, ◌≤◌, ◌⊎◌, ◌++◌, ℕ, Bool, true, false, List, drop, length, slice_get, Option, None, Some}
 use Rattle.std.specs.Prelude.{option_map}
-use Rattle.hart_commands.specs.Fields.{Row, reply_rows, request_rows}
+use Rattle.hart_commands.specs.Commands.{reply_rows, request_rows}
+use Rattle.hart_commands.specs.Fields.{Row}
 use Rattle.hart_c.specs.declared.fault.HartOutcome.{HartOutcome}
 
 -- A name is written over the front of the output, and its length is told, if it fits. If it does not, that is the fault, 12; if there is

@@ -4,7 +4,7 @@ ghost use Rattle.std.specs.Prelude.{All, length, slice_get, slice_index, take};
 ghost use Rattle.hart_frame.specs.heard.Character.{Character};
 ghost use Rattle.hart_frame.specs.heard.Frames.{AreFrames};
 ghost use Rattle.hart_frame.specs.declared.heard.found.Found.{Found};
-ghost use Rattle.hart_commands.specs.Fields.{command_name};
+ghost use Rattle.hart_commands.specs.Commands.{command_name};
 ghost use Rattle.hart_commands.specs.ReplyData.{reply_reading};
 ghost use Rattle.hart_commands.specs.RequestData.{request_reading};
 ghost use Rattle.hart_commands.specs.declared.reply.Reply.{Reply};

@@ -1,6 +1,7 @@
 //! The names of the commands and of the fields of their data.
 ghost use Rattle.std.specs.Prelude.{◌≡◌, map, option_map};
-ghost use Rattle.hart_commands.specs.Fields.{command_name, seen};
+ghost use Rattle.hart_commands.specs.Commands.{command_name};
+ghost use Rattle.hart_commands.specs.Fields.{seen};
 ghost use Rattle.hart_c.specs.Names.{NameOutcome, field_name, rows_for};
 
 use crate::fault::{HART_UNKNOWN, HartOutcome};

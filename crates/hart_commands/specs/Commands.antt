@@ -1,137 +1,179 @@
--- The table of the commands, the number of each request, and the bytes of each content (HCF_SPEC-127).
-use Rattle.std.specs.Prelude.{ℕ, ◌==◌, if◌then◌else◌, Bool, List, [], ◌∷◌, ◌++◌, Ok, Option, Some, None, is_some}
-use Rattle.std.specs.List.{flat_map}
-use Rattle.hart_commands.specs.declared.request.Request.{Request}
-use Rattle.hart_commands.specs.declared.request.Request.TheVariants.{Identify, ReadPrimary, ReadCurrent, ReadDynamic, SetPolling}
-use Rattle.hart_commands.specs.declared.request.Request.TheVariants.{ReadPolling, ReadClasses, ReadVariables, IdentifyByTag, ReadMessage}
-use Rattle.hart_commands.specs.declared.request.Request.TheVariants.{ReadTag, ReadSensor, ReadOutput, ReadAssembly, WriteMessage, WriteTag}
-use Rattle.hart_commands.specs.declared.request.Request.TheVariants.{WriteAssembly, ReadLongTag, IdentifyByLongTag, WriteLongTag}
-use Rattle.hart_commands.specs.declared.request.Request.TheVariants.{ResetChanged, ReadMore}
+-- The table of the commands, and what it says of each (HCF_SPEC-099, HCF_SPEC-127).
+use Prim.Native.String.{String}
+use Rattle.std.specs.Prelude.{ℕ, ◌==◌, Bool, List, [], ◌∷◌, find, map, Ok, Option, is_some}
+use Rattle.std.specs.Option.{option_map, option_map_or}
+use Rattle.hart_commands.specs.declared.commands.table.Command.{Command as CommandInCode}
 use Rattle.hart_commands.specs.declared.content.ReplyContent.{ReplyContent}
-use Rattle.hart_commands.specs.declared.content.ReplyContent.TheVariants.{Identity, Primary, Current, Dynamic, Polling, Classes, Variables}
-use Rattle.hart_commands.specs.declared.content.ReplyContent.TheVariants.{Message, Tag, Sensor, Output, Assembly, LongTag, Counter, More}
-use Rattle.hart_commands.specs.declared.content.ReplyContent.TheVariants.{Refused}
-use Rattle.hart_commands.specs.Values.{unit_value_of, unit_value_bytes, variable_bytes}
-use Rattle.hart_commands.specs.SensorBytes.{sensor_of, sensor_bytes}
-use Rattle.hart_commands.specs.OutputBytes.{output_of, output_bytes}
-use Rattle.hart_commands.specs.IdentityBytes.{identity_bytes}
-use Rattle.hart_commands.specs.RequestReading.{Reading, needing, polling_reading, codes_reading, tag_reading, reset_reading}
+use Rattle.hart_commands.specs.declared.content.ReplyContent.TheVariants as contents
+use Rattle.hart_commands.specs.declared.fields.FieldKind.TheVariants as kinds
+use Rattle.hart_commands.specs.declared.fields.FieldSize.TheVariants.{AllBut, Exactly}
+use Rattle.hart_commands.specs.declared.register.Register.{Register}
+use Rattle.hart_commands.specs.declared.register.Register.TheVariants as registers
+use Rattle.hart_commands.specs.declared.request.Request.{Request}
+use Rattle.hart_commands.specs.declared.request.Request.TheVariants as requests
+use Rattle.hart_commands.specs.Fields.{Row, field, seen, text, total}
+use Rattle.hart_commands.specs.Fields as fields
+use Rattle.hart_commands.specs.OutputBytes.{output_of}
 use Rattle.hart_commands.specs.ReplyReading.{saying, current_of, polling_of, tag_of, identity_reading, dynamic_reading, variables_reading}
 use Rattle.hart_commands.specs.ReplyReading.{more_reading}
+use Rattle.hart_commands.specs.RequestReading.{Reading, needing, polling_reading, codes_reading, tag_reading, reset_reading}
+use Rattle.hart_commands.specs.SensorBytes.{sensor_of}
+use Rattle.hart_commands.specs.Values.{unit_value_of}
 
--- The data of a request ask the same whatever they are, or so many bytes of them ask, or they are read in a way of their own.
+-- The data of a request ask the same whatever they are, or the bytes that the command needs ask, or they are read in a way of their own.
 pub data Asked : Type 0 where
   Always : Request → Asked
-  Needing : ℕ → (List ℕ → Request) → Asked
+  Needing : (List ℕ → Request) → Asked
   AskedBy : (List ℕ → Reading) → Asked
 
--- The request that data ask so, or the code that refuses them.
-abbrev pub asked : Asked → List ℕ → Reading
-asked (Always request) bytes = Ok request
-asked (Needing size request) bytes = needing size request bytes
-asked (AskedBy reading) bytes = reading bytes
+-- The request that data of a command ask so, if it needs so many bytes, or the code that refuses them.
+abbrev pub asked : ℕ → Asked → List ℕ → Reading
+asked needed (Always request) bytes = Ok request
+asked needed (Needing request) bytes = needing needed request bytes
+asked needed (AskedBy reading) bytes = reading bytes
 
--- So many bytes of the data of a reply say its content, or they are read in a way of their own.
+-- The bytes of the fields of a reply say its content, or they are read in a way of their own.
 pub data Replied : Type 0 where
-  Saying : ℕ → (List ℕ → ReplyContent) → Replied
+  Saying : (List ℕ → ReplyContent) → Replied
   SaidBy : (List ℕ → Option ReplyContent) → Replied
 
--- The content that data say so, if they say one.
-abbrev pub replied : Replied → List ℕ → Option ReplyContent
-replied (Saying size content) bytes = saying size content bytes
-replied (SaidBy reading) bytes = reading bytes
+-- The content that data with these fields say so, if they say one.
+unfoldable pub replied : List Row → Replied → List ℕ → Option ReplyContent
+replied fields (Saying content) bytes = saying (total fields) content bytes
+replied fields (SaidBy reading) bytes = reading bytes
 
--- A row has the number of a command, how the data of its requests are read, and how those of its replies with code 0.
-pub record CommandRow : Type 0 where
+-- A command has a number, a name, the fields of its request data, how many bytes of them it needs, the fields of its reply data with code
+-- 0, and the registers that it writes, the first of which gets the first field of the request, and so on.
+pub record Command : Type 0 where
   pub number : ℕ
-  pub request : Asked
-  pub reply : Replied
+  pub name : List ℕ
+  pub request : List Row
+  pub needed : ℕ
+  pub reply : List Row
+  pub writes : List Register
 
--- A row, written in one line.
-abbrev pub row : ℕ → Asked → Replied → CommandRow
-row number request reply = record { number = number; request = request; reply = reply }
+-- A row has a command, how the data of its requests are read, and how those of its replies with code 0.
+pub record CommandRow : Type 0 where
+  pub command : Command
+  pub asked : Asked
+  pub replied : Replied
 
--- The commands that are known, each with a row.
+-- The row of a command with data of its own, written in one line.
+abbrev pub asks : ℕ → String → List Row → ℕ → Asked → List Row → Replied → CommandRow
+asks number name request needed asked reply replied = record {
+  command = record { number = number; name = text name; request = request; needed = needed; reply = reply; writes = [] };
+  asked = asked;
+  replied = replied;
+}
+
+-- The row of a command that has no data, and asks a request.
+abbrev pub reads : ℕ → String → Request → List Row → Replied → CommandRow
+reads number name request reply replied = asks number name [] 0 (Always request) reply replied
+
+-- The row of a command whose data are written to registers, and are replied.
+abbrev pub writes : ℕ → String → List Row → ℕ → Asked → Replied → List Register → CommandRow
+writes number name fields needed asked replied registers = record {
+  command = record { number = number; name = text name; request = fields; needed = needed; reply = fields; writes = registers };
+  asked = asked;
+  replied = replied;
+}
+
+-- The commands that are known, each with a row. Command 6 needs one byte of its two. A list of fields that two rows have, or of more than
+-- one field, has a name.
 abbrev pub commands : List CommandRow
 commands =
-    row 0 (Always Identify) (SaidBy identity_reading)
-    ∷ row 1 (Always ReadPrimary) (Saying 5 (λ xs. Primary (unit_value_of xs)))
-    ∷ row 2 (Always ReadCurrent) (Saying 8 current_of)
-    ∷ row 3 (Always ReadDynamic) (SaidBy dynamic_reading)
-    ∷ row 6 (AskedBy polling_reading) (Saying 2 polling_of)
-    ∷ row 7 (Always ReadPolling) (Saying 2 polling_of)
-    ∷ row 8 (Always ReadClasses) (Saying 4 Classes)
-    ∷ row 9 (AskedBy codes_reading) (SaidBy variables_reading)
-    ∷ row 11 (Needing 6 IdentifyByTag) (SaidBy identity_reading)
-    ∷ row 12 (Always ReadMessage) (Saying 24 Message)
-    ∷ row 13 (Always ReadTag) (Saying 21 tag_of)
-    ∷ row 14 (Always ReadSensor) (Saying 16 (λ xs. Sensor (sensor_of xs)))
-    ∷ row 15 (Always ReadOutput) (Saying 18 (λ xs. Output (output_of xs)))
-    ∷ row 16 (Always ReadAssembly) (Saying 3 Assembly)
-    ∷ row 17 (Needing 24 WriteMessage) (Saying 24 Message)
-    ∷ row 18 (AskedBy tag_reading) (Saying 21 tag_of)
-    ∷ row 19 (Needing 3 WriteAssembly) (Saying 3 Assembly)
-    ∷ row 20 (Always ReadLongTag) (Saying 32 LongTag)
-    ∷ row 21 (Needing 32 IdentifyByLongTag) (SaidBy identity_reading)
-    ∷ row 22 (Needing 32 WriteLongTag) (Saying 32 LongTag)
-    ∷ row 38 (AskedBy reset_reading) (Saying 2 Counter)
-    ∷ row 48 (Always ReadMore) (SaidBy more_reading)
+    reads 0 "read unique identifier" requests.Identify fields.identity (SaidBy identity_reading)
+    ∷ reads 1 "read primary variable" requests.ReadPrimary fields.primary (Saying (λ xs. contents.Primary (unit_value_of xs)))
+    ∷ reads 2 "read loop current and percent of range" requests.ReadCurrent fields.current (Saying current_of)
+    ∷ reads 3 "read dynamic variables and loop current" requests.ReadDynamic fields.dynamic (SaidBy dynamic_reading)
+    ∷ writes 6 "write polling address" fields.polling 1 (AskedBy polling_reading) (Saying polling_of)
+    (registers.Polling ∷ registers.Mode ∷ [])
+    ∷ reads 7 "read loop configuration" requests.ReadPolling fields.polling (Saying polling_of)
+    ∷ reads 8 "read dynamic variable classifications" requests.ReadClasses fields.classes (Saying contents.Classes)
+    ∷ asks 9 "read device variables with status" (field "device variable codes" (AllBut 0) kinds.Bytes ∷ []) 1 (AskedBy codes_reading)
+    fields.variables (SaidBy variables_reading)
+    ∷ asks 11 "read unique identifier associated with tag" (field "tag" (Exactly 6) kinds.PackedText ∷ []) 6
+    (Needing requests.IdentifyByTag) fields.identity (SaidBy identity_reading)
+    ∷ reads 12 "read message" requests.ReadMessage fields.message (Saying contents.Message)
+    ∷ reads 13 "read tag, descriptor, date" requests.ReadTag fields.tag_and_more (Saying tag_of)
+    ∷ reads 14 "read primary variable transducer information" requests.ReadSensor fields.sensor
+    (Saying (λ xs. contents.Sensor (sensor_of xs)))
+    ∷ reads 15 "read device information" requests.ReadOutput fields.output (Saying (λ xs. contents.Output (output_of xs)))
+    ∷ reads 16 "read final assembly number" requests.ReadAssembly fields.assembly (Saying contents.Assembly)
+    ∷ writes 17 "write message" fields.message 24 (Needing requests.WriteMessage) (Saying contents.Message) (registers.Message ∷ [])
+    ∷ writes 18 "write tag, descriptor, date" fields.tag_and_more 21 (AskedBy tag_reading) (Saying tag_of)
+    (registers.Tag ∷ registers.Descriptor ∷ registers.Date ∷ [])
+    ∷ writes 19 "write final assembly number" fields.assembly 3 (Needing requests.WriteAssembly) (Saying contents.Assembly)
+    (registers.Assembly ∷ [])
+    ∷ reads 20 "read long tag" requests.ReadLongTag fields.long_tag (Saying contents.LongTag)
+    ∷ asks 21 "read unique identifier associated with long tag" fields.long_tag 32 (Needing requests.IdentifyByLongTag)
+    fields.identity (SaidBy identity_reading)
+    ∷ writes 22 "write long tag" fields.long_tag 32 (Needing requests.WriteLongTag) (Saying contents.LongTag) (registers.LongTag ∷ [])
+    ∷ asks 38 "reset configuration changed flag" fields.counter 2 (AskedBy reset_reading) fields.counter (Saying contents.Counter)
+    ∷ reads 48 "read additional device status" requests.ReadMore (field "additional status" (AllBut 0) kinds.Bytes ∷ [])
+    (SaidBy more_reading)
     ∷ []
-
--- The first row with a number.
-abbrev pub row_in : List CommandRow → ℕ → Option CommandRow
-row_in [] command = None
-row_in (row ∷ rows) command = if command == row.number then Some row else row_in rows command
 
 -- The row of a command, if it has one.
 abbrev pub command_row : ℕ → Option CommandRow
-command_row = row_in commands
+command_row number = find (λ row. row.command.number == number) commands
 
 -- A command is known if the table has a row for it.
 abbrev pub is_known : ℕ → Bool
-is_known command = is_some (command_row command)
+is_known number = is_some (command_row number)
+
+-- What the table says of a command, if it has a row.
+unfoldable pub known : ℕ → Option Command
+known number = option_map (λ row. row.command) (command_row number)
+
+-- The name of a command, if it has one.
+abbrev pub command_name : ℕ → Option (List ℕ)
+command_name number = option_map (λ command. command.name) (known number)
+
+-- The fields of the data that its requests need, none if it has no row.
+abbrev pub request_rows : ℕ → List Row
+request_rows number = option_map_or (λ command. command.request) (known number) []
+
+-- The fields of the data of its replies with code 0, none if it has no row.
+abbrev pub reply_rows : ℕ → List Row
+reply_rows number = option_map_or (λ command. command.reply) (known number) []
+
+-- The registers that a command writes, none if it has no row.
+unfoldable pub written_by : ℕ → List Register
+written_by number = option_map_or (λ row. row.command.writes) (command_row number) []
+
+-- What contracts see of a command of the code.
+abbrev pub seen_command : CommandInCode → Command
+seen_command command = record {
+  number = command.number;
+  name = command.name.now;
+  request = map seen command.request.now;
+  needed = command.needed;
+  reply = map seen command.reply.now;
+  writes = command.writes.now;
+}
 
 -- The command that asks a request.
 abbrev pub command_of : Request → ℕ
-command_of Identify = 0
-command_of ReadPrimary = 1
-command_of ReadCurrent = 2
-command_of ReadDynamic = 3
-command_of (SetPolling address mode) = 6
-command_of ReadPolling = 7
-command_of ReadClasses = 8
-command_of (ReadVariables codes) = 9
-command_of (IdentifyByTag tag) = 11
-command_of ReadMessage = 12
-command_of ReadTag = 13
-command_of ReadSensor = 14
-command_of ReadOutput = 15
-command_of ReadAssembly = 16
-command_of (WriteMessage message) = 17
-command_of (WriteTag tag descriptor date) = 18
-command_of (WriteAssembly assembly) = 19
-command_of ReadLongTag = 20
-command_of (IdentifyByLongTag long_tag) = 21
-command_of (WriteLongTag long_tag) = 22
-command_of (ResetChanged counter) = 38
-command_of ReadMore = 48
-
--- The data of a content are its parts, one after another.
-abbrev pub content_bytes : ReplyContent → List ℕ
-content_bytes (Identity identity) = identity_bytes identity
-content_bytes (Primary value) = unit_value_bytes value
-content_bytes (Current loop_current percent_of_range) = loop_current.0 ++ percent_of_range.0
-content_bytes (Dynamic loop_current values) = loop_current.0 ++ flat_map unit_value_bytes values
-content_bytes (Polling address mode) = address ∷ mode ∷ []
-content_bytes (Classes classes) = classes
-content_bytes (Variables extended_device_status variables time_stamp) =
-    extended_device_status ∷ flat_map variable_bytes variables ++ time_stamp
-content_bytes (Message message) = message
-content_bytes (Tag tag descriptor date) = tag ++ descriptor ++ date
-content_bytes (Sensor sensor) = sensor_bytes sensor
-content_bytes (Output output) = output_bytes output
-content_bytes (Assembly assembly) = assembly
-content_bytes (LongTag long_tag) = long_tag
-content_bytes (Counter counter) = counter
-content_bytes (More status) = status
-content_bytes Refused = []
+command_of requests.Identify = 0
+command_of requests.ReadPrimary = 1
+command_of requests.ReadCurrent = 2
+command_of requests.ReadDynamic = 3
+command_of (requests.SetPolling address mode) = 6
+command_of requests.ReadPolling = 7
+command_of requests.ReadClasses = 8
+command_of (requests.ReadVariables codes) = 9
+command_of (requests.IdentifyByTag tag) = 11
+command_of requests.ReadMessage = 12
+command_of requests.ReadTag = 13
+command_of requests.ReadSensor = 14
+command_of requests.ReadOutput = 15
+command_of requests.ReadAssembly = 16
+command_of (requests.WriteMessage message) = 17
+command_of (requests.WriteTag tag descriptor date) = 18
+command_of (requests.WriteAssembly assembly) = 19
+command_of requests.ReadLongTag = 20
+command_of (requests.IdentifyByLongTag long_tag) = 21
+command_of (requests.WriteLongTag long_tag) = 22
+command_of (requests.ResetChanged counter) = 38
+command_of requests.ReadMore = 48

@@ -1,6 +1,7 @@
 -- The identity of a device, as a reply gives it in 22 bytes (HCF_SPEC-127).
-use Rattle.std.specs.Prelude.{ℕ, List, [], ◌∷◌, ◌++◌, slice_index, slice_range}
+use Rattle.std.specs.Prelude.{ℕ, List, [], ◌∷◌, slice_index, slice_range}
 use Rattle.hart_commands.specs.declared.identity.IdentityContent.{IdentityContent}
+use Rattle.hart_commands.specs.Values.{joined, one}
 
 -- After the first byte each field stands in its place.
 abbrev pub identity_of : List ℕ → IdentityContent
@@ -22,13 +23,16 @@ identity_of bytes = record {
   device_profile = slice_index bytes 21;
 }
 
--- An identity is written as 254 and its fields, one after another.
+-- The parts of an identity: 254 and its fields.
+abbrev pub identity_parts : IdentityContent → List (List ℕ)
+identity_parts i =
+    one 254 ∷ i.expanded_device_type
+    ∷ one i.request_preambles ∷ one i.protocol_revision ∷ one i.device_revision ∷ one i.software_revision
+    ∷ one i.hardware_and_signalling ∷ one i.flags ∷ i.device_id
+    ∷ one i.response_preambles ∷ one i.device_variables ∷ i.configuration_change_counter
+    ∷ one i.extended_device_status ∷ i.manufacturer ∷ i.private_label_distributor ∷ one i.device_profile
+    ∷ []
+
+-- An identity is written as its parts.
 abbrev pub identity_bytes : IdentityContent → List ℕ
-identity_bytes i =
-    254 ∷ i.expanded_device_type
-    ++ i.request_preambles ∷ i.protocol_revision ∷ i.device_revision ∷ i.software_revision
-    ∷ i.hardware_and_signalling ∷ i.flags ∷ i.device_id
-    ++ i.response_preambles ∷ i.device_variables ∷ i.configuration_change_counter
-    ++ i.extended_device_status ∷ i.manufacturer
-    ++ i.private_label_distributor
-    ++ i.device_profile ∷ []
+identity_bytes identity = joined (identity_parts identity)

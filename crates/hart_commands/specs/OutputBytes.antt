@@ -1,7 +1,7 @@
 -- What a reply says of the loop current output, in 18 bytes (HCF_SPEC-127).
-use Rattle.std.specs.Prelude.{ℕ, List, [], ◌∷◌, ◌++◌, slice_index}
+use Rattle.std.specs.Prelude.{ℕ, List, [], ◌∷◌, slice_index}
 use Rattle.hart_commands.specs.declared.output.OutputContent.{OutputContent}
-use Rattle.hart_commands.specs.Values.{float_at}
+use Rattle.hart_commands.specs.Values.{float_at, joined, one}
 
 -- Eighteen bytes hold an alarm code, a transfer function, a unit, the upper and the lower range value, the damping, a write protect
 -- code, a byte that the standard reserves, and channel flags, each in its place.
@@ -18,8 +18,14 @@ output_of bytes = record {
   channel_flags = slice_index bytes 17;
 }
 
--- They are written one after another.
+-- The parts of a loop current output.
+abbrev pub output_parts : OutputContent → List (List ℕ)
+output_parts o =
+    one o.alarm_code ∷ one o.transfer_function ∷ one o.unit
+    ∷ o.upper_range_value.0 ∷ o.lower_range_value.0 ∷ o.damping.0
+    ∷ one o.write_protect_code ∷ one o.reserved ∷ one o.channel_flags
+    ∷ []
+
+-- A loop current output is written as its parts.
 abbrev pub output_bytes : OutputContent → List ℕ
-output_bytes o =
-    o.alarm_code ∷ o.transfer_function ∷ o.unit ∷ o.upper_range_value.0 ++ o.lower_range_value.0 ++ o.damping.0
-    ++ o.write_protect_code ∷ o.reserved ∷ o.channel_flags ∷ []
+output_bytes output = joined (output_parts output)

@@ -1,19 +1,30 @@
 -- The registers of a device, and what a write does to them (HCF_SPEC-127).
-use Rattle.std.specs.Prelude.{ℕ, ◌≡◌, ◌<◌, List, [], ◌∷◌, length, Option, None, Some, IfSome, slice_index, unwrap_or}
+use Rattle.std.specs.Prelude.{ℕ, ◌≡◌, ◌==◌, ◌<◌, List, [], ◌∷◌, length, Option, None, Some, IfSome, slice_index, unwrap_or}
 use Rattle.std.specs.Prelude.{if◌then◌else◌}
 use Rattle.std.specs.Option.{option_or}
 use Rattle.hart_values.specs.hart_date.Calendar.{IsDateBytes}
 use Rattle.hart_commands.specs.declared.register.Register.{Register}
 use Rattle.hart_commands.specs.declared.register.Register.TheVariants.{Polling, Mode, Message, Tag, Descriptor, Date, Assembly, LongTag}
 use Rattle.hart_commands.specs.declared.request.Request.{Request}
-use Rattle.hart_commands.specs.declared.request.Request.TheVariants.{SetPolling, WriteMessage, WriteTag, WriteAssembly, WriteLongTag}
+use Rattle.hart_commands.specs.Commands.{command_of, written_by}
+use Rattle.hart_commands.specs.Parts.{request_parts}
 use Rattle.hart_commands.specs.RequestCode.{is_write}
-use Rattle.hart_commands.specs.RequestData.{command_of, mode_byte}
 
 -- The registers in their order: polling address, loop current mode, message, tag, descriptor, date, final assembly number,
 -- long tag.
 abbrev pub registers : List Register
 registers = Polling ∷ Mode ∷ Message ∷ Tag ∷ Descriptor ∷ Date ∷ Assembly ∷ LongTag ∷ []
+
+-- The place of a register among them, from 0.
+abbrev pub place_of : Register → ℕ
+place_of Polling = 0
+place_of Mode = 1
+place_of Message = 2
+place_of Tag = 3
+place_of Descriptor = 4
+place_of Date = 5
+place_of Assembly = 6
+place_of LongTag = 7
 
 -- A row of the table of registers says how many bytes a register has, and which of so many are valid in it.
 pub record RegisterRow : Type 1 where
@@ -91,19 +102,16 @@ AreValid contents = (register : Register) → IsValidIn register (bytes_in conte
 abbrev pub Overwrite : Type 0
 Overwrite = Request
 
--- The bytes that an overwrite gives a register, if it names that: Command 6 names the polling address and the loop current mode,
--- Command 17 the message, Command 18 the tag, the descriptor and the date, Command 19 the final assembly number, and Command 22
--- the long tag.
+-- Of registers and of parts, the part that stands where a register stands.
+abbrev pub part_for : Register → List Register → List (List ℕ) → Option (List ℕ)
+part_for register (first ∷ registers) (part ∷ parts) =
+    if place_of first == place_of register then Some part else part_for register registers parts
+part_for register _ _ = None
+
+-- The bytes that an overwrite gives a register, if it names that: the part of the request that stands where the register stands among
+-- those that its command writes.
 abbrev pub named_in : Overwrite → Register → Option (List ℕ)
-named_in (SetPolling address mode) Polling = Some (address ∷ [])
-named_in (SetPolling address mode) Mode = Some (mode_byte mode ∷ [])
-named_in (WriteMessage message) Message = Some message
-named_in (WriteTag tag descriptor date) Tag = Some tag
-named_in (WriteTag tag descriptor date) Descriptor = Some descriptor
-named_in (WriteTag tag descriptor date) Date = Some date
-named_in (WriteAssembly assembly) Assembly = Some assembly
-named_in (WriteLongTag long_tag) LongTag = Some long_tag
-named_in _ _ = None
+named_in overwrite register = part_for register (written_by (command_of overwrite)) (request_parts overwrite)
 
 -- An overwrite names valid bytes if each register that it names gets bytes that are valid in it.
 abbrev pub NamesValid : Overwrite → Type 0

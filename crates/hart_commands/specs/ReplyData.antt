@@ -5,12 +5,12 @@ use Rattle.hart_commands.specs.declared.content.ReplyContent.{ReplyContent}
 use Rattle.hart_commands.specs.declared.content.ReplyContent.TheVariants.{Refused}
 use Rattle.hart_commands.specs.declared.reply.Reply.{Reply}
 use Rattle.hart_commands.specs.Commands.{CommandRow, replied, command_row, is_known}
-pub use Rattle.hart_commands.specs.Commands.{content_bytes}
+pub use Rattle.hart_commands.specs.Parts.{content_bytes}
 
 -- The data of a reply with code 0 are read as the row says; without a row there is no reply.
 abbrev pub content_by : Option CommandRow → List ℕ → Option ReplyContent
 content_by None bytes = None
-content_by (Some row) bytes = replied row.reply bytes
+content_by (Some row) bytes = replied row.command.reply row.replied bytes
 
 -- They are read by the row of the command.
 abbrev pub content_reading : ℕ → List ℕ → Option ReplyContent

@@ -1,12 +1,19 @@
 -- The response code of a request (HCF_SPEC-127; the order is of the own profile).
-use Rattle.std.specs.Prelude.{ℕ, ◌==◌, ◌||◌, ◌&&◌, if◌then◌else◌, Bool, Ok, Err, Some}
+use Rattle.std.specs.Prelude.{ℕ, ◌==◌, ◌||◌, ◌&&◌, if◌then◌else◌, Bool, true, false, List, [], ◌∷◌, Ok, Err, Some}
+use Rattle.hart_commands.specs.declared.register.Register.{Register}
 use Rattle.hart_commands.specs.declared.request.Request.{Request}
 use Rattle.hart_commands.specs.declared.request.Request.TheVariants.{ResetChanged}
+use Rattle.hart_commands.specs.Commands.{written_by}
 use Rattle.hart_commands.specs.RequestData.{Reading}
 
--- The configuration writes are Commands 6, 17, 18, 19 and 22.
+-- Some register, if there is one.
+abbrev pub are_some : List Register → Bool
+are_some [] = false
+are_some (register ∷ registers) = true
+
+-- A configuration write is a command that writes a register.
 abbrev pub is_write : ℕ → Bool
-is_write command = (command == 6) || (command == 17) || (command == 18) || (command == 19) || (command == 22)
+is_write command = are_some (written_by command)
 
 -- A given counter of Command 38 that is not the device's is refused with code 9; nothing else is, if the data are good.
 abbrev pub counter_code : Request → ℕ → ℕ

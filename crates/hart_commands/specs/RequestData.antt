@@ -1,47 +1,22 @@
--- What the data bytes of a request ask, and which bytes a request is written as (HCF_SPEC-127). Of the own profile is that Command 6
--- is always written with two bytes.
-use Rattle.std.specs.Prelude.{ℕ, ◌/◌, ◌%◌, ◌≡◌, ◌<◌, ◌≤◌, ◌⊎◌, List, [], ◌∷◌, ◌++◌, length, Err, Option, Some, None}
-use Rattle.hart_values.specs.declared.loop_mode.LoopMode.{LoopMode}
-use Rattle.hart_values.specs.declared.loop_mode.LoopMode.TheVariants.{Disabled, Enabled}
+-- What the data bytes of a request ask, and which requests are well made (HCF_SPEC-127).
+use Rattle.std.specs.Prelude.{ℕ, ◌≡◌, ◌<◌, ◌≤◌, ◌⊎◌, List, [], length, Err, Option, Some, None}
 use Rattle.hart_values.specs.hart_date.Calendar.{IsDateBytes}
 use Rattle.hart_commands.specs.declared.request.Request.{Request}
-use Rattle.hart_commands.specs.declared.request.Request.TheVariants.{SetPolling}
-use Rattle.hart_commands.specs.declared.request.Request.TheVariants.{ReadVariables, IdentifyByTag}
-use Rattle.hart_commands.specs.declared.request.Request.TheVariants.{WriteMessage, WriteTag}
-use Rattle.hart_commands.specs.declared.request.Request.TheVariants.{WriteAssembly, IdentifyByLongTag, WriteLongTag}
-use Rattle.hart_commands.specs.declared.request.Request.TheVariants.{ResetChanged}
+use Rattle.hart_commands.specs.declared.request.Request.TheVariants.{SetPolling, ReadVariables, IdentifyByTag, WriteMessage, WriteTag}
+use Rattle.hart_commands.specs.declared.request.Request.TheVariants.{WriteAssembly, IdentifyByLongTag, WriteLongTag, ResetChanged}
 use Rattle.hart_commands.specs.Commands.{CommandRow, asked, command_row}
 pub use Rattle.hart_commands.specs.Commands.{is_known, command_of}
+pub use Rattle.hart_commands.specs.Parts.{mode_byte, request_data}
 pub use Rattle.hart_commands.specs.RequestReading.{Reading}
 
 -- Data are read as the row says; if there is no row they are refused with code 64.
 abbrev pub read_by : Option CommandRow → List ℕ → Reading
 read_by None bytes = Err 64
-read_by (Some row) bytes = asked row.request bytes
+read_by (Some row) bytes = asked row.command.needed row.asked bytes
 
 -- Data are read by the row of their command.
 abbrev pub request_reading : ℕ → List ℕ → Reading
 request_reading command = read_by (command_row command)
-
--- A loop current mode is a byte: 0 if it is disabled, 1 if it is enabled.
-abbrev pub mode_byte : LoopMode → ℕ
-mode_byte Disabled = 0
-mode_byte Enabled = 1
-
--- The data of a request are the bytes that its command needs, with none after them: always two for Command 6, and
--- none for a request without parts.
-abbrev pub request_data : Request → List ℕ
-request_data (SetPolling address mode) = address ∷ mode_byte mode ∷ []
-request_data (ReadVariables codes) = codes
-request_data (IdentifyByTag tag) = tag
-request_data (WriteMessage message) = message
-request_data (WriteTag tag descriptor date) = tag ++ descriptor ++ date
-request_data (WriteAssembly assembly) = assembly
-request_data (IdentifyByLongTag long_tag) = long_tag
-request_data (WriteLongTag long_tag) = long_tag
-request_data (ResetChanged None) = []
-request_data (ResetChanged (Some counter)) = counter / 256 ∷ counter % 256 ∷ []
-request_data _ = []
 
 -- A request is well made if each of its parts has the size and the values that its command gives it.
 abbrev pub IsRequest : Request → Type 0

@@ -1,7 +1,7 @@
 -- What a reply says of the sensor, in 16 bytes (HCF_SPEC-127).
-use Rattle.std.specs.Prelude.{ℕ, List, ◌∷◌, ◌++◌, slice_index, slice_range}
+use Rattle.std.specs.Prelude.{ℕ, List, [], ◌∷◌, slice_index, slice_range}
 use Rattle.hart_commands.specs.declared.sensor.SensorContent.{SensorContent}
-use Rattle.hart_commands.specs.Values.{float_at}
+use Rattle.hart_commands.specs.Values.{float_at, joined, one}
 
 -- Sixteen bytes hold a serial number, a unit, the upper and the lower limit and the minimum span, each in its place.
 abbrev pub sensor_of : List ℕ → SensorContent
@@ -13,6 +13,10 @@ sensor_of bytes = record {
   minimum_span = float_at bytes 12;
 }
 
--- They are written one after another.
+-- The parts of a sensor.
+abbrev pub sensor_parts : SensorContent → List (List ℕ)
+sensor_parts s = s.serial_number ∷ one s.unit ∷ s.upper_limit.0 ∷ s.lower_limit.0 ∷ s.minimum_span.0 ∷ []
+
+-- A sensor is written as its parts.
 abbrev pub sensor_bytes : SensorContent → List ℕ
-sensor_bytes s = s.serial_number ++ s.unit ∷ s.upper_limit.0 ++ s.lower_limit.0 ++ s.minimum_span.0
+sensor_bytes sensor = joined (sensor_parts sensor)

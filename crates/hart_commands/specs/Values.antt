@@ -1,8 +1,18 @@
--- The bytes of one variable in a reply (HCF_SPEC-127).
+-- The bytes of one variable in a reply, and how parts make data (HCF_SPEC-127).
 use Rattle.std.specs.Prelude.{ℕ, ◌+◌, List, [], ◌∷◌, ◌++◌, slice_index, slice_range}
 use Rattle.hart_values.specs.declared.bits32.Bits32.{Bits32}
 use Rattle.hart_commands.specs.declared.value.UnitValue.{UnitValue}
 use Rattle.hart_commands.specs.declared.value.VariableReading.{VariableReading}
+
+-- A part of a single byte.
+abbrev pub one : ℕ → List ℕ
+one byte = byte ∷ []
+
+-- Parts, one after another.
+abbrev pub joined : List (List ℕ) → List ℕ
+joined [] = []
+joined (part ∷ []) = part
+joined (part ∷ other ∷ others) = part ++ joined (other ∷ others)
 
 -- A float is four bytes from a place on, kept as they come.
 abbrev pub float_at : List ℕ → ℕ → Bits32
@@ -12,9 +22,13 @@ float_at bytes place = record { 0 = slice_range bytes place (place + 4) }
 abbrev pub unit_value_of : List ℕ → UnitValue
 unit_value_of bytes = record { unit = slice_index bytes 0; value = float_at bytes 1 }
 
+-- The parts of a value: its unit, and the value itself.
+abbrev pub unit_value_parts : UnitValue → List (List ℕ)
+unit_value_parts v = one v.unit ∷ v.value.0 ∷ []
+
 -- A unit and a value are written as five bytes.
 abbrev pub unit_value_bytes : UnitValue → List ℕ
-unit_value_bytes v = v.unit ∷ v.value.0
+unit_value_bytes v = joined (unit_value_parts v)
 
 -- Eight bytes hold a variable code, its classification, its unit, its value and its status.
 abbrev pub variable_of : List ℕ → VariableReading

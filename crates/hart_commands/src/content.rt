@@ -72,6 +72,7 @@ pub enum ReplyContent {
 
 impl ReplyContent {
     /// The content of a reply with code 0, by its command's row of the table.
+    #[tactic(auto, unfolding(crate::specs::Commands::replied))]
     pub(crate) fn read(command: u8, bytes: &[u8]) -> Option<Self>
         ensures { result ≡ content_reading command bytes.now }
     {
@@ -96,6 +97,7 @@ impl ReplyContent {
     }
 
     /// Adds the data of the content at the end of a payload.
+    #[tactic(auto, using(crate::proofs::lemmas::Parts::joined_singles))]
     pub(crate) fn push_to(&self, payload: &mut Payload)
         requires { length payload.old ≤ 2 }
         ensures { payload.new ≡ payload.old ++ content_bytes self.now }

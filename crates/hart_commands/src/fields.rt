@@ -1,11 +1,6 @@
-//! The names of the commands and of the fields of their data.
-ghost use Rattle.std.specs.Prelude.{◌≡◌, ◌==◌, map, option_map};
-ghost use Rattle.std.specs.List.{find};
-ghost use Rattle.hart_commands.specs.Fields.{command_name, reply_rows, request_rows, rows_of, seen, seen_command, split};
-
-use crate::fields::table::{CommandFields, ROWS};
-
-mod table;
+//! A field of data.
+ghost use Rattle.std.specs.Prelude.{◌≡◌, option_map};
+ghost use Rattle.hart_commands.specs.Fields.{split};
 
 /// How the bytes of a field are meant.
 #[derive(Clone, Copy, Debug, PartialEq, Eq)]
@@ -58,48 +53,4 @@ impl FieldRow {
         };
         bytes.split_at_checked(size)
     }
-}
-
-/// The name of a command in the standard, or `None` if the command is not known (HCF_SPEC-099).
-pub fn command_name(command: u8) -> Option<&'static str>
-    ensures { option_map (λ name. name.now) result ≡ command_name command }
-{
-    Some(fields_for(command)?.name)
-}
-
-/// The fields of the data of a request of this command, in their order; none if the command is not known. Data after those that the
-/// command takes are no field: they have to be cut off before.
-pub fn request_rows(command: u8) -> &'static [FieldRow]
-    ensures { map seen result.now ≡ request_rows command }
-{
-    match fields_for(command) {
-        Some(fields) => fields.request,
-        None => &[],
-    }
-}
-
-/// The fields of the data of a reply to this command with response code 0, in their order; none if the command is not known. Data after
-/// those that the reply says are no field.
-pub fn reply_rows(command: u8) -> &'static [FieldRow]
-    ensures { map seen result.now ≡ reply_rows command }
-{
-    match fields_for(command) {
-        Some(fields) => fields.reply,
-        None => &[],
-    }
-}
-
-/// The row of a command, if it has one.
-fn fields_for(command: u8) -> Option<&'static CommandFields>
-    ensures { option_map (λ fields. seen_command fields.now) result ≡ rows_of command }
-{
-    find_row(ROWS, command)
-}
-
-/// The first row with this number.
-fn find_row(rows: &'static [CommandFields], command: u8) -> Option<&'static CommandFields>
-    ensures { option_map (λ fields. seen_command fields.now) result
-        ≡ find (λ fields. fields.number == command) (map seen_command rows.now) }
-{
-    rows.iter().find(|fields| fields.number == command)
 }

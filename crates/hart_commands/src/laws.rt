@@ -1,13 +1,13 @@
 //! Laws over the definitions alone, for the crates above.
-ghost use Rattle.std.specs.Prelude.{◌≡◌, ◌≢◌, ◌<◌, ◌≤◌, All, AllPairs, Contains, ◌↔◌, ◌++◌, List, ℕ, false, true, Ok, Err, Some};
+ghost use Rattle.std.specs.Prelude.{◌≡◌, ◌≢◌, ◌==◌, ◌||◌, ◌<◌, ◌≤◌, All, AllPairs, Contains, ◌↔◌, ◌++◌, List, ℕ, false, true, Ok, Err, Some};
 ghost use Rattle.std.specs.Prelude.{IsTrue, IsSome, drop, is_some, length, take};
 ghost use Rattle.hart_commands.specs.RequestData.{IsRequest, MayFollow, command_of, is_known};
 ghost use Rattle.hart_commands.specs.RequestData.{request_reading, request_data};
-ghost use Rattle.hart_commands.specs.Commands.{content_bytes};
-ghost use Rattle.hart_commands.specs.Fields.{bytes_of, command_name, field_bytes, fields_of, reply_rows, request_rows};
+ghost use Rattle.hart_commands.specs.Commands.{command_name, reply_rows, request_rows};
+ghost use Rattle.hart_commands.specs.Fields.{bytes_of, field_bytes, fields_of};
 ghost use Rattle.hart_commands.specs.FieldWidths.{HasWidthOfKind};
 ghost use Rattle.hart_commands.specs.NeededData.{AreTooFew, needed_data};
-ghost use Rattle.hart_commands.specs.Parts.{content_parts, request_parts};
+ghost use Rattle.hart_commands.specs.Parts.{content_bytes, content_parts, request_parts};
 ghost use Rattle.hart_commands.specs.RequestCode.{is_write};
 ghost use Rattle.hart_commands.specs.Registers.{AreValid, Contents, named_in, overwrite_of, overwritten, registers};
 ghost use Rattle.hart_commands.specs.ReplyData.{IsReply};
@@ -27,12 +27,14 @@ pub fn requests_are_well_made(request: &Request)
 }
 
 /// The data that a request is written as are read as that request, whatever may follow them.
+#[tactic(auto, using(crate::proofs::lemmas::Request::written_is_read))]
 pub fn written_data_are_read_again()
     ensures { (request : Request) (rest : List ℕ) → IsRequest request → MayFollow request rest
         → request_reading (command_of request) (request_data request ++ rest) ≡ Ok request }
 {}
 
 /// The data that a request is written as, with none after them, are read as that request.
+#[tactic(auto, using(crate::proofs::lemmas::Request::written_is_own))]
 pub fn written_data_are_their_request()
     ensures { (request : Request) → IsRequest request
         → request_reading (command_of request) (request_data request) ≡ Ok request }
@@ -86,6 +88,7 @@ pub fn all_registers_are_listed_once()
 
 /// A request has an overwrite exactly if its command is a configuration write; then it names a register, and no other request
 /// names one.
+#[tactic(auto, unfolding(crate::specs::Commands::written_by))]
 pub fn writes_have_overwrites()
     ensures exactly { (request : Request) → IsTrue (is_write (command_of request)) ↔ IsSome (overwrite_of request) }
     ensures some_register { (request : Request) → IsTrue (is_write (command_of request))
@@ -94,7 +97,14 @@ pub fn writes_have_overwrites()
         → IsTrue (is_write (command_of request)) }
 {}
 
+/// The configuration writes are Commands 6, 17, 18, 19 and 22.
+pub fn configuration_writes_have_these_numbers()
+    ensures { (command : ℕ) → is_write command
+        ≡ ((command == 6) || (command == 17) || (command == 18) || (command == 19) || (command == 22)) }
+{}
+
 /// The overwrite of a well-made write leaves valid contents valid.
+#[tactic(auto, unfolding(crate::specs::Commands::written_by))]
 pub fn overwrites_are_valid()
     ensures { (write : Request) (old : Contents) → IsRequest write → AreValid old → AreValid (overwritten write old) }
 {}
@@ -123,6 +133,7 @@ pub fn known_commands_have_names()
 
 /// Each field of a well-made request's data is one part of the request, and each field of a well-made reply's is one part of its
 /// content: they are as many, in the same order, and have the same bytes.
+#[tactic(auto, using(crate::proofs::lemmas::RequestFields::parts_of_request, crate::proofs::lemmas::Reply::parts_of_reply))]
 pub fn fields_are_the_parts()
     ensures request { (request : Request) → IsRequest request
         → field_bytes (fields_of (request_rows (command_of request)) (request_data request)) ≡ request_parts request }

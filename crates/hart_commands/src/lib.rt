@@ -1,6 +1,6 @@
 //! What the data bytes of HART messages mean: requests, replies and what a write overwrites (HCF_SPEC-127).
 //!
-//! The tables of the standard, command by command, are definitions of `specs/`: what the data bytes of a request ask, or
+//! The table of the standard, a row for each command, is a definition of `specs/`: what the data bytes of a request ask, or
 //! with which response code they are refused, and what the payload of a reply says. [`Request::read`] and [`Reply::read`]
 //! give exactly that, and `write` goes the way back.
 //!
@@ -25,10 +25,11 @@
 //! library, and so are the laws that requests are well made, that a written reply is read again, that written data are read again
 //! whatever follows them, that data that are read begin as they are written, that data are too few only if they are fewer than
 //! needed, that only unknown commands are refused with code 64, that each known command has a name of its own, that each field is a
-//! part of the data, and that overwrites are valid.
+//! part of the data, that the configuration writes are Commands 6, 17, 18, 19 and 22, and that overwrites are valid.
 #![tactic(auto)]
 
 mod code_list;
+mod commands;
 mod content;
 mod fields;
 mod first_bytes;
@@ -45,22 +46,24 @@ mod tag_bytes;
 mod value;
 
 pub use code_list::CodeList;
+pub use commands::{command_name, is_write, needed_data, reply_rows, request_rows};
 pub use content::ReplyContent;
-pub use fields::{FieldKind, FieldRow, FieldSize, command_name, reply_rows, request_rows};
+pub use fields::{FieldKind, FieldRow, FieldSize};
 pub use identity::IdentityContent;
 pub use laws::{
-    all_registers_are_listed_once, fields_are_all_of_the_data, fields_are_the_parts,
-    fields_have_the_width_of_their_kind, known_commands_have_names, overwrites_are_valid,
-    read_data_begin_as_written, requests_are_well_made, requests_have_their_command,
-    too_few_data_are_fewer_than_needed, unknown_commands_are_refused, writes_have_overwrites,
-    written_data_are_read_again, written_data_are_their_request, written_payloads_are_read_again,
+    all_registers_are_listed_once, configuration_writes_have_these_numbers,
+    fields_are_all_of_the_data, fields_are_the_parts, fields_have_the_width_of_their_kind,
+    known_commands_have_names, overwrites_are_valid, read_data_begin_as_written,
+    requests_are_well_made, requests_have_their_command, too_few_data_are_fewer_than_needed,
+    unknown_commands_are_refused, writes_have_overwrites, written_data_are_read_again,
+    written_data_are_their_request, written_payloads_are_read_again,
 };
 pub use output::OutputContent;
-pub use overwrite::{Overwrite, is_write, writes_of};
+pub use overwrite::{Overwrite, writes_of};
 pub use register::Register;
 pub use reply::Reply;
 pub use request::code::request_code;
-pub use request::{Request, mode_bytes, needed_data};
+pub use request::{Request, mode_bytes};
 pub use sensor::SensorContent;
 pub use short_list::ShortList;
 pub use value::{UnitValue, VariableReading};

@@ -31,36 +31,16 @@ impl OutputContent {
     pub(crate) fn from_bytes(bytes: [u8; 18]) -> Self
         ensures { result ≡ output_of bytes }
     {
-        let [
-            alarm_code,
-            transfer_function,
-            unit,
-            u0,
-            u1,
-            u2,
-            u3,
-            l0,
-            l1,
-            l2,
-            l3,
-            d0,
-            d1,
-            d2,
-            d3,
-            write_protect_code,
-            reserved,
-            channel_flags,
-        ] = bytes;
         OutputContent {
-            alarm_code,
-            transfer_function,
-            unit,
-            upper_range_value: Bits32([u0, u1, u2, u3]),
-            lower_range_value: Bits32([l0, l1, l2, l3]),
-            damping: Bits32([d0, d1, d2, d3]),
-            write_protect_code,
-            reserved,
-            channel_flags,
+            alarm_code: bytes[0],
+            transfer_function: bytes[1],
+            unit: bytes[2],
+            upper_range_value: Bits32([bytes[3], bytes[4], bytes[5], bytes[6]]),
+            lower_range_value: Bits32([bytes[7], bytes[8], bytes[9], bytes[10]]),
+            damping: Bits32([bytes[11], bytes[12], bytes[13], bytes[14]]),
+            write_protect_code: bytes[15],
+            reserved: bytes[16],
+            channel_flags: bytes[17],
         }
     }
 

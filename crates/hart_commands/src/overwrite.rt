@@ -1,9 +1,8 @@
 ghost use Rattle.std.specs.Prelude.{◌≡◌, IfSome, option_map, length};
 ghost use Rattle.hart_commands.specs.Registers.{IsValidIn, NamesValid, named_in, overwrite_of, size_of};
-ghost use Rattle.hart_commands.specs.RequestCode.{is_write};
 
 use crate::request::mode_bytes;
-use crate::{Register, Request};
+use crate::{Register, Request, is_write};
 use std::marker::Model;
 
 /// The registers that a write names, each with its new bytes (HCF_SPEC-127).
@@ -24,6 +23,7 @@ impl<'a> Model for Overwrite<'a> {
 
 impl<'a> Overwrite<'a> {
     /// The bytes that it gives a register, or `None` if it does not name it.
+    #[tactic(auto, unfolding(crate::specs::Commands::written_by))]
     pub fn get(&self, register: Register) -> Option<&'a [u8]>
         ensures named { option_map (λ bytes. bytes.now) result ≡ named_in self.now register }
         ensures valid { IfSome result (λ bytes. IsValidIn register bytes.now) }
@@ -46,6 +46,7 @@ impl<'a> Overwrite<'a> {
 }
 
 /// The overwrite of a configuration write, or `None` for every other request.
+#[tactic(auto, unfolding(crate::specs::Commands::written_by))]
 pub fn writes_of(request: &Request) -> Option<Overwrite<'_>>
     ensures overwrite { result ≡ overwrite_of request.now }
     ensures valid { IfSome result NamesValid }
@@ -55,11 +56,4 @@ pub fn writes_of(request: &Request) -> Option<Overwrite<'_>>
     } else {
         None
     }
-}
-
-/// Whether a command is a configuration write: 6, 17, 18, 19 or 22.
-pub fn is_write(command: u8) -> bool
-    ensures { result ≡ is_write command }
-{
-    matches!(command, 6 | 17 | 18 | 19 | 22)
 }

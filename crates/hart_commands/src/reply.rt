@@ -2,7 +2,7 @@ ghost use Rattle.std.specs.Prelude.{◌≡◌, ◌≤◌, length, IfSome};
 ghost use Rattle.hart_commands.specs.ReplyData.{IsReply, content_bytes, reply_reading, reply_payload};
 
 use crate::ReplyContent;
-use crate::request::is_known;
+use crate::commands::is_known;
 use hart_values::{DeviceStatus, Payload, ResponseCode};
 
 /// What a device replies to a command (HCF_SPEC-127).

@@ -1,6 +1,5 @@
 ghost use Rattle.std.specs.Prelude.{◌≡◌, ◌≤◌, ◌+◌, [], ◌∷◌, ◌++◌, length, IfOk};
-ghost use Rattle.hart_commands.specs.NeededData.{needed_data};
-ghost use Rattle.hart_commands.specs.RequestData.{IsRequest, is_known, request_reading, command_of, request_data, mode_byte};
+ghost use Rattle.hart_commands.specs.RequestData.{IsRequest, request_reading, command_of, request_data, mode_byte};
 
 use crate::CodeList;
 use crate::request::reading::{needed, read_codes, read_reset, read_set_polling, read_tag};
@@ -110,8 +109,7 @@ impl Request {
         ensures command { result ≡ command_of self.now }
         ensures well_made { IsRequest self.now }
     {
-        let (command, _, _, _) = self.parts(&mut [0; 2]);
-        command
+        self.parts(&mut [0; 2]).command
     }
 
     /// The same request.
@@ -132,11 +130,11 @@ impl Request {
         ensures well_made { IsRequest self.now }
     {
         let mut counter = [0; 2];
-        let (_, first, second, third) = self.parts(&mut counter);
+        let parts = self.parts(&mut counter);
         data.clear();
-        data.extend_from_slice(first);
-        data.extend_from_slice(second);
-        data.extend_from_slice(third);
+        data.extend_from_slice(parts.first);
+        data.extend_from_slice(parts.second);
+        data.extend_from_slice(parts.third);
     }
 
     /// How many bytes [`Request::write`] gives: so many that the command needs, and always two for Command 6.
@@ -146,79 +144,83 @@ impl Request {
         ensures well_made { IsRequest self.now }
     {
         let mut counter = [0; 2];
-        let (_, first, second, third) = self.parts(&mut counter);
-        first.len() + second.len() + third.len()
+        let parts = self.parts(&mut counter);
+        parts.first.len() + parts.second.len() + parts.third.len()
     }
 
-    /// The number of its command, and the parts of its data, one after another. The bytes of a counter are put in `counter`.
-    fn parts<'a>(&'a self, counter: &'a mut [u8; 2]) -> (u8, &'a [u8], &'a [u8], &'a [u8])
-        ensures command { result.0 ≡ command_of self.now }
-        ensures written { result.1.now ++ result.2.now ++ result.3.now ≡ request_data self.now }
-        ensures few { length result.1.now + length result.2.now + length result.3.now ≤ 32 }
+    /// Returns its command and the parts of its data. The bytes of a counter are put in `counter`.
+    fn parts<'a>(&'a self, counter: &'a mut [u8; 2]) -> Parts<'a>
+        ensures command { result.command ≡ command_of self.now }
+        ensures written { result.first.now ++ result.second.now ++ result.third.now ≡ request_data self.now }
+        ensures few { length result.first.now + length result.second.now + length result.third.now ≤ 32 }
         ensures well_made { IsRequest self.now }
     {
-        let none: &[u8] = &[];
         match self {
-            Request::Identify => (0, none, none, none),
-            Request::ReadPrimary => (1, none, none, none),
-            Request::ReadCurrent => (2, none, none, none),
-            Request::ReadDynamic => (3, none, none, none),
-            Request::SetPolling { address, mode } => {
-                (6, address.as_bytes(), mode_bytes(*mode), none)
-            }
-            Request::ReadPolling => (7, none, none, none),
-            Request::ReadClasses => (8, none, none, none),
-            Request::ReadVariables(codes) => (9, codes.as_slice(), none, none),
-            Request::IdentifyByTag(tag) => (11, tag.as_bytes(), none, none),
-            Request::ReadMessage => (12, none, none, none),
-            Request::ReadTag => (13, none, none, none),
-            Request::ReadSensor => (14, none, none, none),
-            Request::ReadOutput => (15, none, none, none),
-            Request::ReadAssembly => (16, none, none, none),
-            Request::WriteMessage(message) => (17, message.as_bytes(), none, none),
+            Request::Identify => Parts::one(0, &[]),
+            Request::ReadPrimary => Parts::one(1, &[]),
+            Request::ReadCurrent => Parts::one(2, &[]),
+            Request::ReadDynamic => Parts::one(3, &[]),
+            Request::SetPolling { address, mode } => Parts {
+                command: 6,
+                first: address.as_bytes(),
+                second: mode_bytes(*mode),
+                third: &[],
+            },
+            Request::ReadPolling => Parts::one(7, &[]),
+            Request::ReadClasses => Parts::one(8, &[]),
+            Request::ReadVariables(codes) => Parts::one(9, codes.as_slice()),
+            Request::IdentifyByTag(tag) => Parts::one(11, tag.as_bytes()),
+            Request::ReadMessage => Parts::one(12, &[]),
+            Request::ReadTag => Parts::one(13, &[]),
+            Request::ReadSensor => Parts::one(14, &[]),
+            Request::ReadOutput => Parts::one(15, &[]),
+            Request::ReadAssembly => Parts::one(16, &[]),
+            Request::WriteMessage(message) => Parts::one(17, message.as_bytes()),
             Request::WriteTag {
                 tag,
                 descriptor,
                 date,
-            } => (18, tag.as_bytes(), descriptor.as_bytes(), date.as_bytes()),
-            Request::WriteAssembly(assembly) => (19, assembly, none, none),
-            Request::ReadLongTag => (20, none, none, none),
-            Request::IdentifyByLongTag(long_tag) => (21, long_tag, none, none),
-            Request::WriteLongTag(long_tag) => (22, long_tag, none, none),
-            Request::ResetChanged(None) => (38, none, none, none),
+            } => Parts {
+                command: 18,
+                first: tag.as_bytes(),
+                second: descriptor.as_bytes(),
+                third: date.as_bytes(),
+            },
+            Request::WriteAssembly(assembly) => Parts::one(19, assembly),
+            Request::ReadLongTag => Parts::one(20, &[]),
+            Request::IdentifyByLongTag(long_tag) => Parts::one(21, long_tag),
+            Request::WriteLongTag(long_tag) => Parts::one(22, long_tag),
+            Request::ResetChanged(None) => Parts::one(38, &[]),
             Request::ResetChanged(Some(given)) => {
                 *counter = given.to_be_bytes();
-                (38, counter, none, none)
+                Parts::one(38, counter)
             }
-            Request::ReadMore => (48, none, none, none),
+            Request::ReadMore => Parts::one(48, &[]),
         }
     }
 }
 
-/// Whether a command is known: whether [`Request::read`] refuses no data of it with code 64.
-pub(crate) fn is_known(command: u8) -> bool
-    ensures { result ≡ is_known command }
-{
-    !matches!(
-        Request::read(command, &[]),
-        Err(ResponseCode::COMMAND_NOT_IMPLEMENTED)
-    )
+/// The command of a request, and the parts of its data, one after another. A part that it does not have is empty.
+#[derive(Clone, Copy)]
+struct Parts<'a> {
+    command: u8,
+    first: &'a [u8],
+    second: &'a [u8],
+    third: &'a [u8],
 }
 
-/// How many data bytes a request of this command needs: fewer are refused with code 5, too few data bytes, but that Command 38 may
-/// have none. It is 0 if the command needs none, or is not known (HCF_SPEC-127).
-pub fn needed_data(command: u8) -> usize
-    ensures { result ≡ needed_data command }
-{
-    match command {
-        6 | 9 => 1,
-        38 => 2,
-        19 => 3,
-        11 => 6,
-        18 => 21,
-        17 => 24,
-        21 | 22 => 32,
-        _ => 0,
+impl<'a> Parts<'a> {
+    /// Returns those of a command whose data are one part, or none.
+    fn one(command: u8, part: &'a [u8]) -> Self
+        ensures command { result.command ≡ command }
+        ensures parts { (result.first.now ≡ part.now) × (result.second.now ≡ []) × (result.third.now ≡ []) }
+    {
+        Parts {
+            command,
+            first: part,
+            second: &[],
+            third: &[],
+        }
     }
 }
 

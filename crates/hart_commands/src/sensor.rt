@@ -23,30 +23,12 @@ impl SensorContent {
     pub(crate) fn from_bytes(bytes: [u8; 16]) -> Self
         ensures { result ≡ sensor_of bytes }
     {
-        let [
-            s0,
-            s1,
-            s2,
-            unit,
-            u0,
-            u1,
-            u2,
-            u3,
-            l0,
-            l1,
-            l2,
-            l3,
-            m0,
-            m1,
-            m2,
-            m3,
-        ] = bytes;
         SensorContent {
-            serial_number: [s0, s1, s2],
-            unit,
-            upper_limit: Bits32([u0, u1, u2, u3]),
-            lower_limit: Bits32([l0, l1, l2, l3]),
-            minimum_span: Bits32([m0, m1, m2, m3]),
+            serial_number: [bytes[0], bytes[1], bytes[2]],
+            unit: bytes[3],
+            upper_limit: Bits32([bytes[4], bytes[5], bytes[6], bytes[7]]),
+            lower_limit: Bits32([bytes[8], bytes[9], bytes[10], bytes[11]]),
+            minimum_span: Bits32([bytes[12], bytes[13], bytes[14], bytes[15]]),
         }
     }
 

@@ -1,8 +1,9 @@
 -- What `hart explain` says of the data of a message (own profile).
 use Rattle.std.specs.Prelude.{◌==◌, if◌then◌else◌, ◌++◌, [], ◌∷◌, ℕ, nat_lt, is_some, List, Option, None, Some, Ok, Err, codes, decimal}
 use Rattle.std.specs.Prelude.{drop, length}
-use Rattle.hart_commands.specs.Commands.{content_bytes}
-use Rattle.hart_commands.specs.Fields.{bytes_of, command_name, fields_of, reply_rows, request_rows}
+use Rattle.hart_commands.specs.Parts.{content_bytes}
+use Rattle.hart_commands.specs.Commands.{command_name, reply_rows, request_rows}
+use Rattle.hart_commands.specs.Fields.{bytes_of, fields_of}
 use Rattle.hart_commands.specs.NeededData.{needed_data}
 use Rattle.hart_commands.specs.ReplyData.{reply_reading}
 use Rattle.hart_commands.specs.RequestData.{Reading, request_data, request_reading}

@@ -1,7 +1,7 @@
 -- What `hart explain` says of a message (own profile).
 use Rattle.std.specs.Prelude.{◌++◌, [], ◌∷◌, ℕ, Bool, false, true, List, codes, decimal}
 use Rattle.hart_frame.specs.declared.heard.found.Found.{Found}
-use Rattle.hart_commands.specs.Fields.{command_name}
+use Rattle.hart_commands.specs.Commands.{command_name}
 use Rattle.hart_frame.specs.declared.wire.kind.FrameKind.{FrameKind}
 use Rattle.hart_frame.specs.declared.wire.kind.FrameKind.TheVariants.{Stx, Ack}
 use Rattle.hart_cli.specs.explain.Data.{reply_lines, request_lines}

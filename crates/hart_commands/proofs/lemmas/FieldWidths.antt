@@ -7,10 +7,10 @@ use Rattle.std.proofs.lemmas.List.{take_all}
 use Rattle.std.proofs.lemmas.List.Elements.{All-cons, All-nil}
 use Rattle.std.specs.List.{AllByRecursion}
 use Rattle.std.specs.Option.{option_map_or}
-use Rattle.std.specs.Prelude.{codes}
-use Rattle.hart_commands.specs.Commands.{content_bytes}
+use Rattle.hart_commands.specs.Commands.{Command, commands, known, replied, reply_rows, request_rows}
 use Rattle.hart_commands.specs.FieldWidths.{HasWidthOfKind, IsWidthOf}
-use Rattle.hart_commands.specs.Fields.{CommandRows, Row, field, fields_of, reply_rows, request_rows, rows, rows_of, size_in}
+use Rattle.hart_commands.specs.Fields.{Row, field, fields_of, size_in}
+use Rattle.hart_commands.specs.Parts.{content_bytes}
 use Rattle.hart_commands.specs.ReplyData.{reply_reading}
 use Rattle.hart_commands.specs.ReplyReading.{variables_reading}
 use Rattle.hart_commands.specs.declared.content.ReplyContent.{ReplyContent}
@@ -21,7 +21,7 @@ use Rattle.hart_commands.specs.declared.fields.FieldSize.{FieldSize}
 use Rattle.hart_commands.specs.declared.fields.FieldSize.TheVariants.{AllBut, Exactly}
 use Rattle.hart_commands.specs.declared.reply.Reply.{Reply}
 use Rattle.hart_commands.proofs.lemmas.Reply.{variables_whole}
-use Rattle.hart_commands.proofs.lemmas.Rows.{found}
+use Rattle.hart_commands.proofs.lemmas.Rows.{of_known}
 use Rattle.hart_commands.specs.Fields as fields
 
 -- a size is a width of the kind, whatever data there are
@@ -60,31 +60,29 @@ widths : (these : List Row) (bytes : List ℕ) → AreSuited these → Fit these
 widths [] bytes suited = All-nil HasWidthOfKind
 widths (row ∷ others) bytes suited = step row others bytes _ refl suited.0 (λ rest. widths others rest suited.1)
 
-requests_suited : AllByRecursion (λ command. AreSuited command.request) rows
-unfolding rows
+requests_suited : AllByRecursion (λ row. AreSuited row.command.request) commands
 requests_suited = search rules
 
 -- of the replies only those to Command 9 have device variables
-abbrev pub SuitsReplies : CommandRows → Type 0
-SuitsReplies row = ((row.number ≡ 9) × (row.reply ≡ fields.variables)) ⊎ AreSuited row.reply
+abbrev pub SuitsReplies : Command → Type 0
+SuitsReplies command = ((command.number ≡ 9) × (command.reply ≡ fields.variables)) ⊎ AreSuited command.reply
 
-replies_suited : AllByRecursion SuitsReplies rows
-unfolding rows
+replies_suited : AllByRecursion (λ row. SuitsReplies row.command) commands
 replies_suited = search rules
 
 -- the fields of an extended device status, one to eight variables and a time stamp
 of_variables : (groups : ℕ) (bytes : List ℕ) → 0 < groups → groups ≤ 8 → length bytes ≡ 5 + 8 * groups
     → Fit fields.variables bytes
 of_variables groups bytes some few long =
-    let status = field (codes "extended device status") (Exactly 1) Bytes in
-    let values = field (codes "device variables") (AllBut 4) Variables in
-    let stamp : List Row = field (codes "time stamp") (Exactly 4) Bytes ∷ [] in
+    let status = field "extended device status" (Exactly 1) Bytes in
+    let values = field "device variables" (AllBut 4) Variables in
+    let stamp : List Row = field "time stamp" (Exactly 4) Bytes ∷ [] in
     with_field status (values ∷ stamp) bytes 1 (grind (arith, nat_tests)) (omega (arith, length-take 1 bytes))
     (with_field values stamp (drop 1 bytes) (8 * groups) (grind (arith, nat_tests, length-drop))
     (groups, some, few, grind (arith, common_steps))
     (widths stamp (drop (8 * groups) (drop 1 bytes)) (lit< tt, tt)))
 
-of_request : (row : Option CommandRows) (command : ℕ) (bytes : List ℕ) → IfSome row (λ row. (row.number ≡ command) × AreSuited row.request)
+of_request : (row : Option Command) (command : ℕ) (bytes : List ℕ) → IfSome row (λ row. (row.number ≡ command) × AreSuited row.request)
     → Fit (option_map_or (λ row. row.request) row []) bytes
 of_request None command bytes is = All-nil HasWidthOfKind
 of_request (Some row) command bytes (same, suited) = widths row.request bytes suited
@@ -92,11 +90,12 @@ of_request (Some row) command bytes (same, suited) = widths row.request bytes su
 pub fields_have_the_width_of_their_kind-request : (command : ℕ) (bytes : List ℕ)
     → All HasWidthOfKind (fields_of (request_rows command) bytes)
 fields_have_the_width_of_their_kind-request command bytes =
-    of_request (rows_of command) command bytes (found (λ row. AreSuited row.request) rows command requests_suited)
+    of_request (known command) command bytes (of_known (λ told. AreSuited told.request) command requests_suited)
 
 -- a reply to Command 9 says device variables, or was refused and says nothing
 said : (code status : ℕ) (bytes : List ℕ) (reply : Reply) → reply_reading 9 (code ∷ status ∷ bytes) ≡ Some reply
     → (reply.content ≡ Refused) ⊎ (variables_reading bytes ≡ Some reply.content)
+unfolding replied
 said code status bytes reply read = grind (arith, nat_tests)
 
 -- so the data that are taken have the fields of device variables, or none
@@ -114,7 +113,7 @@ of_variables_reply [] reply read = absurd (cc)
 of_variables_reply (code ∷ []) reply read = absurd (cc)
 of_variables_reply (code ∷ status ∷ bytes) reply read = of_content bytes reply.content (said code status bytes reply read)
 
-of_reply : (row : Option CommandRows) (command : ℕ) (payload : List ℕ) (reply : Reply) → reply_reading command payload ≡ Some reply
+of_reply : (row : Option Command) (command : ℕ) (payload : List ℕ) (reply : Reply) → reply_reading command payload ≡ Some reply
     → IfSome row (λ row. (row.number ≡ command) × SuitsReplies row)
     → Fit (option_map_or (λ row. row.reply) row []) (take (length (content_bytes reply.content)) (drop 2 payload))
 of_reply None command payload reply read is = All-nil HasWidthOfKind
@@ -126,4 +125,4 @@ pub fields_have_the_width_of_their_kind-reply : (command : ℕ) (payload : List 
     → reply_reading command payload ≡ Some reply
     → All HasWidthOfKind (fields_of (reply_rows command) (take (length (content_bytes reply.content)) (drop 2 payload)))
 fields_have_the_width_of_their_kind-reply command payload reply read =
-    of_reply (rows_of command) command payload reply read (found SuitsReplies rows command replies_suited)
+    of_reply (known command) command payload reply read (of_known SuitsReplies command replies_suited)

@@ -1,21 +1,18 @@
 -- The laws of requests, of replies, of fields, of registers and of overwrites, for the proofs of this crate and of those above.
-use Rattle.std.proofs.Common.{arith, ◌≡◌, ◌≢◌, ℕ, AllPairs, Contains, IsSome, IsTrue, List, [], ◌∷◌, ◌++◌, Ok, Some, length, map, take, refl, lit<, rules}
-use Rattle.std.proofs.Common.{ap, append_assoc, append-nil}
+use Rattle.std.proofs.Common.{arith, ◌≡◌, ◌≢◌, ℕ, AllPairs, Contains, IsSome, IsTrue, List, [], ◌∷◌, ◌++◌, Ok, Some, length, take, refl, lit<, rules}
+use Rattle.std.proofs.Common.{ap, append-nil}
 use Rattle.std.proofs.lemmas.Grind.{common_steps}
-use Rattle.std.specs.List.{concat, flat_map}
-use Rattle.hart_commands.specs.Fields.{Field, bytes_of, field_bytes, fields_of, reply_rows, request_rows}
-use Rattle.hart_commands.specs.Parts.{content_parts, one, request_parts, unit_value_parts}
+use Rattle.hart_commands.specs.Commands.{reply_rows, request_rows, written_by}
+use Rattle.hart_commands.specs.Fields.{Field, bytes_of, field_bytes, fields_of}
 use Rattle.hart_commands.specs.Registers.{AreValid, Contents, overwrite_of, overwritten, registers}
 use Rattle.hart_commands.specs.ReplyData.{IsReply, content_bytes, reply_payload, reply_reading}
 use Rattle.hart_commands.specs.RequestCode.{is_write}
 use Rattle.hart_commands.specs.RequestData.{IsRequest, command_of, request_data, request_reading}
-use Rattle.hart_commands.specs.Values.{unit_value_bytes}
-use Rattle.hart_commands.specs.declared.content.ReplyContent.{ReplyContent}
+use Rattle.hart_commands.specs.Values.{joined}
 use Rattle.hart_commands.specs.declared.register.Register.{Register}
 use Rattle.hart_commands.specs.declared.register.Register.TheVariants.{Polling, Mode, Message, Tag, Descriptor, Date, Assembly, LongTag}
 use Rattle.hart_commands.specs.declared.reply.Reply.{Reply}
 use Rattle.hart_commands.specs.declared.request.Request.{Request}
-use Rattle.hart_commands.specs.declared.value.UnitValue.{UnitValue}
 use Rattle.hart_commands.proofs.lemmas.Reply.{kept, parts_of_reply}
 use Rattle.hart_commands.proofs.lemmas.Request.{written_is_own}
 use Rattle.hart_commands.proofs.lemmas.RequestFields.{parts_of_request}
@@ -35,35 +32,22 @@ all_registers_are_listed_once-every LongTag = (7, lit< tt, refl)
 pub all_registers_are_listed_once-once : AllPairs (λ (register other : Register). register ≢ other) registers
 all_registers_are_listed_once-once = search rules
 
--- the parts of data, one after another, are the data
-values : (vs : List UnitValue) → concat (flat_map unit_value_parts vs) ≡ flat_map unit_value_bytes vs
-values [] = refl
-values (v ∷ vs) = ap (λ xs. v.unit ∷ v.value.0 ++ xs) (values vs)
-
-singles : (xs : List ℕ) → concat (map one xs) ≡ xs
-singles [] = refl
-singles (x ∷ xs) = ap (λ ys. x ∷ ys) (singles xs)
-
-content-parts : (content : ReplyContent) → concat (content_parts content) ≡ content_bytes content
-content-parts content = grind (arith, append-nil, append_assoc, values, singles)
-
-request-parts : (request : Request) → concat (request_parts request) ≡ request_data request
-request-parts request = grind (arith, append-nil, append_assoc)
-
 -- the bytes of fields, one after another, are those of each
-bytes-each : (fields : List Field) → bytes_of fields ≡ concat (field_bytes fields)
+bytes-each : (fields : List Field) → bytes_of fields ≡ joined (field_bytes fields)
 bytes-each [] = refl
-bytes-each (field ∷ fields) = ap (λ xs. field.bytes ++ xs) (bytes-each fields)
+bytes-each (field ∷ []) = append-nil field.bytes
+bytes-each (field ∷ other ∷ fields) = ap (λ xs. field.bytes ++ xs) (bytes-each (other ∷ fields))
 
 pub fields_are_all_of_the_data-request : (request : Request) → IsRequest request
     → bytes_of (fields_of (request_rows (command_of request)) (request_data request)) ≡ request_data request
-fields_are_all_of_the_data-request request is = grind (arith, common_steps, bytes-each, parts_of_request, request-parts)
+fields_are_all_of_the_data-request request is = grind (arith, common_steps, bytes-each, parts_of_request)
 
 pub fields_are_all_of_the_data-reply : (reply : Reply) → IsReply reply
     → bytes_of (fields_of (reply_rows reply.command) (content_bytes reply.content)) ≡ content_bytes reply.content
-fields_are_all_of_the_data-reply reply is = grind (arith, common_steps, bytes-each, parts_of_reply, content-parts)
+fields_are_all_of_the_data-reply reply is = grind (arith, common_steps, bytes-each, parts_of_reply)
 
 pub overwrites_are_valid : (write : Request) (old : Contents) → IsRequest write → AreValid old → AreValid (overwritten write old)
+unfolding written_by
 overwrites_are_valid write old made valid = search rules
 
 pub written_data_are_their_request : (request : Request) → IsRequest request

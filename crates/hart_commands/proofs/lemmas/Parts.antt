@@ -1,7 +1,11 @@
--- A list of so many bytes, seen byte by byte.
-use Rattle.std.proofs.Common.{◌≡◌, ℕ, ◌≤◌, zero, suc, List, [], ◌∷◌, ◌++◌, take, drop, length, refl, subst, arith, slice_index}
+-- Parts of data, one after another, and a list of so many bytes, seen byte by byte.
+use Rattle.std.proofs.Common.{◌≡◌, ℕ, ◌≤◌, zero, suc, List, [], ◌∷◌, ◌++◌, take, drop, length, map, refl, subst, arith, slice_index}
+use Rattle.std.proofs.Common.{ap, append-nil, sym}
 use Rattle.std.proofs.lemmas.Grind.{common_steps}
 use Rattle.std.proofs.lemmas.List.{take_all}
+use Rattle.std.specs.List.{flat_map}
+use Rattle.hart_commands.specs.Values.{joined, one, unit_value_bytes, unit_value_parts}
+use Rattle.hart_commands.specs.declared.value.UnitValue.{UnitValue}
 
 -- the first n bytes of a list, one by one
 abbrev pub spell : ℕ → List ℕ → List ℕ
@@ -22,3 +26,15 @@ whole n xs long = take_all n xs (omega (arith, long))
 -- What holds of so many bytes, one by one, holds of every list of so many.
 pub by_spelling : (n : ℕ) (P : List ℕ → Type 0) → ((xs : List ℕ) → P (spell n xs)) → (xs : List ℕ) → length xs ≡ n → P xs
 by_spelling n P each xs long = subst P (spelled n xs long) (each xs)
+
+-- values with their units, and what is before them, are the parts of both
+pub joined_values : (bytes : List ℕ) (vs : List UnitValue)
+    → joined (bytes ∷ flat_map unit_value_parts vs) ≡ bytes ++ flat_map unit_value_bytes vs
+joined_values bytes [] = sym (append-nil bytes)
+joined_values bytes (v ∷ vs) = ap (λ xs. bytes ++ v.unit ∷ xs) (joined_values v.value.0 vs)
+
+-- bytes are the parts of a byte each
+pub joined_singles : (xs : List ℕ) → joined (map one xs) ≡ xs
+joined_singles [] = refl
+joined_singles (x ∷ []) = refl
+joined_singles (x ∷ y ∷ ys) = ap (λ zs. x ∷ zs) (joined_singles (y ∷ ys))

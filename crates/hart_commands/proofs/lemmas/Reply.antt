@@ -6,10 +6,10 @@ use Rattle.std.proofs.lemmas.Grind.{common_steps}
 use Rattle.std.proofs.lemmas.List.{take_all}
 use Rattle.std.specs.List.{AllByRecursion}
 use Rattle.std.specs.Option.{option_map}
-use Rattle.std.specs.Prelude.{if◌then◌else◌, is_some, codes}
+use Rattle.std.specs.Prelude.{if◌then◌else◌, is_some}
 use Rattle.std.specs.Simd.{first_chunks}
-use Rattle.hart_commands.specs.Commands.{CommandRow, replied, commands, command_row}
-use Rattle.hart_commands.specs.Fields.{field_bytes, fields_of, reply_rows, rows}
+use Rattle.hart_commands.specs.Commands.{CommandRow, command_row, commands, known, replied, reply_rows}
+use Rattle.hart_commands.specs.Fields.{field_bytes, fields_of}
 use Rattle.hart_commands.specs.FirstBytes.{having}
 use Rattle.hart_commands.specs.IdentityBytes.{identity_of}
 use Rattle.hart_commands.specs.Parts.{content_parts}
@@ -53,7 +53,7 @@ identity command same =
 -- a loop current and one to four variables, whatever follows them
 in_groups : (groups : ℕ) → 0 < groups → groups ≤ 4 → (bytes : List ℕ) → 4 + groups * 5 ≤ length bytes
     → IsKept 3 dynamic_reading bytes (Dynamic (float_at bytes 0) (map unit_value_of (first_chunks 5 groups (drop 4 bytes))))
-unfolding rows
+unfolding known
 in_groups (suc zero) some few bytes long = rw (← spelled_front 9 bytes long) (refl, refl, refl)
 in_groups (suc (suc zero)) some few bytes long = rw (← spelled_front 14 bytes long) (refl, refl, refl)
 in_groups (suc (suc (suc zero))) some few bytes long = rw (← spelled_front 19 bytes long) (refl, refl, refl)
@@ -66,7 +66,7 @@ dynamic bytes = grind (arith, common_steps, nat_tests, in_groups)
 -- an extended device status, one to eight variables and a time stamp, which are all of the bytes
 in_variables : (groups : ℕ) → 0 < groups → groups < 9 → (bytes : List ℕ) → length bytes ≡ 5 + 8 * groups
     → IfSome (variables_reading bytes) (λ content. (content_bytes content ≡ bytes) × IsKept 9 variables_reading bytes content)
-unfolding rows
+unfolding known
 in_variables (suc zero) _ _ bytes long = rw (← spelled 13 bytes long) (refl, (refl, refl, refl))
 in_variables (suc (suc zero)) _ _ bytes long = rw (← spelled 21 bytes long) (refl, (refl, refl, refl))
 in_variables (suc (suc (suc zero))) _ _ bytes long = rw (← spelled 29 bytes long) (refl, (refl, refl, refl))
@@ -99,20 +99,20 @@ front : (n : ℕ) (xs : List ℕ) → take n xs ≡ take (length (take n xs)) xs
 front n xs = grind (arith, common_steps)
 
 more : Keeps 48 more_reading
-unfolding rows
+unfolding known
 more [] = tt
 more (byte ∷ bytes) = (
   front 25 (byte ∷ bytes),
   ap (λ xs. Some (More (byte ∷ xs))) (take_all 24 (take 24 bytes) (omega (arith, length-take 24 bytes))),
-  all_left (codes "additional status") Bytes (take 25 (byte ∷ bytes)) (omega arith),
+  all_left "additional status" Bytes (take 25 (byte ∷ bytes)) (omega arith),
 )
 
 -- every row of the table keeps what it reads of replies
 abbrev pub KeepsOwn : CommandRow → Type 0
-KeepsOwn row = Keeps row.number (replied row.reply) × IsParted row.number Refused
+KeepsOwn row = Keeps row.command.number (replied row.command.reply row.replied) × IsParted row.command.number Refused
 
 own : AllByRecursion KeepsOwn commands
-unfolding rows
+unfolding known replied
 own = search (identity, dynamic, variables, more, said)
 
 -- a reply is read of a payload by a row of the table, or is refused

@@ -25,7 +25,7 @@ take-codes codes rest few (inr none) = rw (none, append-nil) (take_all 8 codes f
 
 -- a good date is read with its tag and descriptor
 tag_reading-good : (tag descriptor date rest : List ℕ) → length tag ≡ 6 → length descriptor ≡ 12 → length date ≡ 3 → is_date date ≡ true
-    → tag_reading (tag ++ descriptor ++ date ++ rest) ≡ Ok (WriteTag tag descriptor date)
+    → tag_reading ((tag ++ (descriptor ++ date)) ++ rest) ≡ Ok (WriteTag tag descriptor date)
 tag_reading-good tag descriptor date rest six twelve three =
     rw (← spelled 6 tag six, ← spelled 12 descriptor twelve, ← spelled 3 date three) (λ good. grind (arith, nat_tests, good))
 

@@ -3,10 +3,11 @@ use Rattle.std.proofs.Common.{◌≡◌, ℕ, ◌<◌, List, [], ◌∷◌, leng
 use Rattle.std.proofs.lemmas.Bool.Decides.{nat_tests}
 use Rattle.std.proofs.lemmas.Grind.{common_steps}
 use Rattle.std.proofs.lemmas.List.{take_all}
-use Rattle.std.specs.Prelude.{codes}
-use Rattle.hart_commands.specs.Fields.{field, field_bytes, fields_of, request_rows, rows}
-use Rattle.hart_commands.specs.Parts.{request_parts}
-use Rattle.hart_commands.specs.RequestData.{IsRequest, command_of, request_data}
+use Prim.Native.String.{String}
+use Rattle.hart_commands.specs.Commands.{command_of, known, request_rows}
+use Rattle.hart_commands.specs.Fields.{field, field_bytes, fields_of}
+use Rattle.hart_commands.specs.Parts.{request_data, request_parts}
+use Rattle.hart_commands.specs.RequestData.{IsRequest}
 use Rattle.hart_commands.specs.declared.fields.FieldKind.{FieldKind}
 use Rattle.hart_commands.specs.declared.fields.FieldKind.TheVariants.{Bytes}
 use Rattle.hart_commands.specs.declared.fields.FieldSize.TheVariants.{AllBut}
@@ -16,14 +17,14 @@ use Rattle.hart_commands.specs.declared.request.Request.TheVariants.{ResetChange
 use Rattle.hart_commands.proofs.lemmas.Parts.{spelled, whole}
 
 -- a row that takes all bytes that are left has them
-pub all_left : (name : List ℕ) (kind : FieldKind) (bytes : List ℕ) → 0 < length bytes
+pub all_left : (name : String) (kind : FieldKind) (bytes : List ℕ) → 0 < length bytes
     → field_bytes (fields_of (field name (AllBut 0) kind ∷ []) bytes) ≡ bytes ∷ []
 all_left name kind bytes some = grind (arith, common_steps, nat_tests, take_all)
 
 pub parts_of_request : (request : Request) → IsRequest request
     → field_bytes (fields_of (request_rows (command_of request)) (request_data request)) ≡ request_parts request
-unfolding rows
-parts_of_request (ReadVariables list) is = all_left (codes "device variable codes") Bytes list is.0
+unfolding known
+parts_of_request (ReadVariables list) is = all_left "device variable codes" Bytes list is.0
 parts_of_request (WriteTag tag descriptor date) is = rw (← spelled 6 tag is.0, ← spelled 12 descriptor is.1, ← spelled 3 date is.2.0) refl
 parts_of_request (ResetChanged counter) is = grind arith
 parts_of_request _ is = search (whole, is)

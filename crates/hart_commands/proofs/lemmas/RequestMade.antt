@@ -9,8 +9,8 @@ use Rattle.std.specs.List.{AllByRecursion}
 use Rattle.std.specs.Option.{option_map_or}
 use Rattle.std.specs.Prelude.{is_some}
 use Rattle.hart_values.proofs.lemmas.Laws.{dates_are_decided-date}
-use Rattle.hart_commands.specs.Commands.{Asked, Always, asked, commands, is_known}
-use Rattle.hart_commands.specs.NeededData.{needed_as, needed_data}
+use Rattle.hart_commands.specs.Commands.{Always, Asked, CommandRow, asked, commands, is_known}
+use Rattle.hart_commands.specs.NeededData.{needed_data}
 use Rattle.hart_commands.specs.RequestData.{IsRequest, command_of, read_by, request_data, request_reading}
 use Rattle.hart_commands.specs.RequestReading.{Reading, needing, polling_reading, codes_reading, tag_reading, reset_reading}
 use Rattle.hart_commands.specs.TagBytes.{tag_in, descriptor_in, date_in}
@@ -58,20 +58,23 @@ tag bytes =
     whole = rw (take-add 6 15 bytes, take-add 12 3 (drop 6 bytes), drop-drop 12 6 bytes, append_assoc) refl
 
 -- what is to be seen of a row, so that it gives requests of its number
-abbrev pub Own : ℕ → Asked → Type 0
-Own command (Always request) = (command_of request ≡ command) × IsRequest request × (request_data request ≡ [])
-Own command request = Gives (needed_as command request) command (asked request)
+abbrev pub Own : ℕ → ℕ → Asked → Type 0
+Own command size (Always request) = (size ≡ 0) × (command_of request ≡ command) × IsRequest request × (request_data request ≡ [])
+Own command size request = Gives size command (asked size request)
 
-rows : AllByRecursion (λ row. Own row.number row.request) commands
+abbrev pub OwnRow : CommandRow → Type 0
+OwnRow row = Own row.command.number row.command.needed row.asked
+
+rows : AllByRecursion OwnRow commands
 rows = search (needed, polling, codes, tag, reset)
 
-gives : (command : ℕ) (request : Asked) → Own command request → Gives (needed_as command request) command (asked request)
-gives command request own bytes = grind (arith, common_steps, own)
+gives : (command size : ℕ) (request : Asked) → Own command size request → Gives size command (asked size request)
+gives command size request own bytes = grind (arith, common_steps, own)
 
 pub given : (command : ℕ) (bytes : List ℕ) → IsGiven (is_known command) (needed_data command) command bytes (request_reading command bytes)
-given command bytes = by_row (λ row. Own row.number row.request)
-    (λ row. IsGiven (is_some row) (option_map_or (λ row. needed_as row.number row.request) row 0) command bytes (read_by row bytes))
-    commands command rows (grind arith) (λ row same own. rw (← same) (gives row.number row.request own bytes))
+given command bytes = by_row OwnRow
+    (λ row. IsGiven (is_some row) (option_map_or (λ row. row.command.needed) row 0) command bytes (read_by row bytes))
+    commands command rows (grind arith) (λ row same own. rw (← same) (gives row.command.number row.command.needed row.asked own bytes))
 
 pub requests_have_their_command : (command : ℕ) (bytes : List ℕ) (request : Request) → request_reading command bytes ≡ Ok request
     → (command_of request ≡ command) × IsRequest request

@@ -1,7 +1,7 @@
 //! The data of the contents that are not written in one line of the table.
 ghost use Rattle.std.specs.Prelude.{◌≡◌, ◌+◌, ◌*◌, ◌≤◌, ◌∷◌, ◌++◌, length};
 ghost use Rattle.std.specs.List.{flat_map};
-ghost use Rattle.hart_commands.specs.Values.{unit_value_bytes, variable_bytes};
+ghost use Rattle.hart_commands.specs.Values.{joined, unit_value_bytes, unit_value_parts, variable_bytes};
 
 use crate::{UnitValue, VariableReading};
 use hart_values::{Bits32, PackedText, Payload};
@@ -19,7 +19,7 @@ pub fn push_current(loop_current: Bits32, percent_of_range: Bits32, payload: &mu
 pub fn push_dynamic(loop_current: Bits32, values: &[UnitValue], payload: &mut Payload)
     requires few { length values.now ≤ 4 }
     requires room { length payload.old ≤ 2 }
-    ensures { payload.new ≡ payload.old ++ loop_current.0 ++ flat_map unit_value_bytes values.now }
+    ensures { payload.new ≡ payload.old ++ joined (loop_current.0 ∷ flat_map unit_value_parts values.now) }
 {
     payload.extend_from_slice(&loop_current.0);
     push_values(values, payload);

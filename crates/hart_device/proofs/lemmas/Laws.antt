@@ -1,5 +1,6 @@
 -- The laws of devices, for the proofs of this crate and of those above.
 use Rattle.std.proofs.Common.{arith, ◌≡◌, ◌≢◌, refl, rules, false, true, ℕ, List, [], Ok, Some, slice_get}
+use Rattle.std.proofs.lemmas.Bool.Decides.{nat_tests}
 use Rattle.std.proofs.lemmas.Grind.{common_steps}
 use Rattle.hart_frame.specs.wire.FrameParts.{FrameParts, reply_parts}
 use Rattle.hart_commands.specs.Registers.{AreValid, Contents, Overwrite, overwrite_of, registers_of}
@@ -11,7 +12,7 @@ use Rattle.hart_device.specs.Process.{IsProcess}
 use Rattle.hart_device.specs.answer.Answer.{answer_of, code_of, effect_of, is_answered, reading_of, reply_of, state_after}
 use Rattle.hart_device.specs.declared.process.Process.{Process}
 use Rattle.hart_device.specs.image.Image.{IsImageOf, image_of}
-use Rattle.hart_device.proofs.lemmas.answer.Effect.{answered_if, identity_stays, judged_has_code, refused}
+use Rattle.hart_device.proofs.lemmas.answer.Effect.{answered_if, identity_stays, judged_has_code, refused, write_executes}
 use Rattle.hart_device.proofs.lemmas.answer.Reply.{reply_read}
 use Rattle.hart_device.proofs.lemmas.image.Image.{one_state, written_is}
 pub use Rattle.hart_device.proofs.lemmas.answer.Delivery.{deliveries_bring_one-brings, deliveries_bring_one-one}
@@ -71,4 +72,5 @@ frames_leave_identity_and_protection-identity state frame = search identity_stay
 pub writes_execute_their_overwrite-executes : (state : DeviceState) (frame : FrameParts) (request : Request) (overwrite : Overwrite)
     → is_answered state frame ≡ true → code_of state frame ≡ 0 → reading_of frame ≡ Ok request
     → overwrite_of request ≡ Some overwrite → effect_of state frame ≡ Executes overwrite
-writes_execute_their_overwrite-executes state frame request overwrite answered zero reading is = search rules
+writes_execute_their_overwrite-executes state frame request overwrite answered zero reading is =
+    grind (arith, nat_tests, write_executes request overwrite is)

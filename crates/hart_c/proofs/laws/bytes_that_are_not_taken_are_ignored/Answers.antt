@@ -1,7 +1,8 @@
 use Rattle.std.proofs.Common.{◌≡◌, ◌≤◌, ◌⊎◌, inl, inr, ℕ, List, ◌∷◌, Ok, Some, ap, arith, length, take, refl, subst, sym}
 use Rattle.std.proofs.lemmas.Grind.{common_steps}
 use Rattle.std.proofs.lemmas.List.{length-take, take_all, take_min}
-use Rattle.hart_commands.specs.Fields.{Field, fields_of, request_rows}
+use Rattle.hart_commands.specs.Commands.{request_rows}
+use Rattle.hart_commands.specs.Fields.{Field, fields_of}
 use Rattle.hart_commands.specs.RequestData.{request_data, request_reading}
 use Rattle.hart_commands.specs.ReplyData.{reply_payload, reply_reading}
 use Rattle.hart_commands.specs.declared.reply.Reply.{Reply}
@@ -66,6 +67,9 @@ request_alike command bytes front request before after reading read is same told
     let shown : RequestShown command bytes (Ok request) before after reading = rw read at told in
     (ap (λ (r : HartReading). r.taken) shown.told, rw is (subst P (sym same) shown))
 
+either_fits : (n m : ℕ) → (n ≤ m) ⊎ (m ≤ n)
+either_fits n m = grind arith
+
 pub returns-clause-requests : goal.returns-clause-requests
 returns-clause-requests c command bytes request before after reading fit read told =
     let laws = c.read_data_begin_as_written.ensures in
@@ -75,8 +79,7 @@ returns-clause-requests c command bytes request before after reading fit read to
     let whole : n ≤ length bytes → request_reading command front ≡ Ok request =
     λ enough. rw (laws.whole command bytes request fit read enough, ← made.0) (written_data_are_their_request request made.1) in
     let few : length bytes ≤ n → request_reading command front ≡ Ok request = λ short. rw (take_all n bytes short) read in
-    let cases : (n ≤ length bytes) ⊎ (length bytes ≤ n) = grind arith in
-    let is : request_reading command front ≡ Ok request = elim cases [ inl enough ↦ whole enough | inr short ↦ few short ] in
+    let is : request_reading command front ≡ Ok request = elim (either_fits n (length bytes)) [ inl enough ↦ whole enough | inr short ↦ few short ] in
     let alike = request_alike command bytes front request before after reading read is (again n bytes) told in
     let P = λ (taken : ℕ). RequestOutcome command (take taken bytes) before after reading in
     subst P (sym alike.0) (rw as_many alike.1)

@@ -1,4 +1,4 @@
-use Rattle.std.proofs.Common.{◌≡◌, ◌⊎◌, ℕ, List, Option, None, Some, arith, length, map, refl}
+use Rattle.std.proofs.Common.{◌≡◌, ◌⊎◌, ℕ, List, Option, None, Some, arith, length, map, refl, sym}
 use Rattle.std.proofs.lemmas.Grind.{common_steps}
 use Rattle.hart_frame.specs.wire.FrameParts.{FrameParts}
 use Rattle.hart_frame.specs.wire.Message.{IsMessage}
@@ -69,8 +69,16 @@ module _ (identity : HartIdentity) (process : HartProcess) (heard : List HartCha
   in_state : (fault : Fault) → IsInState identity device → IsStateFault identity device fault → ⊥
   in_state fault is why = grind (arith, images_have_no_fault is.0 (image_in device))
 
+  -- where there is no room for the reply, all else is in order
+  only_no_room : (room : ℕ) (fault : Fault) → IsHearing identity process heard device
+      → IsHearFault identity process heard device room fault → NoRoom ≡ fault
+  only_no_room room NoRoom hearing why = refl
+  only_no_room room fault hearing why = grind (arith, in_state fault (hearing.state, hearing.kept))
+
   one_hear_fault : (c : After-bytes_have_one_image_fault) (room : ℕ) (fault other : Fault)
       → IsHearFault identity process heard device room fault → IsHearFault identity process heard device room other → fault ≡ other
+  one_hear_fault c room NoRoom other why because = only_no_room room other why.0 because
+  one_hear_fault c room fault NoRoom why because = sym (only_no_room room fault because.0 why)
   one_hear_fault c room (Device fault) other why because = grind (arith, c.bytes_have_one_image_fault.ensures, in_state (Device fault))
   one_hear_fault c room fault other why because = grind (arith, in_state other)
 

@@ -4,7 +4,7 @@ use Rattle.std.proofs.lemmas.Grind.{common_steps}
 use Rattle.std.proofs.lemmas.List.{take-append-drop}
 use Rattle.std.proofs.lemmas.Option.{slice_get_cases}
 use Rattle.std.specs.Prelude.{if◌then◌else◌, ◌==◌}
-use Rattle.hart_commands.specs.Commands.{content_bytes}
+use Rattle.hart_commands.specs.Parts.{content_bytes}
 use Rattle.hart_commands.specs.FieldWidths.{HasWidthOfKind}
 use Rattle.hart_commands.specs.Fields.{Field, Row, bytes_of, fields_of}
 use Rattle.hart_commands.specs.RequestData.{Reading, request_data, request_reading}

@@ -1,14 +1,15 @@
 use Rattle.std.proofs.Common.{◌≡◌, ℕ, List, length, take, arith}
 use Rattle.std.proofs.lemmas.Grind.{common_steps}
 use Rattle.std.proofs.lemmas.List.{take_all}
-use Rattle.hart_commands.specs.Fields.{fields_of, request_rows, rows}
+use Rattle.hart_commands.specs.Commands.{known, request_rows}
+use Rattle.hart_commands.specs.Fields.{fields_of}
 use Rattle.hart_commands.proofs.lemmas.RequestMade.{begun}
 use Rattle.hart_commands.proofs.laws.read_data_begin_as_written.Goals as goal
 
 -- An address without its mode is the first of the two fields.
 first_field : (written : List ℕ) → length written ≡ 2
     → fields_of (request_rows 6) (take 1 written) ≡ take 1 (fields_of (request_rows 6) written)
-unfolding rows
+unfolding known
 first_field written two = grind arith
 
 pub returns : goal.returns

@@ -1,9 +1,11 @@
 use Rattle.hart_commands.specs.declared.register.Register.TheVariants.{Polling, Message, Tag, Assembly, LongTag}
 use Rattle.hart_commands.specs.declared.request.Request.TheVariants.{SetPolling, WriteMessage, WriteTag, WriteAssembly, WriteLongTag}
+use Rattle.hart_commands.specs.Commands.{written_by}
 use Rattle.hart_commands.proofs.laws.writes_have_overwrites.Goals as goal
 
 -- Every configuration write names a register.
 pub returns-clause-some_register : goal.returns-clause-some_register
+unfolding written_by
 returns-clause-some_register c (SetPolling address mode) write = (Polling, cc)
 returns-clause-some_register c (WriteMessage message) write = (Message, cc)
 returns-clause-some_register c (WriteTag tag descriptor date) write = (Tag, cc)

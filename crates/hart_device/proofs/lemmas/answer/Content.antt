@@ -9,7 +9,7 @@ use Rattle.std.proofs.lemmas.Option.{get_or_from_slice_get, slice_get_within}
 use Rattle.std.specs.List.{flat_map}
 use Rattle.std.specs.Simd.{first_chunks}
 use Rattle.hart_values.specs.declared.bits32.Bits32.{Bits32}
-use Rattle.hart_commands.specs.Commands.{content_bytes}
+use Rattle.hart_commands.specs.Parts.{content_bytes}
 use Rattle.hart_commands.specs.Registers.{AreValid}
 use Rattle.hart_commands.specs.ReplyData.{content_reading}
 use Rattle.hart_commands.specs.ReplyReading.{dynamic_reading, saying, tag_of, variables_reading}
@@ -20,13 +20,14 @@ use Rattle.hart_commands.specs.declared.register.Register.{Register}
 use Rattle.hart_commands.specs.declared.request.Request.{Request}
 use Rattle.hart_commands.specs.declared.value.UnitValue.{UnitValue}
 use Rattle.hart_commands.specs.declared.value.VariableReading.{VariableReading}
-use Rattle.hart_commands.proofs.lemmas.Parts.{by_spelling, spelled, whole}
+use Rattle.hart_commands.proofs.lemmas.Parts.{by_spelling, joined_values, spelled, whole}
 use Rattle.hart_device.specs.Device.{DeviceState}
 use Rattle.hart_device.specs.Process.{IsFloat, IsProcess, dynamic_variables}
 use Rattle.hart_device.specs.answer.Content.{reply_content, unit_value}
 use Rattle.hart_device.specs.answer.Variables.{variable_of_code, variable_reading}
 use Rattle.hart_device.specs.declared.process.Process.{Process}
 use Rattle.hart_device.specs.declared.process.ProcessVariable.{ProcessVariable}
+use Rattle.hart_commands.specs.Commands as commands
 use Rattle.hart_commands.specs.declared.content.ReplyContent.TheVariants as replied
 use Rattle.hart_commands.specs.declared.register.Register.TheVariants as registers
 use Rattle.hart_commands.specs.declared.request.Request.TheVariants as requested
@@ -57,7 +58,7 @@ abbrev pub IsReadAgain : ℕ → ReplyContent → Type 0
 IsReadAgain command content = content_reading command (content_bytes content) ≡ Some content
 
 tag_said : (tag descriptor date : List ℕ) → length tag ≡ 6 → length descriptor ≡ 12 → length date ≡ 3
-    → saying 21 tag_of (tag ++ descriptor ++ date) ≡ Some (replied.Tag tag descriptor date)
+    → saying 21 tag_of (tag ++ (descriptor ++ date)) ≡ Some (replied.Tag tag descriptor date)
 tag_said tag descriptor date of_tag of_descriptor of_date =
     rw (← spelled 6 tag of_tag, ← spelled 12 descriptor of_descriptor, ← spelled 3 date of_date) refl
 
@@ -90,10 +91,12 @@ variable_is_float process is code = grind (arith, dynamic_floats process is, get
 -- What a device replies with code 0 to a well-made request is read again.
 pub content_again : (state : DeviceState) (process : Process) → AreValid state.contents → IsProcess process → (request : Request)
     → IsRequest request → IsReadAgain (command_of request) (reply_content state process request)
+unfolding commands.replied
 content_again state process valid is requested.ReadDynamic made =
+    rw (joined_values process.loop_current.0 (map unit_value (dynamic_variables process))) (
     dynamic_said process.loop_current (map unit_value (dynamic_variables process)) is.loop_current
     (grind (arith, length-map)) (grind (arith, length-map, is.few))
-    (All-map (λ (v : UnitValue). IsFloat v.value) unit_value (dynamic_variables process) (dynamic_floats process is))
+    (All-map (λ (v : UnitValue). IsFloat v.value) unit_value (dynamic_variables process) (dynamic_floats process is)))
 content_again state process valid is (requested.ReadVariables codes) made =
     variables_said _ (map (variable_reading process) codes) process.time_stamp
     (grind (arith, length-map, made)) (grind (arith, length-map, made))

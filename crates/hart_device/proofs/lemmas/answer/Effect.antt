@@ -5,6 +5,7 @@ use Rattle.std.proofs.lemmas.Bool.Decides.{nat_tests}
 use Rattle.hart_values.specs.EachMaster.{with_master}
 use Rattle.hart_values.specs.declared.master_id.MasterId.{MasterId}
 use Rattle.hart_frame.specs.wire.FrameParts.{FrameParts, reply_parts}
+use Rattle.hart_commands.specs.Commands.{written_by}
 use Rattle.hart_commands.specs.Registers.{Overwrite, overwrite_of}
 use Rattle.hart_commands.specs.ReplyData.{reply_payload}
 use Rattle.hart_commands.specs.RequestCode.{data_code}
@@ -34,6 +35,7 @@ effect_is_asked state frame answered = grind (arith, nat_tests)
 -- A write executes its overwrite.
 pub write_executes : (request : Request) (overwrite : Overwrite) → overwrite_of request ≡ Some overwrite
     → asked_effect (Ok request) ≡ Executes overwrite
+unfolding written_by
 write_executes request overwrite is = grind arith
 
 -- An effect is that of an answer with code 0, and is what was asked: only a write executes an overwrite, its own.

@@ -64,12 +64,24 @@ turn_answered start world who up Silent Sent sent answer process line after mid 
     answered start world up (sent_by who (of_master who world.hands)) answer process line after mid new s same says.0
     (answers (sent_by who (of_master who world.hands)) says.1) count replies
 
+-- A device that is brought no frame stays as it is.
+unheard : (state : DeviceState) (brought : Brought) → frame_in brought ≡ None → state_after_delivery state brought ≡ state
+unheard state (OneFrame frame) none = cc
+unheard state brought none = refl
+
 -- If nothing was said, as in noise, the line stands for the world in which the device has replied to what it was brought.
 pub replied_stands : (start : Start) (world : World) (heard : Heard) (answer : Option FrameParts) (line : LineState)
     → (a : IsAnswered start world heard None answer line.device line.spoken) → AreHeld start.retries world.hands line.masters
     → line.outcomes ≡ world.outcomes → line.response_preambles ≡ start.device.identity.response_preambles
     → Stands start (replied start world a.brought) line
-replied_stands start world heard answer line a held same preambles_are = grind (arith, common_steps, none_reaches)
+replied_stands start world heard answer line a held same preambles_are = record {
+  device_is = a.after_is ∙ unheard (state_of start.device world) a.brought
+      (none_reaches start.device.identity heard a.brought a.arrives);
+  masters_are = held;
+  outcomes_are = same;
+  spoken_are = a.spoken_are;
+  preambles_are = preambles_are;
+}
 
 -- What an answer leaves is what its command leaves, but for the cold start bit of its master; silence leaves all.
 answer_leaves : (answered zero : Bool) (asked : Effect) (id : MasterId) (state : DeviceState)

@@ -1,6 +1,6 @@
 -- What an option and a list hold, and what one of two masters has.
 use Rattle.std.proofs.Common.{◌≡◌, ◌≢◌, ℕ, arith, Option, None, Some, inl, inr, refl, List, [], ◌∷◌, ◌++◌, length, slice_set, ◌⊎◌}
-use Rattle.std.proofs.Common.{◌-◌, ◌==◌, if◌then◌else◌}
+use Rattle.std.proofs.Common.{◌-◌, ◌==◌, if◌then◌else◌, IsSome}
 use Rattle.std.proofs.lemmas.Bool.Decides.{nat_tests}
 use Rattle.std.specs.List.{slice_get}
 use Rattle.std.specs.Option.{option_or, option_map}
@@ -11,6 +11,10 @@ use Rattle.hart_values.specs.declared.master_id.MasterId.{MasterId}
 -- Options that are one hold one thing.
 pub some_one : {A : Type 0} {x y : A} → Some x ≡ Some y → x ≡ y
 some_one is = cc
+
+pub some_of : {A : Type 0} (a : Option A) → IsSome a → (x : A) × (a ≡ Some x)
+some_of None is = cc
+some_of (Some x) is = (x, refl)
 
 pub none_or_some : {A : Type 0} (a : Option A) → (a ≡ None) ⊎ (x : A) × (a ≡ Some x)
 none_or_some None = inl refl

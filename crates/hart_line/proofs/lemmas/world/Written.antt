@@ -29,7 +29,7 @@ use Rattle.hart_line.specs.world.Promises.{IsUnrefusedWrite, brought_in_step, re
 use Rattle.hart_line.specs.world.Step.{effect_on, executions_after, spoken_request, submitted, IsLast}
 use Rattle.hart_line.specs.world.World.{Execution, Start, World, first_world, state_of, InHand, overwrites_of}
 use Rattle.hart_line.specs.world.Executions.{has_execution_of, last_executions}
-use Rattle.hart_line.proofs.lemmas.world.Basics.{some_one}
+use Rattle.hart_line.proofs.lemmas.world.Basics.{some_of, some_one}
 use Rattle.hart_line.proofs.lemmas.world.Steps.{entered, turn_cases, Submits, Sends, Stays, along, step_cases, frame_in}
 use Rattle.hart_line.proofs.lemmas.world.Submitted.{held_in, made_of, request_there}
 
@@ -49,7 +49,18 @@ turn_executed start events made before next who up down here write =
           let there = (held_in start events here who s.held s.in_hand).submitted_as in
           let sent : here.step.brought ≡ OneFrame (spoken_request who s.held).frame = grind arith in
           let read = written_data_are_their_request s.held.request (made_of events s.held.submission _ made there) in
-          grind (arith, common_steps, writes_have_overwrites-exactly, writes_execute_their_overwrite-executes))
+          let (served, is_answered, zero) = rw sent at write in
+          let (overwrite, is) = some_of (overwrite_of s.held.request) ((writes_have_overwrites-exactly s.held.request).0 served) in
+          let effect = writes_execute_their_overwrite-executes (state_of start.device before) (spoken_request who s.held).frame
+          s.held.request overwrite is_answered zero read is in
+          record {
+            held = s.held;
+            in_hand = s.in_hand;
+            submitted_as = there;
+            overwrite = overwrite;
+            overwrites = is;
+            executed = rw (s.next_is, sent, effect) refl;
+          })
       | inr silent ↦ (let none = silent.0 in absurd (grind arith))
     ]
 
@@ -129,10 +140,10 @@ are_writes start events made = along start (first_world start) events (λ es wor
 
 -- LAST EXECUTIONS
 -- A later execution of the submission has the same overwrite.
-contains_again : (requests : List Request) (execution : Execution) (later : List Execution)
-    → AreWritesOf requests (execution ∷ later)
+contains_again : (writes : ℕ → Option Overwrite) (execution : Execution) (later : List Execution)
+    → All (λ e. writes e.submission ≡ Some e.overwrite) (execution ∷ later)
     → has_execution_of execution.submission later ≡ true → Contains (overwrites_of later) execution.overwrite
-contains_again requests execution later all executed =
+contains_again writes execution later all executed =
     let (k, e, within, is, same) = Any-from_list_any (λ (e : Execution). e.submission == execution.submission) later executed in
     let first = all 0 execution (omega arith) in let other = all (k + 1) e (omega (arith, within)) in
     (k, grind (arith, length-map), grind (arith, elements, nat_tests, get_or-map))
@@ -151,7 +162,7 @@ registers_of-last : (requests : List Request) (executions : List Execution) → 
     → registers_of (overwrites_of executions) initial ≡ registers_of (overwrites_of (last_executions executions)) initial
 registers_of-last requests [] all initial = refl
 registers_of-last requests (e ∷ later) all initial = last_by_submission e later initial (has_execution_of e.submission later)
-    (contains_again requests e later all) (registers_of-last requests later (λ k unused within. all (suc k) unused (omega arith)))
+    (contains_again (write_of requests) e later all) (registers_of-last requests later (λ k unused within. all (suc k) unused (omega arith)))
 
 -- THE HEADLINE
 pub registers_last : (start : Start) (events : List LineEvent) (last : World) → IsLast start events last → AreWellMade events

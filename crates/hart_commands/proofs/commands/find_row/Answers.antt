@@ -1,17 +1,13 @@
-use Rattle.std.proofs.Common.{◌≡◌, arith, rules, Bool, List, [], ◌∷◌, map, refl}
+use Rattle.std.proofs.Common.{◌≡◌, arith, rules}
 use Rattle.std.proofs.lemmas.Bool.Decides.{nat_tests}
 use Rattle.std.proofs.lemmas.Iterator.{YieldsList-from_slice}
 use Rattle.std.proofs.lemmas.Iterator.Search.{find_from_yields_List}
 use Rattle.std.specs.Bool.{◌==◌}
 use Rattle.std.specs.List.{find}
 use Rattle.std.specs.Option.{option_map}
-use Rattle.hart_commands.specs.Fields.{seen_command}
-use Rattle.hart_commands.proofs.fields.find_row.Goals as goal
-
--- What is seen of the first row that passes a test is the first that passes it among what is seen of the rows.
-find-map : {X Y : Type 0} (v : X → Y) (p : Y → Bool) (xs : List X) → option_map v (find (λ x. p (v x)) xs) ≡ find p (map v xs)
-find-map v p [] = refl
-find-map v p (x ∷ xs) = grind (arith, find-map v p xs)
+use Rattle.hart_commands.specs.Commands.{seen_command}
+use Rattle.hart_commands.proofs.lemmas.Rows.{find-map}
+use Rattle.hart_commands.proofs.commands.find_row.Goals as goal
 
 -- The first row with the number is the first of them that is seen to have it.
 pub returns : goal.returns

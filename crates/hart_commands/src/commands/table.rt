@@ -1,13 +1,16 @@
-//! The table of the names of the commands and of their fields (HCF_SPEC-099, HCF_SPEC-127).
-use crate::fields::FieldSize::{AllBut, Exactly};
-use crate::fields::{FieldKind, FieldRow};
+//! The table of the commands (HCF_SPEC-099, HCF_SPEC-127).
+use crate::FieldSize::{AllBut, Exactly};
+use crate::{FieldKind, FieldRow, Register};
 
-/// A command: its number, its name, the fields of its request data, and those of its reply data with code 0.
-pub struct CommandFields {
+/// A command: its number, its name, the fields of its request data, how many bytes of them it needs, the fields of its reply data with code
+/// 0, and the registers that it writes, the first of which gets the first field of the request, and so on.
+pub struct Command {
     pub number: u8,
     pub name: &'static str,
     pub request: &'static [FieldRow],
+    pub needed: u8,
     pub reply: &'static [FieldRow],
+    pub writes: &'static [Register],
 }
 
 /// Fields, one a line.
@@ -19,13 +22,12 @@ macro_rules! fields {
 
 /// Commands, one a line.
 macro_rules! commands {
-    ($($number:literal, $name:literal, $request:expr, $reply:expr;)*) => {
-        &[$(CommandFields { number: $number, name: $name, request: $request, reply: $reply }),*]
+    ($($number:literal, $name:literal, $request:expr, $needed:literal, $reply:expr, [$($register:ident),*];)*) => {
+        &[$(Command {
+            number: $number, name: $name, request: $request, needed: $needed, reply: $reply, writes: &[$(Register::$register),*]
+        }),*]
     };
 }
-
-/// No fields.
-const NONE: &[FieldRow] = &[];
 
 /// The fields of an identity, which begins with 254 (Commands 0, 11 and 21).
 const IDENTITY: &[FieldRow] = fields! {
@@ -86,18 +88,12 @@ const CLASSES: &[FieldRow] = fields! {
     "quaternary variable classification", Exactly(1), Number;
 };
 
-/// The codes of the device variables that are asked for (Command 9).
-const VARIABLE_CODES: &[FieldRow] = fields! { "device variable codes", AllBut(0), Bytes; };
-
 /// The device variables that were asked for, between an extended device status and their time stamp (Command 9).
 const VARIABLES: &[FieldRow] = fields! {
     "extended device status", Exactly(1), Bytes;
     "device variables", AllBut(4), Variables;
     "time stamp", Exactly(4), Bytes;
 };
-
-/// The tag (Command 11).
-const TAG: &[FieldRow] = fields! { "tag", Exactly(6), PackedText; };
 
 /// The message (Commands 12 and 17).
 const MESSAGE: &[FieldRow] = fields! { "message", Exactly(24), PackedText; };
@@ -140,31 +136,29 @@ const LONG_TAG: &[FieldRow] = fields! { "long tag", Exactly(32), Bytes; };
 /// The configuration change counter (Command 38).
 const COUNTER: &[FieldRow] = fields! { "configuration change counter", Exactly(2), Number; };
 
-/// The additional status bytes that there are (Command 48).
-const STATUS: &[FieldRow] = fields! { "additional status", AllBut(0), Bytes; };
-
-/// The commands that are known.
-pub const ROWS: &[CommandFields] = commands! {
-    0, "read unique identifier", NONE, IDENTITY;
-    1, "read primary variable", NONE, PRIMARY;
-    2, "read loop current and percent of range", NONE, CURRENT;
-    3, "read dynamic variables and loop current", NONE, DYNAMIC;
-    6, "write polling address", POLLING, POLLING;
-    7, "read loop configuration", NONE, POLLING;
-    8, "read dynamic variable classifications", NONE, CLASSES;
-    9, "read device variables with status", VARIABLE_CODES, VARIABLES;
-    11, "read unique identifier associated with tag", TAG, IDENTITY;
-    12, "read message", NONE, MESSAGE;
-    13, "read tag, descriptor, date", NONE, TAG_AND_MORE;
-    14, "read primary variable transducer information", NONE, SENSOR;
-    15, "read device information", NONE, OUTPUT;
-    16, "read final assembly number", NONE, ASSEMBLY;
-    17, "write message", MESSAGE, MESSAGE;
-    18, "write tag, descriptor, date", TAG_AND_MORE, TAG_AND_MORE;
-    19, "write final assembly number", ASSEMBLY, ASSEMBLY;
-    20, "read long tag", NONE, LONG_TAG;
-    21, "read unique identifier associated with long tag", LONG_TAG, IDENTITY;
-    22, "write long tag", LONG_TAG, LONG_TAG;
-    38, "reset configuration changed flag", COUNTER, COUNTER;
-    48, "read additional device status", NONE, STATUS;
+/// The commands that are known, each with a row: number, name, request fields, bytes needed, reply fields, registers written. Command 6
+/// needs one byte of its two.
+pub const TABLE: &[Command] = commands! {
+    0, "read unique identifier", &[], 0, IDENTITY, [];
+    1, "read primary variable", &[], 0, PRIMARY, [];
+    2, "read loop current and percent of range", &[], 0, CURRENT, [];
+    3, "read dynamic variables and loop current", &[], 0, DYNAMIC, [];
+    6, "write polling address", POLLING, 1, POLLING, [Polling, Mode];
+    7, "read loop configuration", &[], 0, POLLING, [];
+    8, "read dynamic variable classifications", &[], 0, CLASSES, [];
+    9, "read device variables with status", fields! { "device variable codes", AllBut(0), Bytes; }, 1, VARIABLES, [];
+    11, "read unique identifier associated with tag", fields! { "tag", Exactly(6), PackedText; }, 6, IDENTITY, [];
+    12, "read message", &[], 0, MESSAGE, [];
+    13, "read tag, descriptor, date", &[], 0, TAG_AND_MORE, [];
+    14, "read primary variable transducer information", &[], 0, SENSOR, [];
+    15, "read device information", &[], 0, OUTPUT, [];
+    16, "read final assembly number", &[], 0, ASSEMBLY, [];
+    17, "write message", MESSAGE, 24, MESSAGE, [Message];
+    18, "write tag, descriptor, date", TAG_AND_MORE, 21, TAG_AND_MORE, [Tag, Descriptor, Date];
+    19, "write final assembly number", ASSEMBLY, 3, ASSEMBLY, [Assembly];
+    20, "read long tag", &[], 0, LONG_TAG, [];
+    21, "read unique identifier associated with long tag", LONG_TAG, 32, IDENTITY, [];
+    22, "write long tag", LONG_TAG, 32, LONG_TAG, [LongTag];
+    38, "reset configuration changed flag", COUNTER, 2, COUNTER, [];
+    48, "read additional device status", &[], 0, fields! { "additional status", AllBut(0), Bytes; }, [];
 };

@@ -1,0 +1,85 @@
+//! What the table says of each command (HCF_SPEC-099, HCF_SPEC-127).
+ghost use Rattle.std.specs.Prelude.{◌≡◌, ◌==◌, find, map, option_map};
+ghost use Rattle.hart_commands.specs.Commands.{command_name, is_known, known, reply_rows, request_rows, seen_command};
+ghost use Rattle.hart_commands.specs.Fields.{seen};
+ghost use Rattle.hart_commands.specs.NeededData.{needed_data};
+ghost use Rattle.hart_commands.specs.RequestCode.{is_write};
+
+use crate::FieldRow;
+use crate::commands::table::{Command, TABLE};
+
+mod table;
+
+/// Whether a command is known.
+#[tactic(auto, unfolding(crate::specs::Commands::known))]
+pub fn is_known(command: u8) -> bool
+    ensures { result ≡ is_known command }
+{
+    row_for(command).is_some()
+}
+
+/// Returns the name of a command in the standard, or `None` if the command is not known (HCF_SPEC-099).
+pub fn command_name(command: u8) -> Option<&'static str>
+    ensures { option_map (λ name. name.now) result ≡ command_name command }
+{
+    Some(row_for(command)?.name)
+}
+
+/// Returns the fields of the data of a request of this command, in their order; none if the command is not known. Data after those that
+/// the command takes are no field: they have to be cut off before.
+pub fn request_rows(command: u8) -> &'static [FieldRow]
+    ensures { map seen result.now ≡ request_rows command }
+{
+    match row_for(command) {
+        Some(row) => row.request,
+        None => &[],
+    }
+}
+
+/// Returns the fields of the data of a reply to this command with response code 0, in their order; none if the command is not known.
+/// Data after those that the reply says are no field.
+pub fn reply_rows(command: u8) -> &'static [FieldRow]
+    ensures { map seen result.now ≡ reply_rows command }
+{
+    match row_for(command) {
+        Some(row) => row.reply,
+        None => &[],
+    }
+}
+
+/// Returns how many data bytes a request of this command needs. Fewer are refused with code 5, too few data bytes; but Command 38 may
+/// have none. The number is 0 if the command needs none, or is not known (HCF_SPEC-127).
+#[tactic(auto, unfolding(crate::specs::Commands::known))]
+pub fn needed_data(command: u8) -> usize
+    ensures { result ≡ needed_data command }
+{
+    match row_for(command) {
+        Some(row) => usize::from(row.needed),
+        None => 0,
+    }
+}
+
+/// Whether a command is a configuration write, which writes a register: 6, 17, 18, 19 or 22.
+#[tactic(auto, unfolding(crate::specs::Commands::known, crate::specs::Commands::written_by))]
+pub fn is_write(command: u8) -> bool
+    ensures { result ≡ is_write command }
+{
+    match row_for(command) {
+        Some(row) => !row.writes.is_empty(),
+        None => false,
+    }
+}
+
+/// Returns the row of a command, if it has one.
+fn row_for(command: u8) -> Option<&'static Command>
+    ensures { option_map (λ row. seen_command row.now) result ≡ known command }
+{
+    find_row(TABLE, command)
+}
+
+/// Returns the first row with this number.
+fn find_row(rows: &'static [Command], command: u8) -> Option<&'static Command>
+    ensures { option_map (λ row. seen_command row.now) result ≡ find (λ row. row.number == command) (map seen_command rows.now) }
+{
+    rows.iter().find(|row| row.number == command)
+}
