@@ -97,19 +97,26 @@ impl Call<'_> {
             Call::Explain => explain(alloc, reader, writer),
             Call::Answer(image) => answer(alloc, image, reader, writer),
             Call::Simulate(image) => simulate(alloc, image, reader, writer),
-            Call::Encode {
-                who,
-                address,
-                command,
-                data,
-                preambles,
-            } => {
-                if !is_preamble_count(preambles) {
-                    return Err("a number of preamble bytes".into());
-                }
-                encode_text(alloc, who, address, command, data, preambles, writer)
-            }
+            Call::Encode { .. } => return self.encode(alloc, writer),
         })
+    }
+
+    /// Makes the call of `encode_text`, and no other.
+    fn encode<W: Sink>(self, alloc: Global, writer: &mut W) -> Result<Result<(), CliFault>, Fail> {
+        let Call::Encode {
+            who,
+            address,
+            command,
+            data,
+            preambles,
+        } = self
+        else {
+            return Err("another call".into());
+        };
+        if !is_preamble_count(preambles) {
+            return Err("a number of preamble bytes".into());
+        }
+        Ok(encode_text(alloc, who, address, command, data, preambles, writer))
     }
 }
 
