@@ -20,30 +20,31 @@ use Rattle.hart_commands.specs.RequestReading.{Reading, needing, polling_reading
 use Rattle.hart_commands.specs.SensorBytes.{sensor_of}
 use Rattle.hart_commands.specs.Values.{unit_value_of}
 
--- The data of a request ask the same whatever they are, or the bytes that the command needs ask, or they are read in a way of their own.
+-- How the data of a request are read: they always ask the same; or the bytes that the command needs say what is asked; or they have a
+-- reading of their own.
 pub data Asked : Type 0 where
   Always : Request → Asked
   Needing : (List ℕ → Request) → Asked
   AskedBy : (List ℕ → Reading) → Asked
 
--- The request that data of a command ask so, if it needs so many bytes, or the code that refuses them.
+-- The request that data ask of a command that needs this number of bytes, or the code that refuses them.
 abbrev pub asked : ℕ → Asked → List ℕ → Reading
 asked needed (Always request) bytes = Ok request
 asked needed (Needing request) bytes = needing needed request bytes
 asked needed (AskedBy reading) bytes = reading bytes
 
--- The bytes of the fields of a reply say its content, or they are read in a way of their own.
+-- How the data of a reply are read: the bytes of its fields say the content, or they have a reading of their own.
 pub data Replied : Type 0 where
   Saying : (List ℕ → ReplyContent) → Replied
   SaidBy : (List ℕ → Option ReplyContent) → Replied
 
--- The content that data with these fields say so, if they say one.
+-- The content that data with these fields say, if they say one.
 unfoldable pub replied : List Row → Replied → List ℕ → Option ReplyContent
 replied fields (Saying content) bytes = saying (total fields) content bytes
 replied fields (SaidBy reading) bytes = reading bytes
 
 -- A command has a number, a name, the fields of its request data, how many bytes of them it needs, the fields of its reply data with code
--- 0, and the registers that it writes, the first of which gets the first field of the request, and so on.
+-- 0, and the registers that it writes. The first register gets the first part of the written request data, and so on.
 pub record Command : Type 0 where
   pub number : ℕ
   pub name : List ℕ
@@ -58,7 +59,7 @@ pub record CommandRow : Type 0 where
   pub asked : Asked
   pub replied : Replied
 
--- The row of a command with data of its own, written in one line.
+-- The row of a command that writes no register, in one line.
 abbrev pub asks : ℕ → String → List Row → ℕ → Asked → List Row → Replied → CommandRow
 asks number name request needed asked reply replied = record {
   command = record { number = number; name = text name; request = request; needed = needed; reply = reply; writes = [] };
@@ -66,7 +67,7 @@ asks number name request needed asked reply replied = record {
   replied = replied;
 }
 
--- The row of a command that has no data, and asks a request.
+-- The row of a command without request data, which always ask the same.
 abbrev pub reads : ℕ → String → Request → List Row → Replied → CommandRow
 reads number name request reply replied = asks number name [] 0 (Always request) reply replied
 
@@ -130,7 +131,7 @@ known number = option_map (λ row. row.command) (command_row number)
 abbrev pub command_name : ℕ → Option (List ℕ)
 command_name number = option_map (λ command. command.name) (known number)
 
--- The fields of the data that its requests need, none if it has no row.
+-- The fields of the data of its requests, none if it has no row.
 abbrev pub request_rows : ℕ → List Row
 request_rows number = option_map_or (λ command. command.request) (known number) []
 

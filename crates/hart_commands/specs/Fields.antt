@@ -23,10 +23,10 @@ pub record Row : Type 0 where
 abbrev pub field : String → FieldSize → FieldKind → Row
 field name size kind = record { name = text name; size = size; kind = kind }
 
--- The least number of bytes that a field has.
+-- The least number of bytes that a field has: one that takes all but the last bytes has one at least.
 abbrev pub least : FieldSize → ℕ
 least (Exactly size) = size
-least (AllBut after) = after + 1
+least (AllBut after) = 1
 
 -- The least number of bytes that fields have together.
 abbrev pub total : List Row → ℕ

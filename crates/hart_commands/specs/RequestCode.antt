@@ -6,7 +6,7 @@ use Rattle.hart_commands.specs.declared.request.Request.TheVariants.{ResetChange
 use Rattle.hart_commands.specs.Commands.{written_by}
 use Rattle.hart_commands.specs.RequestData.{Reading}
 
--- Some register, if there is one.
+-- Whether the list has a register.
 abbrev pub are_some : List Register → Bool
 are_some [] = false
 are_some (register ∷ registers) = true

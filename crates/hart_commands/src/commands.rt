@@ -25,8 +25,8 @@ pub fn command_name(command: u8) -> Option<&'static str>
     Some(row_for(command)?.name)
 }
 
-/// Returns the fields of the data of a request of this command, in their order; none if the command is not known. Data after those that
-/// the command takes are no field: they have to be cut off before.
+/// Returns the fields of the data of a request of this command, in their order; none if the command is not known. Bytes after the data
+/// that the command takes belong to no field.
 pub fn request_rows(command: u8) -> &'static [FieldRow]
     ensures { map seen result.now ≡ request_rows command }
 {

@@ -3,7 +3,7 @@ ghost use Rattle.std.specs.Prelude.{◌≡◌, ◌≢◌, ◌==◌, ◌||◌, �
 ghost use Rattle.std.specs.Prelude.{IsTrue, IsSome, drop, is_some, length, take};
 ghost use Rattle.hart_commands.specs.RequestData.{IsRequest, MayFollow, command_of, is_known};
 ghost use Rattle.hart_commands.specs.RequestData.{request_reading, request_data};
-ghost use Rattle.hart_commands.specs.Commands.{command_name, reply_rows, request_rows};
+ghost use Rattle.hart_commands.specs.Commands.{command_name, reply_rows, request_rows, written_by};
 ghost use Rattle.hart_commands.specs.Fields.{bytes_of, field_bytes, fields_of};
 ghost use Rattle.hart_commands.specs.FieldWidths.{HasWidthOfKind};
 ghost use Rattle.hart_commands.specs.NeededData.{AreTooFew, needed_data};
@@ -86,13 +86,15 @@ pub fn all_registers_are_listed_once()
     ensures once { AllPairs (λ register other. register ≢ other) registers }
 {}
 
-/// A request has an overwrite exactly if its command is a configuration write; then it names a register, and no other request
-/// names one.
+/// A request has an overwrite exactly if its command is a configuration write; then it names a register for each part of its data, and no
+/// other request names one.
 #[tactic(auto, unfolding(crate::specs::Commands::written_by))]
 pub fn writes_have_overwrites()
     ensures exactly { (request : Request) → IsTrue (is_write (command_of request)) ↔ IsSome (overwrite_of request) }
     ensures some_register { (request : Request) → IsTrue (is_write (command_of request))
         → (register : Register) × IsSome (named_in request register) }
+    ensures every_part { (request : Request) → IsTrue (is_write (command_of request))
+        → length (written_by (command_of request)) ≡ length (request_parts request) }
     ensures only_writes { (request : Request) (register : Register) → IsSome (named_in request register)
         → IsTrue (is_write (command_of request)) }
 {}

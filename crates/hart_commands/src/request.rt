@@ -123,8 +123,7 @@ impl Request {
         Request::read(self.command(), data.as_slice()).unwrap()
     }
 
-    /// Replaces `data` by the bytes that ask it: those that the command needs, and none after them. Command 6 is always
-    /// written with both of its bytes.
+    /// Replaces `data` by the bytes that ask it, and none after them. Command 6 is always written with both of its bytes.
     pub fn write(&self, data: &mut Payload)
         ensures written { «data».new ≡ request_data self.now }
         ensures well_made { IsRequest self.now }
@@ -137,7 +136,7 @@ impl Request {
         data.extend_from_slice(parts.third);
     }
 
-    /// How many bytes [`Request::write`] gives: so many that the command needs, and always two for Command 6.
+    /// Returns how many bytes [`Request::write`] gives.
     pub fn data_len(&self) -> usize
         ensures len { result ≡ length (request_data self.now) }
         ensures few { result ≤ 32 }

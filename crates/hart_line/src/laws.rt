@@ -7,7 +7,6 @@ ghost use Rattle.hart_values.specs.declared.master_id.MasterId.{MasterId};
 ghost use Rattle.hart_frame.specs.heard.Character.{Character};
 ghost use Rattle.hart_commands.specs.declared.content.ReplyContent.TheVariants.{Identity};
 ghost use Rattle.hart_commands.specs.declared.reply.Reply.{Reply};
-ghost use Rattle.hart_device.specs.Device.{DeviceState};
 ghost use Rattle.hart_device.specs.Identity.{AreIdentityParts, identity_content, own_numbers};
 ghost use Rattle.hart_device.specs.answer.Answer.{after_refusal};
 ghost use Rattle.hart_device.specs.declared.identity_parts.IdentityParts.{IdentityParts};
@@ -18,7 +17,6 @@ ghost use Rattle.hart_line.specs.script.Rows.{HasFirstBadLine, IsScript, IsScrip
 ghost use Rattle.hart_line.specs.script.Words.{IsAddressWord, IsCommandWord, IsDataWord, IsWho};
 ghost use Rattle.hart_line.specs.world.Faults.{AreAllDetected, IsFault, IsNotDetectable};
 ghost use Rattle.hart_line.specs.world.Kept.{KeepsPromises};
-ghost use Rattle.hart_line.specs.world.Led.{Led};
 ghost use Rattle.hart_line.specs.world.Noted.{IsLoggedFault};
 ghost use Rattle.hart_line.specs.world.Promises.{AreWellMade, IsRefusedByDevice, IsWellMadeStart};
 ghost use Rattle.hart_line.specs.world.Step.{IsLast};
@@ -27,8 +25,6 @@ ghost use Rattle.hart_line.specs.declared.event.LineEvent.{LineEvent};
 ghost use Rattle.hart_line.specs.declared.fault.Leg.{Leg};
 ghost use Rattle.hart_line.specs.declared.fault.LineFault.{LineFault};
 ghost use Rattle.hart_line.specs.declared.fault.LineFault.TheVariants.{Memory, Undetected};
-ghost use Rattle.hart_line.specs.declared.line.report.Outcome.{Outcome};
-ghost use Rattle.hart_line.specs.declared.line.report.Spoken.{Spoken};
 ghost use Rattle.hart_line.specs.declared.memory.NoRoom.{NoRoom};
 
 use crate::Log;
@@ -41,7 +37,7 @@ pub fn words_have_one_value()
     ensures payload { (word xs ys : List ℕ) → IsDataWord word xs → IsDataWord word ys → xs ≡ ys }
 {}
 
-/// A word has characters exactly if it is not empty and some valid items spell it, one after another, which mean these characters.
+/// A word has these characters exactly if it is not empty and some valid items spell it, one after another, which mean these characters.
 pub fn words_have_the_characters_of_their_items()
     ensures { (word : List ℕ) (chars : List Character)
         → (items_word_of word ≡ Some chars) ↔ ((word ≢ []) × AreItems word chars) }
@@ -94,13 +90,13 @@ pub fn refused_turns_change_nothing()
         → state_of start.device next ≡ after_refusal (state_of start.device before) refused.frame }
 {}
 
-/// All that [`run`](crate::run) promises of a script: of its first world, which the device stands for; of what it leads to, if device,
-/// process and requests are well made, as each value of their types is; and of its fault.
+/// What is promised of a script: of its first world, which the device stands for; of its last world, and of the device and the outcomes of
+/// that, if device, process and requests are well made, as each value of their types is; and of its fault.
 pub fn scripts_keep_their_promises()
     ensures first_world { (start : Start) → start.device.counter < 2 ^ 16 → state_of start.device (first_world start) ≡ start.device }
-    ensures kept { (start : Start) (events : List LineEvent) (device : DeviceState) (outcomes : List Outcome) (spoken : List Spoken)
-        → IsWellMadeStart start → AreWellMade events → Led start events device outcomes spoken
-        → KeepsPromises start events device outcomes }
+    ensures kept { (start : Start) (events : List LineEvent) (world : World)
+        → IsWellMadeStart start → AreWellMade events → IsLast start events world
+        → KeepsPromises start events (state_of start.device world) world.outcomes }
     ensures detected { (start : Start) (events : List LineEvent) (fault : LineFault)
         → 5 ≤ start.device.identity.response_preambles → IsFault start events fault → IsNotDetectable start events fault }
 {}

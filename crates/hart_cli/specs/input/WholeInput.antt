@@ -12,13 +12,13 @@ pub record WholeInput (reader reader_after : Stream) (Holds : List ℕ → Type 
   pub whole : Reads reader reader_after input Ended
   pub holds : Holds input
 
--- What was read has this fault: a read failed, the input was too long or room for it was refused; or it was read to its end, and has the
--- fault.
+-- A call has this fault before it writes: a read failed, the input was too long, or room for it was refused; or the input was read to its
+-- end, and has the fault.
 abbrev pub HasWholeFault : (List ℕ → CliFault → Type 0) → Stream → Stream → CliFault → Type 0
 HasWholeFault HasFault reader reader_after fault =
     IsReadingFault reader reader_after fault ⊎ WholeInput reader reader_after (λ input. HasFault input fault)
 
--- A call wrote the text for its whole input at `Ok`, a prefix of it if a write failed, and nothing at a fault of what was read.
+-- A call wrote the text for its whole input at `Ok`, a prefix of it if a write failed, and nothing at any other fault.
 abbrev pub WholeOutcome : (List ℕ → List ℕ → Type 0) → (List ℕ → CliFault → Type 0) → Stream → Stream → Stream → Stream
     → Result (Unit {0}) CliFault → Type 0
 WholeOutcome IsText HasFault reader reader_after writer writer_after (Ok done) =

@@ -3,7 +3,7 @@ use crate::FieldSize::{AllBut, Exactly};
 use crate::{FieldKind, FieldRow, Register};
 
 /// A command: its number, its name, the fields of its request data, how many bytes of them it needs, the fields of its reply data with code
-/// 0, and the registers that it writes, the first of which gets the first field of the request, and so on.
+/// 0, and the registers that it writes. The first register gets the first part of the written request data, and so on.
 pub struct Command {
     pub number: u8,
     pub name: &'static str,

@@ -4,18 +4,14 @@ use Rattle.std.proofs.Math.Nat.{mod-eq_of_lt}
 use Rattle.std.proofs.lemmas.Grind.{common_steps}
 use Rattle.std.proofs.lemmas.List.{take_all}
 use Rattle.std.proofs.lemmas.Option.{slice_get_within}
-use Rattle.hart_device.specs.Device.{DeviceState}
 use Rattle.hart_device.specs.answer.Answer.{after_refusal}
 use Rattle.hart_device.proofs.lemmas.Laws.{registers_of_lists-none}
 use Rattle.hart_line.specs.declared.event.LineEvent.{LineEvent}
 use Rattle.hart_line.specs.declared.fault.Leg.{Leg}
 use Rattle.hart_line.specs.declared.fault.LineFault.{LineFault}
 use Rattle.hart_line.specs.declared.fault.LineFault.TheVariants.{Undetected}
-use Rattle.hart_line.specs.declared.line.report.Outcome.{Outcome}
-use Rattle.hart_line.specs.declared.line.report.Spoken.{Spoken}
 use Rattle.hart_line.specs.world.Faults.{AreAllDetected, IsFault, IsNotDetectable}
 use Rattle.hart_line.specs.world.Kept.{KeepsPromises}
-use Rattle.hart_line.specs.world.Led.{Led}
 use Rattle.hart_line.specs.world.Promises.{AreWellMade, IsRefusedByDevice, IsWellMadeStart}
 use Rattle.hart_line.specs.world.Step.{IsLast}
 use Rattle.hart_line.specs.world.World.{Start, World, first_world, state_of}
@@ -25,6 +21,10 @@ use Rattle.hart_line.proofs.lemmas.world.Reset.{refused_last, refused_step, unse
 use Rattle.hart_line.proofs.lemmas.world.Submitted.{executed_at_most}
 use Rattle.hart_line.proofs.lemmas.world.Written.{answered_executed, registers_last, step_stays, turn_executed}
 use Rattle.hart_line.proofs.lemmas.world.Steps.{same_state}
+use Rattle.hart_line.specs.world.Led.{Led}
+use Rattle.hart_line.specs.declared.line.report.Spoken.{Spoken}
+use Rattle.hart_line.specs.declared.line.report.Outcome.{Outcome}
+use Rattle.hart_device.specs.Device.{DeviceState}
 
 pub scripts_have_one_last_world-one_world : (start : Start) (events : List LineEvent) (a b : World)
     → IsLast start events a → IsLast start events b → a ≡ b
@@ -67,27 +67,33 @@ pub scripts_keep_their_promises-first_world : (start : Start) → start.device.c
     → state_of start.device (first_world start) ≡ start.device
 scripts_keep_their_promises-first_world start small = grind (arith, common_steps, same_state, registers_of_lists-none, mod-eq_of_lt)
 
-pub scripts_keep_their_promises-kept : (start : Start) (events : List LineEvent) (device : DeviceState) (outcomes : List Outcome)
-    (spoken : List Spoken) → IsWellMadeStart start → AreWellMade events → Led start events device outcomes spoken
-    → KeepsPromises start events device outcomes
-scripts_keep_their_promises-kept start events device outcomes spoken made well_made led =
-    let here = answered_last start events made led.world led.last in
-    rw (led.device_is, led.outcomes_are) (record {
+pub scripts_keep_their_promises-kept : (start : Start) (events : List LineEvent) (world : World)
+    → IsWellMadeStart start → AreWellMade events → IsLast start events world
+    → KeepsPromises start events (state_of start.device world) world.outcomes
+scripts_keep_their_promises-kept start events here made well_made led =
+    let answered = answered_last start events made here led in
+    record {
       well_made = well_made;
-      accepted_reply_answers_last_sending = here;
-      registers_follow_last_executions = λ world last. rw (leads_one start events (first_world start) world led.world last led.last)
-          (registers_last start events led.world led.last well_made);
-      counter_counts_executions = λ world last. rw (leads_one start events (first_world start) world led.world last led.last) refl;
-      refused_commands_change_nothing = refused_last start events led.world led.last;
+      accepted_reply_answers_last_sending = answered;
+      registers_follow_last_executions = λ world last. rw (leads_one start events (first_world start) world here last led)
+          (registers_last start events here led well_made);
+      counter_counts_executions = λ world last. rw (leads_one start events (first_world start) world here last led) refl;
+      refused_commands_change_nothing = refused_last start events here led;
       refused_turns_change_nothing = refused_step start events;
       unrefused_writes_are_executed = turn_executed start events well_made;
       nothing_else_is_executed = step_stays start events;
       executed_in_its_turn = λ number request reply sendings submitted write is.
-          answered_executed start events well_made number request reply sendings (here number reply sendings is) submitted write;
-      at_most_once_a_sending = λ world last. rw (leads_one start events (first_world start) world led.world last led.last)
-          (executed_at_most start events led.world led.last);
-      no_change_unseen = unseen start events led.world led.last;
-    })
+          answered_executed start events well_made number request reply sendings (answered number reply sendings is) submitted write;
+      at_most_once_a_sending = λ world last. rw (leads_one start events (first_world start) world here last led)
+          (executed_at_most start events here led);
+      no_change_unseen = unseen start events here led;
+    }
+
+-- What a script has led to keeps its promises.
+pub led_keeps : (start : Start) (events : List LineEvent) (device : DeviceState) (outcomes : List Outcome) (spoken : List Spoken)
+    → IsWellMadeStart start → AreWellMade events → Led start events device outcomes spoken → KeepsPromises start events device outcomes
+led_keeps start events device outcomes spoken made well_made led =
+    rw (led.device_is, led.outcomes_are) (scripts_keep_their_promises-kept start events led.world made well_made led.last)
 
 pub scripts_keep_their_promises-detected : (start : Start) (events : List LineEvent) (fault : LineFault)
     → 5 ≤ start.device.identity.response_preambles → IsFault start events fault → IsNotDetectable start events fault

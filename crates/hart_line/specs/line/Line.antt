@@ -20,7 +20,8 @@ pub record LineState : Type 0 where
   pub outcomes_room : ℕ
   pub response_preambles : ℕ
 
--- A line stands for a world: its parts are those of the world, and its device's replies have as many preamble bytes as the identity says.
+-- A line stands for a world: its parts are those of the world, and its device's replies have the number of preamble bytes that the identity
+-- says.
 pub record Stands (start : Start) (world : World) (line : LineState) : Type 0 where
   pub device_is : line.device ≡ state_of start.device world
   pub masters_are : AreHeld start.retries world.hands line.masters

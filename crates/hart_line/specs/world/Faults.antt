@@ -17,8 +17,8 @@ use Rattle.hart_line.specs.declared.fault.Leg.TheVariants as legs
 use Rattle.hart_line.specs.declared.fault.LineFault.{LineFault}
 use Rattle.hart_line.specs.declared.fault.LineFault.TheVariants.{BadLine, Memory, Undetected}
 
--- What is heard in a leg of an event, and what was sent in it: in a turn what goes up, by its master, and, by what that brings the
--- device, what comes down, which the device sends back; and what is heard at noise, in which nothing is sent. No other event has a leg.
+-- What is heard in a leg of an event, and what was sent in it. Up, in a turn, the master sends the request in its hand. Down, the device
+-- sends back its answer to what the leg up brought it. At noise nothing is sent. No other event has a leg.
 abbrev pub HeardIn : Start → World → LineEvent → Leg → Heard → Option SpokenFrame → Type 0
 HeardIn start world (Turn who up down) legs.Up heard sent = (heard ≡ up) × (sent ≡ sent_by who (of_master who world.hands))
 HeardIn start world (Turn who up down) legs.Down heard sent = (heard ≡ down) × (brought : Brought)
@@ -26,7 +26,7 @@ HeardIn start world (Turn who up down) legs.Down heard sent = (heard ≡ down) �
 HeardIn start world (Noise chars) legs.Noise heard sent = (heard ≡ Chars chars) × (sent ≡ None)
 HeardIn start world _ _ heard sent = ⊥
 
--- A leg has undetected damage if what is heard in it has, by what was sent in it.
+-- A leg has undetected damage if what is heard in it is undetected damage of what was sent in it.
 abbrev pub HasUndetected : Start → World → LineEvent → Leg → Type 0
 HasUndetected start world event leg =
     (heard : Heard) × (sent : Option SpokenFrame) × HeardIn start world event leg heard sent × IsUndetected heard sent
@@ -51,7 +51,7 @@ IsNotDetectable start events (Undetected number leg) = (world : World) (event : 
 IsNotDetectable start events (Memory room) = Unit {0}
 IsNotDetectable start events (BadLine line) = Unit {0}
 
--- The damage of each leg of an event is detected, by what was sent in it: of what comes down whatever what goes up brings the device.
+-- The damage of each leg of an event is detected: whatever the leg up brings the device, that of the leg down too.
 abbrev pub LegsAreDetected : Start → World → LineEvent → Type 0
 LegsAreDetected start world event = (leg : Leg) (heard : Heard) (sent : Option SpokenFrame)
     → HeardIn start world event leg heard sent → (arrived : Option FrameParts) × Arrives heard sent arrived

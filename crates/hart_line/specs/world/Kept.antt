@@ -1,4 +1,4 @@
--- All that is promised of a script, of its worlds, and of the device and the outcomes that are given back (own profile).
+-- What is promised of a script, beside `Led`: of its worlds, and of the device and the outcomes that are given back (own profile).
 use Rattle.std.specs.Prelude.{◌≡◌, ◌≤◌, ◌+◌, ◌%◌, ◌^◌, List, [], ℕ, Option, Some, IfSome, IsTrue, false, length, slice_get}
 use Rattle.hart_values.specs.EachMaster.{of_master}
 use Rattle.hart_values.specs.declared.master_id.MasterId.{MasterId}
@@ -20,7 +20,7 @@ use Rattle.hart_line.specs.declared.event.LineEvent.TheVariants.{Turn}
 use Rattle.hart_line.specs.declared.line.report.Outcome.{Outcome}
 use Rattle.hart_line.specs.declared.line.report.Outcome.TheVariants.{Answered}
 
--- A script that gives back a device and outcomes keeps its promises if these hold of it and of them.
+-- What is promised if a script was carried out, and this device and these outcomes are given back.
 pub record KeepsPromises (start : Start) (events : List LineEvent) (device : DeviceState) (outcomes : List Outcome) : Type 0 where
   -- Each request is well made, since it is a value of its type.
   pub well_made : AreWellMade events

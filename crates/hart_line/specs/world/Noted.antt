@@ -10,8 +10,7 @@ use Rattle.hart_line.specs.declared.fault.LineFault.{LineFault}
 use Rattle.hart_line.specs.declared.fault.LineFault.TheVariants.{BadLine, Memory, Undetected}
 use Rattle.hart_line.specs.declared.line.report.Spoken.{Spoken}
 
--- The first events of a script, up to some number of them, lead to a world, and noting a frame that was spoken there needs room for this
--- number of items, which is 1 at least.
+-- Some first events of a script lead to a world, and noting a frame that was spoken in them needs room for this number of items, at least 1.
 pub record IsNeededByNoting (Needs : Spoken → ℕ → Type 0) (start : Start) (events : List LineEvent) (items : ℕ) : Type 0 where
   pub number : ℕ
   pub world : World
@@ -21,15 +20,15 @@ pub record IsNeededByNoting (Needs : Spoken → ℕ → Type 0) (start : Start) 
   pub needed : Any (λ frame. Needs frame items) spoken
   pub some : 0 < items
 
--- While the events of a script are carried out with a log, its fault is undetected damage, as without a log, and all that was spoken before
--- the event of that has been noted; or memory was refused that noting one of its frames needs.
+-- The fault of events that are carried out with a log: undetected damage, as without a log, and all that was spoken before its event has
+-- been noted; or refused memory, which noting one of the spoken frames needs.
 abbrev pub IsNotingFault : (Needs : Spoken → ℕ → Type 0) → (AreNoted : List Spoken → Type 0) → Start → List LineEvent → LineFault → Type 0
 IsNotingFault Needs AreNoted start events (Undetected number leg) = (undetected : IsFault start events (Undetected number leg))
     × (spoken : List Spoken) × AreSpoken undetected.0.spoken spoken × AreNoted spoken
 IsNotingFault Needs AreNoted start events (Memory room) = IsNeededByNoting Needs start events room.items
 IsNotingFault Needs AreNoted start events (BadLine line) = ⊥
 
--- The fault of a script with a log is such a one; or memory was refused that its outcomes need.
+-- The fault of a script with a log: one of its events; or refused memory, which its outcomes need.
 abbrev pub IsLoggedFault : (Needs : Spoken → ℕ → Type 0) → (AreNoted : List Spoken → Type 0) → Start → List LineEvent → LineFault → Type 0
 IsLoggedFault Needs AreNoted start events (Memory room) =
     IsNeededForOutcomes events room.items ⊎ IsNotingFault Needs AreNoted start events (Memory room)

@@ -21,13 +21,13 @@ pub trait Log {
         ensures noted { OnOk result (notes self.old (spoken.now ∷ []) self.new) }
         ensures refused { IfErr result (λ none. (0 < none.items) × needs spoken.now none.items) };
 
-    // A log in which nothing is noted stays, and frames may be noted after others.
+    // A log becomes itself if nothing is noted. Frames may be noted after others.
     ghost none: { (log : Self) → notes log [] log };
 
     ghost more: { (a b c : Self) (xs ys : List Spoken) → notes a xs b → notes b ys c → notes a (xs ++ ys) c };
 }
 
-/// A list keeps what is noted as far as there is room for it, and asks for no more room.
+/// A list keeps what is noted if there is room for all of it, and asks for no more room. Of one that is too short nothing is promised.
 impl Log for Filling<Spoken> {
     ghost use Rattle.std.proofs.Common.{arith};
     ghost use Rattle.std.proofs.lemmas.Grind.{common_steps};

@@ -58,7 +58,7 @@ pub fn run_logged<S: RegisterStore + Drop, L: Log>(
 ///
 /// # Errors
 ///
-/// Those of [`run_logged`] once its events are carried out. Memory is refused by the log alone.
+/// Those of [`run_logged`] while its events are carried out. Memory is refused by the log alone.
 pub fn carry_out<S: RegisterStore + Drop, L: Log>(
     outcomes: Filling<Outcome>,
     device: Device<S>,

@@ -1,3 +1,4 @@
+use Rattle.std.proofs.Common.{refl}
 use Rattle.hart_commands.specs.declared.register.Register.TheVariants.{Polling, Message, Tag, Assembly, LongTag}
 use Rattle.hart_commands.specs.declared.request.Request.TheVariants.{SetPolling, WriteMessage, WriteTag, WriteAssembly, WriteLongTag}
 use Rattle.hart_commands.specs.Commands.{written_by}
@@ -12,3 +13,13 @@ returns-clause-some_register c (WriteTag tag descriptor date) write = (Tag, cc)
 returns-clause-some_register c (WriteAssembly assembly) write = (Assembly, cc)
 returns-clause-some_register c (WriteLongTag long_tag) write = (LongTag, cc)
 returns-clause-some_register c _ write = cc
+
+-- The row of each has a register for each part.
+pub returns-clause-every_part : goal.returns-clause-every_part
+unfolding written_by
+returns-clause-every_part c (SetPolling address mode) write = refl
+returns-clause-every_part c (WriteMessage message) write = refl
+returns-clause-every_part c (WriteTag tag descriptor date) write = refl
+returns-clause-every_part c (WriteAssembly assembly) write = refl
+returns-clause-every_part c (WriteLongTag long_tag) write = refl
+returns-clause-every_part c _ write = cc

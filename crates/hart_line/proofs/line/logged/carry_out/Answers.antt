@@ -5,7 +5,7 @@ use Rattle.std.proofs.lemmas.Result.{err_from_is_err_and}
 use Rattle.hart_line.specs.world.Faults.{IsFault}
 use Rattle.hart_line.specs.declared.fault.LineFault.TheVariants.{Undetected}
 use Rattle.hart_line.specs.world.Promises.{start_from}
-use Rattle.hart_line.proofs.lemmas.Laws.{scripts_keep_their_promises-detected, scripts_keep_their_promises-kept}
+use Rattle.hart_line.proofs.lemmas.Laws.{led_keeps, scripts_keep_their_promises-detected}
 use Rattle.hart_line.proofs.lemmas.line.Reached.{Any-append, IsReached, reached_first, reached_led, reached_more, noted_stands, stepped_on}
 use Rattle.hart_line.proofs.lemmas.line.Reached.{undetected_on, with_spoken}
 use Rattle.hart_line.proofs.lemmas.line.Room.{room_after, room_here}
@@ -106,7 +106,7 @@ returns g c =
     let led = reached_led _ _ reached c.into_ending.ensures.device c.into_ending.ensures.outcomes in
     record {
       led = (noted, led, has);
-      promises = scripts_keep_their_promises-kept start c.args.events.now _ _ noted (record {
+      promises = led_keeps start c.args.events.now _ _ noted (record {
         device = c.new-line.ensures.device;
         process = c.processes_are_well_made.ensures;
       }) reached.well_made led;
