@@ -119,7 +119,7 @@ impl<S: RegisterStore> Line<S> {
         ensures refused { IfErr result (λ none. (0 < none.items) × Any (λ said. L.needs said none.items) self.old.spoken) }
     {
         self.spoken.note_in(log)?;
-        self.spoken = EventFrames::new();
+        self.spoken.clear();
         Ok(())
     }
 

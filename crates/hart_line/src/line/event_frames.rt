@@ -13,20 +13,20 @@ use std::marker::Model;
 /// Contracts see the list of them.
 #[derive(Drop)]
 pub struct EventFrames {
-    first: Option<Spoken>,
-    second: Option<Spoken>,
+    first: Spoken,
+    second: Spoken,
+    count: usize,
 }
 
 impl Model for EventFrames {
-    ghost use Rattle.std.specs.Prelude.{◌≡◌, ◌++◌, List, None};
-    ghost use Rattle.std.specs.Option.{option_to_list};
+    ghost use Rattle.std.specs.Prelude.{◌≤◌, [], ◌∷◌, List, take};
     ghost use Rattle.hart_line.specs.declared.line.report.Spoken.{Spoken};
 
     ghost Value = { List Spoken };
 
-    ghost view = { λ frames. option_to_list frames.first ++ option_to_list frames.second };
+    ghost view = { λ frames. take frames.count (frames.first ∷ frames.second ∷ []) };
 
-    ghost invariant = { λ frames. frames.first ≡ None → frames.second ≡ None };
+    ghost invariant = { λ frames. frames.count ≤ 2 };
 }
 
 impl EventFrames {
@@ -35,8 +35,9 @@ impl EventFrames {
         ensures { result ≡ [] }
     {
         EventFrames {
-            first: None,
-            second: None,
+            first: no_spoken(),
+            second: no_spoken(),
+            count: 0,
         }
     }
 
@@ -49,11 +50,12 @@ impl EventFrames {
         let Some(frame) = frame else {
             return;
         };
-        let spoken = spoken_of(party, preambles, frame);
-        if self.first.is_none() {
-            self.first = Some(spoken);
+        if self.count == 0 {
+            put_down(&mut self.first, party, preambles, frame);
+            self.count = 1;
         } else {
-            self.second = Some(spoken);
+            put_down(&mut self.second, party, preambles, frame);
+            self.count = 2;
         }
     }
 
@@ -66,26 +68,39 @@ impl EventFrames {
         ensures noted { OnOk result (L.notes log.old self.now log.new) }
         ensures refused { IfErr result (λ none. (0 < none.items) × Any (λ said. L.needs said none.items) self.now) }
     {
-        let Some(first) = &self.first else {
+        if self.count == 0 {
             return Ok(());
-        };
-        log.note(first)?;
-        let Some(second) = &self.second else {
+        }
+        log.note(&self.first)?;
+        if self.count == 1 {
             return Ok(());
-        };
-        log.note(second)
+        }
+        log.note(&self.second)?;
+        Ok(())
+    }
+
+    /// Removes every frame.
+    pub fn clear(&mut self)
+        ensures { self.new ≡ [] }
+    {
+        self.count = 0;
     }
 }
 
-/// Returns what is put down of a frame.
-fn spoken_of(party: Party, preambles: u8, frame: &Frame) -> Spoken
-    ensures { IsSpoken (record { party = party; preambles = preambles; frame = frame.now }) result }
+/// Puts a frame down that was spoken, in the place of what is there.
+fn put_down(spoken: &mut Spoken, party: Party, preambles: u8, frame: &Frame)
+    ensures { IsSpoken (record { party = party; preambles = preambles; frame = frame.now }) spoken.new }
 {
-    let mut bytes = Body::new();
-    frame.write_body(&mut bytes);
+    spoken.party = party;
+    spoken.preambles = preambles;
+    frame.write_body(&mut spoken.bytes);
+}
+
+/// Returns what stands where no frame was put down yet.
+fn no_spoken() -> Spoken {
     Spoken {
-        party,
-        preambles,
-        bytes,
+        party: Party::Device,
+        preambles: 0,
+        bytes: Body::new(),
     }
 }
