@@ -1,4 +1,4 @@
-//! What a reply says, and the table of how it is read and written.
+//! What a reply says, and how it is read and written.
 ghost use Rattle.std.specs.Prelude.{◌≡◌, ◌≤◌, ◌++◌, length};
 ghost use Rattle.hart_commands.specs.ReplyData.{content_reading, content_bytes};
 

@@ -28,7 +28,7 @@ pub enum FieldSize {
     AllBut(u8),
 }
 
-/// A row of the table of fields: what a field is called, how many bytes it has, and how they are meant (HCF_SPEC-127).
+/// A field of data: what it is called, how many bytes it has, and how they are meant (HCF_SPEC-127).
 #[derive(Clone, Copy, Debug, PartialEq, Eq)]
 pub struct FieldRow {
     /// The name.
