@@ -8,7 +8,6 @@ import shutil
 import subprocess
 import sys
 import tempfile
-import threading
 
 ROOT = os.path.realpath(f"{os.path.dirname(__file__)}/..")
 
@@ -33,7 +32,6 @@ class Kit:
     def __init__(self, proved=None):
         self.rt, self.proved = load(), proved
         self.crates = {it.name: it for it in self.rt.rtlib.crates_below(ROOT)}
-        self.built = threading.Lock()
 
     def has_gates_libraries(self):
         """Whether all libraries that stand built are those of the gate, which have no stamp."""
@@ -41,9 +39,14 @@ class Kit:
         return all(os.path.isfile(f"{it.rlib}/format") and not os.path.exists(f"{os.path.dirname(it.rlib)}/stamp") for it in made)
 
     def build_below(self, name):
-        """Builds the libraries below a crate that do not stand built, and returns whether they stand then."""
-        with self.built:
-            return not any(it.build_rlib(["--jobs", "1"], anew=False) for it in self.crates[name].below())
+        """Builds the libraries below a crate that do not stand built, and returns whether they stand then. Says why if not."""
+        for library in self.crates[name].below():
+            with tempfile.TemporaryFile("w+", errors="replace") as library.out:
+                if library.build_rlib(["--jobs", "1"], anew=False):
+                    library.out.seek(0)
+                    print(library.out.read(), end="")
+                    return False
+        return True
 
     @contextlib.contextmanager
     def kept(self, name):
