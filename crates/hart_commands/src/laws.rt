@@ -88,7 +88,6 @@ pub fn all_registers_are_listed_once()
 
 /// A request has an overwrite exactly if its command is a configuration write; then it names a register for each part of its data, and no
 /// other request names one.
-#[tactic(auto, unfolding(crate::specs::Commands::written_by))]
 pub fn writes_have_overwrites()
     ensures exactly { (request : Request) → IsTrue (is_write (command_of request)) ↔ IsSome (overwrite_of request) }
     ensures some_register { (request : Request) → IsTrue (is_write (command_of request))
