@@ -81,7 +81,7 @@ refuse_each() {
 }
 
 # Refuses each growth of a script of so many submissions, each with a turn in which no characters are given. There is one of the
-# input, two of `run_logged` for outcomes and messages, and as many as its events and its text need to grow to their size, each of
+# input, one of `run_logged` for outcomes, and as many as its events and its text need to grow to their size, each of
 # which at least doubles what there is room for: the second word is how many they are in all.
 refuse_script() {
     lines=0
@@ -143,14 +143,14 @@ D 5 86B7420A1B2C130500400123457F
 counter 2
 image 0200018208208208208208208208208208208208208208208208208208208208208208208208208208208208200000000123452020202020202020202020202020202020202020202020202020202020202020000203
 TEXT
-# One of the input, two of `run_logged`, two of words of characters, and those of its six events and of its text.
-refuse_each 12 sim
-refuse_each 13 sim --image "$image"
+# One of the input, one of `run_logged`, two of words of characters, and those of its six events and of its text.
+refuse_each 11 sim
+refuse_each 12 sim --image "$image"
 
-refuse_script 1 8
-refuse_script 65 19
-refuse_script 300 23
-refuse_script 3000 30
+refuse_script 1 7
+refuse_script 65 18
+refuse_script 300 22
+refuse_script 3000 29
 
 # A script without events has those of the input and of its text alone.
 : >"$work/input"
@@ -158,11 +158,11 @@ refuse_script 3000 30
 refuse_each 2 sim
 
 # A refused line of the text ends a script before a later leg with undetected damage does. Its own are of the input, of three events, of
-# a word of characters, of an outcome, of the messages of an event, and two of the text.
+# a word of characters, of an outcome, and two of the text.
 printf 'submit P 37420A1B2C 19 012345\nturn P ok ok\nnoise FFFF0280000082\n' >"$work/input"
 : >"$work/wanted"
 echo 'undetected damage at event 2, noise' >"$work/fault"
-refuse_each 7 sim
+refuse_each 6 sim
 : >"$work/fault"
 
 : >"$work/input"
