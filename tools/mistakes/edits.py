@@ -33,7 +33,7 @@ class Edit(NamedTuple):
 
 
 class Mistake(NamedTuple):
-    """A wrong body with the functions that it changes. It stands alone if it changes what is no body."""
+    """A wrong body with the functions that it changes. It stands alone if it changes more than bodies."""
 
     edit: Edit
     functions: tuple
@@ -102,18 +102,21 @@ class Texts:
 
 
 def mistake_of(edit):
-    """Finds the functions that an edit changes, by the tree as it stands."""
+    """Finds the functions whose bodies an edit changes, by the tree as it stands. One that changes more than bodies stands alone."""
     modules = modules_of_types(edit.crate)
     found, is_alone = {}, False
     for file, line, text in Texts(edit.crate).apply(edit):
-        inside = [it for it in functions_in(file, text, modules) if it.body <= line < it.last]
+        functions = functions_in(file, text, modules)
+        if any(it.contract <= line < it.body for it in functions) or re.match(r" *ghost\b", text.split("\n")[line]):
+            raise BadEdit(f"it changes a contract, in line {line + 1} of {file}")
+        inside = [it for it in functions if it.body <= line < it.last]
         is_alone = is_alone or not inside
         found.update({it.path: it for it in inside[-1:]})
     if edit.refused_at:
         return Mistake(edit, (function_at(edit, modules),), True)
-    if is_alone:
-        raise BadEdit("it changes more than bodies of functions, and has no line `refused-at:` that names the function whose goal fails")
-    return Mistake(edit, tuple(found.values()), False)
+    if not found:
+        raise BadEdit("it changes no body of a function, and has no line `refused-at:` that names the function whose goal fails")
+    return Mistake(edit, tuple(found.values()), is_alone)
 
 
 def function_at(edit, modules):

@@ -10,11 +10,12 @@ DECLARED = re.compile(r"^(?:pub(?:\([^)]*\))? )?(?:struct|enum) (\w+)", re.M)
 
 
 class Function(NamedTuple):
-    """A function with a body: its path below the crate, and the lines on which it starts, its body starts, and it ends."""
+    """A function with a body: its path below the crate, and the lines on which it, its contract and its body start, and on which it ends."""
 
     path: str
     file: str
     first: int
+    contract: int
     body: int
     last: int
 
@@ -65,24 +66,26 @@ def source_files(crate):
     return sorted(it for it in files if it.endswith(".rt"))
 
 
-def body_of(lines, first, indent):
-    """The first line of the body of the function that starts on a line, and the line on which it ends; None if it has no body.
+def parts_of(lines, first, indent):
+    """The first lines of the contract and of the body of the function that starts on a line, and the line on which it ends; None if it has
+    no body.
 
     A body that comes after a contract starts on a line of its own, and every line of the contract stands further in."""
-    has_contract, start = False, None
+    contract = start = None
     for number in range(first, len(lines)):
         line = lines[number]
-        has_contract = has_contract or bool(re.match(r" *(requires|ensures|ghost)\b", line))
+        if contract is None and re.match(r" *(requires|ensures|ghost)\b", line):
+            contract = number
         if line == f"{indent}{{}}":
-            return number, number
-        if line == f"{indent}{{" or not has_contract and line.endswith(" {"):
+            return contract or number, number, number
+        if line == f"{indent}{{" or contract is None and line.endswith(" {"):
             start = number + 1
             break
         stands_out = line.strip() and not line.startswith(f"{indent} ")
-        if has_contract and stands_out or not has_contract and line.endswith((";", "}")):
+        if contract is not None and stands_out or contract is None and line.endswith((";", "}")):
             return None
     last = start and next((at for at in range(start, len(lines)) if lines[at] == f"{indent}}}"), None)
-    return last and (start, last)
+    return last and (contract or start, start, last)
 
 
 def functions_in(file, text, modules):
@@ -97,7 +100,7 @@ def functions_in(file, text, modules):
         elif line == "}":
             owner = module_of(file)
         head = HEAD.match(line)
-        body = head and body_of(lines, number, head[1])
-        if body:
-            found.append(Function(joined(owner, head[2]), file, number, *body))
+        parts = head and parts_of(lines, number, head[1])
+        if parts:
+            found.append(Function(joined(owner, head[2]), file, number, *parts))
     return found

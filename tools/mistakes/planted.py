@@ -49,7 +49,7 @@ UNREAD = (
     Planted(
         "changes_a_contract",
         "file: src/byte_list.rt\nold:         ensures value { result ≡ length self.now }\nnew:         ensures value { result ≤ length self.now }\n",
-        "more than bodies",
+        "changes a contract",
     ),
     Planted("changes_a_definition", "file: specs/FaultNumbers.antt\nold: 1\nnew: 2\n", "no file"),
 )
