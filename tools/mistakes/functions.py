@@ -42,12 +42,25 @@ def bare(type_text):
     return re.sub(r"<.*", "", type_text.strip().lstrip("&")).rsplit("::", 1)[-1].strip()
 
 
+PARAMETERS = re.compile(r"^<((?:[^<>]|<[^<>]*>)*)>")
+
+
+def with_given(text, free):
+    """The name of a type or a trait, and of the types that it is given but for those that are free."""
+    given = re.search(r"<(.*)>", text)
+    names = re.findall(r"(?<!')\b[A-Z]\w*", given[1]) if given else []
+    return "".join([bare(text), *(it for it in names if it not in free)])
+
+
 def owner_of(head, module, modules):
-    """The path under which the prover names the functions of an `impl` block. Those of a type stand where the type is declared."""
-    head = re.sub(r"^<(?:[^<>]|<[^<>]*>)*>", "", head.strip()).strip()
+    """The path under which the prover names the functions of an `impl` block: those of a type where the type is declared, those of a trait
+    by type and trait, each with what it is given that is no parameter of the block."""
+    parameters = PARAMETERS.match(head)
+    free = re.findall(r"\w+", parameters[1]) if parameters else []
+    head = PARAMETERS.sub("", head).strip()
     trait, is_for, of = head.partition(" for ")
     if is_for:
-        return joined(module, bare(of) + bare(trait))
+        return joined(module, with_given(of, free) + with_given(trait, free))
     return joined(modules.get(bare(head), module), bare(head))
 
 
@@ -94,7 +107,7 @@ def functions_in(file, text, modules):
     for number, line in enumerate(lines):
         block = BLOCK.match(line)
         if block and block[1] == "impl":
-            owner = owner_of(block[2], module_of(file), modules)
+            owner = owner_of(block[2].strip(), module_of(file), modules)
         elif block:
             owner = joined(module_of(file), re.match(r" (\w+)", block[2])[1])
         elif line == "}":
