@@ -59,13 +59,29 @@ def write(rows):
     return []
 
 
-def differences(rows):
-    """The mistakes whose lines are not those of the page, and those that the page has and the tree has not."""
+def lines_by_mistake():
+    """The lines of the page for the mistakes that are tried in batches, by crate and name."""
+    found, crate = {}, ""
     with open(PAGE, encoding="utf-8") as it:
-        said = [line for line in it.read().partition(START)[2].split("\n") if "| batch |" in line]
-    tried = {it.line(): f"{it.crate()}/{it.edit.name}" for it in rows}
-    lacking = [name for line, name in tried.items() if line not in said]
-    gone = [line for line in said if line not in tried]
-    for it in [f"{it} has another line" for it in lacking] + [f"this line is of no mistake: {it}" for it in gone]:
-        print(f"docs/WRONG_BODIES.md: {it}: run make mistakes-table")
-    return [f"docs/WRONG_BODIES.md:{it}" for it in lacking + gone]
+        for line in it.read().partition(START)[2].split("\n"):
+            crate = line[4:] if line.startswith("### ") else crate
+            if "| batch |" in line:
+                found[f"{crate}/{line.split('`')[1]}"] = line
+    return found
+
+
+def differences(rows):
+    """The mistakes that the page lacks, or whose function it names wrongly, and those that it has and the tree has not.
+
+    What refused a mistake may be named in other words by another prover, so a difference in that is only told."""
+    said, tried = lines_by_mistake(), {f"{it.crate()}/{it.edit.name}": it.line() for it in rows}
+    wrong = [it for it in tried if cells(said.get(it, "")) != cells(tried[it])] + [it for it in said if it not in tried]
+    for it in tried:
+        if it in wrong or said[it] != tried[it]:
+            print(f"docs/WRONG_BODIES.md has another line for {it}: run make mistakes-table")
+    return [f"docs/WRONG_BODIES.md:{it}" for it in wrong]
+
+
+def cells(line):
+    """The cells of a line but for the last, which says what refused the mistake."""
+    return line.split(" | ")[:3]
