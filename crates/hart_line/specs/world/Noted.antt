@@ -10,7 +10,8 @@ use Rattle.hart_line.specs.declared.fault.LineFault.{LineFault}
 use Rattle.hart_line.specs.declared.fault.LineFault.TheVariants.{BadLine, Memory, Undetected}
 use Rattle.hart_line.specs.declared.line.report.Spoken.{Spoken}
 
--- Some first events of a script lead to a world, and noting a frame that was spoken in them needs room for this number of items, at least 1.
+-- Some first events of a script lead to a world, and noting a frame that was spoken in them needs room for this number of items, 1 at
+-- least.
 pub record IsNeededByNoting (Needs : Spoken → ℕ → Type 0) (start : Start) (events : List LineEvent) (items : ℕ) : Type 0 where
   pub number : ℕ
   pub world : World

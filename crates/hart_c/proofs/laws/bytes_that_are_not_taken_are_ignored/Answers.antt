@@ -79,7 +79,8 @@ returns-clause-requests c command bytes request before after reading fit read to
     let whole : n ≤ length bytes → request_reading command front ≡ Ok request =
     λ enough. rw (laws.whole command bytes request fit read enough, ← made.0) (written_data_are_their_request request made.1) in
     let few : length bytes ≤ n → request_reading command front ≡ Ok request = λ short. rw (take_all n bytes short) read in
-    let is : request_reading command front ≡ Ok request = elim (either_fits n (length bytes)) [ inl enough ↦ whole enough | inr short ↦ few short ] in
+    let is : request_reading command front ≡ Ok request =
+    elim (either_fits n (length bytes)) [ inl enough ↦ whole enough | inr short ↦ few short ] in
     let alike = request_alike command bytes front request before after reading read is (again n bytes) told in
     let P = λ (taken : ℕ). RequestOutcome command (take taken bytes) before after reading in
     subst P (sym alike.0) (rw as_many alike.1)

@@ -162,7 +162,8 @@ registers_of-last : (requests : List Request) (executions : List Execution) → 
     → registers_of (overwrites_of executions) initial ≡ registers_of (overwrites_of (last_executions executions)) initial
 registers_of-last requests [] all initial = refl
 registers_of-last requests (e ∷ later) all initial = last_by_submission e later initial (has_execution_of e.submission later)
-    (contains_again (write_of requests) e later all) (registers_of-last requests later (λ k unused within. all (suc k) unused (omega arith)))
+    (contains_again (write_of requests) e later all)
+    (registers_of-last requests later (λ k unused within. all (suc k) unused (omega arith)))
 
 -- THE HEADLINE
 pub registers_last : (start : Start) (events : List LineEvent) (last : World) → IsLast start events last → AreWellMade events
