@@ -7,6 +7,8 @@ cd "$(dirname "$0")/.." || exit 1
 program=crates/hart/out/hart
 work=$(mktemp -d)
 trap 'rm -rf "$work"' EXIT
+# The gate runs programs and tests below it as nobody.
+chmod a+rx "$work"
 log=$work/log
 
 # The worst status so far.
@@ -43,7 +45,8 @@ keep_proved() {
 
 # What stands there after the gate was built by it.
 rm -f "$program"
-mkdir "$work/gate" "$work/proved"
+mkdir -m 1777 "$work/gate"
+mkdir "$work/proved"
 TMPDIR=$work/gate rt ci | tee "$log" | while IFS= read -r line; do
     printf '%s\n' "$line"
     if [[ $line =~ ^rt:\ ([a-z_]+):\ trying ]]; then
