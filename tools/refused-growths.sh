@@ -212,8 +212,8 @@ cat >"$work/growths" <<'GROWTHS'
 2 explain 7 0
 4 read_script 2
 2 run 2
-12 simulate 7 0
-13 simulate with an image 7 0
+11 simulate 7 0
+12 simulate with an image 7 0
 GROWTHS
 LC_ALL=C sort "$work/refused" | uniq -c | sed 's/^ *//' >"$work/counted"
 if ! cmp -s "$work/wanted" "$work/output" || ! diff "$work/growths" "$work/counted" >&2; then
