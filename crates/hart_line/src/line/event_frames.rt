@@ -41,7 +41,7 @@ impl EventFrames {
         }
     }
 
-    /// Adds this frame, which this party speaks after so many preamble bytes; without a frame nothing is spoken.
+    /// Adds a frame that this party speaks after this number of preamble bytes, if there is one.
     pub fn speak(&mut self, party: Party, preambles: u8, frame: Option<&Frame>)
         requires { length self.old ≤ 1 }
         ensures speaks { Speaks (spoken_by party preambles (option_copied frame.entry)) self.old self.new }

@@ -5,7 +5,7 @@ ghost use Rattle.std.specs.Prelude.{Some, None};
 use hart_cli::{Failed, Sink, Source};
 use std::alloc::Global;
 
-/// As many bytes in one call as there are.
+/// No limit on the bytes of one call.
 pub const ALL: usize = usize::MAX;
 
 /// What comes after the bytes of a [`Tape`].
