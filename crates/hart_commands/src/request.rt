@@ -104,12 +104,37 @@ impl Request {
         }
     }
 
-    /// The number of the command that asks it.
+    /// Returns the number of the command that asks it.
     pub fn command(&self) -> u8
         ensures command { result ≡ command_of self.now }
         ensures well_made { IsRequest self.now }
     {
-        self.parts(&mut [0; 2]).command
+        // What reads the parts says that they are well made.
+        self.parts(&mut [0; 2]);
+        match self {
+            Request::Identify => 0,
+            Request::ReadPrimary => 1,
+            Request::ReadCurrent => 2,
+            Request::ReadDynamic => 3,
+            Request::SetPolling { .. } => 6,
+            Request::ReadPolling => 7,
+            Request::ReadClasses => 8,
+            Request::ReadVariables(_) => 9,
+            Request::IdentifyByTag(_) => 11,
+            Request::ReadMessage => 12,
+            Request::ReadTag => 13,
+            Request::ReadSensor => 14,
+            Request::ReadOutput => 15,
+            Request::ReadAssembly => 16,
+            Request::WriteMessage(_) => 17,
+            Request::WriteTag { .. } => 18,
+            Request::WriteAssembly(_) => 19,
+            Request::ReadLongTag => 20,
+            Request::IdentifyByLongTag(_) => 21,
+            Request::WriteLongTag(_) => 22,
+            Request::ResetChanged(_) => 38,
+            Request::ReadMore => 48,
+        }
     }
 
     /// The same request.
@@ -147,75 +172,56 @@ impl Request {
         parts.first.len() + parts.second.len() + parts.third.len()
     }
 
-    /// Returns its command and the parts of its data. The bytes of a counter are put in `counter`.
+    /// Returns the parts of its data. The bytes of a counter are put in `counter`.
     fn parts<'a>(&'a self, counter: &'a mut [u8; 2]) -> Parts<'a>
-        ensures command { result.command ≡ command_of self.now }
         ensures written { result.first.now ++ result.second.now ++ result.third.now ≡ request_data self.now }
         ensures few { length result.first.now + length result.second.now + length result.third.now ≤ 32 }
         ensures well_made { IsRequest self.now }
     {
         match self {
-            Request::Identify => Parts::one(0, &[]),
-            Request::ReadPrimary => Parts::one(1, &[]),
-            Request::ReadCurrent => Parts::one(2, &[]),
-            Request::ReadDynamic => Parts::one(3, &[]),
             Request::SetPolling { address, mode } => Parts {
-                command: 6,
                 first: address.as_bytes(),
                 second: mode_bytes(*mode),
                 third: &[],
             },
-            Request::ReadPolling => Parts::one(7, &[]),
-            Request::ReadClasses => Parts::one(8, &[]),
-            Request::ReadVariables(codes) => Parts::one(9, codes.as_slice()),
-            Request::IdentifyByTag(tag) => Parts::one(11, tag.as_bytes()),
-            Request::ReadMessage => Parts::one(12, &[]),
-            Request::ReadTag => Parts::one(13, &[]),
-            Request::ReadSensor => Parts::one(14, &[]),
-            Request::ReadOutput => Parts::one(15, &[]),
-            Request::ReadAssembly => Parts::one(16, &[]),
-            Request::WriteMessage(message) => Parts::one(17, message.as_bytes()),
+            Request::ReadVariables(codes) => Parts::one(codes.as_slice()),
+            Request::IdentifyByTag(tag) => Parts::one(tag.as_bytes()),
+            Request::WriteMessage(message) => Parts::one(message.as_bytes()),
             Request::WriteTag {
                 tag,
                 descriptor,
                 date,
             } => Parts {
-                command: 18,
                 first: tag.as_bytes(),
                 second: descriptor.as_bytes(),
                 third: date.as_bytes(),
             },
-            Request::WriteAssembly(assembly) => Parts::one(19, assembly),
-            Request::ReadLongTag => Parts::one(20, &[]),
-            Request::IdentifyByLongTag(long_tag) => Parts::one(21, long_tag),
-            Request::WriteLongTag(long_tag) => Parts::one(22, long_tag),
-            Request::ResetChanged(None) => Parts::one(38, &[]),
+            Request::WriteAssembly(assembly) => Parts::one(assembly),
+            Request::IdentifyByLongTag(long_tag) => Parts::one(long_tag),
+            Request::WriteLongTag(long_tag) => Parts::one(long_tag),
             Request::ResetChanged(Some(given)) => {
                 *counter = given.to_be_bytes();
-                Parts::one(38, counter)
+                Parts::one(counter)
             }
-            Request::ReadMore => Parts::one(48, &[]),
+            _ => Parts::one(&[]),
         }
     }
 }
 
-/// The command of a request, and the parts of its data, one after another. A part that it does not have is empty.
+/// The parts of the data of a request, one after another. A part that it does not have is empty.
 #[derive(Clone, Copy)]
 struct Parts<'a> {
-    command: u8,
     first: &'a [u8],
     second: &'a [u8],
     third: &'a [u8],
 }
 
 impl<'a> Parts<'a> {
-    /// Returns those of a command whose data are one part, or none.
-    fn one(command: u8, part: &'a [u8]) -> Self
-        ensures command { result.command ≡ command }
+    /// Returns one part, which may be empty.
+    fn one(part: &'a [u8]) -> Self
         ensures parts { (result.first.now ≡ part.now) × (result.second.now ≡ []) × (result.third.now ≡ []) }
     {
         Parts {
-            command,
             first: part,
             second: &[],
             third: &[],
