@@ -31,7 +31,7 @@ ghost use Rattle.hart_c.specs.Frames.{found_in, frame_in};
 ghost use Rattle.hart_c.specs.Master.{AcceptOutcome};
 ghost use Rattle.hart_c.specs.Names.{NameOutcome, field_name};
 
-use hart_commands::{read_data_begin_as_written, written_payloads_are_read_again};
+use hart_commands::laws::{read_data_begin_as_written, written_payloads_are_read_again};
 use hart_device::bytes_have_one_image_fault;
 use hart_frame::{bytes_have_one_fault, messages_are_short};
 

@@ -32,8 +32,10 @@ ghost use Rattle.hart_device.specs.Process.{IsFloat, IsProcess};
 ghost use Rattle.hart_device.specs.image.Image.{IsImageOf, IsImageFault, image_of};
 
 use crate::Process;
-use hart_commands::{SensorContent, all_registers_are_listed_once};
-use hart_values::{Bits32, packed_text_and_bytes_determine_each_other};
+use hart_commands::SensorContent;
+use hart_commands::laws::all_registers_are_listed_once;
+use hart_values::Bits32;
+use hart_values::laws::packed_text_and_bytes_determine_each_other;
 
 /// A command that is refused, or not answered, has no effect. It changes nothing of the device but the cold start bit of its master,
 /// which the reply shows and clears; without a reply nothing changes at all.

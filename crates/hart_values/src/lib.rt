@@ -25,7 +25,7 @@
 //! - `status`: the two status bytes of a reply, as a response code and a device status or as communication faults.
 //!
 //! At the root stand the values of one byte or four that have no rule, lists of bytes, and what is one thing for each of the two
-//! masters.
+//! masters. The module [`laws`] has what is proved of the definitions alone.
 #![tactic(auto)]
 
 mod address;
@@ -34,7 +34,7 @@ mod byte_list;
 mod each_master;
 mod fault;
 mod hart_date;
-mod laws;
+pub mod laws;
 mod loop_mode;
 mod master_id;
 mod packed_text;
@@ -48,10 +48,6 @@ pub use byte_list::{ByteList, Payload};
 pub use each_master::EachMaster;
 pub use fault::ValueFault;
 pub use hart_date::HartDate;
-pub use laws::{
-    address_bytes_are_unambiguous, communication_faults_have_their_bits, dates_are_decided,
-    device_states_have_their_bits, packed_text_and_bytes_determine_each_other,
-};
 pub use loop_mode::LoopMode;
 pub use master_id::MasterId;
 pub use packed_text::PackedText;
