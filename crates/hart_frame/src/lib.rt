@@ -54,7 +54,7 @@ pub use scan::next::{NextInBytes, next_frames_are_all, next_in_bytes};
 pub use scan::scanner::Scanner;
 pub use scan::streamed::{
     any_chunking_gives_the_same_frames, frames_are_streamed, held_characters_have_the_later_frames,
-    held_frames_are_given,
+    held_frames_are_given, scanners_move_past_the_next_frames,
 };
 pub use scan::view::{FoundView, FrameView};
 pub use wire::body::{Body, decode};

@@ -107,11 +107,3 @@ fault_of (ShortReply byte_count) = Some FrameFault.ShortReply
 fault_of (Missing count) = Some Truncated
 fault_of (BadCheck place byte fits) = Some FrameFault.BadCheck
 fault_of OnePreamble = None
-
--- For private calls alone:
-
--- Fewer than so many faultless characters come first, and a miss is why: the character with fault bits after them, or the reason at the
--- end of the list.
-pub record EndsEarly (heard : List Character) (count start : ℕ) (at_end miss : Miss) : Type 0 where
-  pub few : length (faultless_bytes heard) < count
-  pub is : miss ≡ faulty_or (slice_get heard (length (faultless_bytes heard))) (start + length (faultless_bytes heard)) at_end

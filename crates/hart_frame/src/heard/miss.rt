@@ -1,10 +1,11 @@
 //! Why no frame stands at a place at which a message seems to start.
 ghost use Rattle.std.specs.Prelude.{◌≡◌, ◌≢◌, ◌+◌, ◌^◌, ◌<◌, ◌≤◌, ◌⊎◌, ◌↔◌, ℕ, List, [], ◌∷◌, ◌++◌, None, Some, length, drop, insert, set};
 ghost use Rattle.std.specs.Prelude.{All, IsSome, MatchOption, bit_xor, fold, slice_get};
-ghost use Rattle.hart_frame.specs.heard.Body.{bytes_of};
+ghost use Rattle.hart_frame.specs.private.Body.{bytes_of};
 ghost use Rattle.hart_frame.specs.heard.Character.{Character, faultless, faultless_bytes};
 ghost use Rattle.hart_frame.specs.heard.InTheWay.{FollowsOnePreamble, HasBodyAt, IsInTheWay, bytes_from};
-ghost use Rattle.hart_frame.specs.heard.Miss.{EndsEarly, HasFrameAt, HasFrameUpTo, body_miss, check_miss, delimiter_miss, fault_of, faulty_or};
+ghost use Rattle.hart_frame.specs.private.Miss.{EndsEarly};
+ghost use Rattle.hart_frame.specs.heard.Miss.{HasFrameAt, HasFrameUpTo, body_miss, check_miss, delimiter_miss, fault_of, faulty_or};
 ghost use Rattle.hart_frame.specs.heard.Miss.{follows_one_preamble, follows_preamble, miss_of};
 ghost use Rattle.hart_frame.specs.heard.Start.{IsStart};
 ghost use Rattle.hart_frame.specs.wire.Layout.{body_length};

@@ -2,13 +2,13 @@
 ghost use Rattle.std.specs.Prelude.{◌≡◌, ◌+◌, ◌<◌, ◌≤◌, List, false, length, IsTrue, MatchOption, IfSome};
 ghost use Rattle.hart_frame.specs.heard.Delivery.{IsLone, lone_of};
 ghost use Rattle.hart_frame.specs.heard.Frames.{AreFrames, HasNoFrame, IsFirst};
-ghost use Rattle.hart_frame.specs.scan.Buffer.{IsSound, scan_of};
-ghost use Rattle.hart_frame.specs.scan.Candidate.{IsWholeBody};
-ghost use Rattle.hart_frame.specs.scan.Decision.{body_at};
-ghost use Rattle.hart_frame.specs.scan.First.{HoldsFirst};
+ghost use Rattle.hart_frame.specs.private.Buffer.{IsSound, scan_of};
+ghost use Rattle.hart_frame.specs.private.Candidate.{IsWholeBody};
+ghost use Rattle.hart_frame.specs.private.Decision.{body_at};
+ghost use Rattle.hart_frame.specs.private.First.{HoldsFirst};
 ghost use Rattle.hart_frame.specs.scan.Scanner.{new_scan};
 ghost use Rattle.hart_frame.specs.wire.Body.{IsBody};
-ghost use Rattle.hart_frame.specs.wire.Layout.{layout_length};
+ghost use Rattle.hart_frame.specs.private.Layout.{layout_length};
 ghost use Rattle.hart_frame.specs.declared.heard.found.Found.{Found};
 
 use crate::scan::buffer::{Buffer, Span};

@@ -29,7 +29,7 @@ pub struct Scanner {
 
 impl Model for Scanner {
     ghost use Rattle.hart_frame.specs.scan.Scanner.{Scan};
-    ghost use Rattle.hart_frame.specs.scan.Buffer.{IsSound, scan_of};
+    ghost use Rattle.hart_frame.specs.private.Buffer.{IsSound, scan_of};
 
     ghost Value = { Scan };
 
