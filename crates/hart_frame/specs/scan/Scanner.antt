@@ -1,9 +1,11 @@
 -- What a scanner promises: the frames of what is heard, each given as soon as it is decided (own profile).
-use Rattle.std.specs.Prelude.{◌≡◌, ◌+◌, ◌≤◌, ◌⊎◌, ℕ, Bool, true, false, List, [], ◌∷◌, ◌++◌, drop, length, map}
+use Rattle.std.specs.Prelude.{◌≡◌, ◌+◌, ◌≤◌, ◌⊎◌, ℕ, Bool, true, false, List, [], ◌∷◌, ◌++◌, Option, MatchOption, drop, length, map}
 use Rattle.hart_frame.specs.heard.Character.{Character}
 use Rattle.hart_frame.specs.heard.Frames.{HasNoFrame, IsUndecided, moved}
 use Rattle.hart_frame.specs.scan.Next.{AreNext}
+use Rattle.hart_frame.specs.scan.View.{found_of}
 use Rattle.hart_frame.specs.declared.heard.found.Found.{Found}
+use Rattle.hart_frame.specs.declared.scan.view.FoundView.{FoundView}
 
 -- A scanner stands for the characters that it holds, with the place of the first of them, or of the next one if it holds none.
 -- It is finished if no more is to come, and drained if it is new, gave none, or heard a chunk to its end with nothing decided, and
@@ -62,3 +64,7 @@ pub record Ends (old new : Scan) : Type 0 where
 -- A scanner that gives no frame waits, or ends if it is finished.
 abbrev pub GivesNothing : Scan → Scan → Type 0
 GivesNothing old new = Waits old new ⊎ Ends old new
+
+-- A call gives the next frame, in a view, or nothing for now.
+abbrev pub GivesNextOrNothing : Scan → Scan → Option FoundView → Type 0
+GivesNextOrNothing old new given = MatchOption given (GivesNothing old new) (λ view. Gives old new (found_of view))

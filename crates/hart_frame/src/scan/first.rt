@@ -12,7 +12,18 @@ ghost use Rattle.hart_frame.specs.private.Layout.{layout_length};
 ghost use Rattle.hart_frame.specs.declared.heard.found.Found.{Found};
 
 use crate::scan::buffer::{Buffer, Span};
-use crate::{Char, Found, LoneFrame};
+use crate::{Char, Found};
+
+/// Whether a delivery, which is what is heard at once, has one frame alone.
+#[derive(Debug, Drop, PartialEq, Eq)]
+pub enum LoneFrame {
+    /// It has no frame.
+    NoFrame,
+    /// It has this frame, and no other.
+    Alone(Found),
+    /// It has more than one.
+    Several,
+}
 
 /// Returns the first frame of what was heard, from a place of the list on, or `None` if no frame stands there.
 ///
