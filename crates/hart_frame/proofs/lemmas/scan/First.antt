@@ -77,9 +77,11 @@ first_given chars count old mid new span is_new hears given =
     let heard = hearing new_scan (take count chars) in
     let moves = moves_new chars count old (scan_of mid) is_new hears.moves in
     let all = moves_then heard (scan_of mid) (scan_of new) [] (found ∷ []) moves gives.moves in
-    let split = take-append-drop count chars in
-    (later, rw split at
-    (moves_frames heard (scan_of new) (found ∷ []) later [] (drop count chars) all refl (λ over. absurd cc) (rw split are))))
+    let split = take-append-drop count chars in (
+      later,
+      rw split at
+          (moves_frames heard (scan_of new) (found ∷ []) later [] (drop count chars) all refl (λ over. absurd cc) (rw split are)),
+    ))
 
 -- or it does once it is finished, or there is none
 last_given : (chars : List Character) (waiting : Scan) (old new : Buffer) (given : Option Span)
@@ -97,9 +99,11 @@ last_given chars waiting old new (Some span) moves finished given =
     let long : length gone ≡ waiting.first =
     omega (arith, moves.first, length-take-le moves.count chars moves.next.within) in
     let parts : gone ++ (waiting.held ++ []) ≡ chars = rw (append-nil, moves.held) (take-append-drop moves.count chars) in
-    let after = moves_frames (finishing waiting) (scan_of new) (found ∷ []) later gone [] last long (λ over. refl) (rw parts are) in
-    (later, rw append-nil at
-    (moves_frames (hearing new_scan chars) waiting [] (found ∷ later) [] [] moves refl (λ over. refl) (rw append-nil (rw parts at after)))))
+    let after = moves_frames (finishing waiting) (scan_of new) (found ∷ []) later gone [] last long (λ over. refl) (rw parts are) in (
+      later,
+      rw append-nil at
+          (moves_frames (hearing new_scan chars) waiting [] (found ∷ later) [] [] moves refl (λ over. refl) (rw append-nil (rw parts at after))),
+    ))
 
 -- as all of it was heard then
 pub first_finished : (chars : List Character) (count : ℕ) (start mid waiting old new : Buffer) (given : Option Span)

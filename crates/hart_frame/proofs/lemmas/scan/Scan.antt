@@ -1,13 +1,11 @@
 -- What a scanner that lets characters go moves past.
-use Rattle.std.proofs.Common.{◌≡◌, ℕ, ◌+◌, ◌<◌, ◌≤◌, Bool, false, IsTrue, List, [], ◌∷◌, ◌++◌, length, map, drop, refl, sym, ◌∙◌, arith}
+use Rattle.std.proofs.Common.{◌≡◌, ℕ, ◌+◌, ◌<◌, ◌≤◌, false, IsTrue, List, [], ◌∷◌, ◌++◌, length, map, drop, refl, sym, ◌∙◌, arith}
 use Rattle.std.proofs.Common.{append_assoc, length-append, length-drop}
-use Rattle.std.proofs.lemmas.Grind.{common_steps}
 use Rattle.std.proofs.lemmas.List.{drop-append-le, drop-drop, drop-map, drop_at, length-map, map-append}
 use Rattle.hart_frame.specs.declared.heard.found.Found.{Found}
 use Rattle.hart_frame.specs.heard.Character.{Character, faultless}
 use Rattle.hart_frame.specs.heard.Frames.{AreFrames, moved}
 use Rattle.hart_frame.specs.private.Candidate.{BeginWithNone}
-use Rattle.hart_frame.specs.scan.Next.{AreNext}
 use Rattle.hart_frame.specs.scan.Scanner.{MovesPast, Scan, hearing}
 use Rattle.hart_frame.specs.wire.Body.{IsBody}
 use Rattle.hart_frame.specs.wire.FrameParts.{FrameParts}

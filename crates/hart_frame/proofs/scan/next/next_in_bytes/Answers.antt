@@ -1,4 +1,4 @@
-use Rattle.std.proofs.Common.{arith, drop, []}
+use Rattle.std.proofs.Common.{arith, drop}
 use Rattle.std.proofs.lemmas.List.{drop_all}
 use Rattle.hart_frame.specs.private.Candidate.{MayBegin}
 use Rattle.hart_frame.specs.scan.View.{parts_of}
