@@ -1,5 +1,5 @@
 -- The device that a caller in C keeps, and what the calls make of it (own profile).
-use Rattle.std.specs.Prelude.{◌≡◌, ◌<◌, ◌≤◌, ◌⊎◌, ◌+◌, ◌-◌, ◌%◌, ◌++◌, ℕ, Bool, true, List, Option, None, Some, drop, if◌then◌else◌}
+use Rattle.std.specs.Prelude.{◌≡◌, ◌<◌, ◌≤◌, ◌⊎◌, ◌+◌, ◌-◌, ◌%◌, ◌++◌, ℕ, Bool, true, List, [], ◌∷◌, Option, None, Some, drop, if◌then◌else◌}
 use Rattle.std.specs.Prelude.{length, map, slice_index, slice_set, take}
 use Rattle.hart_values.specs.declared.each_master.EachMaster.{EachMaster}
 use Rattle.hart_frame.specs.wire.FrameParts.{FrameParts}
@@ -17,15 +17,17 @@ use Rattle.hart_device.specs.declared.process.Process.{Process}
 use Rattle.hart_device.specs.declared.registers.values.RegisterValues.{RegisterValues}
 use Rattle.hart_c.specs.declared.device.HartDevice.{HartDevice}
 use Rattle.hart_c.specs.declared.fault.Fault.{Fault}
-use Rattle.hart_c.specs.declared.fault.Fault.TheVariants.{BadFaultBits, BadVariables, Device, NoRoom, TooLong}
+use Rattle.hart_c.specs.declared.fault.Fault.TheVariants.{BadVariables, Device, NoRoom}
 use Rattle.hart_c.specs.declared.fault.HartOutcome.{HartOutcome}
 use Rattle.hart_c.specs.declared.find.HartChar.{HartChar}
 use Rattle.hart_c.specs.declared.identity.HartIdentity.{HartIdentity}
 use Rattle.hart_c.specs.declared.process.HartProcess.{HartProcess}
 use Rattle.hart_c.specs.declared.registers.HartRegisters.{HartRegisters}
+use Rattle.hart_c.specs.Checks.{Check, IsFirstOf, needs, refused_if}
+use Rattle.hart_c.specs.Encode.{HasNoRoom}
 use Rattle.hart_c.specs.Faults.{number_of}
 use Rattle.hart_c.specs.Find.{char_of}
-use Rattle.hart_c.specs.Heard.{IsDelivery, IsHeardFault}
+use Rattle.hart_c.specs.Heard.{IsDelivery, heard_checks}
 use Rattle.hart_c.specs.Identity.{parts_of}
 use Rattle.hart_c.specs.Process.{HasVariables, IsProcessOf}
 use Rattle.hart_c.specs.Registers.{contents_of}
@@ -99,10 +101,10 @@ IsSaid None preambles before after len = (len ≡ 0) × (after ≡ before)
 IsSaid (Some reply) preambles before after len =
     (message : List ℕ) × IsMessage reply preambles message × (len ≡ length message) × (after ≡ message ++ drop len before)
 
--- The message of a reply has more bytes than there is room for.
-abbrev pub HasNoRoom : Option FrameParts → ℕ → ℕ → Type 0
-HasNoRoom None preambles room = ⊥
-HasNoRoom (Some reply) preambles room = (message : List ℕ) × IsMessage reply preambles message × (room < length message)
+-- A reply has no room; silence needs none.
+abbrev pub ReplyHasNoRoom : Option FrameParts → ℕ → ℕ → Type 0
+ReplyHasNoRoom None preambles room = ⊥
+ReplyHasNoRoom (Some reply) preambles room = HasNoRoom reply preambles room
 
 -- A device that hears a delivery says what it answers to what that brings. What is kept is then that of the state after it, and stands
 -- for it. If it said nothing, the state is the one before.
@@ -114,33 +116,36 @@ pub record Hears (identity : HartIdentity) (process : HartProcess) (heard : List
   pub kept : IsKept (parts_of identity) after (state_after_delivery hearing.state hearing.brought)
   pub silent : len ≡ 0 → state_after_delivery hearing.state hearing.brought ≡ hearing.state
 
--- The identity and what is kept of the device are refused for no fault: the device is in a state.
+-- A fault of a device is one of a call.
+abbrev pub OfDevice : (DeviceFault → Type 0) → Fault → Type 0
+OfDevice refuses told = (fault : DeviceFault) × refuses fault × (told ≡ Device fault)
+
+-- What is kept of the device is some state of it.
 abbrev pub IsInState : HartIdentity → HartDevice → Type 0
 IsInState identity device = (state : DeviceState) × IsKept (parts_of identity) device state
 
--- A fault of who a device is comes first, and then one of what is kept of it.
-abbrev pub IsStateFault : HartIdentity → HartDevice → Fault → Type 0
-IsStateFault identity device (Device fault) =
-    IsIdentityFault (parts_of identity) fault ⊎ (AreIdentityParts (parts_of identity) × IsKeptFault device fault)
-IsStateFault identity device _ = ⊥
+-- Who the device is is checked first, and then what is kept of it.
+abbrev pub state_checks : HartIdentity → HartDevice → List Check
+state_checks identity device =
+    record { passes = AreIdentityParts (parts_of identity); refuses = OfDevice (IsIdentityFault (parts_of identity)) }
+    ∷ record { passes = IsInState identity device; refuses = OfDevice (IsKeptFault device) } ∷ []
 
--- A fault is the first of these that holds: one of the identity, one of what is kept, a process without dynamic variables or with more
--- than four, one of the characters, or no room for the reply.
-abbrev pub IsHearFault : HartIdentity → HartProcess → List HartChar → HartDevice → ℕ → Fault → Type 0
-IsHearFault identity process heard device room (Device fault) = IsStateFault identity device (Device fault)
-IsHearFault identity process heard device room BadVariables = IsInState identity device × (HasVariables process → ⊥)
-IsHearFault identity process heard device room BadFaultBits =
-    IsInState identity device × HasVariables process × IsHeardFault heard BadFaultBits
-IsHearFault identity process heard device room TooLong = IsInState identity device × HasVariables process × IsHeardFault heard TooLong
-IsHearFault identity process heard device room NoRoom =
-    (hearing : IsHearing identity process heard device)
-    × HasNoRoom (answer_to hearing.state hearing.measured hearing.brought) identity.response_preambles room
-IsHearFault identity process heard device room _ = ⊥
+-- A reply is checked for having room.
+abbrev pub reply_checks : HartIdentity → HartProcess → List HartChar → HartDevice → ℕ → List Check
+reply_checks identity process heard device room =
+    refused_if ((hearing : IsHearing identity process heard device)
+    × ReplyHasNoRoom (answer_to hearing.state hearing.measured hearing.brought) identity.response_preambles room) NoRoom ∷ []
+
+-- The device is checked, then the process for one to four dynamic variables, then the characters, and then the reply.
+abbrev pub hear_checks : HartIdentity → HartProcess → List HartChar → HartDevice → ℕ → List Check
+hear_checks identity process heard device room =
+    state_checks identity device ++ needs (HasVariables process) BadVariables
+    ∷ heard_checks heard ++ reply_checks identity process heard device room
 
 -- Without a fault the device has heard, and the length of its reply is told. With a fault, told by its number, what was kept and the
 -- output are as they were.
 abbrev pub HearOutcome : HartIdentity → HartProcess → List HartChar → HartDevice → HartDevice → List ℕ → List ℕ → HartOutcome → Type 0
 HearOutcome identity process heard before after old new outcome =
     ((outcome.fault ≡ 0) × Hears identity process heard before after old new outcome.len)
-    ⊎ ((fault : Fault) × IsHearFault identity process heard before (length old) fault × (outcome.fault ≡ number_of fault)
+    ⊎ ((fault : Fault) × IsFirstOf (hear_checks identity process heard before (length old)) fault × (outcome.fault ≡ number_of fault)
     × (outcome.len ≡ 0) × (after ≡ before) × (new ≡ old))

@@ -2,32 +2,21 @@
 use Rattle.std.specs.Prelude.{◌≡◌, ◌+◌, ◌<◌, ◌≤◌, ◌⊎◌, ℕ, Bool, IsTrue, false, List, [], ◌++◌, drop, length, map, take}
 use Rattle.std.specs.List.{All}
 use Rattle.hart_frame.specs.heard.Character.{AreFaultBits, Character}
-use Rattle.hart_frame.specs.heard.Frames.{AreFrames, IsUndecided, moved}
-use Rattle.hart_frame.specs.scan.Scanner.{Scan}
-use Rattle.hart_frame.specs.scan.Streamed.{IsHistory}
+use Rattle.hart_frame.specs.heard.Frames.{IsUndecided, moved}
+use Rattle.hart_frame.specs.scan.Next.{AreNext}
 use Rattle.hart_frame.specs.declared.heard.found.Found.{Found}
 use Rattle.hart_c.specs.declared.find.HartChar.{HartChar}
 use Rattle.hart_c.specs.declared.find.HartSearch.{HartSearch}
 use Rattle.hart_c.specs.declared.frame.HartFrame.{HartFrame}
 use Rattle.hart_c.specs.Frames.{IsTidy, found_in_first}
 
--- Whatever is still to come, the frames of all are some, and then those of the rest from a place on and what is to come, with their
--- places counted from there. If it ended, nothing is to come.
-abbrev pub AreNext : List Character → Bool → List Found → ℕ → Type 0
-AreNext chars ended given used = (more : List Character) (later : List Found) → (IsTrue ended → more ≡ [])
-    → AreFrames (drop used chars ++ more) 0 later → AreFrames (chars ++ more) 0 (given ++ map (moved used) later)
-
--- A search shows the next frames, and says how many characters are used up. Every frame that is shown stops within those, and if a frame is
--- shown, some characters are used up. What the search does not need to show stays as it was. If there was room for more frames: none are
--- left if it ended; otherwise at most 268 characters are left, and nothing is decided in them.
+-- A search shows the next frames, and says how many characters are used up. What the search does not need to show stays as it was. If there
+-- was room for more frames: none are left if it ended; otherwise at most 268 characters are left, and nothing is decided in them.
 pub record Finds (chars : List Character) (ended : Bool) (before after : List HartFrame) (search : HartSearch) : Type 0 where
   pub within : search.count ≤ length after
   pub untouched : drop search.count after ≡ drop search.count before
   pub tidy : All IsTidy (take search.count after)
-  pub used : search.used ≤ length chars
-  pub stops : All (λ frame. frame.stop ≤ search.used) (take search.count after)
-  pub onward : 0 < search.count → 0 < search.used
-  pub are_next : AreNext chars ended (found_in_first search.count after) search.used
+  pub next : AreNext chars ended 0 (found_in_first search.count after) search.used
   pub few : search.count < length after → length chars ≤ search.used + 268
   pub all : search.count < length after → IsTrue ended → search.used ≡ length chars
   pub undecided : search.count < length after → ended ≡ false → IsUndecided (drop search.used chars)
@@ -50,19 +39,6 @@ SearchOutcome heard ended before after search =
 pub data IsSearchedSoFar : List Character → Bool → List Found → ℕ → Type 0 where
   begin : IsSearchedSoFar [] false [] 0
   search : (heard piece : List Character) (before ended : Bool) (given found : List Found) (used further : ℕ)
-      → IsSearchedSoFar heard before given used → used ≤ length heard → (IsTrue before → (piece ≡ []) × IsTrue ended)
-      → AreNext (drop used heard ++ piece) ended found further
+      → IsSearchedSoFar heard before given used → (IsTrue before → (piece ≡ []) × IsTrue ended)
+      → AreNext (drop used heard ++ piece) ended 0 found further
       → IsSearchedSoFar (heard ++ piece) ended (given ++ map (moved used) found) (used + further)
-
--- For private calls alone: so many characters were searched by a scanner that goes on, and so many frames that it gave are shown. If there
--- is room for more, all were searched, and nothing is decided in what the scanner holds, which is at most 268 characters.
-pub record IsSearched (n : ℕ) (chars : List Character) (before after : List HartFrame) (count : ℕ) (scan : Scan) : Type 0 where
-  pub within : n ≤ length chars
-  pub room : count ≤ length after
-  pub untouched : drop count after ≡ drop count before
-  pub tidy : All IsTidy (take count after)
-  pub going : scan.finished ≡ false
-  pub history : IsHistory (take n chars) scan (found_in_first count after)
-  pub whole : count < length after → n ≡ length chars
-  pub few : count < length after → length scan.held ≤ 268
-  pub undecided : count < length after → IsUndecided scan.held

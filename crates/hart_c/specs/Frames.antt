@@ -9,7 +9,6 @@ use Rattle.hart_frame.specs.declared.wire.kind.FrameKind.TheVariants.{Stx, Ack}
 use Rattle.hart_frame.specs.declared.heard.found.Found.{Found}
 use Rattle.hart_frame.specs.wire.FrameParts.{FrameParts}
 use Rattle.hart_c.specs.declared.frame.HartFrame.{HartFrame}
-use Rattle.hart_c.specs.declared.frame.Parts.{Parts}
 
 -- A reply is an ACK, and any other frame an STX.
 abbrev pub kind_of : Bool → FrameKind
@@ -56,15 +55,3 @@ with_address (Unique numbers) frame =
 pub record IsTidy (frame : HartFrame) : Type 0 where
   pub expansion : frame.expansion_len ≤ 3
   pub address : frame ≡ with_address (address_of frame.is_unique frame) frame
-
--- For private calls alone: the frame of parts that lie somewhere.
-abbrev pub parts_in : Parts → FrameParts
-parts_in parts = record {
-  kind = parts.kind;
-  master = parts.master;
-  burst = parts.burst;
-  address = parts.address;
-  expansion = parts.expansion.now;
-  command = parts.command;
-  payload = parts.payload.now;
-}

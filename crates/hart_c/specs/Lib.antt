@@ -1,6 +1,7 @@
 pub use Rattle.hart_frame.specs.wire
 pub mod Frames
 pub mod Faults
+pub mod Checks
 pub mod Encode
 pub mod Decode
 pub mod Find
@@ -12,3 +13,4 @@ pub mod Registers
 pub mod Heard
 pub mod Device
 pub mod Master
+pub mod private

@@ -1,5 +1,5 @@
 -- What a caller in C hears as a master does (own profile).
-use Rattle.std.specs.Prelude.{◌≡◌, ◌⊎◌, ℕ, false, true, List, [], Option, None, Some, Result, Ok, Err, map}
+use Rattle.std.specs.Prelude.{◌≡◌, ◌⊎◌, false, true, List, [], ◌∷◌, ◌++◌, Option, None, Some, Result, Ok, Err, map}
 use Rattle.hart_values.specs.declared.address.Address.{Address}
 use Rattle.hart_values.specs.declared.address.Address.TheVariants.{Polling, Unique}
 use Rattle.hart_values.specs.declared.master_id.MasterId.{MasterId}
@@ -10,21 +10,20 @@ use Rattle.hart_commands.specs.RequestData.{request_reading}
 use Rattle.hart_commands.specs.declared.reply.Reply.{Reply}
 use Rattle.hart_commands.specs.declared.request.Request.{Request}
 use Rattle.hart_master.specs.Acceptance.{IsAccepted}
-use Rattle.hart_master.specs.Master.{MasterState}
 use Rattle.hart_master.specs.Pairing.{may_ask}
 use Rattle.hart_master.specs.Unique.{unique_in}
-use Rattle.hart_master.specs.declared.hand.Hand.TheVariants.{Awaiting}
 use Rattle.hart_c.specs.declared.fault.Fault.{Fault}
-use Rattle.hart_c.specs.declared.fault.Fault.TheVariants.{BadFaultBits, NoRequest, TooLong, WrongAddress}
+use Rattle.hart_c.specs.declared.fault.Fault.TheVariants.{NoRequest, WrongAddress}
 use Rattle.hart_c.specs.declared.find.HartChar.{HartChar}
 use Rattle.hart_c.specs.declared.frame.HartFrame.{HartFrame}
 use Rattle.hart_c.specs.declared.master.HartAcceptance.{HartAcceptance}
 use Rattle.hart_c.specs.declared.master.HartUnique.{HartUnique}
-use Rattle.hart_c.specs.Encode.{IsEncodeFault, IsFrame}
+use Rattle.hart_c.specs.Checks.{Check, IsFirstOf, needs}
+use Rattle.hart_c.specs.Encode.{IsFrame, frame_checks}
 use Rattle.hart_c.specs.Faults.{number_of}
 use Rattle.hart_c.specs.Find.{char_of}
 use Rattle.hart_c.specs.Frames.{IsTidy, found_in, frame_in}
-use Rattle.hart_c.specs.Heard.{IsDelivery, IsHeardFault}
+use Rattle.hart_c.specs.Heard.{IsDelivery, heard_checks}
 
 -- A master asks a request with a frame if that is an STX with the burst bit clear and without expansion bytes, whose data are read as it.
 pub record IsAsked (frame : FrameParts) (request : Request) : Type 0 where
@@ -39,13 +38,15 @@ pub record IsSent (numbers : HartFrame) (request : Request) : Type 0 where
   pub asked : IsAsked (frame_in numbers) request
   pub paired : may_ask (frame_in numbers).address request ≡ true
 
--- The numbers are refused as no frame, whatever the number of preamble bytes and the room; then if no master asks anything with it;
--- then if what is asked may not be asked at the address.
-abbrev pub IsSendFault : HartFrame → Fault → Type 0
-IsSendFault numbers NoRequest = IsFrame numbers × ((request : Request) → IsAsked (frame_in numbers) request → ⊥)
-IsSendFault numbers WrongAddress =
-    IsFrame numbers × ((request : Request) × IsAsked (frame_in numbers) request × (may_ask (frame_in numbers).address request ≡ false))
-IsSendFault numbers fault = (preambles room : ℕ) → IsEncodeFault numbers preambles room fault
+-- A frame is checked for being one with which a master asks something, and then for one that it may ask at its address.
+abbrev pub asking_checks : HartFrame → List Check
+asking_checks numbers =
+    needs ((request : Request) × IsAsked (frame_in numbers) request) NoRequest
+    ∷ needs ((request : Request) × IsSent numbers request) WrongAddress ∷ []
+
+-- A request is checked for being a frame first.
+abbrev pub send_checks : HartFrame → List Check
+send_checks numbers = frame_checks numbers ++ asking_checks numbers
 
 -- What is heard is accepted as the reply to a request, and its frame is shown, or it is accepted as none, and what was shown stays.
 abbrev pub IsShownReply : MasterId → Address → Request → List Character → HartFrame → HartFrame → Option Reply → Type 0
@@ -61,11 +62,9 @@ pub record Accepts (numbers : HartFrame) (heard : List HartChar) (before after :
   pub delivery : IsDelivery heard
   pub reply : IsShownReply (frame_in numbers).master (frame_in numbers).address request (map char_of heard) before after said
 
--- A fault is the first of these that holds: one of the request, or one of the characters.
-abbrev pub IsAcceptFault : HartFrame → List HartChar → Fault → Type 0
-IsAcceptFault numbers heard BadFaultBits = ((request : Request) × IsSent numbers request) × IsHeardFault heard BadFaultBits
-IsAcceptFault numbers heard TooLong = ((request : Request) × IsSent numbers request) × IsHeardFault heard TooLong
-IsAcceptFault numbers heard fault = IsSendFault numbers fault
+-- The request is checked first, and then the characters.
+abbrev pub accept_checks : HartFrame → List HartChar → List Check
+accept_checks numbers heard = send_checks numbers ++ heard_checks heard
 
 -- Of a reply its response code and its device status are told, and of none nothing; a fault is told by its number.
 abbrev pub acceptance_of : Result (Option Reply) Fault → HartAcceptance
@@ -77,7 +76,7 @@ acceptance_of (Err fault) = record { is_accepted = false; code = 0; status = 0; 
 abbrev pub AcceptOutcome : HartFrame → List HartChar → HartFrame → HartFrame → HartAcceptance → Type 0
 AcceptOutcome numbers heard before after acceptance =
     ((said : Option Reply) × Accepts numbers heard before after said × (acceptance ≡ acceptance_of (Ok said)))
-    ⊎ ((fault : Fault) × IsAcceptFault numbers heard fault × (acceptance ≡ acceptance_of (Err fault)) × (after ≡ before))
+    ⊎ ((fault : Fault) × IsFirstOf (accept_checks numbers heard) fault × (acceptance ≡ acceptance_of (Err fault)) × (after ≡ before))
 
 -- The numbers of a unique address; a polling address gives none.
 abbrev pub given_of : Option Address → HartUnique
@@ -90,10 +89,3 @@ given_of (Some (Unique numbers)) =
 abbrev pub given_by : Option Reply → HartUnique
 given_by None = given_of None
 given_by (Some reply) = given_of (unique_in reply)
-
--- For private calls alone: a master has sent a request by these numbers, and awaits its reply.
-pub record IsAwaiting (numbers : HartFrame) (master : MasterState) : Type 0 where
-  pub request : Request
-  pub sent : IsSent numbers request
-  pub id : master.id ≡ (frame_in numbers).master
-  pub hand : master.hand ≡ Awaiting (record { address = (frame_in numbers).address; request = request; sendings = 1 }) 0

@@ -2,7 +2,8 @@
 ghost use Rattle.std.specs.Prelude.{◌≡◌, ◌≤◌, IfErr, IfOk, OnErr, length};
 ghost use Rattle.hart_frame.specs.wire.Message.{IsPreambleCount};
 ghost use Rattle.hart_device.specs.image.Image.{IsImageOf};
-ghost use Rattle.hart_c.specs.Device.{HasNoRoom, HearOutcome, Hears, IsHearFault, IsKept, IsRestarted, IsSaid, IsStateFault};
+ghost use Rattle.hart_c.specs.Checks.{IsFirstOf};
+ghost use Rattle.hart_c.specs.Device.{HearOutcome, Hears, IsKept, IsRestarted, IsSaid, ReplyHasNoRoom, hear_checks, state_checks};
 ghost use Rattle.hart_c.specs.Device.{IsKeptFault, NewDeviceOutcome, device_of, image_in};
 ghost use Rattle.hart_c.specs.Identity.{parts_of};
 
@@ -90,7 +91,7 @@ fn hear(
     reply: &mut [u8],
 ) -> Result<usize, Fault>
     ensures heard { IfOk result (Hears identity.now process.now heard.now device.old device.new reply.old reply.new) }
-    ensures refused { IfErr result (IsHearFault identity.now process.now heard.now device.old (length reply.old)) }
+    ensures refused { IfErr result (IsFirstOf (hear_checks identity.now process.now heard.now device.old (length reply.old))) }
     ensures kept { OnErr result (device.new ≡ device.old) }
     ensures unchanged { OnErr result (reply.new ≡ reply.old) }
 {
@@ -107,7 +108,7 @@ fn hear(
 /// The device in the state that is kept.
 fn kept_state(identity: &HartIdentity, device: &HartDevice) -> Result<Device<ImageRegisters>, Fault>
     ensures kept { IfOk result (IsKept (parts_of identity.now) device.now) }
-    ensures refused { IfErr result (IsStateFault identity.now device.now) }
+    ensures refused { IfErr result (IsFirstOf (state_checks identity.now device.now)) }
 {
     let identity = Identity::new(parts_of(identity)).map_err(Fault::Device)?;
     let mut state = imaged(identity, device).map_err(Fault::Device)?;
@@ -144,7 +145,7 @@ fn keep(state: &Device<ImageRegisters>, device: &mut HartDevice)
 fn say(said: Option<Frame>, preambles: u8, output: &mut [u8]) -> Result<usize, Fault>
     requires { IsPreambleCount preambles }
     ensures said { IfOk result (IsSaid said preambles output.old output.new) }
-    ensures refused { IfErr result (λ fault. (fault ≡ Fault.NoRoom) × HasNoRoom said preambles (length output.old)) }
+    ensures refused { IfErr result (λ fault. (fault ≡ Fault.NoRoom) × ReplyHasNoRoom said preambles (length output.old)) }
     ensures unchanged { OnErr result (output.new ≡ output.old) }
 {
     let Some(frame) = said else {

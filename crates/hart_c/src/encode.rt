@@ -1,6 +1,7 @@
 //! A frame, written as a message.
-ghost use Rattle.std.specs.Prelude.{◌≡◌, ◌↔◌, ℕ, length, IfOk, IfErr, IfSome, IsSome, OnErr};
-ghost use Rattle.hart_c.specs.Encode.{EncodeOutcome, IsEncodeFault, IsFrame, IsInRange, IsWritten};
+ghost use Rattle.std.specs.Prelude.{◌≡◌, ◌↔◌, length, IfOk, IfErr, IfSome, IsSome, OnErr};
+ghost use Rattle.hart_c.specs.Encode.{EncodeOutcome, IsFrame, IsInRange, IsWritten, encode_checks, frame_checks};
+ghost use Rattle.hart_c.specs.Checks.{IsFirstOf};
 ghost use Rattle.hart_c.specs.Frames.{address_of, frame_in, kind_of, master_of};
 
 use crate::fault::{Fault, HartOutcome};
@@ -26,7 +27,7 @@ pub extern "C" fn hart_encode(frame: &HartFrame, preambles: u8, output: &mut [u8
 /// Writes a frame as a message at the front of `output`, and gives how many bytes that are.
 fn write_message(frame: &HartFrame, preambles: u8, output: &mut [u8]) -> Result<usize, Fault>
     ensures written { IfOk result (λ len. IsWritten frame.now preambles output.old output.new len) }
-    ensures refused { IfErr result (IsEncodeFault frame.now preambles (length output.old)) }
+    ensures refused { IfErr result (IsFirstOf (encode_checks frame.now preambles (length output.old))) }
     ensures unchanged { OnErr result (output.new ≡ output.old) }
 {
     let frame = match frame_of(frame) {
@@ -44,7 +45,7 @@ fn write_message(frame: &HartFrame, preambles: u8, output: &mut [u8]) -> Result<
 pub(crate) fn frame_of(frame: &HartFrame) -> Result<Frame, Fault>
     ensures same { IfOk result (λ made. made ≡ frame_in frame.now) }
     ensures frame { IfOk result (λ made. IsFrame frame.now) }
-    ensures refused { IfErr result (λ fault. (preambles room : ℕ) → IsEncodeFault frame.now preambles room fault) }
+    ensures refused { IfErr result (IsFirstOf (frame_checks frame.now)) }
 {
     let address = address_of(frame).ok_or(Fault::BadAddress)?;
     let expansion = frame.expansion.get(..usize::from(frame.expansion_len));

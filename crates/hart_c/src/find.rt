@@ -4,7 +4,8 @@ ghost use Rattle.hart_frame.specs.heard.Character.{AreFaultBits, Character, faul
 ghost use Rattle.hart_frame.specs.heard.Frames.{IsUndecided};
 ghost use Rattle.hart_frame.specs.scan.Streamed.{IsHistory, IsWholeHistory};
 ghost use Rattle.hart_frame.specs.scan.Scanner.{Gives, GivesNothing};
-ghost use Rattle.hart_c.specs.Find.{Finds, IsSearched, SearchOutcome, char_of};
+ghost use Rattle.hart_c.specs.Find.{Finds, SearchOutcome, char_of};
+ghost use Rattle.hart_c.specs.private.Find.{IsSearched};
 ghost use Rattle.hart_c.specs.Frames.{IsTidy, found_in, found_in_first};
 
 use crate::fault::{HART_BAD_FAULT_BITS, HART_OK};

@@ -1,7 +1,8 @@
 //! A frame, as numbers for C.
 ghost use Rattle.std.specs.Prelude.{◌≡◌, ◌≤◌, length};
 ghost use Rattle.hart_frame.specs.scan.View.{found_of};
-ghost use Rattle.hart_c.specs.Frames.{IsTidy, found_in, frame_in, parts_in, with_address};
+ghost use Rattle.hart_c.specs.Frames.{IsTidy, found_in, frame_in, with_address};
+ghost use Rattle.hart_c.specs.private.Frames.{parts_in};
 
 use hart_frame::{FoundView, Frame, FrameKind};
 use hart_values::{Address, MasterId};

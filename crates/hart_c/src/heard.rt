@@ -1,7 +1,8 @@
 //! What is heard at once, as a caller in C passes it.
 ghost use Rattle.std.specs.Prelude.{◌≡◌, ◌≤◌, ◌↔◌, IfErr, IfOk, IsTrue, map, take};
 ghost use Rattle.hart_c.specs.Find.{char_of};
-ghost use Rattle.hart_c.specs.Heard.{HaveFaultBits, IsDelivery, IsHeardFault};
+ghost use Rattle.hart_c.specs.Heard.{HaveFaultBits, IsDelivery, heard_checks};
+ghost use Rattle.hart_c.specs.Checks.{IsFirstOf};
 
 use crate::fault::Fault;
 use crate::find::{HartChar, char_of};
@@ -31,7 +32,7 @@ impl Delivery {
 pub(crate) fn delivery_of(heard: &[HartChar]) -> Result<Delivery, Fault>
     ensures same { IfOk result (λ delivery. take delivery.len delivery.chars ≡ map char_of heard.now) }
     ensures accepted { IfOk result (λ delivery. IsDelivery heard.now) }
-    ensures refused { IfErr result (IsHeardFault heard.now) }
+    ensures refused { IfErr result (IsFirstOf (heard_checks heard.now)) }
 {
     if !have_fault_bits(heard) {
         return Err(Fault::BadFaultBits);

@@ -17,7 +17,8 @@ ghost use Rattle.hart_c.specs.declared.device.HartDevice.{HartDevice};
 ghost use Rattle.hart_c.specs.declared.fault.HartOutcome.{HartOutcome};
 ghost use Rattle.hart_c.specs.Data.{ReplyOutcome, RequestOutcome, StandsAt, reply_fields, request_fields};
 ghost use Rattle.hart_c.specs.Device.{HearOutcome, IsKept, NewDeviceOutcome, device_of, with_protection};
-ghost use Rattle.hart_c.specs.Find.{AreNext, Finds, IsSearchedSoFar};
+ghost use Rattle.hart_c.specs.Find.{Finds, IsSearchedSoFar};
+ghost use Rattle.hart_frame.specs.scan.Next.{AreNext};
 ghost use Rattle.hart_c.specs.declared.find.HartChar.{HartChar};
 ghost use Rattle.hart_c.specs.declared.find.HartSearch.{HartSearch};
 ghost use Rattle.hart_c.specs.declared.frame.HartFrame.{HartFrame};
@@ -33,14 +34,14 @@ ghost use Rattle.hart_c.specs.Names.{NameOutcome, field_name};
 
 use hart_commands::laws::{read_data_begin_as_written, written_payloads_are_read_again};
 use hart_device::bytes_have_one_image_fault;
-use hart_frame::{bytes_have_one_fault, messages_are_short};
+use hart_frame::laws::{bytes_have_one_fault, messages_are_short};
 
 /// Whoever passes what is not used up again, with what comes after it, is given all frames of all that was heard, and no others, in
 /// whatever pieces it came: the frames of each search, moved by what was used up before, are the next ones; and once all is used up
 /// and it ended, they are all that there are.
 pub fn searches_give_all_frames()
     ensures next { (heard : List Character) (ended : Bool) (given : List Found) (used : ℕ)
-        → IsSearchedSoFar heard ended given used → AreNext heard ended given used }
+        → IsSearchedSoFar heard ended given used → AreNext heard ended 0 given used }
     ensures all { (heard : List Character) (given : List Found)
         → IsSearchedSoFar heard true given (length heard) → AreFrames heard 0 given }
 {}

@@ -15,7 +15,7 @@ mod find;
 mod frame;
 mod heard;
 mod identity;
-mod laws;
+pub mod laws;
 mod master;
 mod name;
 mod output;
@@ -31,13 +31,6 @@ pub use fault::HartOutcome;
 pub use find::{HartChar, HartSearch, hart_find, hart_find_in_bytes};
 pub use frame::HartFrame;
 pub use identity::{HartIdentity, hart_bench_identity};
-pub use laws::{
-    bytes_that_are_not_taken_are_ignored, calls_have_one_outcome, devices_are_kept,
-    fields_stand_where_they_are_shown, kept_bytes_are_what_they_say,
-    messages_of_287_bytes_have_room, numbers_of_one_frame_are_written_alike,
-    searches_give_all_frames, shown_frames_can_be_written,
-    sixteen_fields_and_names_of_64_bytes_have_room,
-};
 pub use master::{HartAcceptance, HartUnique, hart_accept, hart_unique_of};
 pub use name::{hart_command_name, hart_field_name};
 pub use process::{HartOutput, HartProcess, HartSensor, HartVariable, hart_bench_process};

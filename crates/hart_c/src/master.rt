@@ -2,7 +2,9 @@
 ghost use Rattle.std.specs.Prelude.{◌≡◌, ◌<◌, ◌^◌, false, IfErr, IfOk, OnErr};
 ghost use Rattle.hart_commands.specs.ReplyData.{reply_reading};
 ghost use Rattle.hart_commands.specs.declared.request.Request.{Request};
-ghost use Rattle.hart_c.specs.Master.{AcceptOutcome, Accepts, IsAcceptFault, IsAsked, IsAwaiting, IsSendFault, acceptance_of};
+ghost use Rattle.hart_c.specs.Checks.{IsFirstOf};
+ghost use Rattle.hart_c.specs.Master.{AcceptOutcome, Accepts, IsAsked, accept_checks, acceptance_of, send_checks};
+ghost use Rattle.hart_c.specs.private.Master.{IsAwaiting};
 ghost use Rattle.hart_c.specs.Master.{given_by, given_of};
 
 use crate::encode::frame_of;
@@ -101,7 +103,7 @@ fn accept(
     reply: &mut HartFrame,
 ) -> Result<Option<Reply>, Fault>
     ensures accepted { IfOk result (Accepts request.now heard.now reply.old reply.new) }
-    ensures refused { IfErr result (IsAcceptFault request.now heard.now) }
+    ensures refused { IfErr result (IsFirstOf (accept_checks request.now heard.now)) }
     ensures unchanged { OnErr result (reply.new ≡ reply.old) }
 {
     let mut master = sent(request)?;
@@ -119,7 +121,7 @@ fn accept(
 /// The master that sent a request, and awaits its reply.
 fn sent(request: &HartFrame) -> Result<Master, Fault>
     ensures awaits { IfOk result (IsAwaiting request.now) }
-    ensures refused { IfErr result (IsSendFault request.now) }
+    ensures refused { IfErr result (IsFirstOf (send_checks request.now)) }
 {
     let frame = frame_of(request)?;
     let asked = asked_by(&frame)?;

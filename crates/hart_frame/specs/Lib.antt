@@ -3,3 +3,4 @@ pub use Rattle.hart_values.specs.address.AddressBytes
 pub mod wire
 pub mod heard
 pub mod scan
+pub mod private

@@ -1,6 +1,5 @@
 -- What was heard: characters, and where frames stand in them.
 pub mod Character
-pub mod Body
 pub mod Place
 pub mod Frames
 pub mod Start

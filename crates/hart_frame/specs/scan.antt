@@ -5,8 +5,3 @@ pub mod Streamed
 pub mod PlainAddress
 pub mod View
 pub mod Next
-pub mod Candidate
-pub mod Search
-pub mod Buffer
-pub mod Decision
-pub mod First

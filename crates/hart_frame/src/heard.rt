@@ -2,7 +2,6 @@
 
 pub mod character;
 pub mod damage;
-pub mod delivery;
 pub mod found;
 pub mod miss;
 pub mod start;

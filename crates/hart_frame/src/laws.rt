@@ -1,4 +1,15 @@
-//! Laws over the definitions alone, for the crates above.
+//! Laws over the definitions alone, for readers, and for callers above.
+//!
+//! - Of frames and bytes: [`bodies_are_unambiguous`], [`bytes_have_one_fault`], [`messages_are_short`],
+//!   [`truncated_bytes_can_become_a_body`], [`open_places_can_begin_a_frame`], [`frames_are_unambiguous`], [`every_list_has_frames`],
+//!   [`messages_have_their_frame_alone`].
+//! - Of starts, misses and damage: [`first_starts_are_decided`], [`every_start_has_a_frame_or_a_miss`], [`misses_are_in_the_way`],
+//!   [`misses_say_what_is_wrong`], [`misses_are_faults`], [`damaged_messages_have_no_other_frame`], [`damage_by_example`].
+//! - Of a scanner: [`frames_are_streamed`], [`scanners_move_past_the_next_frames`], [`any_chunking_gives_the_same_frames`],
+//!   [`held_frames_are_given`].
+//! - For whoever keeps only the rest of what was heard: [`the_rest_has_the_later_frames`]; with a scanner
+//!   [`held_characters_have_the_later_frames`], from the place that [`Scanner::first_held`](crate::Scanner::first_held) gives; and with
+//!   [`next_in_bytes`](crate::next_in_bytes) [`next_frames_are_all`].
 ghost use Rattle.std.specs.Prelude.{◌≡◌, ◌<◌, ◌≤◌, ◌↔◌, List, ℕ, [], ◌∷◌, ◌++◌, length, drop, map, All};
 ghost use Rattle.hart_frame.specs.wire.FrameParts.{FrameParts};
 ghost use Rattle.hart_frame.specs.wire.Body.{IsBody, BeginsWithBody, CanBecomeBody, HasNoBody};
@@ -9,6 +20,18 @@ ghost use Rattle.hart_frame.specs.heard.Place.{IsOpen, StandsIn};
 ghost use Rattle.hart_frame.specs.wire.Refusal.{IsRefusedWith, IsTruncated};
 ghost use Rattle.hart_frame.specs.declared.wire.fault.FrameFault.{FrameFault};
 ghost use Rattle.hart_frame.specs.declared.heard.found.Found.{Found};
+
+pub use crate::heard::damage::{damage_by_example, damaged_messages_have_no_other_frame};
+pub use crate::heard::miss::{
+    every_start_has_a_frame_or_a_miss, misses_are_faults, misses_are_in_the_way,
+    misses_say_what_is_wrong,
+};
+pub use crate::heard::start::first_starts_are_decided;
+pub use crate::scan::next::next_frames_are_all;
+pub use crate::scan::streamed::{
+    any_chunking_gives_the_same_frames, frames_are_streamed, held_characters_have_the_later_frames,
+    held_frames_are_given, scanners_move_past_the_next_frames,
+};
 
 /// Bodies are unambiguous: at most one prefix of a list of bytes is a body, of at most one frame.
 pub fn bodies_are_unambiguous()

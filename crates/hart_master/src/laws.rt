@@ -10,7 +10,7 @@ ghost use Rattle.hart_commands.specs.declared.reply.Reply.{Reply};
 ghost use Rattle.hart_commands.specs.declared.request.Request.{Request};
 ghost use Rattle.hart_master.specs.Acceptance.{IsAccepted, IsReplyTo};
 
-use hart_frame::{every_list_has_frames, frames_are_unambiguous};
+use hart_frame::laws::{every_list_has_frames, frames_are_unambiguous};
 
 /// A frame is one reply to a request at most, and it is one or none.
 pub fn replies_are_decided()

@@ -3,8 +3,8 @@ use Rattle.std.specs.Prelude.{List, [], ◌∷◌}
 use Rattle.hart_frame.specs.heard.Character.{Character}
 use Rattle.hart_frame.specs.heard.Frames.{AreFrames}
 use Rattle.hart_frame.specs.declared.heard.found.Found.{Found}
-use Rattle.hart_frame.specs.declared.heard.delivery.LoneFrame.{LoneFrame}
-use Rattle.hart_frame.specs.declared.heard.delivery.LoneFrame.TheVariants.{NoFrame, Alone, Several}
+use Rattle.hart_frame.specs.declared.scan.first.LoneFrame.{LoneFrame}
+use Rattle.hart_frame.specs.declared.scan.first.LoneFrame.TheVariants.{NoFrame, Alone, Several}
 
 -- A delivery has one frame alone if its frames are exactly one; otherwise it has none or several.
 abbrev pub lone_of : List Found → LoneFrame

@@ -1,11 +1,14 @@
--- What stands in the way of a message where one seems to start (HCF_SPEC-081; own profile).
-use Rattle.std.specs.Prelude.{◌≡◌, ◌≢◌, ◌<◌, ◌+◌, ◌-◌, ◌/◌, ◌%◌, ℕ, List, [], ◌∷◌, ◌++◌, Some, drop, length, slice_get, take}
+-- Why no frame stands where one seems to start: what stands in the way of a body there (HCF_SPEC-081; own profile).
+use Rattle.std.specs.Prelude.{◌≡◌, ◌≢◌, ◌⊎◌, ◌<◌, ◌+◌, ◌-◌, ◌/◌, ◌%◌, ℕ, List, [], ◌∷◌, ◌++◌, Option, None, Some, drop, length, slice_get, take}
 use Rattle.hart_frame.specs.heard.Character.{Character, faultless, faultless_bytes}
 use Rattle.hart_frame.specs.wire.Body.{IsBody}
 use Rattle.hart_frame.specs.wire.FrameParts.{FrameParts}
 use Rattle.hart_frame.specs.wire.Layout.{body_length, byte_count_in, delimiter_in}
 use Rattle.hart_frame.specs.wire.Parity.{IsCheckByte}
 use Rattle.hart_frame.specs.wire.Refusal.{HasByteCount, HasCheckByte, HasGoodByteCount, IsDelimiter, IsTruncated}
+use Rattle.hart_frame.specs.heard.Start.{IsStart}
+use Rattle.hart_frame.specs.declared.wire.fault.FrameFault.{FrameFault}
+use Rattle.hart_frame.specs.declared.wire.fault.FrameFault.TheVariants.{Truncated}
 use Rattle.hart_frame.specs.declared.heard.miss.Miss.{Miss}
 use Rattle.hart_frame.specs.declared.heard.miss.Miss.TheVariants.{Faulty, Burst, BadDelimiter, EndsBeforeByteCount, ShortReply, Missing}
 use Rattle.hart_frame.specs.declared.heard.miss.Miss.TheVariants.{BadCheck, OnePreamble}
@@ -66,3 +69,22 @@ pub record FollowsOnePreamble (chars : List Character) (place : ℕ) : Type 0 wh
   pub split : chars ≡ prefix ++ faultless (255 ∷ []) ++ rest
   pub place_is : place ≡ length prefix + 1
   pub alone : (earlier : List Character) → prefix ≢ earlier ++ faultless (255 ∷ [])
+
+-- A miss of a place is why no frame stands there. Where a body may start, it is what stands in the way of one. Where a whole body stands
+-- right after one faultless FF alone, it is that there is only one. Anywhere else there is none.
+abbrev pub IsMiss : List Character → ℕ → Miss → Type 0
+IsMiss chars start miss =
+    (IsStart start chars × IsInTheWay chars start miss)
+    ⊎ ((miss ≡ OnePreamble) × FollowsOnePreamble chars start × HasBodyAt chars start)
+
+-- The fault of the faultless bytes that a miss comes from: a character with fault bits ends them too early, as the end of the list
+-- does. That only one FF stands before them is no fault of theirs.
+abbrev pub fault_of : Miss → Option FrameFault
+fault_of (Faulty place faults) = Some Truncated
+fault_of Burst = Some FrameFault.BadDelimiter
+fault_of (BadDelimiter byte) = Some FrameFault.BadDelimiter
+fault_of EndsBeforeByteCount = Some Truncated
+fault_of (ShortReply byte_count) = Some FrameFault.ShortReply
+fault_of (Missing count) = Some Truncated
+fault_of (BadCheck place byte fits) = Some FrameFault.BadCheck
+fault_of OnePreamble = None

@@ -1,13 +1,10 @@
--- Why no frame stands at a place of what was heard (HCF_SPEC-081; own profile).
-use Rattle.std.specs.Prelude.{◌≡◌, ◌<◌, ◌+◌, ◌-◌, ◌/◌, ◌%◌, ◌==◌, ◌&&◌, ◌||◌, not, nat_le, nat_lt, if◌then◌else◌, ℕ, zero, suc, Bool, false}
+-- The miss of a place, found step by step (HCF_SPEC-081; own profile). It is the one that `IsMiss` of InTheWay allows, as a law says
+-- (`misses_are_in_the_way`): whoever believes that relation need not read this.
+use Rattle.std.specs.Prelude.{◌+◌, ◌-◌, ◌/◌, ◌%◌, ◌==◌, ◌&&◌, ◌||◌, not, nat_le, nat_lt, if◌then◌else◌, ℕ, zero, suc, Bool, false}
 use Rattle.std.specs.Prelude.{List, Option, None, Some, drop, fold, is_none, length, slice_get, slice_index, take, bit_xor}
 use Rattle.std.specs.Option.{option_map_or}
 use Rattle.hart_frame.specs.heard.Character.{Character, faultless_bytes}
-use Rattle.hart_frame.specs.heard.Place.{StandsIn}
 use Rattle.hart_frame.specs.wire.Layout.{body_length, byte_count_in, byte_count_place, delimiter_in}
-use Rattle.hart_frame.specs.declared.heard.found.Found.{Found}
-use Rattle.hart_frame.specs.declared.wire.fault.FrameFault.{FrameFault}
-use Rattle.hart_frame.specs.declared.wire.fault.FrameFault.TheVariants.{Truncated}
 use Rattle.hart_frame.specs.declared.heard.miss.Miss.{Miss}
 use Rattle.hart_frame.specs.declared.heard.miss.Miss.TheVariants.{Faulty, Burst, BadDelimiter, EndsBeforeByteCount, ShortReply, Missing}
 use Rattle.hart_frame.specs.declared.heard.miss.Miss.TheVariants.{BadCheck, OnePreamble}
@@ -87,31 +84,3 @@ miss_of chars start =
     if is_start chars start then body_miss start (drop start chars)
     else if follows_one_preamble chars start && is_none (body_miss start (drop start chars)) then Some OnePreamble
     else None
-
--- A frame stands at a place of a list.
-abbrev pub HasFrameAt : List Character → ℕ → Type 0
-HasFrameAt chars place = (found : Found) × StandsIn found chars 0 × (found.start ≡ place)
-
--- A frame stands in a list from a place on, and its check byte right before another place.
-abbrev pub HasFrameUpTo : List Character → ℕ → ℕ → Type 0
-HasFrameUpTo chars start stop = (found : Found) × StandsIn found chars 0 × (found.start ≡ start) × (found.stop ≡ stop)
-
--- The fault of the faultless bytes that a miss comes from: a character with fault bits ends them too early, as the end of the list
--- does. That only one FF stands before them is no fault of theirs.
-abbrev pub fault_of : Miss → Option FrameFault
-fault_of (Faulty place faults) = Some Truncated
-fault_of Burst = Some FrameFault.BadDelimiter
-fault_of (BadDelimiter byte) = Some FrameFault.BadDelimiter
-fault_of EndsBeforeByteCount = Some Truncated
-fault_of (ShortReply byte_count) = Some FrameFault.ShortReply
-fault_of (Missing count) = Some Truncated
-fault_of (BadCheck place byte fits) = Some FrameFault.BadCheck
-fault_of OnePreamble = None
-
--- For private calls alone:
-
--- Fewer than so many faultless characters come first, and a miss is why: the character with fault bits after them, or the reason at the
--- end of the list.
-pub record EndsEarly (heard : List Character) (count start : ℕ) (at_end miss : Miss) : Type 0 where
-  pub few : length (faultless_bytes heard) < count
-  pub is : miss ≡ faulty_or (slice_get heard (length (faultless_bytes heard))) (start + length (faultless_bytes heard)) at_end

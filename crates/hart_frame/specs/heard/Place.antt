@@ -25,3 +25,11 @@ pub record IsOpen (place : ℕ) (chars : List Character) : Type 0 where
   pub split : chars ≡ prefix ++ faultless (255 ∷ 255 ∷ bytes)
   pub start : place ≡ length prefix + 2
   pub truncated : IsTruncated bytes
+
+-- A frame stands at a place of a list.
+abbrev pub HasFrameAt : List Character → ℕ → Type 0
+HasFrameAt chars place = (found : Found) × StandsIn found chars 0 × (found.start ≡ place)
+
+-- A frame stands in a list from a place on, and its check byte right before another place.
+abbrev pub HasFrameUpTo : List Character → ℕ → ℕ → Type 0
+HasFrameUpTo chars start stop = (found : Found) × StandsIn found chars 0 × (found.start ≡ start) × (found.stop ≡ stop)

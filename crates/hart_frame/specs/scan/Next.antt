@@ -1,5 +1,6 @@
--- What is promised of the next frame of bytes that lie in memory (own profile).
-use Rattle.std.specs.Prelude.{◌≡◌, ℕ, Bool, IsTrue, Option, List, [], ◌++◌, map}
+-- The next frames of what was heard, of which more may still be heard (own profile).
+use Rattle.std.specs.Prelude.{◌≡◌, ◌≤◌, ℕ, Bool, IsTrue, Option, List, [], ◌++◌, length, map}
+use Rattle.std.specs.List.{All}
 use Rattle.std.specs.Option.{option_to_list}
 use Rattle.hart_frame.specs.heard.Character.{Character}
 use Rattle.hart_frame.specs.heard.Frames.{AreFrames}
@@ -12,6 +13,14 @@ use Rattle.hart_frame.specs.declared.scan.view.FoundView.{FoundView}
 abbrev pub LeadsOn : List Character → Bool → ℕ → List Found → ℕ → Type 0
 LeadsOn chars ended from given to = (more : List Character) (later : List Found) → (IsTrue ended → more ≡ [])
     → AreFrames (chars ++ more) to later → AreFrames (chars ++ more) from (given ++ later)
+
+-- Frames are the next ones of some characters from one place on up to another if they lead on from there to there, and each of them stops
+-- at the second place or before it.
+pub record AreNext (chars : List Character) (ended : Bool) (from : ℕ) (given : List Found) (to : ℕ) : Type 0 where
+  pub onward : from ≤ to
+  pub within : to ≤ length chars
+  pub leads : LeadsOn chars ended from given to
+  pub stops : All (λ found. found.stop ≤ to) given
 
 -- The frame of a view, and where it stands; or none.
 abbrev pub frames_of : Option FoundView → List Found

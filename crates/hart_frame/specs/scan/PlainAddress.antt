@@ -1,5 +1,4 @@
 -- Addresses by their numbers (HCF_SPEC-081).
-use Rattle.std.specs.Prelude.{ℕ, ◌<◌, ◌^◌}
 use Rattle.hart_values.specs.declared.address.Address.{Address}
 use Rattle.hart_values.specs.declared.address.Address.TheVariants.{Polling as PollingAddress, Unique as UniqueAddress}
 use Rattle.hart_frame.specs.declared.scan.plain_address.PlainAddress.{PlainAddress}
@@ -10,25 +9,3 @@ abbrev pub address_of : PlainAddress → Address
 address_of (Polling number) = PollingAddress number
 address_of (Unique expanded_type device_id) =
     UniqueAddress (record { expanded_type = expanded_type; device_id = device_id })
-
--- For private calls alone:
-
--- The number of a polling address, 0 if it is none.
-abbrev pub polling_number : PlainAddress → ℕ
-polling_number (Polling number) = number
-polling_number (Unique expanded_type device_id) = 0
-
--- The expanded device type of a unique address, 0 if it is none.
-abbrev pub type_number : PlainAddress → ℕ
-type_number (Polling number) = 0
-type_number (Unique expanded_type device_id) = expanded_type
-
--- The device id of a unique address, 0 if it is none.
-abbrev pub id_number : PlainAddress → ℕ
-id_number (Polling number) = 0
-id_number (Unique expanded_type device_id) = device_id
-
--- The numbers are ones that an address has.
-abbrev pub IsInRange : PlainAddress → Type 0
-IsInRange address =
-    (polling_number address < 64) × (type_number address < 2 ^ 14) × (id_number address < 2 ^ 24)

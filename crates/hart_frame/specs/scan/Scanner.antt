@@ -1,8 +1,11 @@
 -- What a scanner promises: the frames of what is heard, each given as soon as it is decided (own profile).
-use Rattle.std.specs.Prelude.{◌≡◌, ℕ, Bool, true, false, IsTrue, ◌≤◌, ◌⊎◌, List, [], ◌∷◌, ◌++◌, length}
+use Rattle.std.specs.Prelude.{◌≡◌, ◌+◌, ◌≤◌, ◌⊎◌, ℕ, Bool, true, false, List, [], ◌∷◌, ◌++◌, Option, MatchOption, drop, length, map}
 use Rattle.hart_frame.specs.heard.Character.{Character}
-use Rattle.hart_frame.specs.heard.Frames.{AreFrames, HasNoFrame, IsUndecided}
+use Rattle.hart_frame.specs.heard.Frames.{HasNoFrame, IsUndecided, moved}
+use Rattle.hart_frame.specs.scan.Next.{AreNext}
+use Rattle.hart_frame.specs.scan.View.{found_of}
 use Rattle.hart_frame.specs.declared.heard.found.Found.{Found}
+use Rattle.hart_frame.specs.declared.scan.view.FoundView.{FoundView}
 
 -- A scanner stands for the characters that it holds, with the place of the first of them, or of the next one if it holds none.
 -- It is finished if no more is to come, and drained if it is new, gave none, or heard a chunk to its end with nothing decided, and
@@ -17,14 +20,6 @@ pub record Scan : Type 0 where
 abbrev pub new_scan : Scan
 new_scan = record { first = 0; held = []; finished = false; drained = true }
 
--- A list can be all that a scanner hears if it is as many characters as it let go, then those that it holds, then those still
--- to come; after the finish none are.
-pub record CanHear (scan : Scan) (more chars : List Character) : Type 0 where
-  pub prefix : List Character
-  pub split : chars ≡ prefix ++ (scan.held ++ more)
-  pub place : length prefix ≡ scan.first
-  pub ended : IsTrue scan.finished → more ≡ []
-
 -- A scanner that has heard more holds that too, and has yet to look at it.
 abbrev pub hearing : Scan → List Character → Scan
 hearing scan chars = record scan { held = scan.held ++ chars; drained = false }
@@ -33,19 +28,22 @@ hearing scan chars = record scan { held = scan.held ++ chars; drained = false }
 abbrev pub finishing : Scan → Scan
 finishing scan = record scan { finished = true; drained = false }
 
--- A scanner moves past some frames if, whatever is still to come, they are the next ones, and those after them are the frames
--- from the first character on that it then holds.
+-- A scanner moves past some frames if it lets the first so many go of the characters that it held, up to which these are the next frames of
+-- those. They are found at places counted from the first of those, and given with their places in all that was heard.
 pub record MovesPast (old new : Scan) (given : List Found) : Type 0 where
-  pub heard : (more chars : List Character) → CanHear old more chars → CanHear new more chars
-  pub frames : (more chars : List Character) (later : List Found) → CanHear old more chars
-      → AreFrames chars new.first later → AreFrames chars old.first (given ++ later)
+  pub count : ℕ
+  pub found : List Found
+  pub next : AreNext old.held old.finished 0 found count
+  pub given_are : given ≡ map (moved old.first) found
+  pub first : new.first ≡ old.first + count
+  pub held : new.held ≡ drop count old.held
+  pub finished : new.finished ≡ old.finished
 
--- A scanner that gives a frame moves past it, and then holds what comes after its body. It is as finished as it was, and not
--- drained, neither before nor after: more may be given.
+-- A scanner that gives a frame moves past it, and then holds what comes after its body. It is not drained, neither before nor after:
+-- more may be given.
 pub record Gives (old new : Scan) (found : Found) : Type 0 where
   pub moves : MovesPast old new (found ∷ [])
   pub stop : new.first ≡ found.stop
-  pub finished : new.finished ≡ old.finished
   pub undrained : (old.drained ≡ false) × (new.drained ≡ false)
 
 -- A scanner that waits is not finished, moves past no frame, and is drained. It then holds at most 268 characters, in which nothing is
@@ -55,7 +53,6 @@ pub record Waits (old new : Scan) : Type 0 where
   pub moves : MovesPast old new []
   pub few : length new.held ≤ 268
   pub undecided : IsUndecided new.held
-  pub unfinished : new.finished ≡ false
   pub drained : new.drained ≡ true
 
 -- A finished scanner that ends holds no frame, and is then new.
@@ -67,3 +64,7 @@ pub record Ends (old new : Scan) : Type 0 where
 -- A scanner that gives no frame waits, or ends if it is finished.
 abbrev pub GivesNothing : Scan → Scan → Type 0
 GivesNothing old new = Waits old new ⊎ Ends old new
+
+-- A call gives the next frame, in a view, or nothing for now.
+abbrev pub GivesNextOrNothing : Scan → Scan → Option FoundView → Type 0
+GivesNextOrNothing old new given = MatchOption given (GivesNothing old new) (λ view. Gives old new (found_of view))

@@ -1,21 +1,17 @@
 -- What was done with a scanner since it was new (own profile).
-use Rattle.std.specs.Prelude.{◌≡◌, ℕ, false, List, [], ◌∷◌, ◌++◌}
-use Rattle.hart_frame.specs.heard.Character.{Character, faultless}
+use Rattle.std.specs.Prelude.{◌≡◌, false, List, [], ◌∷◌, ◌++◌}
+use Rattle.hart_frame.specs.heard.Character.{Character}
 use Rattle.hart_frame.specs.scan.Scanner.{Scan, Ends, Gives, MovesPast, Waits, finishing, hearing, new_scan}
 use Rattle.hart_frame.specs.declared.heard.found.Found.{Found}
 
 -- What was pushed to a scanner since it was new, what it now stands for, and the frames that it gave, call by call: it heard a
--- character, or a part of a chunk, or the finish; it gave a frame, or none for now.
+-- character, or a part of a chunk, of bytes too, or the finish; it gave a frame, or none for now.
 pub data IsHistory : List Character → Scan → List Found → Type 0 where
   begin : IsHistory [] new_scan []
   push : (past : List Character) (scan : Scan) (given : List Found) (character : Character) → IsHistory past scan given
       → scan.finished ≡ false → IsHistory (past ++ character ∷ []) (hearing scan (character ∷ [])) given
-  push_bytes : (past : List Character) (old new : Scan) (given : List Found) (chunk : List ℕ) → IsHistory past old given
-      → old.finished ≡ false → MovesPast (hearing old (faultless chunk)) new [] → new.finished ≡ old.finished
-      → IsHistory (past ++ faultless chunk) new given
   push_chars : (past : List Character) (old new : Scan) (given : List Found) (chunk : List Character) → IsHistory past old given
-      → old.finished ≡ false → MovesPast (hearing old chunk) new [] → new.finished ≡ old.finished
-      → IsHistory (past ++ chunk) new given
+      → old.finished ≡ false → MovesPast (hearing old chunk) new [] → IsHistory (past ++ chunk) new given
   take_view : (past : List Character) (old new : Scan) (given : List Found) (found : Found) → IsHistory past old given
       → Gives old new found → IsHistory past new (given ++ found ∷ [])
   wait : (past : List Character) (old new : Scan) (given : List Found) → IsHistory past old given

@@ -1,7 +1,5 @@
 -- Where the parts of a body stand in a list of bytes (HCF_SPEC-081).
-use Rattle.std.specs.Prelude.{◌≡◌, ℕ, ◌+◌, ◌*◌, ◌/◌, ◌%◌, List, slice_index}
-use Rattle.hart_frame.specs.declared.wire.layout.Layout.{Layout}
-use Rattle.hart_frame.specs.wire.Delimiter.{kind_code}
+use Rattle.std.specs.Prelude.{ℕ, ◌+◌, ◌*◌, ◌/◌, ◌%◌, List, slice_index}
 
 -- The delimiter is the first byte, 0 if there is none.
 abbrev pub delimiter_in : List ℕ → ℕ
@@ -26,16 +24,3 @@ byte_count_in bytes = slice_index bytes (byte_count_place bytes)
 -- A body ends with a payload of that many bytes, and the check byte.
 abbrev pub body_length : List ℕ → ℕ
 body_length bytes = byte_count_place bytes + byte_count_in bytes + 2
-
--- For private calls alone:
-
--- A layout of a list has the kind, the places and the byte count that the list gives.
-pub record Describes (layout : Layout) (bytes : List ℕ) : Type 0 where
-  pub kind : kind_code layout.kind ≡ delimiter_in bytes % 8
-  pub address : layout.address_end ≡ address_end bytes
-  pub command : layout.command_place ≡ command_place bytes
-  pub count : layout.byte_count ≡ byte_count_in bytes
-
--- The length of the body that has a layout.
-abbrev pub layout_length : Layout → ℕ
-layout_length layout = layout.command_place + 3 + layout.byte_count

@@ -1,5 +1,5 @@
 ghost use Rattle.std.specs.Prelude.{◌≡◌, ◌↔◌, All, IsSome, IfSome, IsTrue, bit_xor, fold, length, take};
-ghost use Rattle.hart_frame.specs.heard.Body.{bytes_of};
+ghost use Rattle.hart_frame.specs.private.Body.{bytes_of};
 ghost use Rattle.hart_frame.specs.heard.Character.{faultless_bytes};
 
 use hart_values::ByteList;

@@ -1,10 +1,13 @@
 //! Why no frame stands at a place at which a message seems to start.
 ghost use Rattle.std.specs.Prelude.{◌≡◌, ◌≢◌, ◌+◌, ◌^◌, ◌<◌, ◌≤◌, ◌⊎◌, ◌↔◌, ℕ, List, [], ◌∷◌, ◌++◌, None, Some, length, drop, insert, set};
 ghost use Rattle.std.specs.Prelude.{All, IsSome, MatchOption, bit_xor, fold, slice_get};
-ghost use Rattle.hart_frame.specs.heard.Body.{bytes_of};
+ghost use Rattle.hart_frame.specs.private.Body.{bytes_of};
 ghost use Rattle.hart_frame.specs.heard.Character.{Character, faultless, faultless_bytes};
-ghost use Rattle.hart_frame.specs.heard.InTheWay.{FollowsOnePreamble, HasBodyAt, IsInTheWay, bytes_from};
-ghost use Rattle.hart_frame.specs.heard.Miss.{EndsEarly, HasFrameAt, HasFrameUpTo, body_miss, check_miss, delimiter_miss, fault_of, faulty_or};
+ghost use Rattle.hart_frame.specs.heard.InTheWay.{FollowsOnePreamble, HasBodyAt, IsInTheWay, IsMiss, bytes_from};
+ghost use Rattle.hart_frame.specs.private.Miss.{EndsEarly};
+ghost use Rattle.hart_frame.specs.heard.Place.{HasFrameAt, HasFrameUpTo};
+ghost use Rattle.hart_frame.specs.heard.Miss.{body_miss, check_miss, delimiter_miss, faulty_or};
+ghost use Rattle.hart_frame.specs.heard.InTheWay.{fault_of};
 ghost use Rattle.hart_frame.specs.heard.Miss.{follows_one_preamble, follows_preamble, miss_of};
 ghost use Rattle.hart_frame.specs.heard.Start.{IsStart};
 ghost use Rattle.hart_frame.specs.wire.Layout.{body_length};
@@ -50,7 +53,9 @@ pub enum Miss {
 ///
 /// At most 267 characters are looked at from the place on, as many as the longest body has.
 pub fn why_none(chars: &[Char], start: usize) -> Option<Miss>
-    ensures { result ≡ miss_of chars.now start }
+    ensures miss { All (λ character. character.byte < 256) chars.now
+        → MatchOption result ((miss : Miss) → IsMiss chars.now start miss → ⊥) (IsMiss chars.now start) }
+    ensures found { result ≡ miss_of chars.now start }
 {
     let heard = chars.get(start..)?;
     if is_start(chars, start) {
@@ -218,9 +223,13 @@ pub fn misses_are_faults()
         → (fault : FrameFault) × (fault_of miss ≡ Some fault) × IsRefusedWith (faultless_bytes (drop start chars)) fault }
 {}
 
-/// Where a body may start, the miss is what stands in the way there, and nothing else. Anywhere else a miss is told just where a whole body
-/// stands after one preamble byte alone.
+/// The miss that is found step by step is the miss of a place, and a place has one at most. Where a body may start, the miss is what stands
+/// in the way there, and nothing else. Anywhere else a miss is told just where a whole body stands after one preamble byte alone.
 pub fn misses_are_in_the_way()
+    ensures found { (start : ℕ) (chars : List Character) (miss : Miss) → All (λ character. character.byte < 256) chars
+        → (miss_of chars start ≡ Some miss) ↔ IsMiss chars start miss }
+    ensures one { (start : ℕ) (chars : List Character) (miss other : Miss) → All (λ character. character.byte < 256) chars
+        → IsMiss chars start miss → IsMiss chars start other → miss ≡ other }
     ensures in_the_way { (start : ℕ) (chars : List Character) (miss : Miss) → All (λ character. character.byte < 256) chars
         → IsStart start chars → (miss_of chars start ≡ Some miss) ↔ IsInTheWay chars start miss }
     ensures one_alone { (start : ℕ) (chars : List Character) → All (λ character. character.byte < 256) chars

@@ -1,6 +1,6 @@
 //! How the bytes that a scanner looks at begin.
 ghost use Rattle.std.specs.Prelude.{◌≡◌, ◌<◌, length, slice_index};
-ghost use Rattle.hart_frame.specs.scan.Candidate.{IsBodyCandidate, IsCandidate, IsShort};
+ghost use Rattle.hart_frame.specs.private.Candidate.{IsBodyCandidate, IsCandidate, IsShort};
 
 use crate::wire::delimiter::read_delimiter;
 use crate::wire::layout::Layout;

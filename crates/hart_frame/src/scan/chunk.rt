@@ -1,9 +1,9 @@
 //! Chunks of characters, which a scanner hears at once.
 ghost use Rattle.std.specs.Prelude.{◌≡◌, ◌<◌, ◌≤◌, ◌+◌, ◌^◌, ◌++◌, length};
 ghost use Rattle.hart_frame.specs.heard.Character.{faultless};
-ghost use Rattle.hart_frame.specs.scan.Buffer.{IsSound, held_bytes, scan_of, state_of};
-ghost use Rattle.hart_frame.specs.scan.Chunk.{Hears, HearsPart};
-ghost use Rattle.hart_frame.specs.scan.Search.{IsSearched};
+ghost use Rattle.hart_frame.specs.private.Buffer.{IsSound, held_bytes, scan_of, state_of};
+ghost use Rattle.hart_frame.specs.private.Chunk.{Hears, HearsPart};
+ghost use Rattle.hart_frame.specs.private.Search.{IsSearched};
 ghost use Rattle.hart_frame.specs.declared.scan.buffer.State.TheVariants.{Drained};
 
 use crate::Char;

@@ -1,7 +1,7 @@
 //! What is decided of the characters that a scanner holds.
 ghost use Rattle.std.specs.Prelude.{◌≡◌, MatchOption};
-ghost use Rattle.hart_frame.specs.scan.Buffer.{IsSound, scan_of};
-ghost use Rattle.hart_frame.specs.scan.Decision.{GivesSpan, HoldsWhole, IsHeldSearched};
+ghost use Rattle.hart_frame.specs.private.Buffer.{IsSound, scan_of};
+ghost use Rattle.hart_frame.specs.private.Decision.{GivesSpan, HoldsWhole, IsHeldSearched};
 ghost use Rattle.hart_frame.specs.scan.Scanner.{GivesNothing};
 ghost use Rattle.hart_frame.specs.declared.scan.buffer.State.TheVariants.{Busy};
 

@@ -2,17 +2,28 @@
 ghost use Rattle.std.specs.Prelude.{◌≡◌, ◌+◌, ◌<◌, ◌≤◌, List, false, length, IsTrue, MatchOption, IfSome};
 ghost use Rattle.hart_frame.specs.heard.Delivery.{IsLone, lone_of};
 ghost use Rattle.hart_frame.specs.heard.Frames.{AreFrames, HasNoFrame, IsFirst};
-ghost use Rattle.hart_frame.specs.scan.Buffer.{IsSound, scan_of};
-ghost use Rattle.hart_frame.specs.scan.Candidate.{IsWholeBody};
-ghost use Rattle.hart_frame.specs.scan.Decision.{body_at};
-ghost use Rattle.hart_frame.specs.scan.First.{HoldsFirst};
+ghost use Rattle.hart_frame.specs.private.Buffer.{IsSound, scan_of};
+ghost use Rattle.hart_frame.specs.private.Candidate.{IsWholeBody};
+ghost use Rattle.hart_frame.specs.private.Decision.{body_at};
+ghost use Rattle.hart_frame.specs.private.First.{HoldsFirst};
 ghost use Rattle.hart_frame.specs.scan.Scanner.{new_scan};
 ghost use Rattle.hart_frame.specs.wire.Body.{IsBody};
-ghost use Rattle.hart_frame.specs.wire.Layout.{layout_length};
+ghost use Rattle.hart_frame.specs.private.Layout.{layout_length};
 ghost use Rattle.hart_frame.specs.declared.heard.found.Found.{Found};
 
 use crate::scan::buffer::{Buffer, Span};
-use crate::{Char, Found, LoneFrame};
+use crate::{Char, Found};
+
+/// Whether a delivery, which is what is heard at once, has one frame alone.
+#[derive(Debug, Drop, PartialEq, Eq)]
+pub enum LoneFrame {
+    /// It has no frame.
+    NoFrame,
+    /// It has this frame, and no other.
+    Alone(Found),
+    /// It has more than one.
+    Several,
+}
 
 /// Returns the first frame of what was heard, from a place of the list on, or `None` if no frame stands there.
 ///

@@ -1,8 +1,8 @@
 //! The next frame of bytes that lie in memory.
-ghost use Rattle.std.specs.Prelude.{None, ◌≡◌, ◌<◌, ◌≤◌, ◌+◌, ◌++◌, [], Bool, List, ℕ, false, IsTrue, IfSome, drop, length, map};
+ghost use Rattle.std.specs.Prelude.{None, ◌≡◌, ◌<◌, ◌≤◌, ◌+◌, ◌++◌, ◌∷◌, [], Bool, List, ℕ, false, true, IsTrue, IfSome, drop, length, map};
 ghost use Rattle.hart_frame.specs.heard.Character.{Character, faultless};
 ghost use Rattle.hart_frame.specs.heard.Frames.{AreFrames, IsUndecided, moved};
-ghost use Rattle.hart_frame.specs.scan.Next.{LeadsOn, frames_of};
+ghost use Rattle.hart_frame.specs.scan.Next.{AreNext, frames_of};
 ghost use Rattle.hart_frame.specs.declared.heard.found.Found.{Found};
 
 use crate::scan::search::search_to_end;
@@ -36,9 +36,8 @@ pub struct NextInBytes<'a> {
 /// ```
 pub fn next_in_bytes(bytes: &[u8], from: usize, ended: bool) -> NextInBytes<'_>
     requires { from ≤ length bytes.now }
-    ensures frames { LeadsOn (faultless bytes.now) ended from (frames_of result.frame) result.used }
+    ensures frames { AreNext (faultless bytes.now) ended from (frames_of result.frame) result.used }
     ensures within { result.used ≤ length bytes.now }
-    ensures onward { from ≤ result.used }
     ensures start { IfSome result.frame (λ view. from + 2 ≤ view.start) }
     ensures order { IfSome result.frame (λ view. view.start < view.stop) }
     ensures stop { IfSome result.frame (λ view. view.stop ≡ result.used) }
@@ -66,16 +65,26 @@ pub fn next_in_bytes(bytes: &[u8], from: usize, ended: bool) -> NextInBytes<'_>
     }
 }
 
-/// The frames that are given one after another are the next ones, also of bytes that grow at their end. With what comes after the bytes,
-/// the rest alone has those that are left, so whoever keeps only the rest has them all. Once all are used up, they are all.
+/// The next frames are none at first. Those that are given one after another are the next ones, also if more is heard, or if no more comes.
+/// If there is one, some characters are used up. With what comes later, the rest alone has those that are left, so whoever keeps only the
+/// rest has them all: the next ones of the rest, moved to their places, are the next ones from there on. Once all characters are used up,
+/// they are all frames.
 pub fn next_frames_are_all()
-    ensures onward { (chars : List Character) (ended : Bool) (from to after : ℕ) (given found : List Found)
-        → LeadsOn chars ended from given to → LeadsOn chars ended to found after → LeadsOn chars ended from (given ++ found) after }
+    ensures nothing { (chars : List Character) (ended : Bool) (place : ℕ) → place ≤ length chars → AreNext chars ended place [] place }
+    ensures some { (chars : List Character) (ended : Bool) (from to : ℕ) (found : Found) (more : List Found)
+        → AreNext chars ended from (found ∷ more) to → (from + 2 ≤ found.start) × (found.start < found.stop) × (found.stop ≤ to) }
+    ensures onward { (chars : List Character) (ended : Bool) (from mid to : ℕ) (given found : List Found)
+        → AreNext chars ended from given mid → AreNext chars ended mid found to → AreNext chars ended from (given ++ found) to }
     ensures grown { (chars piece : List Character) (ended : Bool) (from to : ℕ) (given : List Found)
-        → LeadsOn chars false from given to → LeadsOn (chars ++ piece) ended from given to }
-    ensures rest { (chars more : List Character) (ended : Bool) (given later : List Found) (to : ℕ) → to ≤ length chars
-        → LeadsOn chars ended 0 given to → (IsTrue ended → more ≡ []) → AreFrames (drop to chars ++ more) 0 later
+        → AreNext chars false from given to → AreNext (chars ++ piece) ended from given to }
+    ensures ended { (chars : List Character) (ended : Bool) (from to : ℕ) (given : List Found) (closed : Bool)
+        → (IsTrue ended → IsTrue closed) → AreNext chars ended from given to → AreNext chars closed from given to }
+    ensures moved { (place : ℕ) (chars : List Character) (ended : Bool) (given : List Found) (to : ℕ) → place ≤ length chars
+        → AreNext (drop place chars) ended 0 given to → AreNext chars ended place (map (moved place) given) (place + to) }
+    ensures rest { (chars more : List Character) (ended : Bool) (given later : List Found) (to : ℕ) → AreNext chars ended 0 given to
+        → (IsTrue ended → more ≡ []) → AreFrames (drop to chars ++ more) 0 later
         → AreFrames (chars ++ more) 0 (given ++ map (moved to) later) }
-    ensures all { (chars : List Character) (ended : Bool) (given : List Found) → LeadsOn chars ended 0 given (length chars)
+    ensures all { (chars : List Character) (ended : Bool) (given : List Found) → AreNext chars ended 0 given (length chars)
         → AreFrames chars 0 given }
+    ensures whole { (chars : List Character) (given : List Found) → AreFrames chars 0 given → AreNext chars true 0 given (length chars) }
 {}

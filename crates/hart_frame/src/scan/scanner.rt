@@ -1,4 +1,4 @@
-ghost use Rattle.std.specs.Prelude.{◌≡◌, ◌+◌, ◌-◌, ◌<◌, ◌≤◌, ◌^◌, ◌++◌, ◌∷◌, [], false, IsTrue, MatchOption, ℕ, length, take};
+ghost use Rattle.std.specs.Prelude.{◌≡◌, ◌+◌, ◌-◌, ◌<◌, ◌≤◌, ◌^◌, ◌++◌, ◌∷◌, [], false, IsTrue, ℕ, length, take};
 
 use crate::scan::buffer::Buffer;
 use crate::{Char, FoundView};
@@ -29,7 +29,7 @@ pub struct Scanner {
 
 impl Model for Scanner {
     ghost use Rattle.hart_frame.specs.scan.Scanner.{Scan};
-    ghost use Rattle.hart_frame.specs.scan.Buffer.{IsSound, scan_of};
+    ghost use Rattle.hart_frame.specs.private.Buffer.{IsSound, scan_of};
 
     ghost Value = { Scan };
 
@@ -44,11 +44,10 @@ impl Scanner {
     ghost use denote.Follow.{follows_so};
     ghost use Rattle.std.specs.Borrow.{sem};
     ghost use Rattle.hart_frame.specs.contracts.scan.scanner.Scanner.{the_row};
-    ghost use Rattle.hart_frame.specs.scan.View.{found_of};
     ghost use Rattle.hart_frame.specs.heard.Character.{faultless};
     ghost use Rattle.hart_frame.specs.heard.Frames.{IsUndecided};
     ghost use Rattle.hart_frame.specs.scan.Chunk.{StopsAt};
-    ghost use Rattle.hart_frame.specs.scan.Scanner.{Gives, GivesNothing, MovesPast, finishing, hearing, new_scan};
+    ghost use Rattle.hart_frame.specs.scan.Scanner.{GivesNextOrNothing, MovesPast, finishing, hearing, new_scan};
 
     /// A scanner that has heard nothing.
     pub fn new() -> Self
@@ -110,8 +109,9 @@ impl Scanner {
     /// The next frame that is decided, or `None` if there is none for now. After the finish `None` is given once no frame is
     /// left; the scanner is then new, and places begin at 0 again.
     pub fn take(&mut self) -> Option<FoundView<'_>>
-        ensures* after { sem 𝓛 (follows_so the_row the_row self.entry.ghost_name none (λ _ _. ⊤) (λ after.
-            MatchOption result (GivesNothing self.old after) (λ view. Gives self.old after (found_of view)))) }
+        // As the view borrows the scanner, this says of what the scanner is once the view is dropped: GivesNextOrNothing self.old after result.
+        ensures* after { sem 𝓛 (follows_so the_row the_row self.entry.ghost_name none (λ _ _. ⊤)
+            (λ after. GivesNextOrNothing self.old after result)) }
     {
         let span = self.buffer.next()?;
         Some(self.buffer.found(span))

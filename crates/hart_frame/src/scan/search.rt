@@ -1,6 +1,6 @@
 //! The search of frames in faultless bytes, where they lie.
 ghost use Rattle.std.specs.Prelude.{None, ◌≡◌, ◌≢◌, ◌<◌, ◌≤◌, ◌+◌, ℕ, All, MatchOption, length, slice_index, take};
-ghost use Rattle.hart_frame.specs.scan.Search.{HasNoPreamble, IsNextCandidate, IsSearched, IsSearchedToEnd};
+ghost use Rattle.hart_frame.specs.private.Search.{HasNoPreamble, IsNextCandidate, IsSearched, IsSearchedToEnd};
 
 use crate::scan::candidate::{Candidate, candidate_in};
 use crate::wire::layout::Layout;

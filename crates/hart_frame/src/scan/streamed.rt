@@ -1,20 +1,35 @@
 //! What follows from the scanner's contracts for a caller that keeps what it pushed and what it was given.
-ghost use Rattle.std.specs.Prelude.{◌≡◌, ◌+◌, ◌<◌, ◌≤◌, ◌++◌, [], List, IsTrue, length, drop, map};
+ghost use Rattle.std.specs.Prelude.{◌≡◌, ◌+◌, ◌<◌, ◌≤◌, ◌++◌, [], List, IsTrue, false, length, drop, map};
 ghost use Rattle.hart_frame.specs.heard.Character.{Character};
 ghost use Rattle.hart_frame.specs.heard.Frames.{AreFrames, moved};
 ghost use Rattle.hart_frame.specs.scan.Chunk.{BeginsWithFrame};
-ghost use Rattle.hart_frame.specs.scan.Scanner.{Gives, GivesNothing, Scan};
+ghost use Rattle.hart_frame.specs.scan.Next.{AreNext};
+ghost use Rattle.hart_frame.specs.scan.Scanner.{Gives, GivesNothing, MovesPast, Scan, hearing};
 ghost use Rattle.hart_frame.specs.scan.Streamed.{IsHistory, IsWholeHistory};
 ghost use Rattle.hart_frame.specs.declared.heard.found.Found.{Found};
 
-/// The frames that a scanner gave are the first of the frames of all that is pushed, whatever is still to come, and all of them
-/// once it ended.
+/// The frames that a scanner gave are the next ones of all that was pushed, up to the first character that it holds. So they are the first
+/// of the frames of all that is pushed, whatever is still to come, and all of them once it ended.
 pub fn frames_are_streamed()
+    ensures next { (past : List Character) (scan : Scan) (given : List Found) → IsHistory past scan given
+        → AreNext past scan.finished 0 given scan.first }
     ensures so_far { (past more : List Character) (scan : Scan) (given frames : List Found) → IsHistory past scan given
         → (IsTrue scan.finished → more ≡ []) → AreFrames (past ++ more) 0 frames → (later : List Found) × (frames ≡ given ++ later) }
     ensures all { (past : List Character) (given : List Found) → IsWholeHistory past given → AreFrames past 0 given }
     ensures pushed { (past : List Character) (scan : Scan) (given : List Found) → IsHistory past scan given
         → scan.first + length scan.held ≡ length past }
+{}
+
+/// What a scanner moves past by and by, it moves past in all, and whatever it hears later, it moved past the same frames. Of all that was
+/// heard, whatever it let go before and whatever comes later, they are the next frames.
+pub fn scanners_move_past_the_next_frames()
+    ensures onward { (old mid new : Scan) (given found : List Found) → MovesPast old mid given → MovesPast mid new found
+        → MovesPast old new (given ++ found) }
+    ensures hearing { (old new : Scan) (chars : List Character) (given : List Found) → old.finished ≡ false → MovesPast old new given
+        → MovesPast (hearing old chars) (hearing new chars) given }
+    ensures frames { (old new : Scan) (given later : List Found) (past more : List Character) → MovesPast old new given
+        → length past ≡ old.first → (IsTrue old.finished → more ≡ []) → AreFrames (past ++ (old.held ++ more)) new.first later
+        → AreFrames (past ++ (old.held ++ more)) old.first (given ++ later) }
 {}
 
 /// In chunks of whatever size the same characters are pushed, all in all the same frames are given.

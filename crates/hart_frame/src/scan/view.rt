@@ -1,7 +1,7 @@
 ghost use Rattle.std.specs.Prelude.{◌≡◌, ◌≤◌, ◌-◌, length};
 ghost use Rattle.hart_frame.specs.wire.Body.{IsBody};
-ghost use Rattle.hart_frame.specs.scan.Candidate.{IsWholeBody};
-ghost use Rattle.hart_frame.specs.scan.PlainAddress.{IsInRange};
+ghost use Rattle.hart_frame.specs.private.Candidate.{IsWholeBody};
+ghost use Rattle.hart_frame.specs.private.Address.{IsInRange};
 ghost use Rattle.hart_frame.specs.declared.wire.kind.FrameKind.TheVariants.{Ack};
 
 use crate::scan::plain_address::{PlainAddress, address_of_plain, plain_of};

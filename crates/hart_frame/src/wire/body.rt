@@ -1,7 +1,8 @@
 ghost use Rattle.std.specs.Prelude.{◌≡◌, ◌-◌, ℕ, length, take, Ok, IfOk, IfErr};
 ghost use Rattle.hart_frame.specs.wire.FrameParts.{FrameParts};
 ghost use Rattle.hart_frame.specs.wire.Body.{BeginsWithBody, IsCheckedPart};
-ghost use Rattle.hart_frame.specs.wire.Layout.{Describes, body_length};
+ghost use Rattle.hart_frame.specs.private.Layout.{Describes};
+ghost use Rattle.hart_frame.specs.wire.Layout.{body_length};
 ghost use Rattle.hart_frame.specs.wire.Refusal.{IsRefusedWith, HasCheckByte};
 
 use crate::wire::layout::Layout;

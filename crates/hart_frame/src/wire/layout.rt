@@ -17,7 +17,7 @@ pub(crate) struct Layout {
 }
 
 impl Layout {
-    ghost use Rattle.hart_frame.specs.wire.Layout.{Describes, layout_length};
+    ghost use Rattle.hart_frame.specs.private.Layout.{Describes, layout_length};
 
     /// The layout of the body that these bytes may begin with.
     ///

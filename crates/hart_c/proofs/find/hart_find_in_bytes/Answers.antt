@@ -1,33 +1,36 @@
-use Rattle.std.proofs.Common.{◌≡◌, ◌+◌, ◌<◌, ◌≤◌, false, Bool, ℕ, IsTrue, List, All, arith, drop, length, take}
+use Rattle.std.proofs.Common.{◌≡◌, ◌+◌, ◌<◌, ◌≤◌, false, Bool, ℕ, IsTrue, List, All, arith, drop, length, refl, take}
 use Rattle.std.proofs.lemmas.Grind.{common_steps}
 use Rattle.std.proofs.lemmas.List.{drop-drop, map-append, take_more_set, append-nil, drop-map, drop-set-lt, length-map, length-set}
 use Rattle.std.proofs.lemmas.List.Elements.{All-append}
 use Rattle.hart_frame.specs.heard.Character.{faultless}
 use Rattle.hart_frame.specs.heard.Frames.{IsUndecided}
-use Rattle.hart_frame.specs.scan.Next.{LeadsOn}
-use Rattle.hart_frame.proofs.lemmas.Laws.{next_frames_are_all-onward, next_frames_are_all-rest}
+use Rattle.hart_frame.specs.scan.Next.{AreNext}
+use Rattle.hart_frame.proofs.lemmas.Laws.{next_frames_are_all-nothing, next_frames_are_all-onward}
 use Rattle.hart_c.specs.Find.{Finds}
-use Rattle.hart_c.proofs.Onward.{IsPast, past_on, shown_onward, shown_stops}
 use Rattle.hart_c.specs.Frames.{IsTidy, found_in_first}
 use Rattle.hart_c.specs.declared.frame.HartFrame.{HartFrame}
 use Rattle.hart_c.proofs.find.hart_find_in_bytes.Goals as goal
 
 -- what a search comes to that has no more room, or finds no more frames, where few bytes are left, and nothing is decided in them
 finds_next : (bytes : List ℕ) (ended : Bool) (before after : List HartFrame) (used count : ℕ) → count ≤ length after
-    → used ≤ length bytes → drop count after ≡ drop count before → All IsTidy (take count after)
-    → All (IsPast used) (found_in_first count after) → LeadsOn (faultless bytes) ended 0 (found_in_first count after) used
+    → drop count after ≡ drop count before → All IsTidy (take count after)
+    → AreNext (faultless bytes) ended 0 (found_in_first count after) used
     → (count < length after → (length bytes ≤ used + 268) × (IsTrue ended → used ≡ length bytes)
     × (ended ≡ false → IsUndecided (faultless (drop used bytes))))
     → Finds (faultless bytes) ended before after (record { used = used; count = count; fault = 0 })
-finds_next bytes ended before after used count room is_within untouched tidy past leads left =
-    let stops = shown_stops used count after past in
-    let onward = shown_onward used count after room past in
-    let long : length (faultless bytes) ≡ length bytes = rw length-map in
-    let few : count < length after → length bytes ≤ used + 268 = λ fewer. (left fewer).0 in
-    let all : count < length after → IsTrue ended → used ≡ length bytes = λ fewer. (left fewer).1 in
-    let undecided : count < length after → ended ≡ false → IsUndecided (drop used (faultless bytes)) =
-    λ fewer going. rw drop-map ((left fewer).2 going) in
-    search (arith, next_frames_are_all-rest, undecided, few, all, long, stops, onward)
+finds_next bytes ended before after used count room untouched tidy next left = record {
+  within = room;
+  untouched = untouched;
+  tidy = tidy;
+  next = next;
+  few = λ fewer. rw length-map (left fewer).0;
+  all = λ fewer. rw length-map (left fewer).1;
+  undecided = λ fewer going. rw drop-map ((left fewer).2 going);
+  fault = refl;
+}
+
+pub loop-count-init : goal.loop-count-init
+loop-count-init c = grind (arith, common_steps, next_frames_are_all-nothing)
 
 pub loop-count-preserved : goal.loop-count-preserved
 loop-count-preserved c =
@@ -40,20 +43,17 @@ loop-count-preserved c =
       take_more_set,
       All-append,
       map-append,
-      past_on,
       next_frames_are_all-onward,
     )
 
 pub returns-in_default : goal.returns-in_default
 returns-in_default c =
     let loop = c.loop-count.invariant in
-    let next = c.next_in_bytes-next.ensures in
-    rw c.found_so_far.ensures (finds_next _ _ _ _ _ _ loop.room next.within loop.untouched loop.tidy
-    (past_on _ _ _ next.onward loop.past) (grind (arith, common_steps, append-nil, next_frames_are_all-onward))
-    (grind (arith, common_steps)))
+    rw c.found_so_far.ensures (finds_next _ _ _ _ _ _ loop.room loop.untouched loop.tidy
+    (grind (arith, common_steps, append-nil, next_frames_are_all-onward)) (grind (arith, common_steps)))
 
 pub returns : goal.returns
 returns c =
     let loop = c.loop-count.invariant in
-    rw c.found_so_far-2.ensures (finds_next _ _ _ _ _ _ loop.room loop.within loop.untouched loop.tidy loop.past loop.leads
+    rw c.found_so_far-2.ensures (finds_next _ _ _ _ _ _ loop.room loop.untouched loop.tidy loop.next
     (λ fewer. absurd (omega (arith, fewer, c.loop-count-test.false))))

@@ -1,26 +1,31 @@
-use Rattle.std.proofs.Common.{◌≡◌, ◌⊎◌, ℕ, List, Option, None, Some, arith, length, map, refl, sym}
+use Rattle.std.proofs.Common.{◌≡◌, ◌⊎◌, ℕ, List, Option, None, Some, arith, length, map, refl, sym, ◌∙◌}
 use Rattle.std.proofs.lemmas.Grind.{common_steps}
 use Rattle.hart_frame.specs.wire.FrameParts.{FrameParts}
 use Rattle.hart_frame.specs.wire.Message.{IsMessage}
 use Rattle.hart_frame.proofs.lemmas.Laws.{bodies_are_unambiguous-one_body, bodies_are_unambiguous-one_prefix, frames_are_unambiguous-one_list}
 use Rattle.hart_commands.specs.declared.reply.Reply.{Reply}
 use Rattle.hart_commands.specs.declared.request.Request.{Request}
+use Rattle.hart_device.specs.Identity.{AreIdentityParts, IsIdentityFault}
+use Rattle.hart_device.specs.answer.Delivery.{answer_to}
 use Rattle.hart_device.specs.declared.identity_parts.IdentityParts.{IdentityParts}
 use Rattle.hart_device.proofs.lemmas.Laws.{deliveries_bring_one-one, images_have_no_fault}
 use Rattle.hart_master.proofs.lemmas.Laws.{replies_are_decided-one_reply}
-use Rattle.hart_c.specs.Device.{Hears, IsHearFault, IsHearing, IsInState, IsSaid, IsStateFault, image_in}
-use Rattle.hart_c.specs.Encode.{IsEncodeFault, IsFrame}
+use Rattle.hart_c.specs.Checks.{AllPass, Check, IsFirstOf}
+use Rattle.hart_c.specs.Faults.{number_of}
+use Rattle.hart_c.specs.declared.fault.HartOutcome.{HartOutcome}
+use Rattle.hart_c.specs.Device.{Hears, IsHearing, IsInState, IsKeptFault, IsSaid, OfDevice, ReplyHasNoRoom, hear_checks, image_in}
+use Rattle.hart_c.specs.Encode.{IsWritten, encode_checks}
 use Rattle.hart_c.specs.Find.{char_of}
 use Rattle.hart_c.specs.Frames.{found_in, frame_in}
 use Rattle.hart_c.specs.Identity.{parts_of}
-use Rattle.hart_c.specs.Master.{Accepts, IsAcceptFault, IsSendFault, IsSent}
+use Rattle.hart_c.specs.Master.{Accepts, accept_checks}
 use Rattle.hart_c.specs.declared.device.HartDevice.{HartDevice}
 use Rattle.hart_c.specs.declared.fault.Fault.{Fault}
-use Rattle.hart_c.specs.declared.fault.Fault.TheVariants.{BadFaultBits, Device, NoRequest, NoRoom, TooLong, WrongAddress}
 use Rattle.hart_c.specs.declared.find.HartChar.{HartChar}
 use Rattle.hart_c.specs.declared.frame.HartFrame.{HartFrame}
 use Rattle.hart_c.specs.declared.identity.HartIdentity.{HartIdentity}
 use Rattle.hart_c.specs.declared.process.HartProcess.{HartProcess}
+use Rattle.hart_c.proofs.Checks.{AreSound, IsSound, first_none, first_one, needs-sound, refused_if-sound}
 use Rattle.hart_c.proofs.Kept.{devices_are_kept-one_state}
 use Rattle.hart_c.proofs.laws.calls_have_one_outcome.Goals.{After-bytes_have_one_image_fault}
 use Rattle.hart_c.proofs.laws.calls_have_one_outcome.Goals as goal
@@ -28,6 +33,13 @@ use Rattle.hart_c.proofs.laws.calls_have_one_outcome.Goals as goal
 -- an outcome is one if success is, and the fault, and there are not both
 one_outcome : {A B C D R : Type 0} → (A → C → R) → (A → D → ⊥) → (B → C → ⊥) → (B → D → R) → A ⊎ B → C ⊎ D → R
 one_outcome both free none one is again = grind arith
+
+-- one fault is told in one way
+one_fault : (checks : List Check) → AreSound checks → (fault other : Fault) (outcome another : HartOutcome) → IsFirstOf checks fault
+    → IsFirstOf checks other → outcome.fault ≡ number_of fault → outcome.len ≡ 0 → another.fault ≡ number_of other → another.len ≡ 0
+    → outcome ≡ another
+one_fault checks sound fault other outcome another why because told none tale nothing =
+    let same = first_one checks sound fault other why because in grind (arith, same)
 
 pub returns-clause-decode : goal.returns-clause-decode
 returns-clause-decode c bytes before after other outcome another is again =
@@ -40,10 +52,25 @@ one_message : (frame : FrameParts) (preambles : ℕ) (message other : List ℕ) 
     → IsMessage frame preambles other → message ≡ other
 one_message frame preambles message other is again = grind (arith, bodies_are_unambiguous-one_body frame)
 
+-- the checks of a frame that is written
+encode_sound : (frame : HartFrame) (preambles room : ℕ) → AreSound (encode_checks frame preambles room)
+encode_sound frame preambles room =
+    (needs-sound _ _, (needs-sound _ _, (needs-sound _ _, (needs-sound _ _, (refused_if-sound _ _, tt)))))
+
+written_passes : (frame : HartFrame) (preambles : ℕ) (before after : List ℕ) (len : ℕ) → length after ≡ length before
+    → IsWritten frame preambles before after len → AllPass (encode_checks frame preambles (length before))
+written_passes frame preambles before after len long is =
+    let (address, (expansion, (payload, end))) = is.is_frame in
+    (address, (expansion, (payload, (is.in_range, (λ none. grind (arith, common_steps, one_message), tt)))))
+
 pub returns-clause-encode : goal.returns-clause-encode
 returns-clause-encode c frame preambles before after other outcome another long longer =
+    let checks = encode_checks frame preambles (length before) in
+    let sound = encode_sound frame preambles (length before) in
     one_outcome (λ is again. grind (arith, one_message (frame_in frame) preambles is.1.message again.1.message))
-    (λ is why. grind (arith, common_steps, one_message)) (λ why is. grind (arith, common_steps, one_message)) (λ why again. grind arith)
+    (λ is why. first_none checks sound (written_passes frame preambles before after outcome.len long is.1) why.0 why.1)
+    (λ why is. first_none checks sound (written_passes frame preambles before other another.len longer is.1) why.0 why.1)
+    (λ why again. grind (arith, first_one checks sound why.0 again.0))
 
 pub returns-clause-new_devices : goal.returns-clause-new_devices
 returns-clause-new_devices c given before after other outcome another =
@@ -65,63 +92,69 @@ module _ (identity : HartIdentity) (process : HartProcess) (heard : List HartCha
       let brought = deliveries_bring_one-one (parts_of identity) (map char_of heard) is.brought again.brought is.brings again.brings in
       grind (arith, devices_are_kept-one_state (parts_of identity) device is.state again.state is.kept again.kept, brought)
 
-  -- a device that is in a state has no fault
-  in_state : (fault : Fault) → IsInState identity device → IsStateFault identity device fault → ⊥
-  in_state fault is why = grind (arith, images_have_no_fault is.0 (image_in device))
+  -- the checks of what it hears
+  hear_sound : (c : After-bytes_have_one_image_fault) (room : ℕ) → AreSound (hear_checks identity process heard device room)
+  hear_sound c room =
+      let who : IsSound (record { passes = AreIdentityParts (parts_of identity); refuses = OfDevice (IsIdentityFault (parts_of identity)) }) =
+      record { one = λ fault other why because. grind arith; not_both = λ fault is why. grind arith } in
+      let kept : IsSound (record { passes = IsInState identity device; refuses = OfDevice (IsKeptFault device) }) = record {
+        one = λ fault other why because. grind (arith, c.bytes_have_one_image_fault.ensures);
+        not_both = λ fault is why. grind (arith, images_have_no_fault is.0 (image_in device));
+      } in
+      (who, (kept, (needs-sound _ _, (needs-sound _ _, (needs-sound _ _, (refused_if-sound _ _, tt))))))
 
-  -- where there is no room for the reply, all else is in order
-  only_no_room : (room : ℕ) (fault : Fault) → IsHearing identity process heard device
-      → IsHearFault identity process heard device room fault → NoRoom ≡ fault
-  only_no_room room NoRoom hearing why = refl
-  only_no_room room fault hearing why = grind (arith, in_state fault (hearing.state, hearing.kept))
-
-  one_hear_fault : (c : After-bytes_have_one_image_fault) (room : ℕ) (fault other : Fault)
-      → IsHearFault identity process heard device room fault → IsHearFault identity process heard device room other → fault ≡ other
-  one_hear_fault c room NoRoom other why because = only_no_room room other why.0 because
-  one_hear_fault c room fault NoRoom why because = sym (only_no_room room fault because.0 why)
-  one_hear_fault c room (Device fault) other why because = grind (arith, c.bytes_have_one_image_fault.ensures, in_state (Device fault))
-  one_hear_fault c room fault other why because = grind (arith, in_state other)
-
-  -- what a device heard, and said, has no fault
-  not_heard : (after : HartDevice) (old new : List ℕ) (len : ℕ) (fault : Fault) → Hears identity process heard device after old new len
-      → length new ≡ length old → IsHearFault identity process heard device (length old) fault → ⊥
-  not_heard after old new len NoRoom is same none = grind (arith, common_steps, one_hearing none.0 is.hearing, one_message)
-  not_heard after old new len fault is same why = grind (arith, in_state fault (is.hearing.state, is.hearing.kept))
+  heard_passes : (after : HartDevice) (old new : List ℕ) (len : ℕ) → length new ≡ length old
+      → Hears identity process heard device after old new len → AllPass (hear_checks identity process heard device (length old))
+  heard_passes after old new len same is =
+      let hearing = is.hearing in
+      let (bits, (few, end)) = hearing.delivery in
+      let room : ((none : IsHearing identity process heard device) × ReplyHasNoRoom
+      (answer_to none.state none.measured none.brought) identity.response_preambles (length old)) → ⊥ =
+      λ none. grind (arith, common_steps, one_hearing none.0 hearing, one_message) in
+      (hearing.kept.is_identity, ((hearing.state, hearing.kept), (hearing.process_is.count, (bits, (few, (room, tt))))))
 
 pub returns-clause-hear : goal.returns-clause-hear
 returns-clause-hear c identity process heard before after other old new newer outcome another long longer =
+    let checks = hear_checks identity process heard before (length old) in
+    let sound = hear_sound identity process heard before c (length old) in
     one_outcome
     (λ is again. grind (arith, one_said, one_hearing identity process heard before is.1.hearing again.1.hearing))
-    (λ is why. not_heard identity process heard before after old new outcome.len why.0 is.1 long why.1)
-    (λ why is. not_heard identity process heard before other old newer another.len why.0 is.1 longer why.1)
-    (λ why again. grind (arith, one_hear_fault identity process heard before c (length old) why.0 again.0))
+    (λ is why. first_none checks sound (heard_passes identity process heard before after old new outcome.len long is.1) why.0 why.1)
+    (λ why is. first_none checks sound (heard_passes identity process heard before other old newer another.len longer is.1) why.0 why.1)
+    (λ why again. (
+      one_fault checks sound why.0 again.0 outcome another why.1 again.1 why.2 why.3 again.2 again.3,
+      why.4 ∙ sym again.4,
+      why.5 ∙ sym again.5,
+    ))
 
--- numbers that are refused as no frame, whatever the number of preamble bytes and the room, are none
-no_frame : (numbers : HartFrame) (fault : Fault) → ((preambles room : ℕ) → IsEncodeFault numbers preambles room fault)
-    → IsFrame numbers → ⊥
-no_frame numbers fault why is = grind (arith, why 5 0, why 0 0)
+-- the checks of what is accepted
+accept_sound : (numbers : HartFrame) (heard : List HartChar) → AreSound (accept_checks numbers heard)
+accept_sound numbers heard = (
+  needs-sound _ _,
+  (
+    needs-sound _ _,
+    (
+      needs-sound _ _,
+      (
+        needs-sound _ _,
+        (
+          needs-sound _ _,
+          (
+            needs-sound _ _,
+            (needs-sound _ _, tt),
+          ),
+        ),
+      ),
+    ),
+  ),
+)
 
--- a request that was sent has no fault
-not_sent : (numbers : HartFrame) (request : Request) (fault : Fault) → IsSent numbers request → IsSendFault numbers fault → ⊥
-not_sent numbers request NoRequest is why = why.1 request is.asked
-not_sent numbers request WrongAddress is why = grind arith
-not_sent numbers request fault is why = no_frame numbers fault why is.is_frame
-
-one_accept_fault : (numbers : HartFrame) (heard : List HartChar) (fault other : Fault) → IsAcceptFault numbers heard fault
-    → IsAcceptFault numbers heard other → fault ≡ other
-one_accept_fault numbers heard BadFaultBits other why because = grind (arith, not_sent numbers why.0.0 other why.0.1)
-one_accept_fault numbers heard TooLong other why because = grind (arith, not_sent numbers why.0.0 other why.0.1)
-one_accept_fault numbers heard fault BadFaultBits why because = grind (arith, not_sent numbers because.0.0 fault because.0.1)
-one_accept_fault numbers heard fault TooLong why because = grind (arith, not_sent numbers because.0.0 fault because.0.1)
-one_accept_fault numbers heard NoRequest NoRequest why because = refl
-one_accept_fault numbers heard NoRequest WrongAddress why because = absurd (why.1 because.1.0 because.1.1)
-one_accept_fault numbers heard WrongAddress WrongAddress why because = refl
-one_accept_fault numbers heard WrongAddress NoRequest why because = absurd (because.1 why.1.0 why.1.1)
-one_accept_fault numbers heard NoRequest other why because = absurd (no_frame numbers other because why.0)
-one_accept_fault numbers heard WrongAddress other why because = absurd (no_frame numbers other because why.0)
-one_accept_fault numbers heard fault NoRequest why because = absurd (no_frame numbers fault why because.0)
-one_accept_fault numbers heard fault WrongAddress why because = absurd (no_frame numbers fault why because.0)
-one_accept_fault numbers heard fault other why because = grind (arith, why 5 0, because 5 0)
+accepted_passes : (numbers : HartFrame) (heard : List HartChar) (before after : HartFrame) (said : Option Reply)
+    → Accepts numbers heard before after said → AllPass (accept_checks numbers heard)
+accepted_passes numbers heard before after said is =
+    let (address, (expansion, (payload, end))) = is.sent.is_frame in
+    let (bits, (few, last)) = is.delivery in
+    (address, (expansion, (payload, ((is.request, is.sent.asked), ((is.request, is.sent), (bits, (few, tt)))))))
 
 -- what is accepted is one
 same_accepted : (numbers : HartFrame) (heard : List HartChar) (before after other : HartFrame) (said tale : Option Reply)
@@ -135,8 +168,10 @@ same_accepted numbers heard before after other (Some reply) (Some another) is ag
 
 pub returns-clause-accept : goal.returns-clause-accept
 returns-clause-accept c numbers heard before after other acceptance another =
+    let checks = accept_checks numbers heard in
+    let sound = accept_sound numbers heard in
     one_outcome
     (λ is again. grind (arith, same_accepted numbers heard before after other is.0 again.0 is.1 again.1))
-    (λ is why. grind (arith, not_sent numbers is.1.request why.0 is.1.sent, is.1.delivery))
-    (λ why is. grind (arith, not_sent numbers is.1.request why.0 is.1.sent, is.1.delivery))
-    (λ why again. grind (arith, one_accept_fault numbers heard why.0 again.0))
+    (λ is why. first_none checks sound (accepted_passes numbers heard before after is.0 is.1) why.0 why.1)
+    (λ why is. first_none checks sound (accepted_passes numbers heard before other is.0 is.1) why.0 why.1)
+    (λ why again. grind (arith, first_one checks sound why.0 again.0))

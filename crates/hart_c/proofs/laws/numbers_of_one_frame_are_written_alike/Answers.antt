@@ -1,11 +1,10 @@
 use Rattle.std.proofs.Common.{◌≡◌, Bool, true, false, inl, inr, ℕ, List, ap, subst, sym, arith}
-use Rattle.hart_frame.specs.declared.wire.fault.FrameFault.TheVariants.{BadPreamble, TooShortReply}
 use Rattle.hart_frame.specs.wire.FrameParts.{FrameParts, IsLongEnough}
 use Rattle.hart_frame.specs.wire.Message.{IsMessage}
-use Rattle.hart_c.specs.Encode.{IsEncodeFault, IsFrame, IsInRange}
+use Rattle.hart_c.specs.Checks.{IsFirstOf}
+use Rattle.hart_c.specs.Encode.{IsFrame, IsInRange, encode_checks}
 use Rattle.hart_c.specs.Frames.{address_of, frame_in}
 use Rattle.hart_c.specs.declared.fault.Fault.{Fault}
-use Rattle.hart_c.specs.declared.fault.Fault.TheVariants.{BadAddress, Frame, LongExpansion, NoRoom}
 use Rattle.hart_c.specs.declared.frame.HartFrame.{HartFrame}
 use Rattle.hart_c.proofs.laws.numbers_of_one_frame_are_written_alike.Goals as goal
 
@@ -39,22 +38,29 @@ module _ (frame other : HartFrame) (same : frame_in other ≡ frame_in frame) (l
   back = in_range other.is_unique frame.is_unique other frame (sym address)
 
   is_frame : IsFrame frame → IsFrame other
-  is_frame is = record {
-    address = forth is.address;
-    expansion = rw long is.expansion;
-    payload = is_long (frame_in frame) (frame_in other) same is.payload;
-  }
+  is_frame (is, (few, (enough, end))) = (forth is, (rw long few, (is_long (frame_in frame) (frame_in other) same enough, tt)))
 
   -- they are refused alike
-  refused : (preambles room : ℕ) (fault : Fault) → IsEncodeFault frame preambles room fault → IsEncodeFault other preambles room fault
-  refused preambles room BadAddress why = λ is. why (back is)
-  refused preambles room LongExpansion why = (forth why.0, rw long why.1)
-  refused preambles room (Frame TooShortReply) why =
-      (forth why.0, rw long why.1, λ is. why.2 (is_long (frame_in other) (frame_in frame) (sym same) is))
-  refused preambles room (Frame BadPreamble) why = (is_frame why.0, why.1)
-  refused preambles room NoRoom why =
-      (is_frame why.0, why.1, (why.2.0, is_message (frame_in frame) (frame_in other) preambles same why.2.1, why.2.2))
-  refused preambles room _ why = absurd why
+  refused : (preambles room : ℕ) (fault : Fault) → IsFirstOf (encode_checks frame preambles room) fault
+      → IsFirstOf (encode_checks other preambles room) fault
+  refused preambles room fault (inl why) = inl (λ is. why.0 (back is), why.1)
+  refused preambles room fault (inr (is, inl why)) = inr (forth is, inl (rw long why.0, why.1))
+  refused preambles room fault (inr (is, inr (few, inl why))) =
+      inr (forth is, inr (rw long few, inl (λ enough. why.0 (is_long (frame_in other) (frame_in frame) (sym same) enough), why.1)))
+  refused preambles room fault (inr (is, inr (few, inr (enough, inl why)))) =
+      inr (forth is, inr (rw long few, inr (is_long (frame_in frame) (frame_in other) same enough, inl why)))
+  refused preambles room fault (inr (is, inr (few, inr (enough, inr (counts, inl ((message, is_its, none), told)))))) =
+      inr (
+        forth is,
+        inr (
+          rw long few,
+          inr (
+            is_long (frame_in frame) (frame_in other) same enough,
+            inr (counts, inl ((message, is_message (frame_in frame) (frame_in other) preambles same is_its, none), told)),
+          ),
+        ),
+      )
+  refused preambles room fault (inr (is, inr (few, inr (enough, inr (counts, inr (fits, none)))))) = absurd none
 
 pub returns : goal.returns
 returns c frame other preambles before after outcome same long told = elim told [

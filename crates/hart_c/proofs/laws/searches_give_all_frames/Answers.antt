@@ -1,40 +1,37 @@
-use Rattle.std.proofs.Common.{◌≡◌, ◌+◌, ◌≤◌, true, Bool, ℕ, List, [], ◌∷◌, ◌++◌, arith, append_assoc, drop, length, IsTrue, map, refl}
-use Rattle.std.proofs.Math.Seq.{drop-length}
-use Rattle.std.proofs.lemmas.Grind.{common_steps}
-use Rattle.std.proofs.lemmas.List.{append-nil, drop-append-le, drop-drop, map-append}
+use Rattle.std.proofs.Common.{◌≡◌, ◌+◌, ◌≤◌, true, false, Bool, ℕ, List, [], ◌++◌, drop, length, IsTrue, map, arith, refl, subst, sym}
+use Rattle.std.proofs.lemmas.List.{append-nil, drop-append-le}
 use Rattle.hart_frame.specs.declared.heard.found.Found.{Found}
 use Rattle.hart_frame.specs.heard.Character.{Character}
 use Rattle.hart_frame.specs.heard.Frames.{moved}
-use Rattle.hart_frame.proofs.lemmas.Laws.{messages_have_their_frame_alone-nothing}
-use Rattle.hart_c.specs.Find.{AreNext, begin, search}
+use Rattle.hart_frame.specs.scan.Next.{AreNext}
+use Rattle.hart_frame.proofs.lemmas.Laws.{next_frames_are_all-all, next_frames_are_all-grown, next_frames_are_all-moved}
+use Rattle.hart_frame.proofs.lemmas.Laws.{next_frames_are_all-nothing, next_frames_are_all-onward}
+use Rattle.hart_c.specs.Find.{begin, search}
 use Rattle.hart_c.proofs.laws.searches_give_all_frames.Goals as goal
 
--- frames that are moved twice are moved by the sum, and those that are moved by nothing stay
-moved_twice : (used further : ℕ) (frames : List Found)
-    → map (moved used) (map (moved further) frames) ≡ map (moved (used + further)) frames
-moved_twice used further [] = refl
-moved_twice used further (found ∷ frames) = grind (arith, moved_twice used further frames)
-
-moved_nowhere : (frames : List Found) → map (moved 0) frames ≡ frames
-moved_nowhere [] = refl
-moved_nowhere (found ∷ frames) = grind (arith, moved_nowhere frames)
+-- the frames that were given stay the next ones of what is heard further
+still_next : (heard piece : List Character) (was ended : Bool) (given : List Found) (used : ℕ)
+    → (IsTrue was → (piece ≡ []) × IsTrue ended) → AreNext heard was 0 given used → AreNext (heard ++ piece) ended 0 given used
+still_next heard piece false ended given used stays before = next_frames_are_all-grown heard piece ended 0 used given before
+still_next heard piece true true given used stays before = rw ((stays refl).0, append-nil) before
+still_next heard piece true false given used stays before = let over = (stays refl).1 in absurd cc
 
 -- one search more
-next_more : (heard piece : List Character) (was ended : Bool) (given found : List Found) (used further : ℕ) → used ≤ length heard
-    → (IsTrue was → (piece ≡ []) × IsTrue ended) → AreNext heard was given used → AreNext (drop used heard ++ piece) ended found further
-    → AreNext (heard ++ piece) ended (given ++ map (moved used) found) (used + further)
-next_more heard piece was ended given found used further within stays before now more later ends frames =
-    let front = drop-append-le used heard piece within in
-    let inner = now more later ends (grind (arith, common_steps, drop-drop)) in
-    grind (arith, common_steps, append_assoc, map-append, moved_twice)
+next_more : (heard piece : List Character) (was ended : Bool) (given found : List Found) (used further : ℕ)
+    → (IsTrue was → (piece ≡ []) × IsTrue ended) → AreNext heard was 0 given used → AreNext (drop used heard ++ piece) ended 0 found further
+    → AreNext (heard ++ piece) ended 0 (given ++ map (moved used) found) (used + further)
+next_more heard piece was ended given found used further stays before now =
+    let first = still_next heard piece was ended given used stays before in
+    let rest = rw (← drop-append-le used heard piece before.within) at now in
+    next_frames_are_all-onward (heard ++ piece) ended 0 used (used + further) given (map (moved used) found) first
+    (next_frames_are_all-moved used (heard ++ piece) ended found further first.within rest)
 
 -- so after every search the frames given are the next ones, and in the end they are all
 pub returns-clause-next : goal.returns-clause-next
-returns-clause-next c heard ended given used begin = λ more later ends frames. rw (moved_nowhere later) frames
-returns-clause-next c heard ended given used (search past piece was end frames found gone further before within stays now) =
-    next_more past piece was end frames found gone further within stays (returns-clause-next c past was frames gone before) now
+returns-clause-next c heard ended given used begin = next_frames_are_all-nothing [] false 0 (omega arith)
+returns-clause-next c heard ended given used (search past piece was end frames found gone further before stays now) =
+    next_more past piece was end frames found gone further stays (returns-clause-next c past was frames gone before) now
 
 pub returns-clause-all : goal.returns-clause-all
 returns-clause-all c heard given searched =
-    let next = returns-clause-next c heard true given (length heard) searched [] [] in
-    grind (arith, drop-length, messages_have_their_frame_alone-nothing, append-nil)
+    next_frames_are_all-all heard true given (returns-clause-next c heard true given (length heard) searched)

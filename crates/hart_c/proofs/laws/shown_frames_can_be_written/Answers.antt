@@ -1,4 +1,4 @@
-use Rattle.std.proofs.Common.{◌≡◌, Bool, true, false, inl, inr, ℕ, List, Ok, Option, None, Some, [], ◌∷◌, ◌++◌, All, arith, drop, map, subst, sym, take}
+use Rattle.std.proofs.Common.{◌≡◌, Bool, true, false, inl, inr, ℕ, List, Ok, Option, None, Some, [], ◌∷◌, ◌++◌, All, arith, map, refl, subst, sym, take}
 use Rattle.std.proofs.lemmas.Grind.{common_steps}
 use Rattle.std.proofs.lemmas.List.Elements.{All-cons, All-head, All-nil}
 use Rattle.hart_values.specs.address.AddressBytes.{IsAddressBytes}
@@ -26,11 +26,8 @@ in_range false frame master burst bytes is = is.0
 
 -- so numbers that show the frame of a body are a frame
 shown : (frame : HartFrame) (body : List ℕ) → IsBody (frame_in frame) body → IsTidy frame → IsFrame frame
-shown frame body is tidy = record {
-  address = in_range frame.is_unique frame _ _ _ is.checked_part.address_bytes;
-  expansion = tidy.expansion;
-  payload = is.checked_part.payload_fits;
-}
+shown frame body is tidy =
+    (in_range frame.is_unique frame _ _ _ is.checked_part.address_bytes, (tidy.expansion, (is.checked_part.payload_fits, tt)))
 
 -- a frame that is found has a body
 abbrev HasBody : Found → Type 0
@@ -48,8 +45,8 @@ has frames others all index other within = grind (arith, common_steps, all index
 
 pub returns-clause-found : goal.returns-clause-found
 returns-clause-found c chars ended before after search finds index other within =
-    let rest = every_list_has_frames (drop search.used chars ++ []) 0 in
-    let all = all_have _ _ _ (finds.are_next [] rest.0 (λ closed. cc) rest.1) in
+    let rest = every_list_has_frames (chars ++ []) search.used in
+    let all = all_have _ _ _ (finds.next.leads [] rest.0 (λ closed. refl) rest.1) in
     let body = has (take search.count after) _ all index other within in
     shown _ body.0 body.1 (finds.tidy index other within)
 

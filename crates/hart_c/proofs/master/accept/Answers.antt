@@ -1,22 +1,25 @@
 use Rattle.std.proofs.Common.{List, ◌∙◌, arith, refl}
 use Rattle.std.proofs.lemmas.Grind.{common_steps}
 use Rattle.hart_master.proofs.lemmas.Laws.{acceptance_is_decided-by_its_frame}
-use Rattle.hart_c.specs.Master.{IsAcceptFault, IsSendFault}
+use Rattle.hart_c.specs.Checks.{AllPass}
+use Rattle.hart_c.specs.Heard.{heard_checks}
+use Rattle.hart_c.specs.Master.{send_checks}
 use Rattle.hart_c.specs.declared.fault.Fault.{Fault}
-use Rattle.hart_c.specs.declared.fault.Fault.TheVariants.{BadFaultBits, TooLong}
-use Rattle.hart_c.specs.declared.find.HartChar.{HartChar}
-use Rattle.hart_c.specs.declared.frame.HartFrame.{HartFrame}
+use Rattle.hart_c.proofs.Checks.{first_after, first_before}
 use Rattle.hart_c.proofs.master.accept.Goals as goal
 
--- a fault of the request is one of what is accepted
-send_fault : (numbers : HartFrame) (heard : List HartChar) (fault : Fault) → IsSendFault numbers fault
-    → IsAcceptFault numbers heard fault
-send_fault numbers heard BadFaultBits refused = absurd (refused 0 0)
-send_fault numbers heard TooLong refused = absurd (refused 0 0)
-send_fault numbers heard _ refused = refused
-
 pub returns-in_err-master-clause-refused : goal.returns-in_err-master-clause-refused
-returns-in_err-master-clause-refused c = grind (arith, common_steps, send_fault)
+returns-in_err-master-clause-refused c =
+    grind (arith, common_steps, first_before (send_checks c.args.request.now) (heard_checks c.args.heard.now))
+
+pub returns-in_err-delivery-clause-refused : goal.returns-in_err-delivery-clause-refused
+returns-in_err-delivery-clause-refused c =
+    let awaits = c.in_ok-master.ensures.awaits in
+    let (address, (expansion, (payload, end))) = awaits.sent.is_frame in
+    let passed : AllPass (send_checks c.args.request.now) =
+    (address, (expansion, (payload, ((awaits.request, awaits.sent.asked), ((awaits.request, awaits.sent), tt))))) in
+    let after = λ (fault : Fault). first_after (send_checks c.args.request.now) (heard_checks c.args.heard.now) fault passed in
+    grind (arith, common_steps, after)
 
 pub returns-in_default-receive : goal.returns-in_default-receive
 returns-in_default-receive c =

@@ -18,7 +18,8 @@ use Rattle.hart_frame.specs.declared.heard.miss.Miss.{Miss}
 use Rattle.hart_frame.specs.declared.heard.miss.Miss.TheVariants.{Burst}
 use Rattle.hart_frame.specs.heard.Character.{Character, faultless}
 use Rattle.hart_frame.specs.heard.Frames.{AreFrames, first, moved, none}
-use Rattle.hart_frame.specs.heard.Miss.{HasFrameAt, miss_of}
+use Rattle.hart_frame.specs.heard.Place.{HasFrameAt}
+use Rattle.hart_frame.specs.heard.Miss.{miss_of}
 use Rattle.hart_frame.specs.heard.Place.{StandsIn}
 use Rattle.hart_cli.specs.explain.Gaps.{IsGap, missed, missed_at, MissedPlace}
 use Rattle.hart_cli.specs.explain.Misses.{miss_line, miss_words, place_text}

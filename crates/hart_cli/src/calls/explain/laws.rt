@@ -5,7 +5,8 @@ ghost use Rattle.std.specs.List.{flat_map};
 ghost use Rattle.hart_frame.specs.heard.Character.{Character, faultless};
 ghost use Rattle.hart_frame.specs.heard.Frames.{AreFrames};
 ghost use Rattle.hart_frame.specs.heard.InTheWay.{FollowsOnePreamble, HasBodyAt, HasFaultsAt, IsInTheWay, bytes_from};
-ghost use Rattle.hart_frame.specs.heard.Miss.{HasFrameUpTo, miss_of};
+ghost use Rattle.hart_frame.specs.heard.Place.{HasFrameUpTo};
+ghost use Rattle.hart_frame.specs.heard.Miss.{miss_of};
 ghost use Rattle.hart_frame.specs.heard.Start.{IsStart};
 ghost use Rattle.hart_frame.specs.declared.heard.found.Found.{Found};
 ghost use Rattle.hart_frame.specs.declared.heard.miss.Miss.{Miss};
@@ -20,7 +21,7 @@ ghost use Rattle.hart_cli.specs.explain.Gaps.{IsGap, IsOneLine, missed};
 ghost use Rattle.hart_cli.specs.explain.Misses.{gap_text, miss_in_whole, miss_line};
 ghost use Rattle.hart_cli.specs.input.Input.{CameTo, Left};
 
-use hart_frame::{
+use hart_frame::laws::{
     every_start_has_a_frame_or_a_miss, misses_are_in_the_way, misses_say_what_is_wrong,
 };
 

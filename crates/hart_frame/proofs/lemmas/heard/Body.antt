@@ -1,13 +1,12 @@
 -- Characters that begin with a body, and their bytes.
 use Rattle.std.proofs.Common.{◌≡◌, ◌<◌, ℕ, List, [], ◌∷◌, refl, sym, ap, ◌∙◌, arith}
 use Rattle.std.proofs.lemmas.Grind.{common_steps}
-use Rattle.std.proofs.lemmas.List.{map-append}
-use Rattle.hart_frame.specs.heard.Body.{bytes_of, BeginsWithHeard}
-use Rattle.hart_frame.specs.heard.Character.{Character, faultless}
-use Rattle.hart_frame.specs.wire.Body.{BeginsWithBody, IsBody}
+use Rattle.hart_frame.specs.private.Body.{bytes_of}
+use Rattle.hart_frame.specs.heard.Character.{faultless}
+use Rattle.hart_frame.specs.wire.Body.{IsBody}
 use Rattle.hart_frame.specs.wire.Delimiter.{delimiter_of}
 use Rattle.hart_frame.specs.wire.FrameParts.{FrameParts}
-use Rattle.hart_frame.proofs.lemmas.wire.UnambiguousBodies.{BeginsWithBody-append, address_type-lt, kind_code-is}
+use Rattle.hart_frame.proofs.lemmas.wire.UnambiguousBodies.{address_type-lt, kind_code-is}
 
 -- faultless characters have the bytes that they were made of
 pub bytes_of-faultless : (bytes : List ℕ) → bytes_of (faultless bytes) ≡ bytes
@@ -17,12 +16,6 @@ bytes_of-faultless (byte ∷ bytes) = ap (λ (xs : List ℕ). byte ∷ xs) (byte
 -- so their bytes are one list
 pub faultless-one : (bytes others : List ℕ) → faultless bytes ≡ faultless others → bytes ≡ others
 faultless-one bytes others same = sym (bytes_of-faultless bytes) ∙ ap bytes_of same ∙ bytes_of-faultless others
-
--- the bytes of what begins with a heard body begin with that body
-pub BeginsWithBody-heard : (chars : List Character) (f : FrameParts) (len : ℕ) → BeginsWithHeard chars f len
-    → BeginsWithBody (bytes_of chars) f len
-BeginsWithBody-heard chars f len heard =
-    grind (arith, map-append, bytes_of-faultless heard.body, BeginsWithBody-append f heard.body (bytes_of heard.rest) heard.is_body)
 
 -- a body begins with its delimiter, which is no preamble byte
 pub head_of : (f : FrameParts) (body : List ℕ) → IsBody f body

@@ -1,6 +1,6 @@
 -- The frames of a delivery, by the first of them.
 use Rattle.std.proofs.Common.{arith, ◌≡◌, ℕ, List, [], ◌∷◌}
-use Rattle.hart_frame.specs.declared.heard.delivery.LoneFrame.{LoneFrame}
+use Rattle.hart_frame.specs.declared.scan.first.LoneFrame.{LoneFrame}
 use Rattle.hart_frame.specs.declared.heard.found.Found.{Found}
 use Rattle.hart_frame.specs.heard.Character.{Character}
 use Rattle.hart_frame.specs.heard.Delivery.{IsLone, lone_of}

@@ -5,9 +5,9 @@ use Rattle.std.proofs.lemmas.Grind.{common_steps}
 use Rattle.std.proofs.lemmas.List.{take-append-drop, drop_at}
 use Rattle.hart_frame.specs.declared.heard.found.Found.{Found}
 use Rattle.hart_frame.specs.heard.Character.{Character, faultless, faultless_bytes}
-use Rattle.hart_frame.specs.heard.Frames.{none, first, AreFrames}
+use Rattle.hart_frame.specs.heard.Frames.{none, first, AreFrames, IsFirst}
 use Rattle.hart_frame.specs.heard.InTheWay.{bytes_from, HasBodyAt}
-use Rattle.hart_frame.specs.heard.Miss.{HasFrameAt, HasFrameUpTo}
+use Rattle.hart_frame.specs.heard.Place.{HasFrameAt, HasFrameUpTo}
 use Rattle.hart_frame.specs.heard.Place.{StandsIn}
 use Rattle.hart_frame.specs.heard.Start.{IsStart}
 use Rattle.hart_frame.specs.wire.Body.{IsBody, BeginsWithBody}
@@ -128,3 +128,8 @@ frames_found chars (suc fuel) from enough = elim (frame_decided chars (from + 2)
 
 pub AreFrames-found : (chars : List Character) (from : ℕ) → (frames : List Found) × AreFrames chars from frames
 AreFrames-found chars from = frames_found chars (length chars) from (omega arith)
+
+-- the first of the frames of a list
+pub head_first : (chars : List Character) (from : ℕ) (g : Found) (later : List Found) → AreFrames chars from (g ∷ later)
+    → IsFirst g chars from
+head_first chars from g later (first n h others is rest) = is

@@ -8,7 +8,7 @@ use Rattle.std.proofs.lemmas.List.{map-append, take_at, take_all, take_min, take
 use Rattle.std.proofs.lemmas.List.Elements.{All-from_get_or, All-map, All-tail}
 use Rattle.std.proofs.lemmas.List.Sums.{take_while-cons}
 use Rattle.std.specs.List.{All, position_or_len, slice_get}
-use Rattle.hart_frame.specs.heard.Body.{bytes_of}
+use Rattle.hart_frame.specs.private.Body.{bytes_of}
 use Rattle.hart_frame.specs.heard.Character.{Character, faultless, faultless_bytes}
 use Rattle.hart_frame.proofs.lemmas.heard.Place.{preamble}
 

@@ -1,6 +1,6 @@
 -- Where a body may start a frame stands or something is missed, and with what is missed put right a frame stands.
 use Rattle.std.proofs.Common.{◌≡◌, ◌≢◌, ℕ, fold, bit_xor, ◌+◌, ◌-◌, ◌<◌, ◌⊎◌, List, [], ◌∷◌, ◌++◌, length, take, drop, get_or}
-use Rattle.std.proofs.Common.{set, true, Some, refl, arith, append_assoc, length-append, ◌↔◌}
+use Rattle.std.proofs.Common.{set, true, ap, inl, inr, sym, ◌∙◌, None, Option, Some, refl, arith, append_assoc, length-append, ◌↔◌}
 use Rattle.std.proofs.lemmas.Bool.Decides.{nat_tests}
 use Rattle.std.proofs.lemmas.Grind.{common_steps}
 use Rattle.std.proofs.lemmas.List.{length-set, drop_all, length-drop, take_at, append-nil, drop_more, get_or-set_same, length-take-le}
@@ -8,11 +8,13 @@ use Rattle.std.proofs.lemmas.List.{map-append, set_at, take-append-drop, take_mo
 use Rattle.std.proofs.lemmas.List.Elements.{All-append, All-drop, All-take}
 use Rattle.std.proofs.lemmas.Option.{get_or_from_slice_get, slice_get_within}
 use Rattle.std.specs.List.{All, insert}
-use Rattle.std.specs.Option.{IsSome, is_some}
+use Rattle.std.specs.Option.{IsSome, MatchOption, is_some}
+use Rattle.hart_frame.specs.declared.heard.miss.Miss.{Miss}
 use Rattle.hart_frame.specs.declared.heard.miss.Miss.TheVariants.{BadCheck, Faulty, Missing, OnePreamble}
 use Rattle.hart_frame.specs.heard.Character.{Character, faultless, faultless_bytes}
-use Rattle.hart_frame.specs.heard.InTheWay.{bytes_from, FollowsOnePreamble, HasBodyAt}
-use Rattle.hart_frame.specs.heard.Miss.{HasFrameAt, HasFrameUpTo, body_miss, check_byte_in, fitting_check_byte, miss_of}
+use Rattle.hart_frame.specs.heard.InTheWay.{bytes_from, FollowsOnePreamble, HasBodyAt, IsMiss}
+use Rattle.hart_frame.specs.heard.Place.{HasFrameAt, HasFrameUpTo}
+use Rattle.hart_frame.specs.heard.Miss.{body_miss, check_byte_in, fitting_check_byte, miss_of}
 use Rattle.hart_frame.specs.heard.Start.{IsStart}
 use Rattle.hart_frame.specs.wire.Body.{IsBody, BeginsWithBody}
 use Rattle.hart_frame.specs.wire.FrameParts.{FrameParts}
@@ -72,6 +74,32 @@ one_alone start chars fit = (
   ),
   λ both. grind (arith, one_preamble-yes chars start both.0, none_of chars start both.1),
 )
+
+-- the miss that is found is the one that the relation allows
+pub miss_is : (start : ℕ) (chars : List Character) (miss : Miss) → All (λ c. c.byte < 256) chars
+    → (miss_of chars start ≡ Some miss) ↔ IsMiss chars start miss
+miss_is start chars miss fit = (
+  λ told. elim (miss_of-some chars start miss told) [
+    | inl here ↦ inl (here.0, (in_the_way start chars miss fit here.0).0 told)
+    | inr lone ↦ let both = (one_alone start chars fit).0 (told ∙ ap Some lone.0) in inr (lone.0, both.0, both.1)
+  ],
+  λ is. elim is [
+    | inl way ↦ (in_the_way start chars miss fit way.0).1 way.1
+    | inr lone ↦ (one_alone start chars fit).1 (lone.1, lone.2) ∙ ap Some (sym lone.0)
+  ],
+)
+
+-- so there is one at most
+pub one_miss : (start : ℕ) (chars : List Character) (miss other : Miss) → All (λ c. c.byte < 256) chars → IsMiss chars start miss
+    → IsMiss chars start other → miss ≡ other
+one_miss start chars miss other fit is again =
+    let same = sym ((miss_is start chars miss fit).1 is) ∙ (miss_is start chars other fit).1 again in cc
+
+-- and if none is found there is none
+pub is_told : (chars : List Character) (start : ℕ) (found : Option Miss) → All (λ c. c.byte < 256) chars → found ≡ miss_of chars start
+    → MatchOption found ((miss : Miss) → IsMiss chars start miss → ⊥) (IsMiss chars start)
+is_told chars start None fit same = λ miss is. let found = same ∙ (miss_is start chars miss fit).1 is in cc
+is_told chars start (Some miss) fit same = (miss_is start chars miss fit).0 (sym same)
 
 -- with another preamble byte before the one a frame stands there
 pub one_preamble_fits : (start : ℕ) (chars : List Character) → All (λ c. c.byte < 256) chars → miss_of chars start ≡ Some OnePreamble

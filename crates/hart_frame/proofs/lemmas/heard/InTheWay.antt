@@ -12,7 +12,8 @@ use Rattle.hart_frame.specs.declared.heard.miss.Miss.TheVariants.{BadCheck, Ends
 use Rattle.hart_frame.specs.declared.wire.fault.FrameFault.{FrameFault}
 use Rattle.hart_frame.specs.heard.Character.{Character, faultless_bytes}
 use Rattle.hart_frame.specs.heard.InTheWay.{ComeToTheEnd, HasFaultsAt, IsInTheWay, bytes_from}
-use Rattle.hart_frame.specs.heard.Miss.{fault_of, miss_in, body_miss, faulty_or, fitting_check_byte, miss_of}
+use Rattle.hart_frame.specs.heard.InTheWay.{fault_of}
+use Rattle.hart_frame.specs.heard.Miss.{miss_in, body_miss, faulty_or, fitting_check_byte, miss_of}
 use Rattle.hart_frame.specs.heard.Start.{IsStart}
 use Rattle.hart_frame.specs.wire.Layout.{body_length}
 use Rattle.hart_frame.specs.wire.Parity.{IsCheckByte}

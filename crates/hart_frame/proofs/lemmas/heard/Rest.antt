@@ -7,9 +7,9 @@ use Rattle.hart_frame.specs.declared.heard.found.Found.{Found}
 use Rattle.hart_frame.specs.heard.Character.{Character, faultless}
 use Rattle.hart_frame.specs.heard.Frames.{AreFrames, IsFirst, moved, none, first}
 use Rattle.hart_frame.specs.heard.Place.{StandsIn}
-use Rattle.hart_frame.proofs.lemmas.heard.Delivery.{OneList}
 use Rattle.hart_frame.proofs.lemmas.heard.FramesFound.{AreFrames-found}
 use Rattle.hart_frame.proofs.lemmas.heard.Place.{HasNoFrame-end}
+use Rattle.hart_frame.proofs.lemmas.heard.UnambiguousFrames.{AreFrames-one}
 
 -- what stands in a list stands after others
 pub stands_after : (prefix cs rest : List Character) (found : Found) (n : ℕ) → length prefix ≡ n → StandsIn found cs 0
@@ -58,14 +58,14 @@ all_moved_one n (x ∷ xs) (y ∷ ys) same = grind (arith, common_steps, all_mov
 all_moved_one n xs ys same = absurd cc
 
 -- from the end of a list on there are no frames
-frames_none : (chars : List Character) (place : ℕ) (frames : List Found) → length chars ≤ place → AreFrames chars place frames
+pub frames_none : (chars : List Character) (place : ℕ) (frames : List Found) → length chars ≤ place → AreFrames chars place frames
     → frames ≡ []
 frames_none chars place frames end given_4 = grind (arith, common_steps, HasNoFrame-end)
 
 -- the rest of a list gives the frames from its place on
-pub rest_frames : OneList → (place : ℕ) (chars : List Character) (frames : List Found) → AreFrames (drop place chars) 0 frames
+pub rest_frames : (place : ℕ) (chars : List Character) (frames : List Found) → AreFrames (drop place chars) 0 frames
     → AreFrames chars place (map (moved place) frames)
-rest_frames one place chars frames are =
+rest_frames place chars frames are =
     let cases : (place ≤ length chars) ⊎ (length chars < place) = grind arith in
     elim cases [
       | inl within ↦
@@ -76,8 +76,34 @@ rest_frames one place chars frames are =
           (AreFrames.none place (HasNoFrame-end chars place (omega (arith, past))))
     ]
 
--- and the frames from a place on are those of the rest
-pub rest_only : OneList → (place : ℕ) (chars : List Character) (frames : List Found) → AreFrames chars place (map (moved place) frames)
+-- and those are all frames from that place on
+pub rest_all : (place : ℕ) (chars : List Character) (frames : List Found) → AreFrames chars place frames
+    → (own : List Found) × AreFrames (drop place chars) 0 own × (frames ≡ map (moved place) own)
+rest_all place chars frames are =
+    let (own, is) = AreFrames-found (drop place chars) 0 in
+    (own, is, AreFrames-one chars place frames (map (moved place) own) are (rest_frames place chars own is))
+
+pub rest_only : (place : ℕ) (chars : List Character) (frames : List Found) → AreFrames chars place (map (moved place) frames)
     → AreFrames (drop place chars) 0 frames
-rest_only one place chars frames are =
-    let own = AreFrames-found (drop place chars) 0 in grind (arith, common_steps, rest_frames, all_moved_one)
+rest_only place chars frames are =
+    let (own, is, same) = rest_all place chars (map (moved place) frames) are in rw (all_moved_one place frames own same) is
+
+-- frames that are moved twice are moved by the sum, and those that are moved by nothing stay
+pub moved_twice : (n m : ℕ) (frames : List Found) → map (moved n) (map (moved m) frames) ≡ map (moved (n + m)) frames
+moved_twice n m [] = refl
+moved_twice n m (found ∷ frames) = grind (arith, moved_twice n m frames)
+
+pub moved_nowhere : (frames : List Found) → map (moved 0) frames ≡ frames
+moved_nowhere [] = refl
+moved_nowhere (found ∷ frames) = grind (arith, moved_nowhere frames)
+
+-- a frame that is moved, and the others, come from a frame and the others
+pub some_moved : (n : ℕ) (found : Found) (more frames : List Found) → found ∷ more ≡ map (moved n) frames
+    → (one : Found) × (others : List Found) × (frames ≡ one ∷ others)
+some_moved n found more [] same = absurd cc
+some_moved n found more (one ∷ others) same = (one, others, refl)
+
+-- and none come from none
+pub none_moved : (n : ℕ) (frames : List Found) → [] ≡ map (moved n) frames → frames ≡ []
+none_moved n [] same = refl
+none_moved n (one ∷ others) same = absurd cc

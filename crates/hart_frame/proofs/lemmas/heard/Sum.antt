@@ -7,7 +7,7 @@ use Rattle.std.proofs.lemmas.Nat.{le_or_l, le_or_r}
 use Rattle.std.specs.Int.Bits.{bit_or}
 use Rattle.std.specs.List.{All}
 use Rattle.hart_frame.specs.declared.heard.character.Sum.{Sum}
-use Rattle.hart_frame.specs.heard.Body.{bytes_of}
+use Rattle.hart_frame.specs.private.Body.{bytes_of}
 use Rattle.hart_frame.specs.heard.Character.{Character}
 
 pub record IsSum (chars : List Character) (sum : Sum) : Type 0 where

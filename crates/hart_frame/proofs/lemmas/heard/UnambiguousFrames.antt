@@ -4,32 +4,27 @@ use Rattle.hart_frame.specs.declared.heard.found.Found.{Found}
 use Rattle.hart_frame.specs.heard.Character.{Character}
 use Rattle.hart_frame.specs.heard.Frames.{IsFirst, AreFrames, none, first}
 use Rattle.hart_frame.specs.heard.Place.{StandsIn}
-use Rattle.hart_frame.specs.wire.Body.{BeginsWithBody}
-use Rattle.hart_frame.specs.wire.FrameParts.{FrameParts}
 use Rattle.hart_frame.specs.heard.InTheWay.{bytes_from}
 use Rattle.hart_frame.proofs.lemmas.heard.FramesFound.{begins_at, body_of}
-
--- at most one prefix of a list of bytes is a body
-abbrev pub OnePrefix : Type 0
-OnePrefix = (f g : FrameParts) (bytes : List ℕ) (m n : ℕ) → BeginsWithBody bytes f m → BeginsWithBody bytes g n → (f ≡ g) × (m ≡ n)
+use Rattle.hart_frame.proofs.lemmas.wire.UnambiguousBodies.{bodies_are_unambiguous-one_prefix}
 
 -- one frame stands at one place
-StandsIn-one : OnePrefix → (f g : Found) (chars : List Character) (m n : ℕ) → StandsIn f chars m → StandsIn g chars n
+StandsIn-one : (f g : Found) (chars : List Character) (m n : ℕ) → StandsIn f chars m → StandsIn g chars n
     → f.start ≡ g.start → f ≡ g
-StandsIn-one law f g chars m n p q starts =
+StandsIn-one f g chars m n p q starts =
     let one = begins_at chars f.start (body_of chars f m p) in
-    let same = law f.frame g.frame (bytes_from chars f.start) (length p.body) (length q.body) one
+    let same = bodies_are_unambiguous-one_prefix f.frame g.frame (bytes_from chars f.start) (length p.body) (length q.body) one
     (rw starts (begins_at chars g.start (body_of chars g n q))) in grind arith
 
-pub IsFirst-one : OnePrefix → (f g : Found) (chars : List Character) (from : ℕ) → IsFirst f chars from → IsFirst g chars from → f ≡ g
-IsFirst-one law f g chars from p q =
-    StandsIn-one law f g chars from from p.stands q.stands (omega (arith, p.least g q.stands, q.least f p.stands))
+pub IsFirst-one : (f g : Found) (chars : List Character) (from : ℕ) → IsFirst f chars from → IsFirst g chars from → f ≡ g
+IsFirst-one f g chars from p q =
+    StandsIn-one f g chars from from p.stands q.stands (omega (arith, p.least g q.stands, q.least f p.stands))
 
-pub AreFrames-one : OnePrefix → (chars : List Character) (from : ℕ) (xs ys : List Found) → AreFrames chars from xs → AreFrames chars from ys
+pub AreFrames-one : (chars : List Character) (from : ℕ) (xs ys : List Found) → AreFrames chars from xs → AreFrames chars from ys
     → xs ≡ ys
-AreFrames-one law chars from xs ys (none m empty) (none n void) = refl
-AreFrames-one law chars from xs ys (none m empty) (first n g more is rest) = absurd (empty g is.stands)
-AreFrames-one law chars from xs ys (first m f later is rest) (none n empty) = absurd (empty f is.stands)
-AreFrames-one law chars from xs ys (first m f later is rest) (first n g more also others) =
-    let same = IsFirst-one law f g chars from is also in
-    let all = AreFrames-one law chars f.stop later more rest (rw same others) in cc
+AreFrames-one chars from xs ys (none m empty) (none n void) = refl
+AreFrames-one chars from xs ys (none m empty) (first n g more is rest) = absurd (empty g is.stands)
+AreFrames-one chars from xs ys (first m f later is rest) (none n empty) = absurd (empty f is.stands)
+AreFrames-one chars from xs ys (first m f later is rest) (first n g more also others) =
+    let same = IsFirst-one f g chars from is also in
+    let all = AreFrames-one chars f.stop later more rest (rw same others) in cc

@@ -10,8 +10,8 @@ use Rattle.hart_frame.specs.declared.scan.buffer.State.TheVariants.{Busy, Draine
 use Rattle.hart_frame.specs.declared.scan.search.Sighting.{Sighting}
 use Rattle.hart_frame.specs.heard.Character.{faultless}
 use Rattle.hart_frame.specs.heard.Frames.{IsUndecided}
-use Rattle.hart_frame.specs.scan.Buffer.{IsSound, IsWaiting, held_bytes, is_drained, scan_of}
-use Rattle.hart_frame.specs.scan.Decision.{IsHeldSearched}
+use Rattle.hart_frame.specs.private.Buffer.{IsSound, IsWaiting, held_bytes, is_drained, scan_of}
+use Rattle.hart_frame.specs.private.Decision.{IsHeldSearched}
 use Rattle.hart_frame.specs.scan.Scanner.{Scan, MovesPast, Waits}
 use Rattle.hart_frame.proofs.lemmas.scan.Candidate.{undecided_open}
 use Rattle.hart_frame.proofs.lemmas.scan.Scan.{moves_none, moves_past}

@@ -1,5 +1,5 @@
 -- What is known of bytes by how they begin.
-use Rattle.std.proofs.Common.{◌≡◌, ◌≢◌, ℕ, zero, suc, ◌+◌, ◌<◌, ◌≤◌, inl, inr, List, [], ◌∷◌, ◌++◌, length, take, drop, get_or, refl}
+use Rattle.std.proofs.Common.{◌≡◌, ◌≢◌, ℕ, zero, suc, ◌+◌, ◌<◌, ◌≤◌, inl, inr, List, [], ◌∷◌, ◌++◌, length, take, drop, get_or, refl, sym, ap, ◌∙◌}
 use Rattle.std.proofs.Common.{arith, append_assoc}
 use Rattle.std.proofs.Math.Seq.{take-append-add}
 use Rattle.std.proofs.lemmas.List.{take_rest, append-nil, map-append, get_or-take, length-take, length-take-le, take-append-drop, take_all}
@@ -8,15 +8,16 @@ use Rattle.std.specs.List.{slice_range}
 use Rattle.hart_frame.specs.declared.scan.candidate.Candidate.TheVariants.{Never, Whole}
 use Rattle.hart_frame.specs.declared.wire.fault.FrameFault.TheVariants.{BadCheck, Truncated}
 use Rattle.hart_frame.specs.declared.wire.layout.Layout.{Layout}
-use Rattle.hart_frame.specs.heard.Body.{bytes_of, BeginsWithHeard}
+use Rattle.hart_frame.specs.private.Body.{bytes_of}
 use Rattle.hart_frame.specs.heard.Character.{Character, faultless, faultless_bytes}
 use Rattle.hart_frame.specs.heard.Frames.{IsUndecided}
-use Rattle.hart_frame.specs.scan.Candidate.{BeginWithNone, IsBodyCandidate, IsCandidate, IsWhole, MayBegin, MayBeginBefore}
-use Rattle.hart_frame.specs.scan.Candidate.{NothingFollows, NeverBecomeBody, NeverBegin}
-use Rattle.hart_frame.specs.wire.Layout.{Describes, body_length, layout_length}
+use Rattle.hart_frame.specs.private.Candidate.{BeginWithNone, IsBodyCandidate, IsCandidate, IsWhole, MayBegin, MayBeginBefore}
+use Rattle.hart_frame.specs.private.Candidate.{NothingFollows, NeverBecomeBody, NeverBegin}
+use Rattle.hart_frame.specs.private.Layout.{Describes, layout_length}
+use Rattle.hart_frame.specs.wire.Layout.{body_length}
 use Rattle.hart_frame.specs.wire.Parity.{HasEvenParity, IsCheckByte}
 use Rattle.hart_frame.specs.wire.Refusal.{HasCheckByte, IsTruncated}
-use Rattle.hart_frame.proofs.lemmas.heard.Body.{BeginsWithBody-heard, bytes_of-faultless}
+use Rattle.hart_frame.proofs.lemmas.heard.Body.{bytes_of-faultless}
 use Rattle.hart_frame.proofs.lemmas.heard.Front.{faultless_bytes-append, faultless_bytes-end}
 use Rattle.hart_frame.proofs.lemmas.heard.Place.{StandsIn-at, StandsIn-within, preamble}
 use Rattle.hart_frame.proofs.lemmas.wire.Parity.{check-even, even-check}
@@ -35,9 +36,9 @@ never_first x xs other more f body rest is same = grind arith
 -- nor do those that never become a body after two
 pub never_after : (x y : ℕ) (xs : List ℕ) → NeverBecomeBody xs → NeverBegin (x ∷ y ∷ xs)
 never_after x y xs never more f body rest is same =
-    let heard : BeginsWithHeard (faultless xs ++ more) f (length body) = grind arith in
-    let begins = BeginsWithBody-heard (faultless xs ++ more) f (length body) heard in
-    not_refused (xs ++ bytes_of more) f (length body) never.fault (rw (bytes_of_append xs more) at begins)
+    let after : faultless xs ++ more ≡ faultless body ++ rest = grind arith in
+    let bytes = sym (bytes_of_append xs more) ∙ ap bytes_of after ∙ bytes_of_append body rest in
+    not_refused (xs ++ bytes_of more) f (length body) never.fault (rw bytes (BeginsWithBody-append f body (bytes_of rest) is))
     (refused_more xs (bytes_of more) never.fault never.decided never.refused)
 
 -- nor do those bytes and others after them

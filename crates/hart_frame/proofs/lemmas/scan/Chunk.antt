@@ -1,6 +1,6 @@
 -- What a chunk is to a scanner that hears it at once, or in parts.
 use Rattle.std.proofs.Common.{◌≡◌, ℕ, ◌+◌, ◌-◌, ◌<◌, ◌≤◌, ◌^◌, ◌⊎◌, inl, inr, false, List, [], ◌∷◌, ◌++◌, length, take, Option, None}
-use Rattle.std.proofs.Common.{Some, drop, get_or, refl, sym, ap, subst, ◌∙◌, arith, append_assoc, length-append, length-drop}
+use Rattle.std.proofs.Common.{Some, drop, get_or, refl, ap, subst, ◌∙◌, arith, append_assoc, length-append, length-drop}
 use Rattle.std.proofs.Math.Seq.{take-add}
 use Rattle.std.proofs.lemmas.Grind.{common_steps}
 use Rattle.std.proofs.lemmas.List.{length-take, append-nil, take-map, take-take, length-map, length-take-le}
@@ -11,31 +11,16 @@ use Rattle.hart_frame.specs.declared.scan.buffer.State.TheVariants.{Drained}
 use Rattle.hart_frame.specs.declared.wire.layout.Layout.{Layout}
 use Rattle.hart_frame.specs.heard.Character.{Character, faultless, faultless_bytes}
 use Rattle.hart_frame.specs.heard.Frames.{IsUndecided}
-use Rattle.hart_frame.specs.scan.Buffer.{IsSound, scan_of}
-use Rattle.hart_frame.specs.scan.Chunk.{Hears, HearsPart, StopsAt}
-use Rattle.hart_frame.specs.scan.Decision.{HoldsWhole}
-use Rattle.hart_frame.specs.scan.Scanner.{Scan, CanHear, GivesNothing, MovesPast, hearing}
+use Rattle.hart_frame.specs.private.Buffer.{IsSound, scan_of}
+use Rattle.hart_frame.specs.private.Chunk.{Hears, HearsPart}
+use Rattle.hart_frame.specs.scan.Chunk.{StopsAt}
+use Rattle.hart_frame.specs.private.Decision.{HoldsWhole}
+use Rattle.hart_frame.specs.scan.Scanner.{Scan, GivesNothing, MovesPast, hearing}
 use Rattle.hart_frame.proofs.lemmas.heard.Front.{front_heard}
 use Rattle.hart_frame.proofs.lemmas.scan.Buffer.{drained_is, undecided_waiting, waits_drained}
 use Rattle.hart_frame.proofs.lemmas.scan.Decision.{holds_frame}
-use Rattle.hart_frame.proofs.lemmas.scan.Scan.{moves_then}
-use Rattle.hart_frame.proofs.lemmas.scan.Undecided.{moves_length, undecided_before, waits_only}
-
-append_none : (cs more : List Character) → cs ++ more ≡ [] → more ≡ []
-append_none [] more none = none
-append_none (c ∷ cs) more none = absurd cc
-
--- what a scanner moves past before it hears more, it moves past with that
-moves_hearing : (s t : Scan) (cs : List Character) → s.finished ≡ false → MovesPast s t [] → MovesPast (hearing s cs) (hearing t cs) []
-moves_hearing s t cs going moves =
-    let before : (more chars : List Character) → CanHear (hearing s cs) more chars → CanHear s (cs ++ more) chars =
-    grind (arith, append_assoc) in
-    let after : (more chars : List Character) → CanHear t (cs ++ more) chars → CanHear (hearing t cs) more chars =
-    grind (arith, append_assoc, append_none) in
-    record {
-      heard = λ more chars hears. after more chars (moves.heard (cs ++ more) chars (before more chars hears));
-      frames = λ more chars later hears. moves.frames (cs ++ more) chars later (before more chars hears);
-    }
+use Rattle.hart_frame.proofs.lemmas.scan.Scan.{moves_hearing, moves_length, moves_then}
+use Rattle.hart_frame.proofs.lemmas.scan.Undecided.{undecided_before, waits_only}
 
 -- so many characters of a chunk were heard, and nothing is decided of fewer
 pub record IsHearing (old now : Buffer) (chunk : List Character) (taken : ℕ) : Type 0 where
@@ -51,12 +36,12 @@ hearing_on old now new chunk rest n r so is whole =
     let part = rw is at whole in
     let held = (scan_of old).held in
     let xs = take n chunk in
-    let on = λ (ys : List Character). moves_hearing (hearing (scan_of old) xs) (scan_of now) ys so.going so.moves in
+    let on = λ (ys : List Character). moves_hearing (hearing (scan_of old) xs) (scan_of now) ys [] so.going so.moves in
     record {
       going = so.going;
       within = omega (arith, part.within, length-drop n chunk);
       moves = rw (take-add n r chunk, ← append_assoc held xs (take r (drop n chunk)))
-          (moves_then _ (hearing (scan_of now) (take r (drop n chunk))) (scan_of new) [] (on (take r (drop n chunk))) part.moves);
+          (moves_then _ (hearing (scan_of now) (take r (drop n chunk))) (scan_of new) [] [] (on (take r (drop n chunk))) part.moves);
       before = λ fewer below.
           let cases : (fewer < n) ⊎ (n ≤ fewer) = grind arith in
           elim cases [
@@ -84,20 +69,20 @@ hears_all old now chunk n hears sound drained ended = grind (arith, waits_draine
 -- so many characters more are let go or held
 pub heard_length : (a b : Scan) (chunk : List Character) (n : ℕ) → n ≤ length chunk → MovesPast (hearing a (take n chunk)) b []
     → b.first + length b.held ≡ a.first + length a.held + n
-heard_length a b chunk n within moves = grind (arith, moves_length, length-append, length-take-le)
+heard_length a b chunk n within moves =
+    omega (arith, moves_length (hearing a (take n chunk)) b [] moves, length-append a.held (take n chunk), length-take-le n chunk within)
 
 -- where one character was heard, and a peek gave nothing or holds a frame, it stops after that character
 seen_one : (old : Scan) (mid new : Buffer) (character : Character) (seen : Option Layout) → old.finished ≡ false
     → scan_of mid ≡ hearing old (character ∷ []) → MatchOption seen (GivesNothing (scan_of mid) (scan_of new)) (HoldsWhole mid new)
-    → MovesPast (hearing old (character ∷ [])) (scan_of new) [] × StopsAt (scan_of new) 1 1 × (new.finished ≡ old.finished)
+    → MovesPast (hearing old (character ∷ [])) (scan_of new) [] × StopsAt (scan_of new) 1 1
 seen_one old mid new character None going heard given =
     let nothing = subst (λ (s : Scan). GivesNothing s (scan_of new)) heard given in
     let waits = waits_only (hearing old (character ∷ [])) (scan_of new) going nothing in
-    (waits.moves, inl (waits.drained, waits.undecided, refl), waits.unfinished ∙ sym going)
+    (waits.moves, inl (waits.drained, waits.undecided, refl))
 seen_one old mid new character (Some layout) going heard given =
     let moves = subst (λ (s : Scan). MovesPast s (scan_of new) []) heard given.moves in
-    let finished = given.finished ∙ ap (λ (s : Scan). s.finished) heard in
-    (moves, inr (given.undrained, holds_frame new layout given.begins), finished)
+    (moves, inr (given.undrained, holds_frame new layout given.begins))
 
 -- so a first part of a chunk is heard
 pub hears_first : (old mid new : Buffer) (chunk : List Character) (character : Character) (seen : Option Layout)
@@ -107,7 +92,7 @@ pub hears_first : (old mid new : Buffer) (chunk : List Character) (character : C
 hears_first old mid new chunk character seen sound drained some is heard given =
     let waiting = waits_drained old sound drained in
     let one : take 1 chunk ≡ character ∷ [] = grind arith in
-    let (moves, stops, finished) = seen_one (scan_of old) mid new character seen waiting.going heard given in
+    let (moves, stops) = seen_one (scan_of old) mid new character seen waiting.going heard given in
     let before : (fewer : ℕ) → fewer < 1 → IsUndecided ((scan_of old).held ++ take fewer chunk) = λ fewer below.
     let none : fewer ≡ 0 = omega (arith, below) in rw (none, append-nil) (undecided_waiting old waiting) in
     grind arith

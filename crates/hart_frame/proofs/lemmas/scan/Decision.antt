@@ -10,14 +10,15 @@ use Rattle.hart_frame.specs.declared.wire.layout.Layout.{Layout}
 use Rattle.hart_frame.specs.heard.Character.{faultless}
 use Rattle.hart_frame.specs.heard.Place.{StandsIn}
 use Rattle.hart_frame.specs.wire.FrameParts.{FrameParts}
-use Rattle.hart_frame.specs.scan.Buffer.{IsEnded, IsSound, IsWaiting, held_bytes, scan_of}
-use Rattle.hart_frame.specs.scan.Candidate.{IsWhole, IsWholeBody}
+use Rattle.hart_frame.specs.private.Buffer.{IsEnded, IsSound, IsWaiting, held_bytes, scan_of}
+use Rattle.hart_frame.specs.private.Candidate.{IsWhole, IsWholeBody}
 use Rattle.hart_frame.specs.scan.Chunk.{BeginsWithFrame}
-use Rattle.hart_frame.specs.scan.Decision.{GivesSpan, HoldsWhole, IsHeldOpen, IsHeldSearched, NoneBeginHeld}
+use Rattle.hart_frame.specs.private.Decision.{GivesSpan, HoldsWhole, IsHeldOpen, IsHeldSearched, NoneBeginHeld}
 use Rattle.hart_frame.specs.scan.Scanner.{Scan, MovesPast, GivesNothing}
-use Rattle.hart_frame.specs.scan.Search.{IsSearchedToEnd}
+use Rattle.hart_frame.specs.private.Search.{IsSearchedToEnd}
 use Rattle.hart_frame.specs.wire.Body.{IsBody, IsCheckedPart}
-use Rattle.hart_frame.specs.wire.Layout.{body_length, layout_length}
+use Rattle.hart_frame.specs.wire.Layout.{body_length}
+use Rattle.hart_frame.specs.private.Layout.{layout_length}
 use Rattle.hart_frame.proofs.lemmas.scan.Buffer.{held_passed, moves_passed, passed, waits}
 use Rattle.hart_frame.proofs.lemmas.scan.Next.{body_at_place}
 use Rattle.hart_frame.proofs.lemmas.scan.Scan.{moves_frame, moves_then}
@@ -50,25 +51,23 @@ gives_span old b layout sound holds =
     let new = scan_of (released b layout) in
     let whole = holds.begins in
     let body = body_at_place b.bytes b.from (layout_length layout) layout whole refl in
-    let moves = λ (frame : FrameParts) (is : IsBody frame whole.body). moves_then (scan_of old) (scan_of b) new _ holds.moves
+    let moves = λ (frame : FrameParts) (is : IsBody frame whole.body). moves_then (scan_of old) (scan_of b) new [] _ holds.moves
     (moves_frame (scan_of b) new frame whole.body (held_whole b layout whole) is (omega (arith, whole.whole.exact)) refl) in
     grind (arith, length-append, length-drop b.from b.bytes)
 
 -- nothing is given after some characters were let go
-gives_nothing_then : (old mid new : Scan) → MovesPast old mid [] → mid.finished ≡ old.finished → GivesNothing mid new
-    → GivesNothing old new
-gives_nothing_then old mid new moves finished (inl waits) =
+gives_nothing_then : (old mid new : Scan) → MovesPast old mid [] → GivesNothing mid new → GivesNothing old new
+gives_nothing_then old mid new moves (inl waits) =
     inl (record {
-      going = sym finished ∙ waits.going;
-      moves = moves_then old mid new [] moves waits.moves;
+      going = sym moves.finished ∙ waits.going;
+      moves = moves_then old mid new [] [] moves waits.moves;
       few = waits.few;
       undecided = waits.undecided;
-      unfinished = waits.unfinished;
       drained = waits.drained;
     })
-gives_nothing_then old mid new moves finished (inr ends) =
+gives_nothing_then old mid new moves (inr ends) =
     let none = nothing_before old mid moves ends.none in
-    inr (record { finished = sym finished ∙ ends.finished; none = none; renewed = ends.renewed })
+    inr (record { finished = sym moves.finished ∙ ends.finished; none = none; renewed = ends.renewed })
 
 -- a whole body is that of a frame
 pub frame_of_whole : (layout : Layout) (body : List ℕ) → IsWholeBody layout body → (frame : FrameParts) × IsBody frame body
@@ -94,7 +93,7 @@ pub given_nothing : (b mid : Buffer) (found : Sighting) (new : Scan) → IsHeldS
     → GivesNothing (scan_of mid) new → GivesNothing (scan_of b) new
 given_nothing b mid found new is same after =
     let given = subst (λ (m : Buffer). GivesNothing (scan_of m) new) same after in
-    gives_nothing_then (scan_of b) (scan_of (passed b found.place)) new (moves_passed b found Busy is) refl given
+    gives_nothing_then (scan_of b) (scan_of (passed b found.place)) new (moves_passed b found Busy is) given
 
 -- or if what is held from there on may begin one
 pub given_open : (b : Buffer) (found : Sighting) → IsHeldSearched b found → IsHeldOpen b found.place
@@ -103,7 +102,7 @@ pub given_open : (b : Buffer) (found : Sighting) → IsHeldSearched b found → 
 given_open b found is opened some =
     let mid = record (passed b found.place) { state = Drained } in
     let waiting : IsWaiting mid = grind (arith, held_passed, length-drop) in
-    gives_nothing_then (scan_of b) (scan_of mid) (scan_of mid) (moves_passed b found Drained is) refl
+    gives_nothing_then (scan_of b) (scan_of mid) (scan_of mid) (moves_passed b found Drained is)
     (inl (waits mid (scan_of mid) waiting refl))
 
 -- a frame stands if it begins what is held then

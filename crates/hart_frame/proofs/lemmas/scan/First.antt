@@ -9,23 +9,19 @@ use Rattle.hart_frame.specs.declared.scan.buffer.Buffer.{Buffer}
 use Rattle.hart_frame.specs.declared.scan.buffer.Span.{Span}
 use Rattle.hart_frame.specs.heard.Character.{Character}
 use Rattle.hart_frame.specs.heard.Frames.{AreFrames, HasNoFrame, IsFirst, moved}
-use Rattle.hart_frame.specs.scan.Chunk.{Hears}
-use Rattle.hart_frame.specs.scan.Buffer.{scan_of}
-use Rattle.hart_frame.specs.scan.Decision.{GivesSpan, body_at}
-use Rattle.hart_frame.specs.scan.First.{HoldsFirst}
-use Rattle.hart_frame.specs.scan.Scanner.{CanHear, Scan, Gives, GivesNothing, MovesPast, finishing, hearing, new_scan}
+use Rattle.hart_frame.specs.private.Chunk.{Hears}
+use Rattle.hart_frame.specs.private.Buffer.{scan_of}
+use Rattle.hart_frame.specs.private.Decision.{GivesSpan, body_at}
+use Rattle.hart_frame.specs.private.First.{HoldsFirst}
+use Rattle.hart_frame.specs.scan.Scanner.{Scan, Gives, GivesNothing, MovesPast, finishing, hearing, new_scan}
 use Rattle.hart_frame.specs.wire.Body.{IsBody}
 use Rattle.hart_frame.specs.wire.FrameParts.{FrameParts}
-use Rattle.hart_frame.proofs.lemmas.heard.FramesFound.{AreFrames-found}
+use Rattle.hart_frame.proofs.lemmas.heard.FramesFound.{AreFrames-found, head_first}
 use Rattle.hart_frame.proofs.lemmas.heard.Place.{StandsIn-within}
 use Rattle.hart_frame.proofs.lemmas.heard.Rest.{first_moved, stands_in}
 use Rattle.hart_frame.proofs.lemmas.scan.Decision.{frame_of_whole}
-use Rattle.hart_frame.proofs.lemmas.scan.Scan.{moves_then}
-use Rattle.hart_frame.proofs.lemmas.scan.Undecided.{head_first, holds_gives, nothing_before, waits_only}
-
--- a new scanner can hear any list
-hears_new : (chars more : List Character) → CanHear (hearing new_scan chars) more (chars ++ more)
-hears_new chars more = grind arith
+use Rattle.hart_frame.proofs.lemmas.scan.Scan.{moves_frames, moves_then}
+use Rattle.hart_frame.proofs.lemmas.scan.Undecided.{holds_gives, nothing_before, waits_only}
 
 -- what a new scanner moves past
 moves_new : (chars : List Character) (count : ℕ) (old : Buffer) (mid : Scan) → scan_of old ≡ new_scan
@@ -78,10 +74,14 @@ pub first_given : (chars : List Character) (count : ℕ) (old mid new : Buffer) 
 first_given chars count old mid new span is_new hears given =
     holds_first chars mid new span given (λ found gives.
     let (later, are) = AreFrames-found chars (scan_of new).first in
+    let heard = hearing new_scan (take count chars) in
     let moves = moves_new chars count old (scan_of mid) is_new hears.moves in
-    let all = moves_then (hearing new_scan (take count chars)) (scan_of mid) (scan_of new) (found ∷ []) moves gives.moves in
-    let hears = rw (take-append-drop count chars) at (hears_new (take count chars) (drop count chars)) in
-    (later, all.frames (drop count chars) chars later hears are))
+    let all = moves_then heard (scan_of mid) (scan_of new) [] (found ∷ []) moves gives.moves in
+    let split = take-append-drop count chars in (
+      later,
+      rw split at
+          (moves_frames heard (scan_of new) (found ∷ []) later [] (drop count chars) all refl (λ over. absurd cc) (rw split are)),
+    ))
 
 -- or it does once it is finished, or there is none
 last_given : (chars : List Character) (waiting : Scan) (old new : Buffer) (given : Option Span)
@@ -93,10 +93,17 @@ last_given chars waiting old new None moves finished (inr ends) =
     nothing_before (hearing new_scan chars) waiting moves (subst (λ (s : Scan). HasNoFrame s.held 0) finished ends.none)
 last_given chars waiting old new (Some span) moves finished given =
     holds_first chars old new span given (λ found gives.
-    let hears = rw (append-nil chars) at (hears_new chars []) in
-    let ends : CanHear (scan_of old) [] chars = grind (arith, moves.heard [] chars hears) in
     let (later, are) = AreFrames-found chars (scan_of new).first in
-    (later, moves.frames [] chars (found ∷ later) hears (grind (arith, gives.moves.frames [] chars later ends are))))
+    let last = subst (λ (s : Scan). MovesPast s (scan_of new) (found ∷ [])) finished gives.moves in
+    let gone = take moves.count chars in
+    let long : length gone ≡ waiting.first =
+    omega (arith, moves.first, length-take-le moves.count chars moves.next.within) in
+    let parts : gone ++ (waiting.held ++ []) ≡ chars = rw (append-nil, moves.held) (take-append-drop moves.count chars) in
+    let after = moves_frames (finishing waiting) (scan_of new) (found ∷ []) later gone [] last long (λ over. refl) (rw parts are) in (
+      later,
+      rw append-nil at
+          (moves_frames (hearing new_scan chars) waiting [] (found ∷ later) [] [] moves refl (λ over. refl) (rw append-nil (rw parts at after))),
+    ))
 
 -- as all of it was heard then
 pub first_finished : (chars : List Character) (count : ℕ) (start mid waiting old new : Buffer) (given : Option Span)
@@ -106,11 +113,11 @@ pub first_finished : (chars : List Character) (count : ℕ) (start mid waiting o
     → MatchOption given (HasNoFrame chars 0) (HoldsFirst new chars)
 first_finished chars count start mid waiting old new given is_new hears nothing finished after =
     let all : count ≡ length chars = grind (arith, hears.stops, holds_gives (scan_of mid) (scan_of waiting)) in
-    let going : mid.finished ≡ false = grind (arith, hears.finished) in
+    let going : mid.finished ≡ false = grind (arith, hears.moves.finished) in
     let waits = waits_only (scan_of mid) (scan_of waiting) going nothing in
     let moves = rw (all, take-length) at (moves_new chars count start (scan_of mid) is_new hears.moves) in
     last_given chars (scan_of waiting) old new given
-    (moves_then (hearing new_scan chars) (scan_of mid) (scan_of waiting) [] moves waits.moves) finished after
+    (moves_then (hearing new_scan chars) (scan_of mid) (scan_of waiting) [] [] moves waits.moves) finished after
 
 -- what stands in the rest of a list stands in the list
 pub first_later : (chars rest : List Character) (from : ℕ) (found : Found) → from ≤ length chars → rest ≡ drop from chars

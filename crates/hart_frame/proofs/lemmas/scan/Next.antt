@@ -1,42 +1,176 @@
--- The next frame of bytes, as that of a scanner that holds the rest of them.
-use Rattle.std.proofs.Common.{◌≡◌, ℕ, ◌+◌, ◌-◌, ◌≤◌, Bool, false, List, [], ◌∷◌, ◌++◌, length, drop, inl, ap, arith}
-use Rattle.std.proofs.Common.{append_assoc, length-append, length-drop, refl, take-append-drop}
-use Rattle.std.proofs.lemmas.Grind.{common_steps}
-use Rattle.std.proofs.lemmas.List.{drop-drop, drop_at, length-map, length-take-le, map-append, take_at}
-use Rattle.std.specs.List.{slice_range}
+-- The next frames of characters: of those from a place on, of a list that grows, of its rest, and of bytes.
+use Rattle.std.proofs.Common.{◌≡◌, ℕ, ◌+◌, ◌-◌, ◌<◌, ◌≤◌, ◌⊎◌, inl, inr, Bool, false, true, IsTrue, List, [], ◌∷◌, ◌++◌, length, map, take, drop}
+use Rattle.std.proofs.Common.{append_assoc, arith, length-append, length-drop, refl, subst, sym, ◌∙◌}
+use Rattle.std.proofs.lemmas.List.{append-nil, drop-append-le, drop-drop, drop-map, length-map, length-take-le, map-append, take-append-drop}
+use Rattle.std.proofs.lemmas.List.{take_at}
+use Rattle.std.proofs.lemmas.List.Elements.{All-append, All-cons, All-map, All-nil, All-weaker}
+use Rattle.std.specs.List.{All, slice_range}
 use Rattle.hart_frame.specs.declared.heard.found.Found.{Found}
 use Rattle.hart_frame.specs.declared.wire.layout.Layout.{Layout}
-use Rattle.hart_frame.specs.heard.Character.{faultless}
-use Rattle.hart_frame.specs.scan.Candidate.{IsWhole}
-use Rattle.hart_frame.specs.scan.Next.{LeadsOn}
-use Rattle.hart_frame.specs.scan.Scanner.{CanHear, MovesPast, Scan}
-use Rattle.hart_frame.specs.scan.Search.{NoneBeginThen}
+use Rattle.hart_frame.specs.heard.Character.{Character, faultless}
+use Rattle.hart_frame.specs.heard.Frames.{AreFrames, moved, none, first}
+use Rattle.hart_frame.specs.heard.Place.{StandsIn}
+use Rattle.hart_frame.specs.private.Candidate.{BeginWithNone, IsWhole}
+use Rattle.hart_frame.specs.private.Layout.{layout_length}
+use Rattle.hart_frame.specs.private.Search.{NoneBeginThen}
+use Rattle.hart_frame.specs.scan.Next.{AreNext}
 use Rattle.hart_frame.specs.wire.Body.{IsBody}
 use Rattle.hart_frame.specs.wire.FrameParts.{FrameParts}
-use Rattle.hart_frame.specs.wire.Layout.{layout_length}
-use Rattle.hart_frame.proofs.lemmas.scan.Scan.{moves_frame, moves_places, moves_then}
+use Rattle.hart_frame.proofs.lemmas.heard.FramesFound.{AreFrames-earlier, AreFrames-found, head_first}
+use Rattle.hart_frame.proofs.lemmas.heard.Place.{StandsIn-at, StandsIn-from, StandsIn-within}
+use Rattle.hart_frame.proofs.lemmas.heard.Rest.{frames_none, moved_twice, rest_all, rest_frames}
 
--- a scanner that holds the bytes from a place on
-abbrev pub scan_at : List ℕ → Bool → ℕ → Scan
-scan_at bytes ended place = record { first = place; held = faultless (drop place bytes); finished = ended; drained = false }
+-- a frame that stops at a place or before it
+abbrev pub StopsBy : ℕ → Found → Type 0
+StopsBy place found = found.stop ≤ place
 
--- what it moves past are the next frames of the bytes
-pub leads_on : (bytes : List ℕ) (ended : Bool) (from to : ℕ) (given : List Found) → from ≤ length bytes
-    → MovesPast (scan_at bytes ended from) (scan_at bytes ended to) given → LeadsOn (faultless bytes) ended from given to
-leads_on bytes ended from to given within moves more later closed =
-    let all = rw map-append at (ap faultless (take-append-drop from bytes)) in
-    let hears : CanHear (scan_at bytes ended from) more (faultless bytes ++ more) =
-    grind (arith, common_steps, append_assoc, length-map, length-take-le) in
-    moves.frames more (faultless bytes ++ more) later hears
+-- WHAT THE NEXT FRAMES ARE
+-- at a place none come before that place
+pub next_nothing : (chars : List Character) (ended : Bool) (place : ℕ) → place ≤ length chars → AreNext chars ended place [] place
+next_nothing chars ended place within = record {
+  onward = omega arith;
+  within = within;
+  leads = λ more later closed frames. frames;
+  stops = All-nil (StopsBy place);
+}
 
+-- some, and then others
+pub next_then : (chars : List Character) (ended : Bool) (from mid to : ℕ) (xs ys : List Found) → AreNext chars ended from xs mid
+    → AreNext chars ended mid ys to → AreNext chars ended from (xs ++ ys) to
+next_then chars ended from mid to xs ys p q = record {
+  onward = omega (arith, p.onward, q.onward);
+  within = q.within;
+  leads = λ more later closed frames. rw append_assoc (p.leads more (ys ++ later) closed (q.leads more later closed frames));
+  stops = All-append (StopsBy to) xs ys (All-weaker (StopsBy mid) (StopsBy to) (λ found stops. omega (arith, stops, q.onward)) xs p.stops)
+      q.stops;
+}
+
+-- they stay so if more comes
+pub next_grown : (chars piece : List Character) (ended : Bool) (from to : ℕ) (given : List Found) → AreNext chars false from given to
+    → AreNext (chars ++ piece) ended from given to
+next_grown chars piece ended from to given next = record {
+  onward = next.onward;
+  within = omega (arith, next.within, length-append chars piece);
+  leads = λ more later closed frames.
+      rw append_assoc (next.leads (piece ++ more) later (λ over. absurd cc) (rw (← append_assoc chars piece more) frames));
+  stops = next.stops;
+}
+
+-- and if it is said that none comes
+pub next_ended : (chars : List Character) (ended : Bool) (from to : ℕ) (given : List Found) (closed : Bool)
+    → (IsTrue ended → IsTrue closed) → AreNext chars ended from given to → AreNext chars closed from given to
+next_ended chars ended from to given closed says next = record {
+  onward = next.onward;
+  within = next.within;
+  leads = λ more later none. next.leads more later (λ over. none (says over));
+  stops = next.stops;
+}
+
+-- those of a rest are those of the whole from its place on
+pub next_of_rest : (n : ℕ) (chars : List Character) (ended : Bool) (given : List Found) (to : ℕ) → n ≤ length chars
+    → AreNext (drop n chars) ended 0 given to → AreNext chars ended n (map (moved n) given) (n + to)
+next_of_rest n chars ended given to within next = record {
+  onward = omega arith;
+  within = omega (arith, next.within, length-drop n chars, within);
+  leads = λ more later closed frames.
+      let front : drop n (chars ++ more) ≡ drop n chars ++ more = drop-append-le n chars more within in
+      let (own, are, same) = rest_all (n + to) (chars ++ more) later frames in
+      let rest : AreFrames (drop n chars ++ more) to (map (moved to) own) =
+      rw (← front) (rest_frames to (drop n (chars ++ more)) own (rw drop-drop are)) in
+      let whole = rest_frames n (chars ++ more) (given ++ map (moved to) own) (rw front (next.leads more (map (moved to) own) closed rest)) in
+      let all = rw (map-append, moved_twice) at whole in
+      subst (λ (fs : List Found). AreFrames (chars ++ more) n (map (moved n) given ++ fs)) (sym same) all;
+  stops = All-map (StopsBy (n + to)) (moved n) given
+      (All-weaker (StopsBy to) (λ found. StopsBy (n + to) (moved n found)) (λ found stops. omega (arith, stops)) given next.stops);
+}
+
+-- if nothing more comes they lead on in the list itself
+pub next_frames : (chars : List Character) (ended : Bool) (from to : ℕ) (given later : List Found) → AreNext chars ended from given to
+    → AreFrames chars to later → AreFrames chars from (given ++ later)
+next_frames chars ended from to given later next are = rw append-nil at (next.leads [] later (λ over. refl) (rw append-nil are))
+
+-- all frames of a list are the next ones up to its end, if nothing more comes
+all_stop : (chars : List Character) (from : ℕ) (frames : List Found) → AreFrames chars from frames → All (StopsBy (length chars)) frames
+all_stop chars from frames (none place empty) = All-nil (StopsBy (length chars))
+all_stop chars from frames (first place found later is others) =
+    All-cons (StopsBy (length chars)) found later (StandsIn-within found chars from is.stands).within (all_stop chars found.stop later others)
+
+pub next_whole : (chars : List Character) (given : List Found) → AreFrames chars 0 given → AreNext chars true 0 given (length chars)
+next_whole chars given are = record {
+  onward = omega arith;
+  within = omega arith;
+  leads = λ more later closed frames.
+      let alone : chars ++ more ≡ chars = rw (closed refl, append-nil) refl in
+      let nothing : later ≡ [] = frames_none chars (length chars) later (omega arith) (rw alone at frames) in
+      rw (nothing, append-nil, alone) are;
+  stops = all_stop chars 0 given are;
+}
+
+-- where there is one, some characters are used up
+pub next_some : (chars : List Character) (ended : Bool) (from to : ℕ) (found : Found) (more : List Found)
+    → AreNext chars ended from (found ∷ more) to → from + 2 ≤ found.start × (found.start < found.stop) × (found.stop ≤ to)
+next_some chars ended from to found more next =
+    let (own, are) = AreFrames-found chars to in
+    let stands = (head_first chars from found (more ++ own) (next_frames chars ended from to (found ∷ more) own next are)).stands in
+    let lies = StandsIn-within found chars from stands in
+    (lies.after, lies.some, next.stops 0 found (omega arith))
+
+-- WHERE THEY STAND
 -- places are passed at which no frame begins
-pub moves_to : (bytes : List ℕ) (ended : Bool) (from to : ℕ) → from ≤ to → to ≤ length bytes → NoneBeginThen bytes ended from to
-    → MovesPast (scan_at bytes ended from) (scan_at bytes ended to) []
-moves_to bytes ended from to order within none =
-    moves_places (scan_at bytes ended from) (scan_at bytes ended to) (drop from bytes) (to - from) refl
-    (grind (arith, common_steps, drop-drop)) (omega (arith, order)) refl (omega (arith, within, length-drop from bytes))
-    (λ place below more closed.
-    rw (drop-drop place from bytes) (none (from + place) (omega arith) (omega (arith, below)) more (λ over. inl (closed over))))
+pub next_none : (chars : List Character) (ended : Bool) (from to : ℕ) → from ≤ to → to ≤ length chars
+    → ((place : ℕ) → from ≤ place → place < to → (more : List Character) → (IsTrue ended → more ≡ [])
+    → BeginWithNone (drop place chars ++ more)) → AreNext chars ended from [] to
+next_none chars ended from to order within never = record {
+  onward = order;
+  within = within;
+  leads = λ more later closed. AreFrames-earlier (chars ++ more) from to later order (λ found stands.
+      let lies = StandsIn-within found (chars ++ more) from stands in
+      let cases : (found.start < to + 2) ⊎ (to + 2 ≤ found.start) = grind arith in
+      elim cases [
+        | inr late ↦ StandsIn-from found (chars ++ more) from to stands late
+        | inl early ↦
+            let place = found.start - 2 in
+            let start : found.start ≡ place + 2 = omega (arith, lies.after) in
+            absurd (never place (omega (arith, lies.after)) (omega (arith, early, start)) more closed found.frame stands.body stands.rest
+            stands.is_body
+            (sym (drop-append-le place chars more (omega (arith, early, start, within)))
+            ∙ StandsIn-at (chars ++ more) place from found stands start))
+      ]);
+  stops = All-nil (StopsBy to);
+}
+
+-- and the frame whose body follows two preamble bytes is the next one
+pub next_one : (chars : List Character) (ended : Bool) (place : ℕ) (f : FrameParts) (body : List ℕ) (rest : List Character)
+    → place ≤ length chars → drop place chars ≡ faultless (255 ∷ 255 ∷ body) ++ rest → IsBody f body
+    → AreNext chars ended place (record { start = place + 2; stop = place + 2 + length body; frame = f } ∷ []) (place + 2 + length body)
+next_one chars ended place f body rest within parts is =
+    let found : Found = record { start = place + 2; stop = place + 2 + length body; frame = f } in
+    let long = length-take-le place chars within in record {
+      onward = omega arith;
+      within = grind (arith, length-append, length-map, length-drop place chars);
+      leads = λ more later closed frames.
+          let stands : StandsIn found (chars ++ more) place = record {
+            prefix = take place chars;
+            body = body;
+            rest = rest ++ more;
+            split = grind (arith, append_assoc, take-append-drop place chars);
+            is_body = is;
+            after = omega (arith, long);
+            start = omega (arith, long);
+            stop = omega (arith, long);
+          } in
+          AreFrames.first place found later
+          (record { stands = stands; least = λ other there. (StandsIn-within other (chars ++ more) place there).after }) frames;
+      stops = All-cons (StopsBy (place + 2 + length body)) found [] (omega arith) (All-nil (StopsBy (place + 2 + length body)));
+    }
+
+-- OF BYTES
+-- places are passed at which none begins
+pub next_to : (bytes : List ℕ) (ended : Bool) (from to : ℕ) → from ≤ to → to ≤ length bytes → NoneBeginThen bytes ended from to
+    → AreNext (faultless bytes) ended from [] to
+next_to bytes ended from to order within never =
+    next_none (faultless bytes) ended from to order (rw length-map within)
+    (λ place since below more closed. rw drop-map (never place since below more (λ over. inl (closed over))))
 
 -- the body after two preamble bytes at a place, and what comes after it
 pub body_at_place : (bytes : List ℕ) (place len : ℕ) (layout : Layout) (whole : IsWhole layout (drop place bytes))
@@ -50,17 +184,15 @@ ends_within bytes place layout whole =
     grind (arith, length-append, length-drop place bytes, whole.whole.exact)
 
 -- and is the next one
-pub leads_past : (bytes : List ℕ) (ended : Bool) (from place len : ℕ) (layout : Layout) (frame : FrameParts)
+pub next_past : (bytes : List ℕ) (ended : Bool) (from place len : ℕ) (layout : Layout) (frame : FrameParts)
     → from ≤ place → place ≤ length bytes → NoneBeginThen bytes ended from place → IsWhole layout (drop place bytes)
     → len ≡ layout_length layout → IsBody frame (slice_range bytes (place + 2) (place + 2 + len))
-    → LeadsOn (faultless bytes) ended from
+    → AreNext (faultless bytes) ended from
     (record { start = place + 2; stop = place + 2 + len; frame = frame } ∷ []) (place + 2 + len)
-leads_past bytes ended from place len layout frame after within none whole same body =
-    let stop = place + 2 + len in
-    let held : faultless (drop place bytes) ≡ faultless (255 ∷ 255 ∷ whole.body) ++ faultless (drop stop bytes) =
-    grind (arith, map-append, drop-drop (2 + len) place bytes, drop_at (255 ∷ 255 ∷ whole.body) whole.rest (2 + len)) in
-    leads_on bytes ended from stop _ (omega (arith, after, within))
-    (moves_then (scan_at bytes ended from) (scan_at bytes ended place) (scan_at bytes ended stop) _
-    (moves_to bytes ended from place after within none)
-    (moves_frame (scan_at bytes ended place) (scan_at bytes ended stop) frame whole.body held
-    (rw (body_at_place bytes place len layout whole same) at body) (omega (arith, same, whole.whole.exact)) refl))
+next_past bytes ended from place len layout frame after within never whole same body =
+    let long : len ≡ length whole.body = omega (arith, same, whole.whole.exact) in
+    let parts : drop place (faultless bytes) ≡ faultless (255 ∷ 255 ∷ whole.body) ++ faultless whole.rest =
+    grind (arith, drop-map, map-append) in
+    let one = next_one (faultless bytes) ended place frame whole.body (faultless whole.rest) (rw length-map within) parts
+    (rw (body_at_place bytes place len layout whole same) at body) in
+    next_then (faultless bytes) ended from place (place + 2 + len) [] _ (next_to bytes ended from place after within never) (rw long one)

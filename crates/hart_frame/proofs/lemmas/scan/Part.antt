@@ -1,5 +1,5 @@
 -- What a part of bytes is to a scanner that searches it together with what it holds.
-use Rattle.std.proofs.Common.{◌≡◌, ℕ, ◌+◌, ◌<◌, ◌⊎◌, inl, inr, false, List, ◌++◌, length, take, None, drop}
+use Rattle.std.proofs.Common.{◌≡◌, ℕ, ◌+◌, ◌<◌, ◌⊎◌, inl, inr, false, List, ◌++◌, length, take, None, drop, refl}
 use Rattle.std.proofs.Common.{arith, length-append}
 use Rattle.std.proofs.Math.Seq.{take-append-add}
 use Rattle.std.proofs.lemmas.List.{append-nil, map-append, take-map, length-map, length-take-le}
@@ -7,22 +7,27 @@ use Rattle.hart_frame.specs.declared.scan.buffer.Buffer.{Buffer}
 use Rattle.hart_frame.specs.declared.scan.search.Sighting.{Sighting}
 use Rattle.hart_frame.specs.heard.Character.{faultless}
 use Rattle.hart_frame.specs.heard.Frames.{IsUndecided}
-use Rattle.hart_frame.specs.scan.Buffer.{IsSound, IsWaiting, held_bytes, scan_of, state_of}
-use Rattle.hart_frame.specs.scan.Chunk.{Hears, StopsAt}
-use Rattle.hart_frame.specs.scan.Scanner.{hearing}
-use Rattle.hart_frame.specs.scan.Search.{IsOpenFrom, IsSearched}
+use Rattle.hart_frame.specs.private.Buffer.{IsSound, IsWaiting, held_bytes, scan_of, state_of}
+use Rattle.hart_frame.specs.private.Chunk.{Hears}
+use Rattle.hart_frame.specs.scan.Chunk.{StopsAt}
+use Rattle.hart_frame.specs.scan.Scanner.{Scan, hearing}
+use Rattle.hart_frame.specs.private.Search.{IsOpenFrom, IsSearched}
 use Rattle.hart_frame.proofs.lemmas.scan.Buffer.{held_clear, undecided_waiting}
 use Rattle.hart_frame.proofs.lemmas.scan.Candidate.{undecided_open}
 use Rattle.hart_frame.proofs.lemmas.scan.Decision.{holds_frame}
-use Rattle.hart_frame.proofs.lemmas.scan.Next.{moves_to, scan_at}
 use Rattle.hart_frame.proofs.lemmas.scan.Scan.{moves_places}
 use Rattle.hart_frame.proofs.lemmas.scan.Undecided.{undecided_before}
+
+-- a scanner that holds the bytes from a place on
+abbrev scan_at : List ℕ → ℕ → Scan
+scan_at bytes place = record { first = place; held = faultless (drop place bytes); finished = false; drained = false }
 
 -- nothing is decided of bytes of which none begins a frame up to a place, and those from it on may begin one
 undecided_from : (xs : List ℕ) → IsOpenFrom xs 0 → IsUndecided (faultless xs)
 undecided_from xs ends =
-    undecided_before (scan_at xs false 0) (scan_at xs false ends.place)
-    (moves_to xs false 0 ends.place (omega arith) ends.within (λ place after below next _. ends.none place after below next))
+    undecided_before (scan_at xs 0) (scan_at xs ends.place)
+    (moves_places (scan_at xs 0) (scan_at xs ends.place) xs ends.place refl refl (omega arith) refl ends.within
+    (λ place below more closed. ends.none place (omega arith) below more))
     (undecided_open (drop ends.place xs) ends.may)
 
 -- a buffer that kept what was found in what it held and in a part after it

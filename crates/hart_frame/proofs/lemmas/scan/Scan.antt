@@ -1,60 +1,83 @@
--- What a scanner that lets characters go leaves to the frames of whatever is heard.
-use Rattle.std.proofs.Common.{◌≡◌, ℕ, ◌+◌, ◌-◌, ◌<◌, ◌≤◌, ◌⊎◌, inl, inr, take, IsTrue, List, [], ◌∷◌, ◌++◌, length, drop, sym, ◌∙◌, arith}
-use Rattle.std.proofs.Common.{append_assoc, length-append}
-use Rattle.std.proofs.lemmas.Grind.{common_steps}
-use Rattle.std.proofs.lemmas.List.{drop-append-le, drop-drop, drop-map, drop_at, length-map, length-take-le, take-append-drop}
+-- What a scanner that lets characters go moves past.
+use Rattle.std.proofs.Common.{◌≡◌, ℕ, ◌+◌, ◌<◌, ◌≤◌, false, IsTrue, List, [], ◌∷◌, ◌++◌, length, map, drop, refl, sym, ◌∙◌, arith}
+use Rattle.std.proofs.Common.{append_assoc, length-append, length-drop}
+use Rattle.std.proofs.lemmas.List.{drop-append-le, drop-drop, drop-map, drop_at, length-map, map-append}
 use Rattle.hart_frame.specs.declared.heard.found.Found.{Found}
 use Rattle.hart_frame.specs.heard.Character.{Character, faultless}
-use Rattle.hart_frame.specs.heard.Frames.{AreFrames}
-use Rattle.hart_frame.specs.heard.Place.{StandsIn}
-use Rattle.hart_frame.specs.scan.Candidate.{BeginWithNone}
-use Rattle.hart_frame.specs.scan.Scanner.{Scan, CanHear, MovesPast}
+use Rattle.hart_frame.specs.heard.Frames.{AreFrames, moved}
+use Rattle.hart_frame.specs.private.Candidate.{BeginWithNone}
+use Rattle.hart_frame.specs.scan.Scanner.{MovesPast, Scan, hearing}
 use Rattle.hart_frame.specs.wire.Body.{IsBody}
 use Rattle.hart_frame.specs.wire.FrameParts.{FrameParts}
-use Rattle.hart_frame.proofs.lemmas.heard.FramesFound.{AreFrames-earlier}
-use Rattle.hart_frame.proofs.lemmas.heard.Place.{StandsIn-at, StandsIn-from, StandsIn-within}
+use Rattle.hart_frame.proofs.lemmas.heard.Rest.{moved_twice}
+use Rattle.hart_frame.proofs.lemmas.scan.Next.{next_grown, next_none, next_nothing, next_of_rest, next_one, next_then}
 
--- what is held from a place on is heard after as many characters more as were let go
-held_at : (scan : Scan) (more chars : List Character) (place : ℕ) → CanHear scan more chars → place ≤ length scan.held
-    → drop (scan.first + place) chars ≡ drop place scan.held ++ more
-held_at scan more chars place hears within = grind (arith, drop-drop place scan.first chars, drop_at, drop-append-le)
-
--- some first characters are let go
-hears_on : (old new : Scan) (gone more chars : List Character) → old.held ≡ gone ++ new.held → new.first ≡ old.first + length gone
-    → new.finished ≡ old.finished → CanHear old more chars → CanHear new more chars
-hears_on old new gone more chars held firsts finished hears =
-    grind (arith, append_assoc gone new.held more, append_assoc hears.prefix gone (new.held ++ more), length-append hears.prefix gone)
-
+-- nothing is let go
 pub moves_none : (old new : Scan) → new.held ≡ old.held → new.first ≡ old.first → new.finished ≡ old.finished → MovesPast old new []
-moves_none old new held firsts finished = grind arith
-
-pub moves_then : (a b c : Scan) (given : List Found) → MovesPast a b [] → MovesPast b c given → MovesPast a c given
-moves_then a b c given p q = record {
-  heard = λ more chars hears. q.heard more chars (p.heard more chars hears);
-  frames = λ more chars later hears frames.
-      p.frames more chars (given ++ later) hears (q.frames more chars later (p.heard more chars hears) frames);
+moves_none old new held firsts finished = record {
+  count = 0;
+  found = [];
+  next = next_nothing old.held old.finished 0 (omega arith);
+  given_are = refl;
+  first = omega (arith, firsts);
+  held = held;
+  finished = finished;
 }
+
+-- it moves past some frames and then past others
+pub moves_then : (a b c : Scan) (xs ys : List Found) → MovesPast a b xs → MovesPast b c ys → MovesPast a c (xs ++ ys)
+moves_then a b c xs ys p q = record {
+  count = p.count + q.count;
+  found = p.found ++ map (moved p.count) q.found;
+  next = next_then a.held a.finished 0 p.count (p.count + q.count) p.found (map (moved p.count) q.found) p.next
+      (next_of_rest p.count a.held a.finished q.found q.count p.next.within (rw (p.held, p.finished) at q.next));
+  given_are = rw (p.given_are, q.given_are, p.first, map-append, moved_twice) refl;
+  first = omega (arith, p.first, q.first);
+  held = q.held ∙ rw p.held (drop-drop q.count p.count a.held);
+  finished = q.finished ∙ p.finished;
+}
+
+-- whatever it hears later, it moved past the same frames
+pub moves_hearing : (a b : Scan) (cs : List Character) (given : List Found) → a.finished ≡ false → MovesPast a b given
+    → MovesPast (hearing a cs) (hearing b cs) given
+moves_hearing a b cs given going moves = record {
+  count = moves.count;
+  found = moves.found;
+  next = next_grown a.held cs a.finished 0 moves.count moves.found (rw going at moves.next);
+  given_are = moves.given_are;
+  first = moves.first;
+  held = rw moves.held (sym (drop-append-le moves.count a.held cs moves.next.within));
+  finished = moves.finished;
+}
+
+-- of all that was heard, whatever was let go before and whatever comes later, they are the next frames
+pub moves_frames : (old new : Scan) (given later : List Found) (past more : List Character) → MovesPast old new given
+    → length past ≡ old.first → (IsTrue old.finished → more ≡ []) → AreFrames (past ++ (old.held ++ more)) new.first later
+    → AreFrames (past ++ (old.held ++ more)) old.first (given ++ later)
+moves_frames old new given later past more moves long closed frames =
+    let rest : drop old.first (past ++ old.held) ≡ old.held = drop_at past old.held old.first long in
+    let next = next_of_rest old.first (past ++ old.held) old.finished moves.found moves.count (omega (arith, long, length-append past old.held))
+    (rw rest moves.next) in
+    let led = next.leads more later closed (rw (append_assoc, ← moves.first) frames) in rw (moves.given_are, ← append_assoc) led
+
+-- what is moved past is let go, and the rest is held
+pub moves_length : (a b : Scan) (given : List Found) → MovesPast a b given
+    → (b.first + length b.held ≡ a.first + length a.held) × (a.first ≤ b.first)
+moves_length a b given moves =
+    (grind (arith, moves.first, moves.held, moves.next.within, length-drop moves.count a.held), omega (arith, moves.first))
 
 -- characters are let go with which no frame begins
 pub moves_past : (old new : Scan) (count : ℕ) → count ≤ length old.held → new.held ≡ drop count old.held → new.first ≡ old.first + count
     → new.finished ≡ old.finished → ((place : ℕ) → place < count → (more : List Character) → (IsTrue old.finished → more ≡ [])
     → BeginWithNone (drop place old.held ++ more)) → MovesPast old new []
 moves_past old new count within held firsts finished never = record {
-  heard = λ more chars hears.
-      hears_on old new (take count old.held) more chars (grind (arith, take-append-drop)) (grind (arith, length-take-le)) finished hears;
-  frames = λ more chars later hears.
-      AreFrames-earlier chars old.first new.first later (omega (arith, firsts)) (λ found stands.
-      let cases : (found.start < new.first + 2) ⊎ (new.first + 2 ≤ found.start) = grind arith in
-      elim cases [
-        | inr late ↦ StandsIn-from found chars old.first new.first stands late
-        | inl early ↦
-            let place = found.start - 2 - old.first in
-            let start : found.start ≡ old.first + place + 2 = omega (arith, (StandsIn-within found chars old.first stands).after) in
-            let below : place < count = omega (arith, early, start, firsts) in
-            absurd (never place below more hears.ended found.frame stands.body stands.rest stands.is_body
-            (sym (held_at old more chars place hears (omega (arith, below, within)))
-            ∙ StandsIn-at chars (old.first + place) old.first found stands start))
-      ]);
+  count = count;
+  found = [];
+  next = next_none old.held old.finished 0 count (omega arith) within (λ place since below. never place below);
+  given_are = refl;
+  first = firsts;
+  held = held;
+  finished = finished;
 }
 
 -- a frame that begins what is held is given
@@ -62,17 +85,13 @@ pub moves_frame : (old new : Scan) (f : FrameParts) (body : List ℕ) → old.he
     → new.first ≡ old.first + 2 + length body → new.finished ≡ old.finished
     → MovesPast old new (record { start = old.first + 2; stop = new.first; frame = f } ∷ [])
 moves_frame old new f body held is firsts finished = record {
-  heard = λ more chars hears.
-      hears_on old new (faultless (255 ∷ 255 ∷ body)) more chars held (grind (arith, length-map)) finished hears;
-  frames = λ more chars later hears frames.
-      let found : Found = record { start = old.first + 2; stop = new.first; frame = f } in
-      let stands : StandsIn found chars old.first =
-      grind (
-        arith,
-        append_assoc (faultless (255 ∷ 255 ∷ body)) new.held more,
-        append_assoc hears.prefix (faultless (255 ∷ 255 ∷ body)) (new.held ++ more),
-      ) in
-      AreFrames.first old.first found later (grind (arith, common_steps, StandsIn-within)) frames;
+  count = 2 + length body;
+  found = record { start = 2; stop = 2 + length body; frame = f } ∷ [];
+  next = next_one old.held old.finished 0 f body new.held (omega arith) held is;
+  given_are = grind arith;
+  first = omega (arith, firsts);
+  held = grind (arith, length-map, drop_at);
+  finished = finished;
 }
 
 -- bytes are let go at whose places no frame begins

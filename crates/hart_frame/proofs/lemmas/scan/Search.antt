@@ -9,9 +9,9 @@ use Rattle.std.specs.List.{slice_range}
 use Rattle.hart_frame.specs.declared.scan.candidate.Candidate.TheVariants.{Never, Whole}
 use Rattle.hart_frame.specs.declared.wire.fault.FrameFault.TheVariants.{BadDelimiter}
 use Rattle.hart_frame.specs.declared.wire.layout.Layout.{Layout}
-use Rattle.hart_frame.specs.scan.Candidate.{IsCandidate, IsWhole, MayBegin, MayBeginBefore, NeverBecomeBody, NeverBegin}
-use Rattle.hart_frame.specs.scan.Search.{HasThree, IsNextCandidate, IsOpenBefore, IsSearched, NoneBegin}
-use Rattle.hart_frame.specs.wire.Layout.{layout_length}
+use Rattle.hart_frame.specs.private.Candidate.{IsCandidate, IsWhole, MayBegin, MayBeginBefore, NeverBecomeBody, NeverBegin}
+use Rattle.hart_frame.specs.private.Search.{HasThree, IsNextCandidate, IsOpenBefore, IsSearched, NoneBegin}
+use Rattle.hart_frame.specs.private.Layout.{layout_length}
 use Rattle.hart_frame.proofs.lemmas.scan.Candidate.{may_begin_before, never_after, never_first, never_more}
 use Rattle.hart_frame.proofs.lemmas.wire.Truncated.{truncated_check, truncated_count}
 

@@ -1,81 +1,90 @@
--- The frames given since a scanner was new are the first of what was pushed, and all of them after the finish.
-use Rattle.std.proofs.Common.{◌≡◌, ◌+◌, false, IsTrue, List, [], ◌∷◌, ◌++◌, length, map, drop, refl, append_assoc, arith, length-append}
-use Rattle.std.proofs.lemmas.Grind.{common_steps}
-use Rattle.std.proofs.lemmas.List.{append-nil, drop-append-le, drop_at}
+-- The frames given since a scanner was new are the next ones of what was pushed, and all of them after the finish.
+use Rattle.std.proofs.Common.{◌≡◌, ◌+◌, Bool, true, false, IsTrue, ℕ, List, [], ◌∷◌, ◌++◌, length, map, drop, refl, sym, arith}
+use Rattle.std.proofs.Common.{length-drop}
+use Rattle.std.proofs.lemmas.List.{append-nil, drop-append-le, drop-drop}
 use Rattle.hart_frame.specs.declared.heard.found.Found.{Found}
-use Rattle.hart_frame.specs.heard.Character.{Character, faultless}
-use Rattle.hart_frame.specs.heard.Frames.{AreFrames, moved}
-use Rattle.hart_frame.specs.scan.Scanner.{Scan, CanHear, MovesPast, hearing}
-use Rattle.hart_frame.specs.scan.Streamed.{IsHistory, IsWholeHistory, begin, push, push_bytes, push_chars, take_view, wait, finish}
-use Rattle.hart_frame.proofs.lemmas.heard.Delivery.{OneList}
+use Rattle.hart_frame.specs.heard.Character.{Character}
+use Rattle.hart_frame.specs.heard.Frames.{AreFrames, HasNoFrame, moved}
+use Rattle.hart_frame.specs.scan.Next.{AreNext}
+use Rattle.hart_frame.specs.scan.Scanner.{Scan, MovesPast, hearing}
+use Rattle.hart_frame.specs.scan.Streamed.{IsHistory, IsWholeHistory, begin, push, push_chars, take_view, wait, finish}
 use Rattle.hart_frame.proofs.lemmas.heard.FramesFound.{AreFrames-found}
 use Rattle.hart_frame.proofs.lemmas.heard.Rest.{rest_frames}
-use Rattle.hart_frame.proofs.lemmas.scan.Undecided.{stands_held}
+use Rattle.hart_frame.proofs.lemmas.heard.UnambiguousFrames.{AreFrames-one}
+use Rattle.hart_frame.proofs.lemmas.scan.Next.{next_ended, next_frames, next_grown, next_nothing, next_of_rest, next_then}
 
--- the frames given so far are right for the characters pushed so far if, whatever is still to come, the frames of all are those,
--- then the frames from the first character on that the scanner holds
-record IsStreamed (past : List Character) (scan : Scan) (given : List Found) : Type 0 where
-  pub hears : (more : List Character) → (IsTrue scan.finished → more ≡ []) → CanHear scan more (past ++ more)
-  pub frames : (more : List Character) (later : List Found) → (IsTrue scan.finished → more ≡ [])
-      → AreFrames (past ++ more) scan.first later → AreFrames (past ++ more) 0 (given ++ later)
+-- the frames given so far are the next ones of the characters pushed so far, up to the first that is held, and the rest of those is held
+pub record IsStreamed (past : List Character) (scan : Scan) (given : List Found) : Type 0 where
+  pub next : AreNext past scan.finished 0 given scan.first
+  pub held : drop scan.first past ≡ scan.held
 
 streamed_pushed : (past : List Character) (scan : Scan) (given : List Found) (cs : List Character) → scan.finished ≡ false
     → IsStreamed past scan given → IsStreamed (past ++ cs) (hearing scan cs) given
-streamed_pushed past scan given cs going streamed = grind (arith, append_assoc)
+streamed_pushed past scan given cs going streamed = record {
+  next = next_grown past cs scan.finished 0 scan.first given (rw going at streamed.next);
+  held = rw (drop-append-le scan.first past cs streamed.next.within, streamed.held) refl;
+}
 
 streamed_taken : (past : List Character) (old new : Scan) (given found : List Found) → IsStreamed past old given
-    → MovesPast old new found → new.finished ≡ old.finished → IsStreamed past new (given ++ found)
-streamed_taken past old new given found streamed moves finished = grind (arith, append_assoc)
-
--- a chunk that was heard at once
-streamed_chunk : (past : List Character) (old new : Scan) (given : List Found) (chunk : List Character) → old.finished ≡ false
-    → IsStreamed past old given → MovesPast (hearing old chunk) new [] → new.finished ≡ old.finished → IsStreamed (past ++ chunk) new given
-streamed_chunk past old new given chunk going streamed moves finished =
-    grind (arith, streamed_pushed past old given chunk going streamed, append-nil given, streamed_taken)
+    → MovesPast old new found → IsStreamed past new (given ++ found)
+streamed_taken past old new given found streamed moves =
+    let own = rw (← streamed.held) at moves.next in
+    let rest = next_of_rest old.first past old.finished moves.found moves.count streamed.next.within own in record {
+      next = rw (moves.first, moves.finished, moves.given_are)
+          (next_then past old.finished 0 old.first (old.first + moves.count) given (map (moved old.first) moves.found) streamed.next rest);
+      held = rw (moves.first, moves.held, ← streamed.held) (sym (drop-drop moves.count old.first past));
+    }
 
 -- so it is after every history
-streamed : (past : List Character) (scan : Scan) (given : List Found) → IsHistory past scan given → IsStreamed past scan given
-streamed past scan given begin = grind arith
-streamed past scan given (push before old frames character history going) = grind (arith, append_assoc, streamed before old frames history)
-streamed past scan given (push_bytes before old new frames chunk history going moves finished) =
-    streamed_chunk before old new frames (faultless chunk) going (streamed before old frames history) moves finished
-streamed past scan given (push_chars before old new frames chunk history going moves finished) =
-    streamed_chunk before old new frames chunk going (streamed before old frames history) moves finished
+pub streamed : (past : List Character) (scan : Scan) (given : List Found) → IsHistory past scan given → IsStreamed past scan given
+streamed past scan given begin = record { next = next_nothing [] false 0 (omega arith); held = refl }
+streamed past scan given (push before old frames character history going) =
+    streamed_pushed before old frames (character ∷ []) going (streamed before old frames history)
+streamed past scan given (push_chars before old new frames chunk history going moves) =
+    rw append-nil at (streamed_taken (before ++ chunk) (hearing old chunk) new frames []
+    (streamed_pushed before old frames chunk going (streamed before old frames history)) moves)
 streamed past scan given (take_view before old new frames found history gave) =
-    streamed_taken before old new frames (found ∷ []) (streamed before old frames history) gave.moves gave.finished
+    streamed_taken before old new frames (found ∷ []) (streamed before old frames history) gave.moves
 streamed past scan given (wait before old new frames history waited) =
-    grind (arith, streamed_taken, append-nil, streamed before old frames history)
-streamed past scan given (finish before old frames history) = grind (arith, streamed before old frames history)
+    rw append-nil at (streamed_taken before old new frames [] (streamed before old frames history) waited.moves)
+streamed past scan given (finish before old frames history) =
+    let is = streamed before old frames history in
+    record { next = next_ended before old.finished 0 old.first frames true (λ over. refl) is.next; held = is.held }
+
+pub history_next : (past : List Character) (scan : Scan) (given : List Found) → IsHistory past scan given
+    → AreNext past scan.finished 0 given scan.first
+history_next past scan given history = (streamed past scan given history).next
+
+-- what is held is what was pushed from its place on
+pub history_held : (past : List Character) (scan : Scan) (given : List Found) → IsHistory past scan given
+    → drop scan.first past ≡ scan.held
+history_held past scan given history = (streamed past scan given history).held
 
 -- the frames given so far are the first ones
-pub history_first : OneList → (past more : List Character) (scan : Scan) (given frames : List Found) → IsHistory past scan given
+pub history_first : (past more : List Character) (scan : Scan) (given frames : List Found) → IsHistory past scan given
     → (IsTrue scan.finished → more ≡ []) → AreFrames (past ++ more) 0 frames → (later : List Found) × (frames ≡ given ++ later)
-history_first one past more scan given frames history ended are =
-    grind (arith, AreFrames-found (past ++ more) scan.first, streamed past scan given history)
+history_first past more scan given frames history ended are =
+    let (later, after) = AreFrames-found (past ++ more) scan.first in
+    (later, AreFrames-one (past ++ more) 0 frames (given ++ later) are ((history_next past scan given history).leads more later ended after))
 
 -- what was pushed was let go or is held
 pub history_length : (past : List Character) (scan : Scan) (given : List Found) → IsHistory past scan given
     → scan.first + length scan.held ≡ length past
-history_length past scan given history = grind (arith, streamed past scan given history, length-append past ([]), length-append)
+history_length past scan given history =
+    let is = streamed past scan given history in grind (arith, is.held, is.next.within, length-drop scan.first past)
 
 -- after the end they are all
 pub history_all : (past : List Character) (given : List Found) → IsWholeHistory past given → AreFrames past 0 given
 history_all past given whole =
     let last = whole.last in
     let is = streamed past last given whole.history in
-    let hears = is.hears [] (λ _. refl) in
-    let none : AreFrames (past ++ []) last.first [] =
-    AreFrames.none last.first (λ found stands. whole.ended.none _ (stands_held last (past ++ []) found hears stands)) in
-    grind (arith, append-nil)
+    let nothing : HasNoFrame (drop last.first past) 0 = rw is.held whole.ended.none in
+    let none = rest_frames last.first past [] (AreFrames.none 0 nothing) in
+    rw append-nil at (next_frames past last.finished 0 last.first given [] is.next none)
 
--- what is held is what was pushed from its place on
-pub history_held : (past : List Character) (scan : Scan) (given : List Found) → IsHistory past scan given
-    → drop scan.first past ≡ scan.held
-history_held past scan given history =
-    let hears = (streamed past scan given history).hears [] (λ _. refl) in grind (arith, common_steps, append-nil, drop_at)
-
--- so the frames to come are those of what is held, and of what is still to come
-pub history_rest : OneList → (past more : List Character) (scan : Scan) (given later : List Found) → IsHistory past scan given
-    → (IsTrue scan.finished → more ≡ []) → AreFrames (drop scan.first past ++ more) 0 later
-    → AreFrames (past ++ more) 0 (given ++ map (moved scan.first) later)
-history_rest is past more scan given later has holds so = grind (arith, history_length, drop-append-le, streamed, rest_frames)
+-- the frames to come are those of what is left, and of what is still to come
+pub next_rest : (chars more : List Character) (ended : Bool) (given later : List Found) (to : ℕ) → AreNext chars ended 0 given to
+    → (IsTrue ended → more ≡ []) → AreFrames (drop to chars ++ more) 0 later → AreFrames (chars ++ more) 0 (given ++ map (moved to) later)
+next_rest chars more ended given later to next closed are =
+    next.leads more (map (moved to) later) closed
+    (rest_frames to (chars ++ more) later (rw (drop-append-le to chars more next.within) are))

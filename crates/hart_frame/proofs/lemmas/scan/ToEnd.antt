@@ -5,8 +5,8 @@ use Rattle.std.proofs.lemmas.Grind.{common_steps}
 use Rattle.std.proofs.lemmas.List.{length-take-le, take-append-drop}
 use Rattle.std.specs.Option.{MatchOption}
 use Rattle.hart_frame.specs.declared.scan.search.Sighting.{Sighting}
-use Rattle.hart_frame.specs.scan.Candidate.{IsWhole, MayBegin}
-use Rattle.hart_frame.specs.scan.Search.{IsSearched, NoneBeginThen}
+use Rattle.hart_frame.specs.private.Candidate.{IsWhole, MayBegin}
+use Rattle.hart_frame.specs.private.Search.{IsSearched, NoneBeginThen}
 use Rattle.hart_frame.proofs.lemmas.scan.Candidate.{nothing_open}
 use Rattle.hart_frame.proofs.lemmas.scan.Search.{joined, none_more, whole_append}
 

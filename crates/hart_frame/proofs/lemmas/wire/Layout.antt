@@ -9,7 +9,8 @@ use Rattle.hart_frame.specs.declared.wire.layout.Layout.{Layout}
 use Rattle.hart_frame.specs.wire.Body.{IsCheckedPart}
 use Rattle.hart_frame.specs.wire.Delimiter.{delimiter_of}
 use Rattle.hart_frame.specs.wire.FrameParts.{FrameParts, IsLongEnough}
-use Rattle.hart_frame.specs.wire.Layout.{Describes, body_length}
+use Rattle.hart_frame.specs.private.Layout.{Describes}
+use Rattle.hart_frame.specs.wire.Layout.{body_length}
 use Rattle.hart_frame.specs.wire.Refusal.{HasCheckByte}
 
 -- a range and the next range are one range

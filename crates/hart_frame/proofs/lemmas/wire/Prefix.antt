@@ -4,7 +4,8 @@ use Rattle.std.proofs.lemmas.List.{get_or_append_left, take-append-le}
 use Rattle.hart_frame.specs.declared.wire.fault.FrameFault.{FrameFault}
 use Rattle.hart_frame.specs.declared.wire.fault.FrameFault.TheVariants.{Truncated}
 use Rattle.hart_frame.specs.declared.wire.layout.Layout.{Layout}
-use Rattle.hart_frame.specs.wire.Layout.{Describes, byte_count_place, body_length}
+use Rattle.hart_frame.specs.private.Layout.{Describes}
+use Rattle.hart_frame.specs.wire.Layout.{byte_count_place, body_length}
 use Rattle.hart_frame.specs.wire.Refusal.{IsRefusedWith, HasGoodByteCount, HasCheckByte}
 
 pub length_more : (xs ys : List ℕ) → byte_count_place xs < length xs → body_length (xs ++ ys) ≡ body_length xs

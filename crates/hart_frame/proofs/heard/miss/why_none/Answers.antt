@@ -2,6 +2,7 @@ use Rattle.std.proofs.Common.{◌≡◌, ◌<◌, ℕ, zero, suc, List, None, le
 use Rattle.std.proofs.lemmas.List.{take_rest}
 use Rattle.hart_frame.specs.heard.Character.{Character}
 use Rattle.hart_frame.specs.heard.Miss.{miss_of}
+use Rattle.hart_frame.proofs.lemmas.heard.Hint.{is_told}
 use Rattle.hart_frame.proofs.lemmas.heard.Start.{start_test, tested}
 use Rattle.hart_frame.proofs.heard.miss.why_none.Goals as goal
 
@@ -10,14 +11,26 @@ none_past : (chars : List Character) (start : ℕ) → length chars < start → 
 none_past chars zero past = refl
 none_past chars (suc k) past = grind (arith, tested chars (suc k), tested chars k)
 
-pub returns-in_err-heard : goal.returns-in_err-heard
-returns-in_err-heard c = grind (arith, none_past)
+pub returns-in_err-heard-clause-found : goal.returns-in_err-heard-clause-found
+returns-in_err-heard-clause-found c = grind (arith, none_past)
 
-pub returns-then-is_start : goal.returns-then-is_start
-returns-then-is_start c = grind (arith, take_rest c.args.chars.now c.args.start, start_test c.args.chars.now c.args.start)
+pub returns-then-is_start-clause-found : goal.returns-then-is_start-clause-found
+returns-then-is_start-clause-found c = grind (arith, take_rest c.args.chars.now c.args.start, start_test c.args.chars.now c.args.start)
 
-pub returns-then-is_none : goal.returns-then-is_none
-returns-then-is_none c = grind (arith, take_rest c.args.chars.now c.args.start, start_test c.args.chars.now c.args.start)
+pub returns-then-is_none-clause-found : goal.returns-then-is_none-clause-found
+returns-then-is_none-clause-found c = grind (arith, take_rest c.args.chars.now c.args.start, start_test c.args.chars.now c.args.start)
 
-pub returns : goal.returns
-returns c = grind (arith, take_rest c.args.chars.now c.args.start, start_test c.args.chars.now c.args.start)
+pub returns-clause-found : goal.returns-clause-found
+returns-clause-found c = grind (arith, take_rest c.args.chars.now c.args.start, start_test c.args.chars.now c.args.start)
+
+pub returns-in_err-heard-clause-miss : goal.returns-in_err-heard-clause-miss
+returns-in_err-heard-clause-miss c fit = is_told c.args.chars.now c.args.start _ fit (returns-in_err-heard-clause-found c)
+
+pub returns-then-is_start-clause-miss : goal.returns-then-is_start-clause-miss
+returns-then-is_start-clause-miss c fit = is_told c.args.chars.now c.args.start _ fit (returns-then-is_start-clause-found c)
+
+pub returns-then-is_none-clause-miss : goal.returns-then-is_none-clause-miss
+returns-then-is_none-clause-miss c fit = is_told c.args.chars.now c.args.start _ fit (returns-then-is_none-clause-found c)
+
+pub returns-clause-miss : goal.returns-clause-miss
+returns-clause-miss c fit = is_told c.args.chars.now c.args.start _ fit (returns-clause-found c)

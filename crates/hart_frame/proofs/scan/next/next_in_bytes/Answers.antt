@@ -1,13 +1,15 @@
-use Rattle.std.proofs.Common.{arith, drop, []}
+use Rattle.std.proofs.Common.{arith, drop}
 use Rattle.std.proofs.lemmas.List.{drop_all}
-use Rattle.hart_frame.specs.scan.Candidate.{MayBegin}
+use Rattle.hart_frame.specs.private.Candidate.{MayBegin}
+use Rattle.hart_frame.specs.scan.View.{parts_of}
 use Rattle.hart_frame.proofs.lemmas.scan.Candidate.{undecided_open}
-use Rattle.hart_frame.proofs.lemmas.scan.Next.{body_at_place, ends_within, leads_on, leads_past, moves_to}
+use Rattle.hart_frame.proofs.lemmas.scan.Next.{body_at_place, ends_within, next_past, next_to}
 use Rattle.hart_frame.proofs.scan.next.next_in_bytes.Goals as goal
 
 pub returns-in_default-clause-frames : goal.returns-in_default-clause-frames
 returns-in_default-clause-frames c =
-    grind (arith, leads_on c.args.bytes.now c.args.ended c.args.from c.search_to_end-sighting.result.place [], moves_to)
+    let found = c.search_to_end-sighting.ensures in
+    next_to c.args.bytes.now c.args.ended c.args.from c.search_to_end-sighting.result.place found.after found.within found.none
 
 pub returns-in_default-clause-undecided : goal.returns-in_default-clause-undecided
 returns-in_default-clause-undecided c = λ none going.
@@ -27,8 +29,9 @@ view_in-requires c =
 
 pub returns-clause-frames : goal.returns-clause-frames
 returns-clause-frames c =
-    let place = c.search_to_end-sighting.result.place in
-    grind (arith, leads_past c.args.bytes.now c.args.ended c.args.from place c.body_len.result c.in-Some.layout)
+    let found = c.search_to_end-sighting.ensures in
+    next_past c.args.bytes.now c.args.ended c.args.from c.search_to_end-sighting.result.place c.body_len.result c.in-Some.layout
+    (parts_of c.view_in.result) found.after found.within found.none (rw c.in-Some.is at found.stands) c.body_len.ensures.len c.view_in.ensures
 
 pub returns-clause-within : goal.returns-clause-within
 returns-clause-within c = grind (arith, ends_within)

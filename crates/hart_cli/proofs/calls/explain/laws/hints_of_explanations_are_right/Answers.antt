@@ -9,7 +9,8 @@ use Rattle.hart_frame.specs.declared.heard.miss.Miss.{Miss}
 use Rattle.hart_frame.specs.declared.heard.miss.Miss.TheVariants.{BadCheck, Faulty, Missing, OnePreamble}
 use Rattle.hart_frame.specs.heard.Character.{Character}
 use Rattle.hart_frame.specs.heard.InTheWay.{HasBodyAt, IsInTheWay, bytes_from}
-use Rattle.hart_frame.specs.heard.Miss.{HasFrameUpTo, miss_of}
+use Rattle.hart_frame.specs.heard.Place.{HasFrameUpTo}
+use Rattle.hart_frame.specs.heard.Miss.{miss_of}
 use Rattle.hart_frame.specs.heard.Start.{IsStart}
 use Rattle.hart_cli.specs.explain.Gaps.{missed}
 use Rattle.hart_cli.specs.explain.Misses.{miss_in_whole}

@@ -1,7 +1,7 @@
-use Rattle.std.proofs.Common.{◌≡◌, ◌≤◌, ◌+◌, ◌++◌, ℕ, List, Some, drop, length, arith, length-drop, append_assoc}
+use Rattle.std.proofs.Common.{◌≡◌, ◌≤◌, ◌+◌, ◌-◌, ◌++◌, [], ℕ, List, Option, None, Some, ap, drop, length, arith, length-drop, append_assoc, refl, sym}
 use Rattle.std.proofs.lemmas.Bool.Decides.{nat_tests}
 use Rattle.std.proofs.lemmas.Grind.{common_steps}
-use Rattle.std.proofs.lemmas.List.{length-map, length-take, take_rest}
+use Rattle.std.proofs.lemmas.List.{append-nil, length-map, length-take, take_rest}
 use Rattle.std.proofs.lemmas.Option.{slice_get_within}
 use Rattle.hart_frame.specs.declared.heard.miss.Miss.{Miss}
 use Rattle.hart_frame.specs.heard.Character.{Character, faultless_bytes}
@@ -24,9 +24,18 @@ placed chars start count miss within few is = grind (arith, length-drop, body_pl
 pub push_miss-requires-clause-fits : goal.push_miss-requires-clause-fits
 push_miss-requires-clause-fits g c = grind (arith, common_steps, take_rest, length-drop, placed)
 
-pub returns-in_default : goal.returns-in_default
+-- where no miss is found, nothing is said
+quiet : (chars : List Character) (from place : ℕ) (found : Option Miss) → ((miss : Miss) → found ≡ Some miss → ⊥)
+    → found ≡ miss_of (drop from chars) (place - from) → place_text chars from place ≡ []
 unfolding place_text
-returns-in_default g c = grind (arith, common_steps, take_rest, adds_kept)
+quiet chars from place None never same = ap (λ (miss : Option Miss). miss_line from place miss) (sym same)
+quiet chars from place (Some miss) never same = absurd (never miss refl)
+
+pub returns-in_default : goal.returns-in_default
+returns-in_default g c =
+    let none = quiet c.args.chars.now c.args.from c.args.place c.why_none.result c.in_default.not-Some
+    (rw take_rest at c.why_none.ensures.found) in
+    adds_kept _ _ _ _ (rw none (sym (append-nil c.args.kept.now)))
 
 pub returns-in_err-make_room : goal.returns-in_err-make_room
 returns-in_err-make_room g c = grind (arith, common_steps, tells_failure, fails_first)

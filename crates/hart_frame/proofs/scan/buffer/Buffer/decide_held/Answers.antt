@@ -1,5 +1,6 @@
 use Rattle.std.proofs.Common.{◌<◌, length, length-drop, arith, rules}
 use Rattle.std.proofs.lemmas.List.{nil_from_length}
+use Rattle.hart_frame.specs.private.Decision.{IsHeldOpen}
 use Rattle.hart_frame.proofs.lemmas.scan.Buffer.{held_passed}
 use Rattle.hart_frame.proofs.lemmas.scan.Decision.{given_nothing, given_open, given_stands}
 use Rattle.hart_frame.proofs.scan.buffer.Buffer.decide_held.Goals as goal
@@ -15,8 +16,10 @@ returns-then-is_empty-clause-seen c = search (arith, given_nothing)
 
 pub returns-else-is_empty-clause-seen : goal.returns-else-is_empty-clause-seen
 returns-else-is_empty-clause-seen c =
+    let found = c.search_held-found in
     let some : 0 < length c.held.result.now = search rules in
-    grind (arith, given_open)
+    let opened : IsHeldOpen c.args.self.now found.result.place = search rules in
+    rw c.pass.ensures.passed (given_open c.args.self.now found.result found.ensures opened (search (arith, some)))
 
 pub returns-in-Some-clause-sound : goal.returns-in-Some-clause-sound
 returns-in-Some-clause-sound c = grind (arith, held_passed)

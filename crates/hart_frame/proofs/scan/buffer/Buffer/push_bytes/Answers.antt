@@ -1,4 +1,4 @@
-use Rattle.std.proofs.Common.{◌≡◌, ℕ, List, length, drop, ◌∙◌, sym, arith}
+use Rattle.std.proofs.Common.{◌≡◌, ℕ, List, length, drop, ◌∙◌, refl, sym, arith}
 use Rattle.std.proofs.lemmas.Bool.{false≢true}
 use Rattle.std.proofs.lemmas.List.{drop-map, length-map, take_rest}
 use Rattle.std.specs.List.{slice_range}
@@ -11,7 +11,9 @@ rest_of : (chunk : List ℕ) (n : ℕ) → faultless (slice_range chunk n (lengt
 rest_of chunk n = grind (arith, take_rest, drop-map)
 
 pub push_part-taken-requires-clause-room : goal.push_part-taken-requires-clause-room
-push_part-taken-requires-clause-room c = grind (arith, room_left, length-map)
+push_part-taken-requires-clause-room c =
+    room_left c.args.self.now c.loop-taken.self (faultless c.args.chunk.now) c.args.chunk.now c.loop-taken.taken (rw length-map refl)
+    c.loop-taken.invariant.2 c.requires.room
 
 pub returns-then-not-is_drained-clause-hears : goal.returns-then-not-is_drained-clause-hears
 returns-then-not-is_drained-clause-hears c =
@@ -27,4 +29,7 @@ loop-taken-preserved c =
     grind arith
 
 pub returns-clause-hears : goal.returns-clause-hears
-returns-clause-hears c = grind (arith, hears_all, length-map)
+returns-clause-hears c =
+    let (sound, drained, so) = c.loop-taken.invariant in
+    hears_all c.args.self.now c.loop-taken.self (faultless c.args.chunk.now) c.loop-taken.taken so sound drained
+    (rw length-map (omega (arith, c.loop-taken-test.false)))

@@ -1,11 +1,13 @@
-use Rattle.std.proofs.Common.{sym, ◌∙◌, arith}
+use Rattle.std.proofs.Common.{sym, ◌∙◌, arith, refl}
 use Rattle.std.proofs.lemmas.Bool.{false≢true}
 use Rattle.std.proofs.lemmas.List.{take_rest}
 use Rattle.hart_frame.proofs.lemmas.scan.Chunk.{hearing_on, hears_all, hears_until, room_left}
 use Rattle.hart_frame.proofs.scan.buffer.Buffer.push_chars.Goals as goal
 
 pub push_stretch-taken-requires-clause-room : goal.push_stretch-taken-requires-clause-room
-push_stretch-taken-requires-clause-room c = grind (arith, room_left)
+push_stretch-taken-requires-clause-room c =
+    room_left c.args.self.now c.loop-taken.self c.args.chunk.now c.args.chunk.now c.loop-taken.taken refl c.loop-taken.invariant.2
+    c.requires.room
 
 pub returns-then-not-is_drained-clause-hears : goal.returns-then-not-is_drained-clause-hears
 returns-then-not-is_drained-clause-hears c =
@@ -21,4 +23,7 @@ loop-taken-preserved c =
     c.push_stretch-taken.ensures.hears in grind arith
 
 pub returns-clause-hears : goal.returns-clause-hears
-returns-clause-hears c = grind (arith, hears_all)
+returns-clause-hears c =
+    let (sound, drained, so) = c.loop-taken.invariant in
+    hears_all c.args.self.now c.loop-taken.self c.args.chunk.now c.loop-taken.taken so sound drained
+    (omega (arith, c.loop-taken-test.false))

@@ -1,6 +1,6 @@
 use Rattle.std.proofs.Common.{arith}
 use Rattle.std.proofs.lemmas.List.{length-map}
-use Rattle.hart_frame.specs.scan.Buffer.{scan_of}
+use Rattle.hart_frame.specs.private.Buffer.{scan_of}
 use Rattle.hart_frame.proofs.lemmas.scan.Chunk.{bytes_heard}
 use Rattle.hart_frame.proofs.scan.buffer.Buffer.push_part.Goals as goal
 

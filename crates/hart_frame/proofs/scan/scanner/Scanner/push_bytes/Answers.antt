@@ -2,8 +2,8 @@ use Rattle.std.proofs.Common.{arith}
 use Rattle.std.proofs.lemmas.Grind.{common_steps}
 use Rattle.std.proofs.lemmas.List.{length-map, take-map}
 use Rattle.hart_frame.specs.heard.Character.{faultless}
-use Rattle.hart_frame.specs.scan.Buffer.{scan_of}
-use Rattle.hart_frame.specs.scan.Chunk.{Hears}
+use Rattle.hart_frame.specs.private.Buffer.{scan_of}
+use Rattle.hart_frame.specs.private.Chunk.{Hears}
 use Rattle.hart_frame.proofs.lemmas.scan.Chunk.{heard_length}
 use Rattle.hart_frame.proofs.scan.scanner.Scanner.push_bytes.Goals as goal
 

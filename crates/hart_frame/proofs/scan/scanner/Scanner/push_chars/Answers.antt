@@ -1,7 +1,7 @@
 use Rattle.std.proofs.Common.{arith}
 use Rattle.std.proofs.lemmas.Grind.{common_steps}
-use Rattle.hart_frame.specs.scan.Buffer.{scan_of}
-use Rattle.hart_frame.specs.scan.Chunk.{Hears}
+use Rattle.hart_frame.specs.private.Buffer.{scan_of}
+use Rattle.hart_frame.specs.private.Chunk.{Hears}
 use Rattle.hart_frame.proofs.lemmas.scan.Chunk.{heard_length}
 use Rattle.hart_frame.proofs.scan.scanner.Scanner.push_chars.Goals as goal
 

@@ -2,8 +2,11 @@ use Rattle.std.proofs.Common.{take, ◌∙◌, arith, take-add, length-drop, len
 use Rattle.std.proofs.lemmas.Grind.{common_steps}
 use Rattle.std.proofs.lemmas.List.{length-map, take_rest}
 use Rattle.hart_frame.specs.heard.Character.{faultless}
-use Rattle.hart_cli.proofs.lemmas.dump.FrameLines.{keeps_no_frame, keeps_on, keeps_then, keeps_within, waits_for_more, moves_on}
+use Rattle.hart_cli.proofs.lemmas.dump.FrameLines.{keeps_no_frame, keeps_nothing, keeps_on, keeps_then, keeps_within, waits_for_more, moves_on}
 use Rattle.hart_cli.proofs.calls.dump.frame_lines.FrameLines.scan_chunk.Goals as goal
+
+pub loop-taken-init : goal.loop-taken-init
+loop-taken-init c = grind (arith, keeps_nothing c.args.self.now.scanner c.args.self.now.lines)
 
 pub push_bytes-taken-requires-clause-room : goal.push_bytes-taken-requires-clause-room
 push_bytes-taken-requires-clause-room c =

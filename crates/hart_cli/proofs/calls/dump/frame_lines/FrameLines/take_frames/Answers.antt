@@ -5,10 +5,14 @@ use Rattle.hart_cli.proofs.lemmas.dump.FrameLines.{keeps_then, gives_long, moves
 use Rattle.hart_cli.proofs.calls.dump.frame_lines.FrameLines.take_frames.Goals as goal
 
 pub push_frame_line-requires : goal.push_frame_line-requires
-push_frame_line-requires c = grind (arith, common_steps, gives_long, moves_on)
+push_frame_line-requires c =
+    let gives = rw c.in-Some.is at c.take.follows.holds-at-none in
+    omega (arith, gives_long _ _ _ gives, moves_on _ _ _ gives.moves, c.loop-found.invariant.keeps.few, c.requires)
 
 pub loop-found-smaller : goal.loop-found-smaller
-loop-found-smaller c = grind (arith, common_steps, gives_long, moves_on)
+loop-found-smaller c =
+    let gives = rw c.in-Some.is at c.take.follows.holds-at-none in
+    omega (arith, gives_long _ _ _ gives, moves_on _ _ _ gives.moves)
 
 pub loop-found-preserved : goal.loop-found-preserved
 loop-found-preserved c =
@@ -20,5 +24,5 @@ loop-found-preserved c =
         lines = grind (arith, common_steps);
         few = omega (arith, c.push_frame_line.ensures.few, gives_long _ _ _ gives, moves_on _ _ _ gives.moves);
       });
-      same_finish = gives.finished ∙ c.loop-found.invariant.same_finish;
+      same_finish = gives.moves.finished ∙ c.loop-found.invariant.same_finish;
     }

@@ -1,8 +1,8 @@
--- What a scanner holds, and what it knows of it (own profile). For private calls alone.
+-- What a scanner holds, and what it knows of it (own profile).
 use Rattle.std.specs.Prelude.{◌≡◌, ◌≢◌, ◌<◌, ◌≤◌, ◌+◌, ◌^◌, ℕ, Bool, true, false, Option, None, Some, IfSome, ◌⊎◌, List, ◌++◌, drop, length}
 use Rattle.std.specs.Option.{option_to_list}
 use Rattle.hart_frame.specs.heard.Character.{faultless}
-use Rattle.hart_frame.specs.scan.Candidate.{IsWhole, MayBegin}
+use Rattle.hart_frame.specs.private.Candidate.{IsWhole, MayBegin}
 use Rattle.hart_frame.specs.scan.Scanner.{Scan}
 use Rattle.hart_frame.specs.declared.wire.layout.Layout.{Layout}
 use Rattle.hart_frame.specs.declared.scan.buffer.Buffer.{Buffer}

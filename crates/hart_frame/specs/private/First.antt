@@ -1,12 +1,12 @@
--- The first frame of what was heard (HCF_SPEC-081). For private calls alone.
+-- The first frame of what was heard (HCF_SPEC-081).
 use Rattle.std.specs.Prelude.{◌+◌, ◌<◌, ◌≤◌, List, length}
 use Rattle.hart_frame.specs.heard.Character.{Character}
 use Rattle.hart_frame.specs.heard.Frames.{IsFirst}
-use Rattle.hart_frame.specs.scan.Candidate.{IsWholeBody}
-use Rattle.hart_frame.specs.scan.Decision.{body_at}
+use Rattle.hart_frame.specs.private.Candidate.{IsWholeBody}
+use Rattle.hart_frame.specs.private.Decision.{body_at}
 use Rattle.hart_frame.specs.wire.Body.{IsBody}
 use Rattle.hart_frame.specs.wire.FrameParts.{FrameParts}
-use Rattle.hart_frame.specs.wire.Layout.{layout_length}
+use Rattle.hart_frame.specs.private.Layout.{layout_length}
 use Rattle.hart_frame.specs.declared.scan.buffer.Buffer.{Buffer}
 use Rattle.hart_frame.specs.declared.scan.buffer.Span.{Span}
 

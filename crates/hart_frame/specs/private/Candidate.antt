@@ -1,10 +1,10 @@
--- How the bytes that a scanner looks at begin (HCF_SPEC-081). For private calls alone.
+-- How the bytes that a scanner looks at begin (HCF_SPEC-081).
 use Rattle.std.specs.Prelude.{◌≡◌, ◌≢◌, ℕ, ◌+◌, ◌<◌, ◌≤◌, ◌⊎◌, List, [], ◌∷◌, ◌++◌, length, take}
 use Rattle.std.specs.List.{All}
 use Rattle.hart_frame.specs.heard.Character.{Character, faultless}
 use Rattle.hart_frame.specs.wire.FrameParts.{FrameParts}
 use Rattle.hart_frame.specs.wire.Body.{IsBody}
-use Rattle.hart_frame.specs.wire.Layout.{Describes, layout_length}
+use Rattle.hart_frame.specs.private.Layout.{Describes, layout_length}
 use Rattle.hart_frame.specs.wire.Parity.{HasEvenParity}
 use Rattle.hart_frame.specs.wire.Refusal.{HasCheckByte, IsRefusedWith, IsTruncated}
 use Rattle.hart_frame.specs.declared.wire.fault.FrameFault.{FrameFault}

@@ -1,7 +1,7 @@
--- What a search finds of frames in faultless bytes (own profile). For private calls alone.
+-- What a search finds of frames in faultless bytes (own profile).
 use Rattle.std.specs.Prelude.{◌≡◌, ◌≢◌, ℕ, Bool, false, IsTrue, ◌+◌, ◌<◌, ◌≤◌, ◌⊎◌, List, ◌++◌, MatchOption, length, slice_index, take, drop}
 use Rattle.hart_frame.specs.heard.Character.{Character, faultless}
-use Rattle.hart_frame.specs.scan.Candidate.{BeginWithNone, IsWhole, MayBegin, NeverBegin, NothingFollows}
+use Rattle.hart_frame.specs.private.Candidate.{BeginWithNone, IsWhole, MayBegin, NeverBegin, NothingFollows}
 use Rattle.hart_frame.specs.declared.scan.search.Sighting.{Sighting}
 
 -- No frame begins at the places of a list from one up to another, whatever is heard after the list.

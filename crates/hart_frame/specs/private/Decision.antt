@@ -1,13 +1,13 @@
--- What is decided of a scanner's buffer (own profile). For private calls alone.
+-- What is decided of a scanner's buffer (own profile).
 use Rattle.std.specs.Prelude.{◌≡◌, ◌≤◌, ◌<◌, ◌+◌, ◌⊎◌, ℕ, false, IsTrue, None, MatchOption, List, [], ◌++◌, drop, length}
 use Rattle.std.specs.List.{slice_range}
 use Rattle.std.specs.Option.{option_to_list}
 use Rattle.hart_frame.specs.heard.Character.{Character, faultless}
 use Rattle.hart_frame.specs.wire.FrameParts.{FrameParts}
 use Rattle.hart_frame.specs.wire.Body.{IsBody}
-use Rattle.hart_frame.specs.wire.Layout.{layout_length}
-use Rattle.hart_frame.specs.scan.Buffer.{held_bytes, is_drained, scan_of}
-use Rattle.hart_frame.specs.scan.Candidate.{BeginWithNone, IsWhole, IsWholeBody, MayBegin}
+use Rattle.hart_frame.specs.private.Layout.{layout_length}
+use Rattle.hart_frame.specs.private.Buffer.{held_bytes, is_drained, scan_of}
+use Rattle.hart_frame.specs.private.Candidate.{BeginWithNone, IsWhole, IsWholeBody, MayBegin}
 use Rattle.hart_frame.specs.scan.Scanner.{Gives, MovesPast}
 use Rattle.hart_frame.specs.declared.wire.layout.Layout.{Layout}
 use Rattle.hart_frame.specs.declared.scan.buffer.Buffer.{Buffer}
@@ -28,7 +28,6 @@ pub record GivesSpan (old new : Buffer) (span : Span) : Type 0 where
 -- Bytes with which no frame begins were let go, and what is held then begins with a frame.
 pub record HoldsWhole (old new : Buffer) (layout : Layout) : Type 0 where
   pub moves : MovesPast (scan_of old) (scan_of new) []
-  pub finished : new.finished ≡ old.finished
   pub busy : is_drained old.state ≡ false
   pub undrained : is_drained new.state ≡ false
   pub begins : IsWhole layout (held_bytes new)

@@ -1,0 +1,11 @@
+-- What private calls promise one another. Whoever believes the promises of the public ones need not read it.
+pub mod Layout
+pub mod Body
+pub mod Miss
+pub mod Address
+pub mod Candidate
+pub mod Search
+pub mod Buffer
+pub mod Chunk
+pub mod Decision
+pub mod First

@@ -1,0 +1,24 @@
+-- The range of the numbers of an address in a view (HCF_SPEC-081).
+use Rattle.std.specs.Prelude.{ℕ, ◌<◌, ◌^◌}
+use Rattle.hart_frame.specs.declared.scan.plain_address.PlainAddress.{PlainAddress}
+use Rattle.hart_frame.specs.declared.scan.plain_address.PlainAddress.TheVariants.{Polling, Unique}
+
+-- The number of a polling address, 0 if it is none.
+abbrev pub polling_number : PlainAddress → ℕ
+polling_number (Polling number) = number
+polling_number (Unique expanded_type device_id) = 0
+
+-- The expanded device type of a unique address, 0 if it is none.
+abbrev pub type_number : PlainAddress → ℕ
+type_number (Polling number) = 0
+type_number (Unique expanded_type device_id) = expanded_type
+
+-- The device id of a unique address, 0 if it is none.
+abbrev pub id_number : PlainAddress → ℕ
+id_number (Polling number) = 0
+id_number (Unique expanded_type device_id) = device_id
+
+-- The numbers are ones that an address has.
+abbrev pub IsInRange : PlainAddress → Type 0
+IsInRange address =
+    (polling_number address < 64) × (type_number address < 2 ^ 14) × (id_number address < 2 ^ 24)

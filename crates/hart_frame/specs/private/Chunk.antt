@@ -1,0 +1,23 @@
+-- How much of a chunk a scanner hears (own profile).
+use Rattle.std.specs.Prelude.{◌<◌, ◌≤◌, ℕ, List, [], ◌++◌, length, take}
+use Rattle.hart_frame.specs.heard.Character.{Character}
+use Rattle.hart_frame.specs.heard.Frames.{IsUndecided}
+use Rattle.hart_frame.specs.scan.Chunk.{StopsAt}
+use Rattle.hart_frame.specs.scan.Scanner.{MovesPast, Scan, hearing}
+
+-- A scanner hears so many characters of a chunk: at least one of some, up to the first at which a frame is decided, or else all.
+pub record Hears (old new : Scan) (chunk : List Character) (count : ℕ) : Type 0 where
+  pub within : count ≤ length chunk
+  pub some : 0 < length chunk → 0 < count
+  pub moves : MovesPast (hearing old (take count chunk)) new []
+  pub before : (fewer : ℕ) → fewer < count → IsUndecided (old.held ++ take fewer chunk)
+  pub stops : StopsAt new count (length chunk)
+
+-- A scanner hears some first characters of a chunk, at most up to the first at which a frame is decided: nothing is decided in what
+-- it then holds, or that begins with a frame.
+pub record HearsPart (old new : Scan) (chunk : List Character) (count : ℕ) : Type 0 where
+  pub within : count ≤ length chunk
+  pub some : 0 < count
+  pub moves : MovesPast (hearing old (take count chunk)) new []
+  pub before : (fewer : ℕ) → fewer < count → IsUndecided (old.held ++ take fewer chunk)
+  pub stops : StopsAt new count count
