@@ -41,7 +41,7 @@ pub use filling::Filling;
 pub use laws::{
     empty_scripts_need_no_room, identities_give_their_address, refused_turns_change_nothing,
     scripts_have_one_last_world, scripts_keep_their_promises, texts_have_one_script,
-    words_have_one_value, words_have_the_characters_of_their_items,
+    words_have_one_value,
 };
 pub use line::log::Log;
 pub use line::logged::run_logged;

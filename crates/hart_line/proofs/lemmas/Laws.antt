@@ -21,6 +21,9 @@ use Rattle.hart_line.proofs.lemmas.world.Reset.{refused_last, refused_step, unse
 use Rattle.hart_line.proofs.lemmas.world.Submitted.{executed_at_most}
 use Rattle.hart_line.proofs.lemmas.world.Written.{answered_executed, registers_last, step_stays, turn_executed}
 use Rattle.hart_line.proofs.lemmas.world.Steps.{same_state}
+pub use Rattle.hart_line.proofs.lemmas.script.Items.{words_have_one_value-items}
+pub use Rattle.hart_line.proofs.lemmas.script.Rows.{texts_have_one_script-no_bad_line, texts_have_one_script-one_bad_line}
+pub use Rattle.hart_line.proofs.lemmas.script.Rows.{texts_have_one_script-one_script}
 use Rattle.hart_line.specs.world.Led.{Led}
 use Rattle.hart_line.specs.declared.line.report.Spoken.{Spoken}
 use Rattle.hart_line.specs.declared.line.report.Outcome.{Outcome}

@@ -1,5 +1,5 @@
 -- Scripts whose spoken frames are noted in a log while they are carried out (own profile).
-use Rattle.std.specs.Prelude.{◌⊎◌, ◌<◌, ℕ, Any, List, take}
+use Rattle.std.specs.Prelude.{◌⊎◌, ◌<◌, ℕ, Any, List, [], take}
 use Rattle.hart_line.specs.world.Faults.{IsFault}
 use Rattle.hart_line.specs.world.Needs.{IsNeededForOutcomes}
 use Rattle.hart_line.specs.world.Spoken.{AreSpoken}
@@ -29,8 +29,8 @@ IsNotingFault Needs AreNoted start events (Undetected number leg) = (undetected 
 IsNotingFault Needs AreNoted start events (Memory room) = IsNeededByNoting Needs start events room.items
 IsNotingFault Needs AreNoted start events (BadLine line) = ⊥
 
--- The fault of a script with a log: one of its events; or refused memory, which its outcomes need.
+-- The fault of a script with a log: one of its events; or refused memory, which its outcomes need, and nothing has been noted.
 abbrev pub IsLoggedFault : (Needs : Spoken → ℕ → Type 0) → (AreNoted : List Spoken → Type 0) → Start → List LineEvent → LineFault → Type 0
 IsLoggedFault Needs AreNoted start events (Memory room) =
-    IsNeededForOutcomes events room.items ⊎ IsNotingFault Needs AreNoted start events (Memory room)
+    IsNeededForOutcomes events room.items × AreNoted [] ⊎ IsNotingFault Needs AreNoted start events (Memory room)
 IsLoggedFault Needs AreNoted start events fault = IsNotingFault Needs AreNoted start events fault

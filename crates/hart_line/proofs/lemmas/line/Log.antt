@@ -29,8 +29,3 @@ pub spoken_within : (start : Start) (events : List LineEvent) (last : World) →
 spoken_within start events last run = along start (first_world start) events (λ es world. length world.spoken ≤ most_spoken es)
     (λ before next event here within.
     let more = step_speaks start before event next here.step in rw most_spoken-more (omega arith)) (omega arith) last run
-
-pub AreSpoken-length : (frames : List SpokenFrame) (list : List Spoken) → AreSpoken frames list → length list ≡ length frames
-AreSpoken-length [] [] are = refl
-AreSpoken-length (said ∷ frames) (spoken ∷ list) are = grind (arith, AreSpoken-length frames list are.1)
-AreSpoken-length frames list are = absurd are

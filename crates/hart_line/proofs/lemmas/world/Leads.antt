@@ -227,5 +227,7 @@ pub leads_exists : (start : Start) (world : World) (events : List LineEvent) →
     → (last : World) × LeadsTo start world events last
 leads_exists start world [] detected = (world, refl)
 leads_exists start world (event ∷ events) detected =
-    let step = step_exists start world event detected.0 in
-    grind (arith, common_steps, leads_exists start step.0 events (detected.1 step.0 step.1))
+    let step = step_exists start world event (detected [] events event world refl refl) in
+    let rest = leads_exists start step.0 events (λ prefix suffix other mid split led.
+    detected (event ∷ prefix) suffix other mid (ap (λ es. event ∷ es) split) (step.0, step.1, led)) in
+    (rest.0, (step.0, step.1, rest.1))

@@ -17,7 +17,7 @@ returns-in_err-is_answered-clause-stopped g c =
     ))
 
 pub returns-clause-stepped : goal.returns-clause-stepped
-returns-clause-stepped g c = λ start world process stands.
+returns-clause-stepped g c = λ start world process within stands.
     let s = rw (← c.self.view_is) at stands in
     let a = answered start world (Chars c.args.chars.now) None _ _ _ _ _ _ s process refl
     (grind (arith, noise_answers)) c.self.invariant
