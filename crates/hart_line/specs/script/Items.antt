@@ -62,7 +62,7 @@ pub record AreItems (word : List ℕ) (chars : List Character) : Type 0 where
   pub spelled : word ≡ flat_map item_spelling items
   pub means : chars ≡ map item_meaning items
 
--- A word of items has an item at least.
+-- A word gives these characters if it is not empty, and is items end to end that mean them.
 abbrev pub IsItemsWord : List ℕ → List Character → Type 0
 IsItemsWord word chars = (word ≢ []) × AreItems word chars
 

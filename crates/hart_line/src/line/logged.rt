@@ -45,7 +45,7 @@ pub fn run_logged<S: RegisterStore + Drop, L: Log>(
     ensures promises { IfOk result (λ ending.
         KeepsPromises (start_from device process.now primary secondary) events.now ending.device ending.outcomes) }
     // A fault names the first leg whose damage is undetected, and what was spoken before that event has been noted; or the outcomes that
-    // there is no room for, or the room that noting a spoken frame needs.
+    // there is no room for, and nothing has been noted; or the room that noting a spoken frame needs.
     ensures fault { let start = start_from device process.now primary secondary in
         IfErr result (IsLoggedFault L.needs (λ spoken. L.notes log.old spoken log.new) start events.now) }
     // No leg that is clean, lost, or marked or check damage of the message that was sent in it stops a script.

@@ -1,11 +1,8 @@
 -- Texts that are items end to end.
-use Rattle.std.proofs.Common.{◌≡◌, ◌≢◌, ℕ, ◌≤◌, List, [], ◌∷◌, ◌++◌, get_or, length, map, IsTrue, refl, arith, ap}
-use Rattle.std.proofs.lemmas.Bool.Decides.{nat_tests}
-use Rattle.std.proofs.lemmas.Grind.{common_steps}
+use Rattle.hart_line.proofs.Common.{◌≡◌, ◌≢◌, ℕ, ◌≤◌, List, [], ◌∷◌, ◌++◌, get_or, length, map, IsTrue, refl, arith, ap}
+use Rattle.hart_line.proofs.Common.{common_steps, AllByRecursion, flat_map, Character}
 use Rattle.std.proofs.lemmas.List.{append-nil, append_assoc}
-use Rattle.std.specs.List.{AllByRecursion, flat_map}
 use Rattle.hex.specs.Hex.{is_hex_digit}
-use Rattle.hart_frame.specs.heard.Character.{Character}
 use Rattle.hart_line.specs.script.Items.{AreDigits, AreItems, BeginsAsItem, BeginsWithItem, byte_of, EndsBefore, Faulty, IsValidItem, Item}
 use Rattle.hart_line.specs.script.Items.{item_meaning, item_spelling, Plain}
 

@@ -1,16 +1,9 @@
 -- What lines say is one thing, and no bad line is among those that say events.
-use Rattle.std.proofs.Common.{◌≡◌, ◌<◌, ℕ, List, [], ◌∷◌, Some, Err, ap, arith, codes, sym, refl, take, pred, length, get_or}
-use Rattle.std.proofs.lemmas.Grind.{common_steps}
-use Rattle.std.specs.List.{AllZip, slice_get}
-use Rattle.hart_line.specs.declared.event.Heard.{Heard}
-use Rattle.hart_line.specs.declared.event.Heard.TheVariants.{Chars, Clean, Lost}
-use Rattle.hart_line.specs.declared.event.LineEvent.{LineEvent}
-use Rattle.hart_line.specs.declared.event.LineEvent.TheVariants.{Noise, Turn}
-use Rattle.hart_frame.specs.heard.Character.{Character}
+use Rattle.hart_line.proofs.Common.{◌≡◌, ◌<◌, ℕ, List, [], ◌∷◌, Some, Err, ap, arith, codes, sym, refl, take, pred, length, get_or}
+use Rattle.hart_line.proofs.Common.{common_steps, AllZip, slice_get, Heard, Chars, Clean, Lost, LineEvent, Noise, Turn, Character, RowFault}
 use Rattle.hart_line.specs.script.Items.{AreItems}
 use Rattle.hart_line.specs.script.Rows.{AreEvents, HasFirstBadLine, IsBadLine, IsLegWord, IsScript, ReadsWords, Says, lines_in_words}
 use Rattle.hart_line.specs.script.Words.{HasNoValue}
-use Rattle.hart_line.specs.declared.script.rows.RowFault.{RowFault}
 use Rattle.hart_line.specs.declared.script.rows.RowFault.TheVariants.{Bad, Memory}
 use Rattle.hart_line.proofs.lemmas.script.Items.{items_begin_with_digit, words_have_one_value-items}
 

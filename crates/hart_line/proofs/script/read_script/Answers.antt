@@ -1,21 +1,14 @@
-use Rattle.std.proofs.Common.{ℕ, ◌+◌, length, None, Some, arith, sym, rules, tests, ◌≡◌, ◌<◌, List, [], ◌∷◌, ◌++◌, get_or}
-use Rattle.std.proofs.Common.{Option, Ok, Err, false, inl, inr, not, refl, take}
-use Rattle.std.proofs.lemmas.Grind.{common_steps}
+use Rattle.hart_line.proofs.Common.{ℕ, ◌+◌, length, None, Some, arith, sym, rules, tests, ◌≡◌, ◌<◌, List, [], ◌∷◌, ◌++◌, get_or, Option, Ok}
+use Rattle.hart_line.proofs.Common.{Err, false, inl, inr, refl, take, common_steps, take_all, length-map, length_push, get_or-map}
+use Rattle.hart_line.proofs.Common.{take_more, err_from_is_err_and, filter-append, slice_get-get_or, slice_split, option_to_list}
+use Rattle.hart_line.proofs.Common.{LineEvent, LineFault, BadLine, Undetected}
 use Rattle.std.proofs.lemmas.Iterator.Consumers.{YieldsList-at, YieldsList-end, YieldsList-turn}
 use Rattle.std.proofs.lemmas.Iterator.Splits.{YieldsList-from_slice_split}
-use Rattle.std.proofs.lemmas.List.{take_all, length-map, append-nil, length_push, get_or-map, take_more}
-use Rattle.std.proofs.lemmas.Result.{err_from_is_err_and}
+use Rattle.std.proofs.lemmas.List.{append-nil}
 use Rattle.std.specs.Bool.{◌==◌}
-use Rattle.std.proofs.lemmas.Bool.Decides.{nat_tests}
-use Rattle.std.proofs.lemmas.List.Elements.{filter-append}
-use Rattle.std.proofs.lemmas.Option.{slice_get-get_or}
 use Rattle.std.proofs.lemmas.Slice.Zip.{all_zipped_more}
-use Rattle.std.specs.List.{slice_split}
-use Rattle.std.specs.Option.{option_to_list}
 use Rattle.std.specs.Str.Lines.{strip_carriage_return}
-use Rattle.hart_line.specs.declared.event.LineEvent.{LineEvent}
-use Rattle.hart_line.specs.declared.fault.LineFault.{LineFault}
-use Rattle.hart_line.specs.declared.fault.LineFault.TheVariants.{BadLine, Memory, Undetected}
+use Rattle.hart_line.specs.declared.fault.LineFault.TheVariants.{Memory}
 use Rattle.hart_line.specs.script.Lines.{lines_of, words_of}
 use Rattle.hart_line.specs.script.Rows.{AreEvents, IsNeededByText, IsScriptFault, Says, SaysLine, is_skipped, lines_in_words}
 use Rattle.hart_line.proofs.script.read_script.Goals.{After-without_return}

@@ -1,6 +1,4 @@
-use Rattle.std.proofs.Common.{arith, None, refl}
-use Rattle.std.proofs.lemmas.Result.{err_from_is_err_and}
-use Rattle.hart_line.specs.declared.event.Heard.TheVariants.{Chars}
+use Rattle.hart_line.proofs.Common.{arith, None, refl, err_from_is_err_and, Chars}
 use Rattle.hart_line.specs.world.Step.{replied}
 use Rattle.hart_line.proofs.lemmas.line.Leg.{noise_answers}
 use Rattle.hart_line.proofs.lemmas.line.Turn.{answered, replied_stands}

@@ -1,5 +1,4 @@
-use Rattle.std.proofs.Common.{inl}
-use Rattle.std.proofs.lemmas.Result.{err_from_is_err_and}
+use Rattle.hart_line.proofs.Common.{inl, err_from_is_err_and}
 use Rattle.hart_line.proofs.line.logged.run_logged.Goals as goal
 
 pub returns-in_err-outcomes-clause-fault : goal.returns-in_err-outcomes-clause-fault

@@ -1,4 +1,4 @@
-use Rattle.std.proofs.Common.{arith}
+use Rattle.hart_line.proofs.Common.{arith}
 use Rattle.hart_line.proofs.lemmas.line.Log.{spoken_within}
 use Rattle.std.proofs.lemmas.Slice.Zip.{AllZip-long}
 use Rattle.hart_line.specs.world.Promises.{start_from}

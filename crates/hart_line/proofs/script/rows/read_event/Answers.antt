@@ -1,8 +1,5 @@
-use Rattle.std.proofs.Common.{codes, arith, rules, ◌≡◌, ℕ, List, ◌∷◌, Option, None, Some, Result}
+use Rattle.hart_line.proofs.Common.{codes, arith, rules, ◌≡◌, ℕ, List, ◌∷◌, Option, None, Some, Result, ok_or, LineEvent, RowFault}
 use Rattle.std.proofs.lemmas.Slice.Eq.{text_from_reads}
-use Rattle.std.specs.Option.{ok_or}
-use Rattle.hart_line.specs.declared.event.LineEvent.{LineEvent}
-use Rattle.hart_line.specs.declared.script.rows.RowFault.{RowFault}
 use Rattle.hart_line.specs.declared.script.rows.RowFault.TheVariants.{Bad}
 use Rattle.hart_line.specs.script.Lines.{words_of}
 use Rattle.hart_line.specs.script.Rows.{ReadsWords, Says}

@@ -1,6 +1,4 @@
-use Rattle.std.proofs.Common.{codes, arith, rules, ◌≡◌, ℕ, List, [], ◌∷◌, refl}
-use Rattle.std.proofs.lemmas.Result.{err_from_is_err_and}
-use Rattle.hart_line.specs.declared.event.Heard.TheVariants.{Chars, Clean, Lost}
+use Rattle.hart_line.proofs.Common.{codes, arith, rules, ◌≡◌, ℕ, List, [], ◌∷◌, refl, err_from_is_err_and, Chars, Clean, Lost}
 use Rattle.hart_line.specs.script.Items.{IsItemsWord}
 use Rattle.hart_line.specs.script.Rows.{IsLegWord}
 use Rattle.hart_line.specs.script.Words.{HasNoValue}

@@ -1,8 +1,5 @@
-use Rattle.std.proofs.Common.{codes, arith, ◌≡◌, ℕ, List, [], ◌∷◌, Err, refl, subst, sym}
-use Rattle.std.proofs.lemmas.Result.{err_from_is_err_and}
+use Rattle.hart_line.proofs.Common.{codes, arith, ◌≡◌, ℕ, List, [], ◌∷◌, Err, refl, subst, sym, err_from_is_err_and, Noise, RowFault}
 use Rattle.hart_line.specs.script.Items.{IsItemsWord}
-use Rattle.hart_line.specs.declared.event.LineEvent.TheVariants.{Noise}
-use Rattle.hart_line.specs.declared.script.rows.RowFault.{RowFault}
 use Rattle.hart_line.specs.script.Rows.{ReadsWords, Says}
 use Rattle.hart_line.specs.script.Words.{HasNoValue}
 use Rattle.hart_line.proofs.lemmas.script.Rows.{fault_of_word}
