@@ -33,7 +33,7 @@ ghost use Rattle.hart_c.specs.Master.{AcceptOutcome};
 ghost use Rattle.hart_c.specs.Names.{NameOutcome, field_name};
 
 use hart_commands::laws::{read_data_begin_as_written, written_payloads_are_read_again};
-use hart_device::bytes_have_one_image_fault;
+use hart_device::laws::bytes_have_one_image_fault;
 use hart_frame::laws::{bytes_have_one_fault, messages_are_short};
 
 /// Whoever passes what is not used up again, with what comes after it, is given all frames of all that was heard, and no others, in

@@ -6,9 +6,8 @@ ghost use Rattle.hart_cli.specs.ImageWord.{HasImageFault, HasNoDevice, IsDeviceO
 ghost use Rattle.hart_cli.specs.declared.fault.CliFault.{CliFault};
 
 use crate::fault::CliFault;
-use hart_device::{
-    Device, ImageRegisters, bench, bytes_have_one_image_fault, images_have_one_state,
-};
+use hart_device::laws::{bytes_have_one_image_fault, images_have_one_state};
+use hart_device::{Device, ImageRegisters, bench};
 use hart_line::{NoRoom, reserved};
 use hex::FromHexError;
 use std::alloc::Global;

@@ -2,8 +2,8 @@
 ghost use Rattle.std.specs.Prelude.{◌≡◌, ◌≤◌, ◌↔◌, length, false, true, IsSome, IsTrue, IfSome, MatchOption, None, Ok};
 ghost use Rattle.hart_commands.specs.ReplyData.{reply_payload};
 ghost use Rattle.hart_device.specs.Device.{after};
-ghost use Rattle.hart_device.specs.answer.Answer.{answer_of, asked_effect, is_addressed, is_answered, is_answered_with, is_paired};
-ghost use Rattle.hart_device.specs.answer.Answer.{judged_of, names_another, reply_of, reply_with, state_after};
+ghost use Rattle.hart_device.specs.answer.Answer.{answer_of, asked_effect, code_of, is_addressed, is_answered, is_paired};
+ghost use Rattle.hart_device.specs.answer.Answer.{judged_of, names_another, reading_of, reply_of, reply_with, state_after};
 ghost use Rattle.hart_device.specs.answer.Delivery.{Brings, Brought, answer_to, state_after_delivery};
 ghost use Rattle.hart_device.specs.answer.Garbled.{HasGarbled, garbled_reply};
 ghost use Rattle.hart_device.specs.declared.answer.garbled.GarbledRequest.{GarbledRequest};
@@ -124,14 +124,16 @@ impl<S: RegisterStore> Device<S> {
         }
     }
 
-    /// Whether the device answers a frame that is read so and has this code.
+    /// Whether the device answers a frame, which is read so and has this code.
     fn answers(
         &self,
         frame: &Frame,
         reading: &Result<Request, ResponseCode>,
         code: ResponseCode,
     ) -> bool
-        ensures { result ≡ is_answered_with self.now frame.now reading.now code }
+        requires reading { reading.now ≡ reading_of frame.now }
+        requires code { code ≡ code_of self.now frame.now }
+        ensures { result ≡ is_answered self.now frame.now }
     {
         self.is_addressed(frame)
             && !self.names_another(reading)

@@ -13,10 +13,10 @@
 //! assert_eq!(rt; reply.payload(), [0, 0, 0, 1].as_slice());
 //! ```
 //!
-//! The program `hart` has the device of [`bench`]; [`Identity::new`] and [`RegisterStore`] are for devices of one's own. The laws
-//! [`overwrites_absorb`], [`frames_leave_identity_and_protection`], [`cold_starts_are_shown_once`], [`garbled_requests_are_decided`]
-//! and [`devices_are_kept_whole`] no crate of `hart` cites: they are for whoever proves more of a device, and the last one for whoever
-//! keeps a device as bytes. No call of this crate takes memory.
+//! The program `hart` has the device of [`bench`]; [`Identity::new`] and [`RegisterStore`] are for devices of one's own. Of its [`laws`]
+//! no crate of `hart` cites `overwrites_absorb`, `frames_leave_identity_and_protection`, `cold_starts_are_shown_once`,
+//! `garbled_requests_are_decided` and `devices_are_kept_whole`: they are for whoever proves more of a device, and the last one for
+//! whoever keeps a device as bytes. No call of this crate takes memory.
 //!
 //! At the root stand what a device is and what it is made with. The rooms:
 //!
@@ -32,7 +32,7 @@ mod fault;
 mod identity;
 mod identity_parts;
 mod image;
-mod laws;
+pub mod laws;
 mod process;
 mod registers;
 
@@ -42,14 +42,6 @@ pub use fault::DeviceFault;
 pub use identity::Identity;
 pub use identity_parts::IdentityParts;
 pub use image::Image;
-pub use laws::{
-    answers_are_replies, answers_give_their_code, bytes_have_one_image_fault,
-    cold_starts_are_shown_once, deliveries_bring_one, devices_are_kept_whole,
-    frames_leave_identity_and_protection, garbled_requests_are_decided, images_have_no_fault,
-    images_have_one_state, overwrites_absorb, processes_are_well_made,
-    refused_commands_change_nothing, registers_of_lists, resets_name_this_counter,
-    whole_requests_have_the_form_of_garbled_ones, writes_execute_their_overwrite,
-};
 pub use process::{OutputValues, Process, ProcessVariable};
 pub use registers::RegisterStore;
 pub use registers::field_registers::FieldRegisters;

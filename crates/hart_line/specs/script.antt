@@ -1,6 +1,5 @@
 -- Scripts: texts of lines that say events.
 pub mod Items
-pub mod ItemWords
 pub mod Digits
 pub mod Words
 pub mod Lines

@@ -1,5 +1,5 @@
 //! Laws over the definitions alone, for the crates above.
-ghost use Rattle.std.specs.Prelude.{◌≡◌, ◌≢◌, ◌<◌, ◌≤◌, ◌^◌, ◌↔◌, [], List, ℕ, Some};
+ghost use Rattle.std.specs.Prelude.{◌≡◌, ◌<◌, ◌≤◌, ◌^◌, [], List, ℕ, Some};
 ghost use Rattle.std.specs.List.{AllPass};
 ghost use Rattle.hart_values.specs.declared.address.Address.{Address};
 ghost use Rattle.hart_values.specs.declared.address.Address.TheVariants.{Unique};
@@ -11,8 +11,7 @@ ghost use Rattle.hart_device.specs.Identity.{AreIdentityParts, identity_content,
 ghost use Rattle.hart_device.specs.answer.Answer.{after_refusal};
 ghost use Rattle.hart_device.specs.declared.identity_parts.IdentityParts.{IdentityParts};
 ghost use Rattle.hart_master.specs.Unique.{unique_in};
-ghost use Rattle.hart_line.specs.script.ItemWords.{AreItems};
-ghost use Rattle.hart_line.specs.script.Items.{items_word_of};
+ghost use Rattle.hart_line.specs.script.Items.{AreItems};
 ghost use Rattle.hart_line.specs.script.Rows.{HasFirstBadLine, IsScript, IsScriptFault, is_skipped, lines_in_words};
 ghost use Rattle.hart_line.specs.script.Words.{IsAddressWord, IsCommandWord, IsDataWord, IsWho};
 ghost use Rattle.hart_line.specs.world.Faults.{AreAllDetected, IsFault, IsNotDetectable};
@@ -29,18 +28,13 @@ ghost use Rattle.hart_line.specs.declared.memory.NoRoom.{NoRoom};
 
 use crate::Log;
 
-/// A word is that of one master, of one address, of one command and of one list of data at most.
+/// A word is that of one master, of one address, of one command, of one list of data and of one list of characters at most.
 pub fn words_have_one_value()
     ensures who { (word : List ℕ) (m n : MasterId) → IsWho word m → IsWho word n → m ≡ n }
     ensures address { (word : List ℕ) (m n : Address) → IsAddressWord word m → IsAddressWord word n → m ≡ n }
     ensures command { (word : List ℕ) (m n : ℕ) → IsCommandWord word m → IsCommandWord word n → m ≡ n }
     ensures payload { (word xs ys : List ℕ) → IsDataWord word xs → IsDataWord word ys → xs ≡ ys }
-{}
-
-/// A word has these characters exactly if it is not empty and some valid items spell it, one after another, which mean these characters.
-pub fn words_have_the_characters_of_their_items()
-    ensures { (word : List ℕ) (chars : List Character)
-        → (items_word_of word ≡ Some chars) ↔ ((word ≢ []) × AreItems word chars) }
+    ensures items { (word : List ℕ) (xs ys : List Character) → AreItems word xs → AreItems word ys → xs ≡ ys }
 {}
 
 /// The lines of a text say one script at most, a text has one first bad line at most, and none if it is a script.

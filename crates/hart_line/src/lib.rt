@@ -28,7 +28,7 @@ mod event;
 mod fault;
 mod fault_text;
 mod filling;
-mod laws;
+pub mod laws;
 mod line;
 mod memory;
 mod plain_list;
@@ -38,11 +38,6 @@ pub use event::{Heard, LineEvent};
 pub use fault::{Leg, LineFault};
 pub use fault_text::FaultText;
 pub use filling::Filling;
-pub use laws::{
-    empty_scripts_need_no_room, identities_give_their_address, refused_turns_change_nothing,
-    scripts_have_one_last_world, scripts_keep_their_promises, texts_have_one_script,
-    words_have_one_value, words_have_the_characters_of_their_items,
-};
 pub use line::log::Log;
 pub use line::logged::run_logged;
 pub use line::report::{Ending, Outcome, Outcomes, Party, Report, Spoken, SpokenList};

@@ -5,12 +5,11 @@ ghost use Rattle.hart_values.specs.EachMaster.{of_master};
 ghost use Rattle.hart_commands.specs.RequestData.{IsRequest};
 ghost use Rattle.hart_device.specs.Device.{IsDevice};
 ghost use Rattle.hart_line.specs.line.Room.{HasRoomFor, LeavesRoom};
-ghost use Rattle.hart_line.specs.line.Line.{Stands, Stepped};
-ghost use Rattle.hart_line.specs.world.Faults.{HasUndetected};
+ghost use Rattle.hart_line.specs.line.Line.{Stands, StepsOn, StopsAt};
 ghost use Rattle.hart_line.specs.world.Promises.{AreWellMade};
 ghost use Rattle.hart_line.specs.world.Spoken.{frame_if, party_of};
 ghost use Rattle.hart_line.specs.world.Step.{submission_fault, submitted};
-ghost use Rattle.hart_line.specs.world.World.{Start, World, MarksWithin};
+ghost use Rattle.hart_line.specs.world.World.{Start, World};
 ghost use Rattle.hart_line.specs.declared.event.LineEvent.TheVariants.{Noise, Submit, Turn};
 
 use crate::line::event_frames::EventFrames;
@@ -146,10 +145,8 @@ impl<S: RegisterStore> Line<S> {
     /// The leg whose damage is undetected, if there is one.
     pub fn step(&mut self, event: &LineEvent, process: &Process) -> Result<(), Undetected>
         requires room { HasRoomFor (event.now ∷ []) self.old }
-        ensures stepped { OnOk result ((start : Start) (world : World) → start.process ≡ process.now → MarksWithin world
-            → Stands start world self.old → Stepped start world event.now self.new) }
-        ensures stopped { IfErr result (λ damage. (start : Start) (world : World) → start.process ≡ process.now
-            → Stands start world self.old → HasUndetected start world event.now damage.leg) }
+        ensures stepped { OnOk result (StepsOn process.now event.now self.old self.new) }
+        ensures stopped { IfErr result (λ damage. StopsAt process.now event.now self.old damage.leg) }
         ensures well_made { OnOk result (AreWellMade (event.now ∷ [])) }
         ensures room { OnOk result (LeavesRoom event.now self.old self.new) }
     {
@@ -190,10 +187,8 @@ impl<S: RegisterStore> Line<S> {
         process: &Process,
     ) -> Result<(), Undetected>
         requires room { HasRoomFor (Turn who up.now down.now ∷ []) self.old }
-        ensures stepped { OnOk result ((start : Start) (world : World) → start.process ≡ process.now → MarksWithin world
-            → Stands start world self.old → Stepped start world (Turn who up.now down.now) self.new) }
-        ensures stopped { IfErr result (λ damage. (start : Start) (world : World) → start.process ≡ process.now
-            → Stands start world self.old → HasUndetected start world (Turn who up.now down.now) damage.leg) }
+        ensures stepped { OnOk result (StepsOn process.now (Turn who up.now down.now) self.old self.new) }
+        ensures stopped { IfErr result (λ damage. StopsAt process.now (Turn who up.now down.now) self.old damage.leg) }
         ensures room { OnOk result (LeavesRoom (Turn who up.now down.now) self.old self.new) }
     {
         let is_sent = self.masters.send(who, &mut self.request);
@@ -212,10 +207,8 @@ impl<S: RegisterStore> Line<S> {
     /// Noise, which the device and both masters hear; they hear the device's answer to it without damage.
     fn hear_noise(&mut self, chars: &[Char], process: &Process) -> Result<(), Undetected>
         requires room { HasRoomFor (Noise chars.now ∷ []) self.old }
-        ensures stepped { OnOk result ((start : Start) (world : World) → start.process ≡ process.now
-            → Stands start world self.old → Stepped start world (Noise chars.now) self.new) }
-        ensures stopped { IfErr result (λ damage. (start : Start) (world : World) → start.process ≡ process.now
-            → Stands start world self.old → HasUndetected start world (Noise chars.now) damage.leg) }
+        ensures stepped { OnOk result (StepsOn process.now (Noise chars.now) self.old self.new) }
+        ensures stopped { IfErr result (λ damage. StopsAt process.now (Noise chars.now) self.old damage.leg) }
         ensures room { OnOk result (LeavesRoom (Noise chars.now) self.old self.new) }
     {
         let reply = &mut self.reply;

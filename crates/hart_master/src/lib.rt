@@ -21,13 +21,12 @@ mod acceptance;
 mod event;
 mod fault;
 mod hand;
-mod laws;
+pub mod laws;
 mod master;
 mod pairing;
 mod unique;
 
 pub use event::MasterEvent;
 pub use fault::{MasterFault, Rejected};
-pub use laws::{acceptance_is_decided, communication_faults_are_no_reply, replies_are_decided};
 pub use master::Master;
 pub use unique::unique_of;

@@ -62,15 +62,12 @@ names_another state (Ok (IdentifyByTag tag)) = not (bytes_eq state.contents.tag 
 names_another state (Ok (IdentifyByLongTag long_tag)) = not (bytes_eq state.contents.long_tag long_tag)
 names_another state _ = false
 
--- A frame that is read so and has this code is answered if it is for the device, names no other device by its tag or long tag, and
--- did not come by broadcast with another code than 0.
-abbrev pub is_answered_with : DeviceState → FrameParts → Reading → ℕ → Bool
-is_answered_with state frame reading code =
-    is_addressed state frame && not (names_another state reading) && not (is_broadcast frame.address && not (code == 0))
-
--- A frame is answered, with what its data are read as and the code that it has in this state.
+-- A frame is answered if it is for the device, names no other device by its tag or long tag, and did not come by broadcast with
+-- another code than 0.
 abbrev pub is_answered : DeviceState → FrameParts → Bool
-is_answered state frame = is_answered_with state frame (reading_of frame) (code_of state frame)
+is_answered state frame =
+    is_addressed state frame && not (names_another state (reading_of frame))
+    && not (is_broadcast frame.address && not (code_of state frame == 0))
 
 -- An overwrite is executed; no overwrite is no effect.
 abbrev pub executed : Option Overwrite → Effect
@@ -104,19 +101,37 @@ after_refusal state frame = record state {
   cold_start = if is_answered state frame then with_master frame.master false state.cold_start else state.cold_start;
 }
 
+-- What a reply says of a request that is read so, if it has code 0.
+abbrev pub asked_content : DeviceState → Process → Reading → ReplyContent
+asked_content state process (Ok request) = reply_content state process request
+asked_content state process (Err code) = Refused
+
+-- What the device replies to a frame that it answers: the code of the frame; and the status and, with code 0, what was asked, by the state
+-- after the command. With another code it says nothing else. So a reply shows the cold start bit that it clears.
+abbrev pub reply_of : DeviceState → Process → FrameParts → Reply
+reply_of state process frame = record {
+  command = frame.command;
+  code = code_of state frame;
+  status = record { 0 = device_status (after_command state frame) process frame.master };
+  content =
+      if code_of state frame == 0 then asked_content (after_command state frame) process (reading_of frame) else Refused;
+}
+
+-- The device's answer to a frame: silence, or an ACK with its reply.
+abbrev pub answer_of : DeviceState → Process → FrameParts → Option FrameParts
+answer_of state process frame =
+    if is_answered state frame then Some (reply_parts frame (reply_payload (reply_of state process frame))) else None
+
+-- For private calls alone: a frame and its code in one.
+
 -- What a frame that is answered comes to: with code 0 the request that it asks, and with another code its refusal with that.
 abbrev pub judged_of : DeviceState → FrameParts → Reading
 judged_of state frame = if code_of state frame == 0 then reading_of frame else Err (code_of state frame)
 
--- A reply to a request that is carried out has code 0, and one to a refused request the code that refuses it.
+-- The code of a frame that is judged so.
 abbrev pub judged_code : Reading → ℕ
 judged_code (Ok request) = 0
 judged_code (Err code) = code
-
--- With code 0 a reply says what was asked, and with another code nothing.
-abbrev pub judged_content : DeviceState → Process → Reading → ReplyContent
-judged_content state process (Ok request) = reply_content state process request
-judged_content state process (Err code) = Refused
 
 -- The reply to a frame that is judged so, by a device that is in this state after the command.
 abbrev pub reply_with : DeviceState → Process → FrameParts → Reading → Reply
@@ -124,15 +139,5 @@ reply_with state process frame judged = record {
   command = frame.command;
   code = judged_code judged;
   status = record { 0 = device_status state process frame.master };
-  content = judged_content state process judged;
+  content = asked_content state process judged;
 }
-
--- What the device replies to a frame that it answers: the status and the data are those of the state after the command. So a reply shows
--- the cold start bit that it clears.
-abbrev pub reply_of : DeviceState → Process → FrameParts → Reply
-reply_of state process frame = reply_with (after_command state frame) process frame (judged_of state frame)
-
--- The device's answer to a frame: silence, or an ACK with its reply.
-abbrev pub answer_of : DeviceState → Process → FrameParts → Option FrameParts
-answer_of state process frame =
-    if is_answered state frame then Some (reply_parts frame (reply_payload (reply_of state process frame))) else None

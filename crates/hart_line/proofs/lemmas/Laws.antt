@@ -1,15 +1,7 @@
 -- The laws of scripts and of their worlds, for the proofs of this crate and of those above.
-use Rattle.std.proofs.Common.{arith, length, take, refl, ◌≡◌, ◌<◌, ◌≤◌, ◌^◌, ℕ, List}
-use Rattle.std.proofs.Math.Nat.{mod-eq_of_lt}
-use Rattle.std.proofs.lemmas.Grind.{common_steps}
-use Rattle.std.proofs.lemmas.List.{take_all}
-use Rattle.std.proofs.lemmas.Option.{slice_get_within}
-use Rattle.hart_device.specs.answer.Answer.{after_refusal}
-use Rattle.hart_device.proofs.lemmas.Laws.{registers_of_lists-none}
-use Rattle.hart_line.specs.declared.event.LineEvent.{LineEvent}
-use Rattle.hart_line.specs.declared.fault.Leg.{Leg}
-use Rattle.hart_line.specs.declared.fault.LineFault.{LineFault}
-use Rattle.hart_line.specs.declared.fault.LineFault.TheVariants.{Undetected}
+use Rattle.hart_line.proofs.Common.{arith, length, take, refl, ◌≡◌, ◌<◌, ◌≤◌, ◌^◌, ℕ, List, mod-eq_of_lt, common_steps, take_all}
+use Rattle.hart_line.proofs.Common.{slice_get_within, after_refusal, registers_of_lists-none, LineEvent, Leg, LineFault, Undetected, Spoken}
+use Rattle.hart_line.proofs.Common.{Outcome, DeviceState}
 use Rattle.hart_line.specs.world.Faults.{AreAllDetected, IsFault, IsNotDetectable}
 use Rattle.hart_line.specs.world.Kept.{KeepsPromises}
 use Rattle.hart_line.specs.world.Promises.{AreWellMade, IsRefusedByDevice, IsWellMadeStart}
@@ -21,10 +13,10 @@ use Rattle.hart_line.proofs.lemmas.world.Reset.{refused_last, refused_step, unse
 use Rattle.hart_line.proofs.lemmas.world.Submitted.{executed_at_most}
 use Rattle.hart_line.proofs.lemmas.world.Written.{answered_executed, registers_last, step_stays, turn_executed}
 use Rattle.hart_line.proofs.lemmas.world.Steps.{same_state}
+pub use Rattle.hart_line.proofs.lemmas.script.Items.{words_have_one_value-items}
+pub use Rattle.hart_line.proofs.lemmas.script.Rows.{texts_have_one_script-no_bad_line, texts_have_one_script-one_bad_line}
+pub use Rattle.hart_line.proofs.lemmas.script.Rows.{texts_have_one_script-one_script}
 use Rattle.hart_line.specs.world.Led.{Led}
-use Rattle.hart_line.specs.declared.line.report.Spoken.{Spoken}
-use Rattle.hart_line.specs.declared.line.report.Outcome.{Outcome}
-use Rattle.hart_device.specs.Device.{DeviceState}
 
 pub scripts_have_one_last_world-one_world : (start : Start) (events : List LineEvent) (a b : World)
     → IsLast start events a → IsLast start events b → a ≡ b

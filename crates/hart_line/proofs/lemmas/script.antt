@@ -1,3 +1,3 @@
 -- Scripts: texts of lines that say events.
 pub mod Items
-pub mod ItemWords
+pub mod Rows

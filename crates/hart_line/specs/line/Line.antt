@@ -1,11 +1,14 @@
 -- The line as one value, as the world of a script has it, for private calls alone (own profile).
 use Rattle.std.specs.Prelude.{◌≡◌, ℕ, List}
 use Rattle.hart_device.specs.Device.{DeviceState}
+use Rattle.hart_device.specs.declared.process.Process.{Process}
 use Rattle.hart_line.specs.line.Masters.{AreHeld}
+use Rattle.hart_line.specs.world.Faults.{HasUndetected}
 use Rattle.hart_line.specs.world.Spoken.{AreSpoken}
 use Rattle.hart_line.specs.world.Step.{Step}
-use Rattle.hart_line.specs.world.World.{Start, World, state_of}
+use Rattle.hart_line.specs.world.World.{MarksWithin, Start, World, state_of}
 use Rattle.hart_line.specs.declared.event.LineEvent.{LineEvent}
+use Rattle.hart_line.specs.declared.fault.Leg.{Leg}
 use Rattle.hart_line.specs.declared.line.masters.Masters.{Masters}
 use Rattle.hart_line.specs.declared.line.report.Outcome.{Outcome}
 use Rattle.hart_line.specs.declared.line.report.Spoken.{Spoken}
@@ -34,3 +37,13 @@ pub record Stepped (start : Start) (world : World) (event : LineEvent) (line : L
   pub next : World
   pub step : Step start world event next
   pub stands : Stands start next line
+
+-- Whichever world a line stood for, an event in which the device is handed this process leads on from it, and the line stands for the next.
+abbrev pub StepsOn : Process → LineEvent → LineState → LineState → Type 0
+StepsOn process event old new = (start : Start) (world : World) → start.process ≡ process → MarksWithin world → Stands start world old
+    → Stepped start world event new
+
+-- Whichever world a line stands for, this leg of the event has undetected damage in it.
+abbrev pub StopsAt : Process → LineEvent → LineState → Leg → Type 0
+StopsAt process event line leg = (start : Start) (world : World) → start.process ≡ process → Stands start world line
+    → HasUndetected start world event leg

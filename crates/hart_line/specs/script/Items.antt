@@ -1,8 +1,6 @@
 -- Texts of hex items (own profile): an item is two hex digits, after which a `!` and two more hex digits may give fault bits.
-use Rattle.std.specs.Prelude.{◌≡◌, ◌≢◌, ℕ, ◌+◌, ◌*◌, ◌&&◌, ◌==◌, nat_lt, if◌then◌else◌, Bool, List, [], ◌∷◌, ◌++◌, length, unwrap_or}
-use Rattle.std.specs.Prelude.{IsTrue, Option, None, Some, option_map, ⊤}
-use Rattle.std.specs.Int.{bit_at}
-use Rattle.std.specs.List.{list_all}
+use Rattle.std.specs.Prelude.{◌≡◌, ◌≢◌, ℕ, ◌+◌, ◌*◌, List, [], ◌∷◌, ◌++◌, length, map, unwrap_or, IsTrue, ⊤}
+use Rattle.std.specs.List.{AllByRecursion, flat_map}
 use Rattle.hart_frame.specs.heard.Character.{AreFaultBits, Character}
 use Rattle.hex.specs.Hex.{hex_digit_value, is_hex_digit}
 
@@ -57,35 +55,16 @@ pub record BeginsWithItem (text : List ℕ) (item : Item) (tail : List ℕ) : Ty
 abbrev pub NoItemBegins : List ℕ → Type 0
 NoItemBegins text = (item : Item) (tail : List ℕ) → BeginsWithItem text item tail → ⊥
 
--- Whether a byte of fault bits has one at least, and none but those that there are: bits 0, 2, 3 and 7 are none.
-abbrev pub are_some_fault_bits : ℕ → Bool
-are_some_fault_bits faults =
-    nat_lt 0 faults && nat_lt faults 256 && list_all (λ bit. bit_at faults bit == 0) (0 ∷ 2 ∷ 3 ∷ 7 ∷ [])
+-- A word is items end to end: some valid items spell it, one after another, and these characters are what they mean.
+pub record AreItems (word : List ℕ) (chars : List Character) : Type 0 where
+  pub items : List Item
+  pub valid : AllByRecursion IsValidItem items
+  pub spelled : word ≡ flat_map item_spelling items
+  pub means : chars ≡ map item_meaning items
 
--- Whether an item is valid.
-abbrev pub is_valid_item : Item → Bool
-is_valid_item (Plain high low) = is_hex_digit high && is_hex_digit low
-is_valid_item (Faulty high low fault_high fault_low) =
-    is_hex_digit high && is_hex_digit low && is_hex_digit fault_high && is_hex_digit fault_low
-    && are_some_fault_bits (byte_of fault_high fault_low)
-
--- An item before characters adds its own, if it is valid.
-abbrev pub item_before : Item → Option (List Character) → Option (List Character)
-item_before item chars = if is_valid_item item then option_map (λ more. item_meaning item ∷ more) chars else None
-
--- The characters of a text that is items end to end: an item has two bytes, or five if a `!`, which is the byte 33, stands third.
-unfoldable pub items_of : List ℕ → Option (List Character)
-items_of [] = Some []
-items_of (high ∷ []) = None
-items_of (high ∷ low ∷ mark ∷ fault_high ∷ fault_low ∷ rest) =
-    if mark == 33 then item_before (Faulty high low fault_high fault_low) (items_of rest)
-    else item_before (Plain high low) (items_of (mark ∷ fault_high ∷ fault_low ∷ rest))
-items_of (high ∷ low ∷ rest) = item_before (Plain high low) (items_of rest)
-
--- A word has the characters of its items, if it has an item at least.
-abbrev pub items_word_of : List ℕ → Option (List Character)
-items_word_of [] = None
-items_word_of (byte ∷ word) = items_of (byte ∷ word)
+-- A word gives these characters if it is not empty, and is items end to end that mean them.
+abbrev pub IsItemsWord : List ℕ → List Character → Type 0
+IsItemsWord word chars = (word ≢ []) × AreItems word chars
 
 -- A text begins with an item of this length, which means this character.
 pub record BeginsAsItem (text : List ℕ) (char : Character) (len : ℕ) : Type 0 where

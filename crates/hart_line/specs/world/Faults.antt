@@ -1,12 +1,12 @@
 -- Why a script is not carried out (own profile).
-use Rattle.std.specs.Prelude.{◌≡◌, List, [], ◌∷◌, take, slice_get, Option, None, Some}
+use Rattle.std.specs.Prelude.{◌≡◌, List, ◌∷◌, ◌++◌, take, slice_get, Option, None, Some}
 use Rattle.hart_frame.specs.wire.FrameParts.{FrameParts}
 use Rattle.hart_values.specs.EachMaster.{of_master}
 use Rattle.hart_device.specs.answer.Delivery.{Brought}
 use Rattle.hart_line.specs.world.Damage.{Arrives, IsDetectable, IsUndetected, Reaches}
 use Rattle.hart_line.specs.world.Needs.{IsNeededBy}
 use Rattle.hart_line.specs.world.Spoken.{SpokenFrame}
-use Rattle.hart_line.specs.world.Step.{IsLast, Step, sent_back, sent_by}
+use Rattle.hart_line.specs.world.Step.{IsLast, LeadsTo, sent_back, sent_by}
 use Rattle.hart_line.specs.world.World.{Start, World}
 use Rattle.hart_line.specs.declared.event.Heard.{Heard}
 use Rattle.hart_line.specs.declared.event.Heard.TheVariants.{Chars}
@@ -26,10 +26,14 @@ HeardIn start world (Turn who up down) legs.Down heard sent = (heard ≡ down) �
 HeardIn start world (Noise chars) legs.Noise heard sent = (heard ≡ Chars chars) × (sent ≡ None)
 HeardIn start world _ _ heard sent = ⊥
 
--- A leg has undetected damage if what is heard in it is undetected damage of what was sent in it.
+-- A leg has damage of a kind if what is heard in it is such damage of what was sent in it.
+abbrev pub HasDamage : (Heard → Option SpokenFrame → Type 0) → Start → World → LineEvent → Leg → Type 0
+HasDamage IsDamage start world event leg =
+    (heard : Heard) × (sent : Option SpokenFrame) × HeardIn start world event leg heard sent × IsDamage heard sent
+
+-- A leg has undetected damage.
 abbrev pub HasUndetected : Start → World → LineEvent → Leg → Type 0
-HasUndetected start world event leg =
-    (heard : Heard) × (sent : Option SpokenFrame) × HeardIn start world event leg heard sent × IsUndetected heard sent
+HasUndetected = HasDamage IsUndetected
 
 -- The fault of a script is undetected damage in a leg of an event, the events being numbered from 0, if no event before it has
 -- any; or refused memory for as many items as the events need room for. A bad line is a fault of a text, never of events.
@@ -39,10 +43,9 @@ IsFault start events (Undetected number leg) = (world : World) × (event : LineE
 IsFault start events (Memory room) = IsNeededBy events room.items
 IsFault start events (BadLine line) = ⊥
 
--- What is heard in a leg is detectable, by what was sent in it. Noise never is, since nobody sends it.
+-- What is heard in a leg is detectable. Noise never is, since nobody sends it.
 abbrev pub HasDetectable : Start → World → LineEvent → Leg → Type 0
-HasDetectable start world event leg =
-    (heard : Heard) × (sent : Option SpokenFrame) × HeardIn start world event leg heard sent × IsDetectable heard sent
+HasDetectable = HasDamage IsDetectable
 
 -- Undetected damage is in no leg in which what is heard is detectable.
 abbrev pub IsNotDetectable : Start → List LineEvent → LineFault → Type 0
@@ -56,8 +59,7 @@ abbrev pub LegsAreDetected : Start → World → LineEvent → Type 0
 LegsAreDetected start world event = (leg : Leg) (heard : Heard) (sent : Option SpokenFrame)
     → HeardIn start world event leg heard sent → (arrived : Option FrameParts) × Arrives heard sent arrived
 
--- The damage of each leg of these events is detected, one event after another.
+-- The damage of each leg of each of these events is detected, in each world that the events before it lead to from this one.
 abbrev pub AreAllDetected : Start → World → List LineEvent → Type 0
-AreAllDetected start world [] = Unit {0}
-AreAllDetected start world (event ∷ events) =
-    LegsAreDetected start world event × ((next : World) → Step start world event next → AreAllDetected start next events)
+AreAllDetected start from events = (prefix suffix : List LineEvent) (event : LineEvent) (world : World)
+    → events ≡ prefix ++ event ∷ suffix → LeadsTo start from prefix world → LegsAreDetected start world event

@@ -22,10 +22,10 @@ is_noise event = false
 abbrev pub most_spoken : List LineEvent → ℕ
 most_spoken events = 2 * count_by is_turn events + count_by is_noise events
 
--- Events need this room: for an outcome of each submission, or for the most frames that are spoken in them. Room for none is no need.
-abbrev pub IsNeededBy : List LineEvent → ℕ → Type 0
-IsNeededBy events items = (0 < items) × ((items ≡ count_by is_submission events) ⊎ (items ≡ most_spoken events))
-
--- Events whose spoken frames are noted in a log need room for an outcome of each submission alone.
+-- Events need room for an outcome of each submission. Room for none is no need.
 abbrev pub IsNeededForOutcomes : List LineEvent → ℕ → Type 0
 IsNeededForOutcomes events items = (0 < items) × (items ≡ count_by is_submission events)
+
+-- If what is spoken in events is kept, they need room for their outcomes, and for the most frames that are spoken in them.
+abbrev pub IsNeededBy : List LineEvent → ℕ → Type 0
+IsNeededBy events items = IsNeededForOutcomes events items ⊎ (0 < items) × (items ≡ most_spoken events)

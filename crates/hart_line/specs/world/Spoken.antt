@@ -1,5 +1,6 @@
 -- What is spoken on the line (HCF_SPEC-081).
 use Rattle.std.specs.Prelude.{◌≡◌, ℕ, Bool, true, false, List, [], ◌∷◌, ◌++◌, Option, None, Some}
+use Rattle.std.specs.List.{AllZip}
 use Rattle.hart_values.specs.declared.master_id.MasterId.{MasterId}
 use Rattle.hart_values.specs.declared.master_id.MasterId.TheVariants.{Primary, Secondary}
 use Rattle.hart_frame.specs.wire.Body.{IsBody}
@@ -51,7 +52,4 @@ Speaks (Some said) old new = (spoken : Spoken) × IsSpoken said spoken × (new �
 
 -- Spoken frames are put down one by one, in order.
 abbrev pub AreSpoken : List SpokenFrame → List Spoken → Type 0
-AreSpoken [] [] = Unit {0}
-AreSpoken [] (spoken ∷ others) = ⊥
-AreSpoken (said ∷ frames) [] = ⊥
-AreSpoken (said ∷ frames) (spoken ∷ others) = IsSpoken said spoken × AreSpoken frames others
+AreSpoken = AllZip IsSpoken

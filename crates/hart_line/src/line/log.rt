@@ -27,19 +27,24 @@ pub trait Log {
     ghost more: { (a b c : Self) (xs ys : List Spoken) → notes a xs b → notes b ys c → notes a (xs ++ ys) c };
 }
 
-/// A list keeps what is noted if there is room for all of it, and asks for no more room. Of one that is too short nothing is promised.
-impl Log for Filling<Spoken> {
+/// The log of a script whose spoken frames are kept: a list with room for all of them, so that it asks for none.
+#[derive(Drop)]
+pub(crate) struct KeptFrames {
+    pub frames: Filling<Spoken>,
+}
+
+impl Log for KeptFrames {
     ghost use Rattle.std.proofs.Common.{arith};
     ghost use Rattle.std.proofs.lemmas.Grind.{common_steps};
     ghost use Rattle.hart_line.specs.line.Log.{NotesWithin};
 
-    ghost notes = { λ old noted new. NotesWithin old noted new };
+    ghost notes = { λ old noted new. NotesWithin old.frames noted new.frames };
 
     ghost needs = { λ spoken items. ⊥ };
 
     fn note(&mut self, spoken: &Spoken) -> Result<(), NoRoom> {
-        if self.spare() > 0 {
-            self.push(spoken.copied());
+        if self.frames.spare() > 0 {
+            self.frames.push(spoken.copied());
         }
         Ok(())
     }

@@ -6,7 +6,7 @@ ghost use Rattle.hart_line.specs.line.Room.{IsRoomFor};
 ghost use Rattle.hart_line.specs.world.Faults.{IsNotDetectable};
 ghost use Rattle.hart_line.specs.world.Kept.{KeepsPromises};
 ghost use Rattle.hart_line.specs.world.Led.{Led};
-ghost use Rattle.hart_line.specs.world.Noted.{IsLoggedFault, IsNotingFault};
+ghost use Rattle.hart_line.specs.world.Noted.{AreCarriedOut, IsLoggedFault, IsNotingFault};
 ghost use Rattle.hart_line.specs.world.Promises.{start_from};
 ghost use Rattle.hart_line.specs.declared.line.report.Spoken.{Spoken};
 
@@ -15,7 +15,8 @@ use crate::line::log::Log;
 use crate::line::report::Ending;
 use crate::line::room::room_for_outcomes;
 use crate::{Filling, LineEvent, LineFault, Outcome};
-use hart_device::{Device, Process, RegisterStore, processes_are_well_made};
+use hart_device::laws::processes_are_well_made;
+use hart_device::{Device, Process, RegisterStore};
 use hart_master::Master;
 use std::alloc::Global;
 
@@ -44,7 +45,7 @@ pub fn run_logged<S: RegisterStore + Drop, L: Log>(
     ensures promises { IfOk result (λ ending.
         KeepsPromises (start_from device process.now primary secondary) events.now ending.device ending.outcomes) }
     // A fault names the first leg whose damage is undetected, and what was spoken before that event has been noted; or the outcomes that
-    // there is no room for, or the room that noting a spoken frame needs.
+    // there is no room for, and nothing has been noted; or the room that noting a spoken frame needs.
     ensures fault { let start = start_from device process.now primary secondary in
         IfErr result (IsLoggedFault L.needs (λ spoken. L.notes log.old spoken log.new) start events.now) }
     // No leg that is clean, lost, or marked or check damage of the message that was sent in it stops a script.
@@ -71,13 +72,10 @@ pub fn carry_out<S: RegisterStore + Drop, L: Log>(
     requires room { IsRoomFor events.now outcomes }
     requires primary { (primary.id ≡ Primary) × (primary.hand ≡ Empty) }
     requires secondary { (secondary.id ≡ Secondary) × (secondary.hand ≡ Empty) }
-    ensures led { let start = start_from device process.now primary secondary in IfOk result (λ ending.
-        (spoken : List Spoken) × Led start events.now ending.device ending.outcomes spoken × L.notes log.old spoken log.new) }
-    ensures promises { IfOk result (λ ending.
-        KeepsPromises (start_from device process.now primary secondary) events.now ending.device ending.outcomes) }
-    ensures fault { let start = start_from device process.now primary secondary in
-        IfErr result (IsNotingFault L.needs (λ spoken. L.notes log.old spoken log.new) start events.now) }
-    ensures detectable_damage_is_detected { IfErr result (IsNotDetectable (start_from device process.now primary secondary) events.now) }
+    ensures carried_out { IfOk result (λ ending. AreCarriedOut (λ spoken. L.notes log.old spoken log.new)
+        (start_from device process.now primary secondary) events.now ending.device ending.outcomes) }
+    ensures stopped { let start = start_from device process.now primary secondary in IfErr result (λ fault.
+        IsNotingFault L.needs (λ spoken. L.notes log.old spoken log.new) start events.now fault × IsNotDetectable start events.now fault) }
 {
     // A no-op: its contract says that the process is well made.
     processes_are_well_made(process);

@@ -7,6 +7,7 @@ ghost use Rattle.hart_line.specs.world.Kept.{KeepsPromises};
 ghost use Rattle.hart_line.specs.world.Led.{Led};
 ghost use Rattle.hart_line.specs.world.Promises.{start_from};
 
+use crate::line::log::KeptFrames;
 use crate::line::logged::carry_out;
 use crate::line::report::Ending;
 use crate::line::room::{room_for_all_spoken, room_for_outcomes};
@@ -52,20 +53,15 @@ pub fn run<S: RegisterStore + Drop>(
     ensures detectable_damage_is_detected { IfErr result (IsNotDetectable (start_from device process.now primary secondary) events.now) }
 {
     let outcomes = room_for_outcomes(alloc, events)?;
-    let mut spoken = room_for_all_spoken(alloc, events)?;
+    let frames = room_for_all_spoken(alloc, events)?;
+    let mut kept = KeptFrames { frames };
     let ending = carry_out(
-        outcomes,
-        device,
-        primary,
-        secondary,
-        events,
-        process,
-        &mut spoken,
+        outcomes, device, primary, secondary, events, process, &mut kept,
     )?;
     let Ending { device, outcomes } = ending;
     Ok(Report {
         device,
         outcomes,
-        spoken: SpokenList::new(spoken.finish()),
+        spoken: SpokenList::new(kept.frames.finish()),
     })
 }

@@ -1,6 +1,6 @@
 //! Hex items, each of which gives a received character.
 ghost use Rattle.std.specs.Prelude.{◌≡◌, ◌↔◌, [], ◌∷◌, IfSome, IsTrue, MatchOption, slice_index};
-ghost use Rattle.hart_line.specs.script.Items.{AreDigits, BeginsAsItem, byte_of, items_word_of, NoItemBegins};
+ghost use Rattle.hart_line.specs.script.Items.{AreDigits, BeginsAsItem, byte_of, IsItemsWord, NoItemBegins};
 ghost use Rattle.hart_line.specs.script.Rows.{ReadsWords};
 
 use crate::script::digits::Digits;
@@ -84,7 +84,7 @@ fn gives_faults(text: &[u8]) -> bool
 /// [`RowFault::Bad`] if the word is empty or not items end to end; [`RowFault::Memory`] if room for half as many characters as it
 /// has bytes was refused.
 pub(crate) fn read_items(alloc: Global, digits: &Digits, word: &[u8]) -> Result<CharList, RowFault>
-    ensures { ReadsWords (word.now ∷ []) (items_word_of word.now) result }
+    ensures { ReadsWords (word.now ∷ []) (IsItemsWord word.now) result }
 {
     if word.is_empty() {
         return Err(RowFault::Bad);

@@ -1,8 +1,8 @@
 //! The rows of the table of events, and the line that says none.
 ghost use Rattle.std.specs.Prelude.{◌≡◌, ◌≢◌, [], ◌∷◌, codes, length, MatchOption};
 ghost use Rattle.hart_line.specs.script.Lines.{words_of};
-ghost use Rattle.hart_line.specs.script.Rows.{ReadsWords, SaysLine, event_of, fault_at_line, leg_of, noise_of, payload_of, protection_of};
-ghost use Rattle.hart_line.specs.script.Rows.{request_of, restart_of, submission_of, turn_of};
+ghost use Rattle.hart_line.specs.script.Rows.{IsLegWord, ReadsWords, Says, SaysLine, fault_at_line, payload_of, request_of};
+ghost use Rattle.hart_line.specs.script.Words.{Finds};
 
 use crate::script::digits::Digits;
 use crate::script::items::read_items;
@@ -77,7 +77,7 @@ fn read_event(
     first: &[u8],
     rest: &[u8],
 ) -> Result<LineEvent, RowFault>
-    ensures { ReadsWords (first.now ∷ words_of rest.now) (event_of (first.now ∷ words_of rest.now)) result }
+    ensures { ReadsWords (first.now ∷ words_of rest.now) (Says (first.now ∷ words_of rest.now)) result }
 {
     match first {
         b"submit" => read_submit(rest).ok_or(RowFault::Bad),
@@ -91,7 +91,7 @@ fn read_event(
 
 /// The submission that the words after `submit` say, or `None` if they say none.
 fn read_submit(rest: &[u8]) -> Option<LineEvent>
-    ensures { result ≡ submission_of (words_of rest.now) }
+    ensures { Finds (Says (codes "submit" ∷ words_of rest.now)) result }
 {
     let (who, rest) = next_word(rest)?;
     let (address, rest) = next_word(rest)?;
@@ -125,7 +125,7 @@ fn read_payload(rest: &[u8]) -> Option<Payload>
 
 /// The turn that the words after `turn` say.
 fn read_turn(alloc: Global, digits: &Digits, rest: &[u8]) -> Result<LineEvent, RowFault>
-    ensures { ReadsWords (codes "turn" ∷ words_of rest.now) (turn_of (words_of rest.now)) result }
+    ensures { ReadsWords (codes "turn" ∷ words_of rest.now) (Says (codes "turn" ∷ words_of rest.now)) result }
 {
     let Some((who, up, down)) = three_words(rest) else {
         return Err(RowFault::Bad);
@@ -149,7 +149,7 @@ fn three_words(line: &[u8]) -> Option<(&[u8], &[u8], &[u8])>
 
 /// What the word of a leg says that is heard.
 fn read_leg(alloc: Global, digits: &Digits, word: &[u8]) -> Result<Heard, RowFault>
-    ensures { ReadsWords (word.now ∷ []) (leg_of word.now) result }
+    ensures { ReadsWords (word.now ∷ []) (IsLegWord word.now) result }
 {
     match word {
         b"ok" => Ok(Heard::Clean),
@@ -160,7 +160,7 @@ fn read_leg(alloc: Global, digits: &Digits, word: &[u8]) -> Result<Heard, RowFau
 
 /// The switch of the write protection that the words after `protect` say, or `None` if they say none.
 fn read_protect(rest: &[u8]) -> Option<LineEvent>
-    ensures { result ≡ protection_of (words_of rest.now) }
+    ensures { Finds (Says (codes "protect" ∷ words_of rest.now)) result }
 {
     match only_word(rest)? {
         b"on" => Some(LineEvent::Protect(true)),
@@ -171,7 +171,7 @@ fn read_protect(rest: &[u8]) -> Option<LineEvent>
 
 /// The noise that the words after `noise` say.
 fn read_noise(alloc: Global, digits: &Digits, rest: &[u8]) -> Result<LineEvent, RowFault>
-    ensures { ReadsWords (codes "noise" ∷ words_of rest.now) (noise_of (words_of rest.now)) result }
+    ensures { ReadsWords (codes "noise" ∷ words_of rest.now) (Says (codes "noise" ∷ words_of rest.now)) result }
 {
     let Some(items) = only_word(rest) else {
         return Err(RowFault::Bad);
@@ -181,7 +181,7 @@ fn read_noise(alloc: Global, digits: &Digits, rest: &[u8]) -> Result<LineEvent, 
 
 /// The restart that `restart` says, or `None` if a word is after it.
 fn read_restart(rest: &[u8]) -> Option<LineEvent>
-    ensures { result ≡ restart_of (words_of rest.now) }
+    ensures { Finds (Says (codes "restart" ∷ words_of rest.now)) result }
 {
     has_no_word(rest).then_some(LineEvent::Restart)
 }

@@ -1,6 +1,4 @@
-use Rattle.std.proofs.Common.{arith}
-use Rattle.std.proofs.lemmas.Bool.Decides.{nat_tests}
-use Rattle.std.proofs.lemmas.Grind.{common_steps}
+use Rattle.hart_line.proofs.Common.{arith, nat_tests, common_steps}
 use Rattle.hart_line.proofs.laws.identities_give_their_address.Goals as goal
 
 pub returns : goal.returns

@@ -1,6 +1,5 @@
-use Rattle.std.proofs.Common.{arith}
-use Rattle.std.proofs.lemmas.Grind.{common_steps}
+use Rattle.hart_line.proofs.lemmas.script.Items.{words_have_one_value-items}
 use Rattle.hart_line.proofs.laws.words_have_one_value.Goals as goal
 
-pub returns : goal.returns
-returns c = grind (arith, common_steps)
+pub returns-clause-items : goal.returns-clause-items
+returns-clause-items c = words_have_one_value-items

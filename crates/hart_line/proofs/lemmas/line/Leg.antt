@@ -1,22 +1,13 @@
 -- What arrives in a leg, what it brings the device, and what is spoken.
-use Rattle.std.proofs.Common.{◌≡◌, ℕ, ◌≤◌, ap, refl, arith, length-append, Option, None, Some, List, [], ◌∷◌, ◌++◌, replicate, append-nil}
-use Rattle.std.proofs.lemmas.Grind.{common_steps}
-use Rattle.std.specs.Option.{MatchOption, option_to_list}
-use Rattle.hart_values.specs.declared.master_id.MasterId.{MasterId}
-use Rattle.hart_frame.specs.heard.Character.{Character}
-use Rattle.hart_frame.specs.wire.FrameParts.{FrameParts}
+use Rattle.hart_line.proofs.Common.{◌≡◌, ℕ, ◌≤◌, ap, refl, arith, Option, None, Some, List, [], ◌∷◌, ◌++◌, replicate, common_steps}
+use Rattle.hart_line.proofs.Common.{MatchOption, option_to_list, MasterId, Character, FrameParts, DeviceState, Brought, BringsBy, Garbled}
+use Rattle.hart_line.proofs.Common.{NoMessage, OneFrame, IdentityParts, Process, Heard, Chars, Clean, Spoken}
+use Rattle.std.proofs.Common.{length-append, append-nil}
 use Rattle.hart_frame.specs.wire.Message.{IsMessage}
 use Rattle.hart_frame.proofs.lemmas.Laws.{messages_have_their_frame_alone-message, messages_have_their_frame_alone-nothing}
-use Rattle.hart_device.specs.Device.{DeviceState}
-use Rattle.hart_device.specs.answer.Delivery.{Brought, BringsBy, Garbled, NoMessage, OneFrame}
 use Rattle.hart_device.specs.answer.Garbled.{HasGarbled, garbled_reply}
 use Rattle.hart_device.specs.declared.answer.garbled.GarbledRequest.{GarbledRequest}
-use Rattle.hart_device.specs.declared.identity_parts.IdentityParts.{IdentityParts}
-use Rattle.hart_device.specs.declared.process.Process.{Process}
-use Rattle.hart_line.specs.declared.event.Heard.{Heard}
-use Rattle.hart_line.specs.declared.event.Heard.TheVariants.{Chars, Clean}
 use Rattle.hart_line.specs.declared.line.report.Party.{Party}
-use Rattle.hart_line.specs.declared.line.report.Spoken.{Spoken}
 use Rattle.hart_line.specs.line.Leg.{AnswersTo, IsSent, IsSpeakable}
 use Rattle.hart_line.specs.line.Masters.{Sends}
 use Rattle.hart_line.specs.world.Damage.{AreHeard, Arrives, ArrivesAmong, Reaches, ReachesAmong}

@@ -1,12 +1,7 @@
 -- There is room for all that is spoken.
-use Rattle.std.proofs.Common.{◌≡◌, ◌≤◌, ◌+◌, List, [], ◌∷◌, ◌++◌, length, refl, inl, inr, arith}
+use Rattle.hart_line.proofs.Common.{◌≡◌, ◌≤◌, ◌+◌, List, [], ◌∷◌, ◌++◌, length, inl, inr, arith, sum_by-append, LineEvent, Turn}
 use Rattle.std.proofs.lemmas.List.{length-append}
-use Rattle.std.proofs.lemmas.List.Sums.{sum_by-append}
-use Rattle.hart_line.specs.declared.event.LineEvent.{LineEvent}
-use Rattle.hart_line.specs.declared.event.LineEvent.TheVariants.{Turn}
-use Rattle.hart_line.specs.declared.line.report.Spoken.{Spoken}
 use Rattle.hart_line.specs.world.Needs.{most_spoken}
-use Rattle.hart_line.specs.world.Spoken.{AreSpoken, SpokenFrame}
 use Rattle.hart_line.specs.world.Step.{IsLast, Step}
 use Rattle.hart_line.specs.world.World.{Start, World, first_world}
 use Rattle.hart_line.proofs.lemmas.world.Steps.{along, turn_cases}
@@ -29,8 +24,3 @@ pub spoken_within : (start : Start) (events : List LineEvent) (last : World) →
 spoken_within start events last run = along start (first_world start) events (λ es world. length world.spoken ≤ most_spoken es)
     (λ before next event here within.
     let more = step_speaks start before event next here.step in rw most_spoken-more (omega arith)) (omega arith) last run
-
-pub AreSpoken-length : (frames : List SpokenFrame) (list : List Spoken) → AreSpoken frames list → length list ≡ length frames
-AreSpoken-length [] [] are = refl
-AreSpoken-length (said ∷ frames) (spoken ∷ list) are = grind (arith, AreSpoken-length frames list are.1)
-AreSpoken-length frames list are = absurd are

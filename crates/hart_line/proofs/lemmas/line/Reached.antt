@@ -1,22 +1,14 @@
 -- How far a script has come, also on a line that has let go what was spoken.
-use Rattle.std.proofs.Common.{◌∙◌, ◌∷◌, arith, ◌≡◌, ℕ, ◌+◌, ◌<◌, sym, refl, List, [], length, take, get_or, rules, append-nil, ◌++◌}
-use Rattle.std.specs.List.{Any}
-use Rattle.std.proofs.lemmas.Grind.{common_steps}
-use Rattle.std.proofs.lemmas.List.{take_more}
-use Rattle.hart_values.specs.declared.master_id.MasterId.TheVariants.{Primary, Secondary}
-use Rattle.hart_device.specs.Device.{DeviceState, IsDevice}
-use Rattle.hart_device.specs.declared.process.Process.{Process}
-use Rattle.hart_master.specs.Master.{MasterState}
+use Rattle.hart_line.proofs.Common.{◌∙◌, ◌∷◌, arith, ◌≡◌, ℕ, ◌+◌, ◌<◌, sym, refl, List, [], length, take, get_or, rules, ◌++◌, Any}
+use Rattle.hart_line.proofs.Common.{common_steps, take_more, Primary, Secondary, DeviceState, IsDevice, Process, MasterState, LineEvent}
+use Rattle.hart_line.proofs.Common.{Leg, Outcome, Spoken}
+use Rattle.std.proofs.Common.{append-nil}
 use Rattle.hart_master.specs.declared.hand.Hand.TheVariants.{Empty}
-use Rattle.hart_line.specs.declared.event.LineEvent.{LineEvent}
-use Rattle.hart_line.specs.declared.fault.Leg.{Leg}
 use Rattle.hart_line.specs.line.Line.{LineState, Stands, Stepped}
 use Rattle.hart_line.specs.world.Faults.{HasUndetected}
 use Rattle.hart_line.specs.world.Promises.{start_from, AreWellMade}
 use Rattle.hart_line.specs.world.Step.{IsLast, Step}
 use Rattle.hart_line.specs.world.World.{MarksWithin, Start, World, first_world}
-use Rattle.hart_line.specs.declared.line.report.Outcome.{Outcome}
-use Rattle.hart_line.specs.declared.line.report.Spoken.{Spoken}
 use Rattle.hart_line.specs.world.Led.{Led}
 use Rattle.hart_line.specs.world.Spoken.{AreSpoken, SpokenFrame}
 use Rattle.hart_line.proofs.lemmas.Laws.{scripts_keep_their_promises-first_world}

@@ -1,8 +1,5 @@
 -- The room for what a script leads to is enough for each of its events.
-use Rattle.std.proofs.Common.{◌∷◌, arith, ℕ, ◌+◌, ◌<◌, List, [], length, drop, get_or}
-use Rattle.std.proofs.lemmas.Grind.{common_steps}
-use Rattle.std.proofs.lemmas.List.{drop_more}
-use Rattle.hart_line.specs.declared.event.LineEvent.{LineEvent}
+use Rattle.hart_line.proofs.Common.{◌∷◌, arith, ℕ, ◌+◌, ◌<◌, List, [], length, drop, get_or, common_steps, drop_more, LineEvent}
 use Rattle.hart_line.specs.line.Line.{LineState}
 use Rattle.hart_line.specs.line.Room.{HasRoomFor, LeavesRoom}
 

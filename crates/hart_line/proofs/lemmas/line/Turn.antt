@@ -1,17 +1,9 @@
 -- A turn of the line is a turn of the world, and noise on it is noise there.
-use Rattle.std.proofs.Common.{◌≡◌, ◌&&◌, Bool, false, if◌then◌else◌, ◌∙◌, refl, Option, None, Some, List, ◌++◌, ◌⊎◌, append_assoc, arith}
-use Rattle.std.proofs.lemmas.Grind.{common_steps}
-use Rattle.std.specs.Option.{option_to_list}
-use Rattle.hart_values.specs.EachMaster.{of_master, with_master}
-use Rattle.hart_values.specs.declared.master_id.MasterId.{MasterId}
-use Rattle.hart_frame.specs.wire.FrameParts.{FrameParts}
+use Rattle.hart_line.proofs.Common.{◌≡◌, Bool, false, ◌∙◌, refl, Option, None, Some, List, ◌++◌, ◌⊎◌, arith, common_steps, option_to_list}
+use Rattle.hart_line.proofs.Common.{of_master, with_master, MasterId, FrameParts, DeviceState, Effect, Nothing, after, after_reply, Brought}
+use Rattle.hart_line.proofs.Common.{OneFrame, state_after_delivery, Process, Heard, Turn, Spoken}
+use Rattle.std.proofs.Common.{◌&&◌, if◌then◌else◌, append_assoc}
 use Rattle.hart_frame.specs.wire.Message.{IsPreambleCount}
-use Rattle.hart_device.specs.Device.{DeviceState, Effect, Nothing, after, after_reply}
-use Rattle.hart_device.specs.answer.Delivery.{Brought, OneFrame, state_after_delivery}
-use Rattle.hart_device.specs.declared.process.Process.{Process}
-use Rattle.hart_line.specs.declared.event.Heard.{Heard}
-use Rattle.hart_line.specs.declared.event.LineEvent.TheVariants.{Turn}
-use Rattle.hart_line.specs.declared.line.report.Spoken.{Spoken}
 use Rattle.hart_line.specs.line.Leg.{AnswersTo, IsSent}
 use Rattle.hart_line.specs.line.Line.{LineState, Stands, Stepped}
 use Rattle.hart_line.specs.line.Masters.{AreHeld, Ends, Sends}

@@ -1,74 +1,102 @@
 -- Texts that are items end to end.
-use Rattle.std.proofs.Common.{◌≡◌, ◌≢◌, ℕ, ◌<◌, ◌≤◌, Bool, true, false, List, [], ◌∷◌, ◌++◌, get_or, length, None}
-use Rattle.std.proofs.Common.{Option, Some, refl, arith}
-use Rattle.std.proofs.lemmas.Bool.Decides.{nat_tests}
-use Rattle.std.proofs.lemmas.Grind.{common_steps}
-use Rattle.std.proofs.lemmas.Nat.Bits.{bit_at-lt}
-use Rattle.std.specs.Int.{bit_at}
-use Rattle.std.specs.Option.{option_map}
-use Rattle.std.specs.Prelude.{◌==◌, ◌&&◌}
-use Rattle.hart_frame.specs.heard.Character.{AreFaultBits, Character, IsFaultBit}
-use Rattle.hart_line.specs.script.Items.{AreDigits, are_some_fault_bits, BeginsAsItem, BeginsWithItem, byte_of, EndsBefore, Faulty}
-use Rattle.hart_line.specs.script.Items.{is_valid_item, IsValidItem, Item, item_before, item_meaning, item_spelling, items_of, NoItemBegins}
-use Rattle.hart_line.specs.script.Items.{Plain}
+use Rattle.hart_line.proofs.Common.{◌≡◌, ◌≢◌, ℕ, ◌≤◌, List, [], ◌∷◌, ◌++◌, get_or, length, map, IsTrue, refl, arith, ap}
+use Rattle.hart_line.proofs.Common.{common_steps, AllByRecursion, flat_map, Character}
+use Rattle.std.proofs.lemmas.List.{append-nil, append_assoc}
+use Rattle.hex.specs.Hex.{is_hex_digit}
+use Rattle.hart_line.specs.script.Items.{AreDigits, AreItems, BeginsAsItem, BeginsWithItem, byte_of, EndsBefore, Faulty, IsValidItem, Item}
+use Rattle.hart_line.specs.script.Items.{item_meaning, item_spelling, Plain}
 
--- a bit that is set is none of those that are not
-set_bit : (faults bit : ℕ) → bit < 8 → bit_at faults bit ≡ 1 → bit_at faults 0 ≡ 0 → bit_at faults 2 ≡ 0 → bit_at faults 3 ≡ 0
-    → bit_at faults 7 ≡ 0 → IsFaultBit bit
-set_bit faults bit small set zero two three seven =
-    let differs : (other : ℕ) → bit_at faults other ≡ 0 → bit ≢ other = grind (arith, common_steps) in
-    grind (arith, differs 0 zero, differs 2 two, differs 3 three, differs 7 seven)
+-- What items spell does not begin with a `!`.
+items_end : (item : Item) (items : List Item) → AllByRecursion IsValidItem items → EndsBefore (flat_map item_spelling items) item
+items_end (Faulty high low fault_high fault_low) items valid = tt
+items_end (Plain high low) [] valid = tt
+items_end (Plain high low) (Plain a b ∷ items) valid = grind arith
+items_end (Plain high low) (Faulty a b c d ∷ items) valid = grind arith
 
--- what passes the test is fault bits
-fault_bits : (faults : ℕ) → are_some_fault_bits faults ≡ true → (faults ≢ 0) × AreFaultBits faults
-fault_bits faults test = grind (arith, nat_tests, set_bit)
+-- A text begins with one item at most.
+begins_one : (text : List ℕ) (item other : Item) (tail rest : List ℕ) → BeginsWithItem text item tail → BeginsWithItem text other rest
+    → (item ≡ other) × (tail ≡ rest)
+begins_one text item other tail rest a b = grind arith
 
--- and fault bits pass the test
-fault_bits_tested : (faults : ℕ) → faults ≢ 0 → AreFaultBits faults → are_some_fault_bits faults ≡ true
-fault_bits_tested faults some are = grind (arith, nat_tests, bit_at-lt, are.only)
+-- A text of items that is not empty begins with the first of them.
+first_begins : (text : List ℕ) (item : Item) (items : List Item) → text ≡ flat_map item_spelling (item ∷ items)
+    → AllByRecursion IsValidItem (item ∷ items) → BeginsWithItem text item (flat_map item_spelling items)
+first_begins text item items spelled valid = record { valid = valid.0; spelled = spelled; ends = items_end item items valid.1 }
 
--- a valid item passes its test
-valid_tested : (item : Item) → IsValidItem item → is_valid_item item ≡ true
-valid_tested item valid = grind (arith, fault_bits_tested)
+-- So items that spell the same are the same.
+items_one : (xs ys : List Item) → AllByRecursion IsValidItem xs → AllByRecursion IsValidItem ys
+    → flat_map item_spelling xs ≡ flat_map item_spelling ys → xs ≡ ys
+items_one [] [] v w same = refl
+items_one (x ∷ xs) (y ∷ ys) v w same =
+    let first = begins_one _ x y _ _ (first_begins _ x xs refl v) (first_begins _ y ys same w) in
+    let others = items_one xs ys v.1 w.1 first.1 in cc
+items_one xs ys v w same = absurd (grind arith)
 
--- both of two tests pass if they pass together
-and_both : (a b : Bool) → (a && b) ≡ true → (a ≡ true) × (b ≡ true)
-and_both a b both = grind arith
+pub words_have_one_value-items : (word : List ℕ) (xs ys : List Character) → AreItems word xs → AreItems word ys → xs ≡ ys
+words_have_one_value-items word xs ys a b =
+    let same = items_one a.items b.items a.valid b.valid (grind arith) in grind arith
 
--- an item that passes the test is valid
-pub valid : (item : Item) → is_valid_item item ≡ true → IsValidItem item
-valid item test = grind (arith, and_both, fault_bits)
+-- A word of items begins with a digit.
+pub items_begin_with_digit : (byte : ℕ) (word : List ℕ) (chars : List Character) → AreItems (byte ∷ word) chars
+    → IsTrue (is_hex_digit byte)
+items_begin_with_digit byte word chars are = begin are.items are.valid are.spelled
+  where
+    begin : (items : List Item) → AllByRecursion IsValidItem items → byte ∷ word ≡ flat_map item_spelling items → IsTrue (is_hex_digit byte)
+    begin [] valid spelled = cc
+    begin (Plain high low ∷ items) valid spelled = grind arith
+    begin (Faulty high low a b ∷ items) valid spelled = grind arith
 
--- the characters of a text that begins with an item are that of the item and those of the rest
-pub items_of-item : (text : List ℕ) (item : Item) (tail : List ℕ) → BeginsWithItem text item tail
-    → items_of text ≡ option_map (λ more. item_meaning item ∷ more) (items_of tail)
-unfolding items_of
-items_of-item text (Plain high low) (a ∷ b ∷ c ∷ rest) begins =
-    let no_mark : (a == 33) ≡ false = grind (arith, nat_tests, begins.ends) in
-    rw (begins.spelled, no_mark, valid_tested (Plain high low) begins.valid) refl
-items_of-item text item tail begins = rw (begins.spelled, valid_tested item begins.valid) refl
+-- A text is read as characters up to a rest of it: its characters are these, and then those of the rest.
+pub record ReadsTo (text : List ℕ) (chars : List Character) (rest : List ℕ) : Type 0 where
+  pub on : (more : List Character) → AreItems rest more → AreItems text (chars ++ more)
+  pub back : (all : List Character) → AreItems text all → (more : List Character) × AreItems rest more × (all ≡ chars ++ more)
 
--- an item that would begin a text in which none does is not valid
-invalid : (text : List ℕ) (item : Item) (tail : List ℕ) (chars : Option (List Character)) → NoItemBegins text
-    → text ≡ item_spelling item ++ tail → EndsBefore tail item → item_before item chars ≡ None
-invalid text item tail chars none spelled ends = grind (arith, valid)
+pub reads_nothing : (text : List ℕ) → ReadsTo text [] text
+reads_nothing text = record { on = λ more are. are; back = λ all are. (all, are, refl) }
 
--- a text that is not empty in which no item begins is not items end to end
-pub items_of-none : (text : List ℕ) → (length text ≡ 0 → ⊥) → NoItemBegins text → items_of text ≡ None
-unfolding items_of
-items_of-none (byte ∷ low ∷ []) some none = invalid _ (Plain byte low) [] (Some []) none refl tt
-items_of-none (byte ∷ low ∷ a ∷ b ∷ []) some none =
-    let plain = invalid _ (Plain byte low) (a ∷ b ∷ []) (items_of (a ∷ b ∷ [])) none refl in grind (arith, nat_tests)
-items_of-none (byte ∷ low ∷ a ∷ b ∷ c ∷ more) some none =
-    let plain = invalid _ (Plain byte low) (a ∷ b ∷ c ∷ more) (items_of (a ∷ b ∷ c ∷ more)) none refl in
-    let faulty = invalid _ (Faulty byte low b c) more (items_of more) none in grind (arith, nat_tests)
-items_of-none text some none = grind arith
+-- What is read to the end has these characters.
+pub reads_all : (text : List ℕ) (chars : List Character) → ReadsTo text chars [] → AreItems text chars
+reads_all text chars reads =
+    rw append-nil at (reads.on [] (record { items = []; valid = tt; spelled = refl; means = refl }))
 
--- a text reads as characters up to a rest of it: its items are theirs and those of the rest
-abbrev pub ReadsTo : List ℕ → List Character → List ℕ → Type 0
-ReadsTo text chars rest = items_of text ≡ option_map (λ more. chars ++ more) (items_of rest)
+-- A text that begins with an item is these characters exactly if the text after that is those after the first.
+after_item : (rest : List ℕ) (item : Item) (tail : List ℕ) (all : List Character) → BeginsWithItem rest item tail → AreItems rest all
+    → (more : List Character) × AreItems tail more × (all ≡ item_meaning item ∷ more)
+after_item rest item tail all begins are = after are.items are.valid are.spelled are.means
+  where
+    after : (items : List Item) → AllByRecursion IsValidItem items → rest ≡ flat_map item_spelling items → all ≡ map item_meaning items
+        → (more : List Character) × AreItems tail more × (all ≡ item_meaning item ∷ more)
+    after [] valid spelled means = absurd (grind (arith, begins.spelled))
+    after (first ∷ items) valid spelled means =
+        let same = begins_one rest item first tail _ begins (first_begins rest first items spelled valid) in
+        (map item_meaning items, record { items = items; valid = valid.1; spelled = same.1; means = refl }, cc)
 
--- an item without fault bits begins a text
+pub reads_item : (text : List ℕ) (chars : List Character) (rest : List ℕ) (item : Item) (tail : List ℕ) → ReadsTo text chars rest
+    → BeginsWithItem rest item tail → ReadsTo text (chars ++ item_meaning item ∷ []) tail
+reads_item text chars rest item tail reads begins = record {
+  on = λ more are. rw (append_assoc chars (item_meaning item ∷ []) more) (reads.on (item_meaning item ∷ more) (record {
+    items = item ∷ are.items;
+    valid = (begins.valid, are.valid);
+    spelled = grind (arith, begins.spelled, are.spelled);
+    means = ap (λ others. item_meaning item ∷ others) are.means;
+  }));
+  back = λ all are.
+      let (read, are_read, is) = reads.back all are in
+      let (more, are_more, same) = after_item rest item tail read begins are_read in
+      (more, are_more, grind (arith, common_steps, append_assoc));
+}
+
+-- A text that is not empty is not items end to end if no item begins it.
+pub items_begin : (text : List ℕ) (chars : List Character) → text ≢ [] → AreItems text chars
+    → (item : Item) × (tail : List ℕ) × BeginsWithItem text item tail
+items_begin text chars some are = begin are.items are.valid are.spelled
+  where
+    begin : (items : List Item) → AllByRecursion IsValidItem items → text ≡ flat_map item_spelling items
+        → (item : Item) × (tail : List ℕ) × BeginsWithItem text item tail
+    begin [] valid spelled = absurd (some spelled)
+    begin (item ∷ items) valid spelled = (item, flat_map item_spelling items, first_begins text item items spelled valid)
+
+-- An item without fault bits begins a text.
 pub begins_as_plain : (text : List ℕ) (char : Character) (byte : ℕ) → 2 ≤ length text → AreDigits (get_or text 0 0) (get_or text 1 0)
     → byte ≡ byte_of (get_or text 0 0) (get_or text 1 0) → (get_or text 2 0 ≡ 33 → ⊥) → char ≡ record { byte = byte; faults = 0 }
     → BeginsAsItem text char 2

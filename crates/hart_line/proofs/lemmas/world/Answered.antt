@@ -1,29 +1,13 @@
 -- Each accepted reply was accepted in the turn of the last sending, and is the one that the device made.
-use Rattle.std.proofs.Common.{◌≡◌, ℕ, ◌+◌, ap, ◌∙◌, sym, arith, slice_index, Option, None, Some, List, slice_set, ◌⊎◌, inl, inr, refl}
-use Rattle.std.proofs.Common.{subst}
-use Rattle.std.proofs.lemmas.Bool.Decides.{nat_tests}
-use Rattle.std.proofs.lemmas.Grind.{common_steps}
-use Rattle.std.specs.List.{slice_get}
-use Rattle.hart_values.specs.declared.address.Address.{Address}
-use Rattle.hart_values.specs.declared.master_id.MasterId.{MasterId}
-use Rattle.hart_frame.specs.wire.FrameParts.{FrameParts}
-use Rattle.hart_commands.specs.declared.reply.Reply.{Reply}
-use Rattle.hart_commands.specs.declared.request.Request.{Request}
-use Rattle.hart_commands.specs.Registers.{AreValid, Contents, Overwrite, registers_of}
-use Rattle.hart_commands.specs.RequestData.{IsRequest}
-use Rattle.hart_master.specs.declared.fault.MasterFault.{MasterFault}
-use Rattle.hart_device.specs.Device.{DeviceState, Effect, Executes}
-use Rattle.hart_device.specs.answer.Answer.{answer_of, reply_of}
-use Rattle.hart_device.specs.answer.Delivery.{Brought, Garbled, OneFrame, answer_to}
-use Rattle.hart_device.specs.declared.process.Process.{Process}
+use Rattle.hart_line.proofs.Common.{◌≡◌, ℕ, ◌+◌, ap, ◌∙◌, sym, arith, slice_index, Option, None, Some, List, slice_set, ◌⊎◌, inl, inr, refl}
+use Rattle.hart_line.proofs.Common.{subst, nat_tests, common_steps, slice_get, Address, MasterId, FrameParts, Reply, Request, AreValid}
+use Rattle.hart_line.proofs.Common.{Contents, Overwrite, registers_of, IsRequest, MasterFault, DeviceState, Effect, Executes, answer_of}
+use Rattle.hart_line.proofs.Common.{reply_of, Brought, Garbled, OneFrame, answer_to, Process, answers_are_replies-read}
+use Rattle.hart_line.proofs.Common.{registers_of_lists-none, writes_execute_their_overwrite-well_made, Heard, LineEvent, Submit, Turn}
+use Rattle.hart_line.proofs.Common.{Answered}
 use Rattle.hart_master.specs.Acceptance.{IsReplyTo}
 use Rattle.hart_master.proofs.lemmas.Laws.{communication_faults_are_no_reply-frame}
 use Rattle.hart_commands.proofs.lemmas.Laws.{overwrites_are_valid}
-use Rattle.hart_device.proofs.lemmas.Laws.{answers_are_replies-read, registers_of_lists-none, writes_execute_their_overwrite-well_made}
-use Rattle.hart_line.specs.declared.event.Heard.{Heard}
-use Rattle.hart_line.specs.declared.event.LineEvent.{LineEvent}
-use Rattle.hart_line.specs.declared.event.LineEvent.TheVariants.{Submit, Turn}
-use Rattle.hart_line.specs.declared.line.report.Outcome.TheVariants.{Answered}
 use Rattle.hart_line.specs.declared.line.report.Party.{Party}
 use Rattle.hart_line.specs.world.Damage.{Arrives}
 use Rattle.hart_line.specs.world.Promises.{AnswersLastSending, AnswersLastSendingFrom, IsWellMadeStart, IsStepOf, submissions_of}

@@ -1,12 +1,7 @@
 -- What an option and a list hold, and what one of two masters has.
-use Rattle.std.proofs.Common.{◌≡◌, ◌≢◌, ℕ, arith, Option, None, Some, inl, inr, refl, List, [], ◌∷◌, ◌++◌, length, slice_set, ◌⊎◌}
-use Rattle.std.proofs.Common.{◌-◌, ◌==◌, if◌then◌else◌, IsSome}
-use Rattle.std.proofs.lemmas.Bool.Decides.{nat_tests}
-use Rattle.std.specs.List.{slice_get}
-use Rattle.std.specs.Option.{option_or, option_map}
-use Rattle.hart_values.specs.EachMaster.{of_master, with_master}
-use Rattle.hart_values.specs.declared.each_master.EachMaster.{EachMaster}
-use Rattle.hart_values.specs.declared.master_id.MasterId.{MasterId}
+use Rattle.hart_line.proofs.Common.{◌≡◌, ◌≢◌, ℕ, arith, Option, None, Some, inl, inr, refl, List, [], ◌∷◌, ◌++◌, length, slice_set, ◌⊎◌}
+use Rattle.hart_line.proofs.Common.{◌-◌, IsSome, nat_tests, slice_get, option_or, option_map, of_master, with_master, EachMaster, MasterId}
+use Rattle.std.proofs.Common.{◌==◌, if◌then◌else◌}
 
 -- Options that are one hold one thing.
 pub some_one : {A : Type 0} {x y : A} → Some x ≡ Some y → x ≡ y

@@ -1,34 +1,20 @@
 -- A script leads to one world, if all damage is detected, and past no undetected damage; and detectable damage is detected.
-use Rattle.std.proofs.Common.{append-nil, ap, ◌≡◌, ℕ, ◌<◌, ◌∙◌, sym, arith, Option, None, Some, List, [], ◌∷◌, ◌++◌, suc, pred, take}
-use Rattle.std.proofs.Common.{drop, ◌≤◌, refl, inl, inr}
-use Rattle.std.proofs.lemmas.Grind.{common_steps}
-use Rattle.std.specs.List.{slice_get}
-use Rattle.hart_values.specs.EachMaster.{of_master}
-use Rattle.hart_values.specs.declared.master_id.MasterId.{MasterId}
-use Rattle.hart_frame.specs.heard.Character.{Character}
-use Rattle.hart_frame.specs.wire.FrameParts.{FrameParts}
+use Rattle.hart_line.proofs.Common.{ap, ◌≡◌, ℕ, ◌<◌, ◌∙◌, sym, arith, Option, None, Some, List, [], ◌∷◌, ◌++◌, suc, pred, take, drop, ◌≤◌}
+use Rattle.hart_line.proofs.Common.{refl, inl, inr, common_steps, slice_get, of_master, MasterId, Character, FrameParts, Reply, Brings}
+use Rattle.hart_line.proofs.Common.{Brought, IdentityParts, deliveries_bring_one-one, deliveries_bring_one-brings, Heard, Clean, Chars}
+use Rattle.hart_line.proofs.Common.{LineEvent, Turn, Noise, Leg, Undetected, LineFault}
+use Rattle.std.proofs.Common.{append-nil}
 use Rattle.hart_frame.specs.declared.heard.found.Found.{Found}
 use Rattle.hart_frame.specs.heard.Frames.{AreFrames}
 use Rattle.hart_frame.proofs.lemmas.Laws.{bodies_are_unambiguous-one_body, frames_are_unambiguous-one_list}
 use Rattle.hart_frame.proofs.lemmas.Laws.{damaged_messages_have_no_other_frame-check, damaged_messages_have_no_other_frame-marked}
 use Rattle.hart_frame.proofs.lemmas.Laws.{messages_have_their_frame_alone-message, messages_have_their_frame_alone-nothing}
-use Rattle.hart_commands.specs.declared.reply.Reply.{Reply}
-use Rattle.hart_device.specs.answer.Delivery.{Brings, Brought}
-use Rattle.hart_device.specs.declared.identity_parts.IdentityParts.{IdentityParts}
-use Rattle.hart_device.proofs.lemmas.Laws.{deliveries_bring_one-one, deliveries_bring_one-brings}
 use Rattle.hart_master.proofs.lemmas.Laws.{replies_are_decided-one_reply, replies_are_decided-decided}
-use Rattle.hart_line.specs.declared.event.Heard.{Heard}
-use Rattle.hart_line.specs.declared.event.Heard.TheVariants.{Clean, Chars}
-use Rattle.hart_line.specs.declared.event.LineEvent.{LineEvent}
-use Rattle.hart_line.specs.declared.event.LineEvent.TheVariants.{Turn, Noise}
-use Rattle.hart_line.specs.declared.fault.Leg.{Leg}
-use Rattle.hart_line.specs.declared.fault.LineFault.TheVariants.{Undetected}
 use Rattle.hart_line.specs.world.Damage.{AreHeard, Arrives, ArrivesAmong, IsUndetected, Reaches, ReachesAmong, IsDetectable, IsDetected}
 use Rattle.hart_line.specs.world.Faults.{HasUndetected, HeardIn, IsFault, AreAllDetected, HasDetectable, IsNotDetectable, LegsAreDetected}
 use Rattle.hart_line.specs.world.Spoken.{SpokenFrame, frame_of}
 use Rattle.hart_line.specs.world.Step.{Accepts, IsLast, LeadsTo, Step, sent_back, sent_by}
 use Rattle.hart_line.specs.world.World.{InHand, Start, World, first_world}
-use Rattle.hart_line.specs.declared.fault.LineFault.{LineFault}
 use Rattle.hart_line.specs.declared.fault.Leg.TheVariants as legs
 
 AreHeard-one : (heard : Heard) (sent : Option SpokenFrame) (a b : List Character) → AreHeard heard sent a
@@ -227,5 +213,7 @@ pub leads_exists : (start : Start) (world : World) (events : List LineEvent) →
     → (last : World) × LeadsTo start world events last
 leads_exists start world [] detected = (world, refl)
 leads_exists start world (event ∷ events) detected =
-    let step = step_exists start world event detected.0 in
-    grind (arith, common_steps, leads_exists start step.0 events (detected.1 step.0 step.1))
+    let step = step_exists start world event (detected [] events event world refl refl) in
+    let rest = leads_exists start step.0 events (λ prefix suffix other mid split led.
+    detected (event ∷ prefix) suffix other mid (ap (λ es. event ∷ es) split) (step.0, step.1, led)) in
+    (rest.0, (step.0, step.1, rest.1))

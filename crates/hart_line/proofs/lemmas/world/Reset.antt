@@ -1,19 +1,11 @@
 -- What holds since a master's last reset, and after a refused command.
-use Rattle.std.proofs.Common.{◌≤◌, ◌≡◌, ◌≢◌, ℕ, refl, arith, Option, IfSome, Ok, false, List, [], ◌∷◌, ◌++◌}
-use Rattle.std.proofs.Common.{length, append_assoc, ◌⊎◌, inl, inr}
-use Rattle.std.proofs.lemmas.Bool.Decides.{nat_tests}
-use Rattle.std.proofs.lemmas.Grind.{common_steps}
-use Rattle.hart_values.specs.EachMaster.{of_master}
-use Rattle.hart_values.specs.declared.each_master.EachMaster.{EachMaster}
-use Rattle.hart_values.specs.declared.master_id.MasterId.{MasterId}
-use Rattle.hart_frame.specs.wire.FrameParts.{FrameParts}
+use Rattle.hart_line.proofs.Common.{◌≤◌, ◌≡◌, ◌≢◌, ℕ, refl, arith, Option, IfSome, Ok, false, List, [], ◌∷◌, ◌++◌, length, ◌⊎◌, inl, inr}
+use Rattle.hart_line.proofs.Common.{nat_tests, common_steps, of_master, EachMaster, MasterId, FrameParts, DeviceState, Effect, Nothing}
+use Rattle.hart_line.proofs.Common.{Resets, after_refusal, code_of, effect_of, is_answered, reading_of}
+use Rattle.hart_line.proofs.Common.{refused_commands_change_nothing-refused, refused_commands_change_nothing-silent}
+use Rattle.hart_line.proofs.Common.{resets_name_this_counter-only, LineEvent, Turn}
+use Rattle.std.proofs.Common.{append_assoc}
 use Rattle.hart_commands.specs.declared.request.Request.TheVariants.{ResetChanged}
-use Rattle.hart_device.specs.Device.{DeviceState, Effect, Nothing, Resets}
-use Rattle.hart_device.specs.answer.Answer.{after_refusal, code_of, effect_of, is_answered, reading_of}
-use Rattle.hart_device.proofs.lemmas.Laws.{refused_commands_change_nothing-refused, refused_commands_change_nothing-silent}
-use Rattle.hart_device.proofs.lemmas.Laws.{resets_name_this_counter-only}
-use Rattle.hart_line.specs.declared.event.LineEvent.{LineEvent}
-use Rattle.hart_line.specs.declared.event.LineEvent.TheVariants.{Turn}
 use Rattle.hart_line.specs.world.Promises.{brought_in_step, HasNoReset, IsLastReset, IsRefusedByDevice, IsStepOf}
 use Rattle.hart_line.specs.world.Step.{IsLast, LeadsTo, effect_on, executions_after, marks_after}
 use Rattle.hart_line.specs.world.World.{Execution, Start, World, first_world, state_of}

@@ -1,24 +1,10 @@
 -- What is brought to the device, the steps of a script and what each keeps, and the device after an effect.
-use Rattle.std.proofs.Common.{arith, ◌≡◌, Bool, ap, refl, subst, Option, None, Some, List, [], ◌∷◌, ◌++◌, ◌⊎◌, inl, inr, ℕ, length}
-use Rattle.std.proofs.lemmas.Grind.{common_steps}
-use Rattle.std.proofs.lemmas.List.{length-append, map-append}
-use Rattle.std.proofs.Math.Nat.{mod-add-mod}
-use Rattle.std.proofs.lemmas.Bool.Decides.{nat_tests}
-use Rattle.hart_values.specs.EachMaster.{of_master}
-use Rattle.hart_values.specs.declared.each_master.EachMaster.{EachMaster}
-use Rattle.hart_values.specs.declared.master_id.MasterId.{MasterId}
-use Rattle.hart_values.specs.declared.master_id.MasterId.TheVariants.{Primary, Secondary}
-use Rattle.hart_commands.specs.declared.reply.Reply.{Reply}
-use Rattle.hart_commands.specs.Registers.{Contents, registers_of, overwritten}
-use Rattle.hart_device.specs.answer.Delivery.{Brought, OneFrame, Garbled, NoMessage}
-use Rattle.hart_device.specs.Device.{Effect, DeviceState, Executes, after}
-use Rattle.hart_device.specs.declared.identity_parts.IdentityParts.{IdentityParts}
-use Rattle.hart_master.specs.declared.fault.MasterFault.{MasterFault}
-use Rattle.hart_frame.specs.wire.FrameParts.{FrameParts}
-use Rattle.hart_device.proofs.lemmas.Laws.{registers_of_lists-last}
-use Rattle.hart_line.specs.declared.event.Heard.{Heard}
-use Rattle.hart_line.specs.declared.event.LineEvent.{LineEvent}
-use Rattle.hart_line.specs.declared.event.LineEvent.TheVariants.{Submit, Turn, Protect, Noise, Restart}
+use Rattle.hart_line.proofs.Common.{arith, ◌≡◌, Bool, ap, refl, subst, Option, None, Some, List, [], ◌∷◌, ◌++◌, ◌⊎◌, inl, inr, ℕ, length}
+use Rattle.hart_line.proofs.Common.{common_steps, map-append, mod-add-mod, nat_tests, of_master, EachMaster, MasterId, Primary, Secondary}
+use Rattle.hart_line.proofs.Common.{Reply, Contents, registers_of, overwritten, Brought, OneFrame, Garbled, NoMessage, Effect, DeviceState}
+use Rattle.hart_line.proofs.Common.{Executes, after, IdentityParts, MasterFault, FrameParts, registers_of_lists-last, Heard, LineEvent}
+use Rattle.hart_line.proofs.Common.{Submit, Turn, Protect, Noise, Restart}
+use Rattle.std.proofs.lemmas.List.{length-append}
 use Rattle.hart_line.specs.world.Promises.{IsStepOf, Submission, brought_in_step, submissions_of}
 use Rattle.hart_line.specs.world.Spoken.{SpokenFrame}
 use Rattle.hart_line.specs.world.Step.{IsTurn, LeadsTo, Step, replied, spoken_request, submitted, turned, effect_on, executions_after}

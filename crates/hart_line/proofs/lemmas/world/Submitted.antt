@@ -1,21 +1,11 @@
 -- A request in hand is unfinished, and is the one that was submitted under its number, to its master and for its address; and it was
 -- executed at most as often as it was sent.
-use Rattle.std.proofs.Common.{◌≡◌, ℕ, ◌+◌, ◌<◌, refl, Some, List, [], ◌∷◌, ◌++◌, get_or, length, slice_set, take, arith, ◌≤◌, ◌==◌}
-use Rattle.std.proofs.Common.{if◌then◌else◌}
-use Rattle.std.proofs.lemmas.Grind.{common_steps}
-use Rattle.std.proofs.lemmas.List.{append-nil, map-append, take_more}
-use Rattle.std.proofs.lemmas.List.Elements.{All-append}
-use Rattle.std.proofs.lemmas.Option.{get_or_from_slice_get, slice_get-map, slice_get_past, slice_get_within}
-use Rattle.std.proofs.lemmas.Bool.Decides.{nat_tests}
-use Rattle.std.proofs.lemmas.List.Sums.{sum_by-append}
-use Rattle.std.specs.List.{slice_get}
-use Rattle.hart_values.specs.EachMaster.{of_master}
-use Rattle.hart_values.specs.declared.master_id.MasterId.{MasterId}
-use Rattle.hart_commands.specs.RequestData.{IsRequest}
-use Rattle.hart_device.specs.Device.{Effect}
-use Rattle.hart_line.specs.declared.event.LineEvent.{LineEvent}
-use Rattle.hart_line.specs.declared.line.report.Outcome.{Outcome}
-use Rattle.hart_line.specs.declared.line.report.Outcome.TheVariants.{Unfinished}
+use Rattle.hart_line.proofs.Common.{◌≡◌, ℕ, ◌+◌, ◌<◌, refl, Some, List, [], ◌∷◌, ◌++◌, get_or, length, slice_set, take, arith, ◌≤◌}
+use Rattle.hart_line.proofs.Common.{common_steps, map-append, take_more, All-append, get_or_from_slice_get, slice_get-map, slice_get_past}
+use Rattle.hart_line.proofs.Common.{slice_get_within, nat_tests, sum_by-append, slice_get, of_master, MasterId, IsRequest, Effect}
+use Rattle.hart_line.proofs.Common.{LineEvent, Outcome, Unfinished}
+use Rattle.std.proofs.Common.{◌==◌, if◌then◌else◌}
+use Rattle.std.proofs.lemmas.List.{append-nil}
 use Rattle.hart_line.specs.world.Promises.{AreWellMade, IsStepOf, Submission, requests_of, submission_in, submissions_of, sendings_in}
 use Rattle.hart_line.specs.world.Step.{IsLast, effect_on, executions_after}
 use Rattle.hart_line.specs.world.World.{InHand, Start, World, first_world, Execution, state_of}

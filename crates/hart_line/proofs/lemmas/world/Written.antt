@@ -1,29 +1,16 @@
 -- Unrefused writes are executed in their turn, nothing else is, and the registers of all executions are those of the last ones.
-use Rattle.std.proofs.Common.{◌≡◌, ℕ, ◌∙◌, sym, refl, Some, IsTrue, List, inl, inr, arith, suc, Ok, Bool, true, false, [], ◌∷◌}
-use Rattle.std.proofs.Common.{if◌then◌else◌, None, Option, ◌⊎◌, ◌==◌, ◌+◌}
-use Rattle.std.proofs.lemmas.Grind.{common_steps, elements}
-use Rattle.std.proofs.lemmas.Bool.Decides.{nat_tests}
-use Rattle.std.proofs.lemmas.List.{get_or-map, length-map}
-use Rattle.std.proofs.lemmas.List.Elements.{All-push}
+use Rattle.hart_line.proofs.Common.{◌≡◌, ℕ, ◌∙◌, sym, refl, Some, IsTrue, List, inl, inr, arith, suc, Ok, Bool, true, false, [], ◌∷◌, None}
+use Rattle.hart_line.proofs.Common.{Option, ◌⊎◌, ◌+◌, common_steps, elements, nat_tests, get_or-map, length-map, All-push, slice_get, All}
+use Rattle.hart_line.proofs.Common.{Contains, option_and_then, MasterId, command_of, Reply, Request, Contents, Overwrite, overwrite_of}
+use Rattle.hart_line.proofs.Common.{overwritten, registers_of, DeviceState, Effect, Executes, code_of, reading_of, Brought, OneFrame}
+use Rattle.hart_line.proofs.Common.{answers_give_their_code-answered, writes_execute_their_overwrite-executes}
+use Rattle.hart_line.proofs.Common.{writes_execute_their_overwrite-only, registers_of_lists-again, registers_of_lists-first, Heard}
+use Rattle.hart_line.proofs.Common.{LineEvent, Turn}
+use Rattle.std.proofs.Common.{if◌then◌else◌, ◌==◌}
 use Rattle.std.proofs.lemmas.List.Folds.{Any-from_list_any}
-use Rattle.std.specs.List.{slice_get, All, Contains}
-use Rattle.std.specs.Option.{option_and_then}
-use Rattle.hart_values.specs.declared.master_id.MasterId.{MasterId}
 use Rattle.hart_commands.specs.ReplyData.{reply_reading}
 use Rattle.hart_commands.specs.RequestCode.{is_write}
-use Rattle.hart_commands.specs.RequestData.{command_of}
-use Rattle.hart_commands.specs.declared.reply.Reply.{Reply}
-use Rattle.hart_commands.specs.declared.request.Request.{Request}
-use Rattle.hart_commands.specs.Registers.{Contents, Overwrite, overwrite_of, overwritten, registers_of}
 use Rattle.hart_commands.proofs.lemmas.Laws.{requests_have_their_command, writes_have_overwrites-exactly, written_data_are_their_request}
-use Rattle.hart_device.specs.Device.{DeviceState, Effect, Executes}
-use Rattle.hart_device.specs.answer.Answer.{code_of, reading_of}
-use Rattle.hart_device.specs.answer.Delivery.{Brought, OneFrame}
-use Rattle.hart_device.proofs.lemmas.Laws.{answers_give_their_code-answered, writes_execute_their_overwrite-executes}
-use Rattle.hart_device.proofs.lemmas.Laws.{writes_execute_their_overwrite-only, registers_of_lists-again, registers_of_lists-first}
-use Rattle.hart_line.specs.declared.event.Heard.{Heard}
-use Rattle.hart_line.specs.declared.event.LineEvent.{LineEvent}
-use Rattle.hart_line.specs.declared.event.LineEvent.TheVariants.{Turn}
 use Rattle.hart_line.specs.world.Promises.{AnswersLastSending, AreWellMade, IsExecutedFromHand, IsExecutedInItsTurn, IsStepOf}
 use Rattle.hart_line.specs.world.Promises.{IsUnrefusedWrite, brought_in_step, requests_of}
 use Rattle.hart_line.specs.world.Step.{effect_on, executions_after, spoken_request, submitted, IsLast}

@@ -1,29 +1,18 @@
-use Rattle.std.proofs.Common.{ℕ, ◌+◌, length, None, Some, ap, arith, sym, rules, tests, ◌≡◌, ◌<◌, suc, Bool, List, [], ◌∷◌, ◌++◌, get_or}
-use Rattle.std.proofs.Common.{Option, Ok, Err, drop, false, inl, inr, refl, take}
-use Rattle.std.proofs.lemmas.Grind.{common_steps}
+use Rattle.hart_line.proofs.Common.{ℕ, ◌+◌, length, None, Some, arith, sym, rules, tests, ◌≡◌, ◌<◌, List, [], ◌∷◌, ◌++◌, get_or, Option, Ok}
+use Rattle.hart_line.proofs.Common.{Err, false, inl, inr, refl, take, common_steps, take_all, length-map, length_push, get_or-map}
+use Rattle.hart_line.proofs.Common.{take_more, err_from_is_err_and, filter-append, slice_get-get_or, slice_split, option_to_list}
+use Rattle.hart_line.proofs.Common.{LineEvent, LineFault, BadLine, Undetected}
 use Rattle.std.proofs.lemmas.Iterator.Consumers.{YieldsList-at, YieldsList-end, YieldsList-turn}
 use Rattle.std.proofs.lemmas.Iterator.Splits.{YieldsList-from_slice_split}
-use Rattle.std.proofs.lemmas.List.{take_all, length-map, append-nil, length_push, get_or-map, length-take-le, take-append-drop, take_more}
-use Rattle.std.proofs.lemmas.Result.{err_from_is_err_and}
+use Rattle.std.proofs.lemmas.List.{append-nil}
 use Rattle.std.specs.Bool.{◌==◌}
-use Rattle.std.proofs.Math.Seq.{drop-cons}
-use Rattle.std.proofs.lemmas.Bool.Decides.{nat_tests}
-use Rattle.std.proofs.lemmas.List.Elements.{filter_map-append}
-use Rattle.std.specs.List.{position_from, slice_split}
-use Rattle.std.specs.Option.{option_or, option_to_list}
+use Rattle.std.proofs.lemmas.Slice.Zip.{all_zipped_more}
 use Rattle.std.specs.Str.Lines.{strip_carriage_return}
-use Rattle.hart_line.specs.declared.event.LineEvent.{LineEvent}
-use Rattle.hart_line.specs.declared.fault.LineFault.{LineFault}
-use Rattle.hart_line.specs.declared.fault.LineFault.TheVariants.{BadLine, Memory, Undetected}
+use Rattle.hart_line.specs.declared.fault.LineFault.TheVariants.{Memory}
 use Rattle.hart_line.specs.script.Lines.{lines_of, words_of}
-use Rattle.hart_line.specs.script.Rows.{AreEvents, IsNeededByText, IsScriptFault, SaysLine, event_of, is_skipped, lines_in_words}
+use Rattle.hart_line.specs.script.Rows.{AreEvents, IsNeededByText, IsScriptFault, Says, SaysLine, is_skipped, lines_in_words}
+use Rattle.hart_line.proofs.script.read_script.Goals.{After-without_return}
 use Rattle.hart_line.proofs.script.read_script.Goals as goal
-
--- the first place in some elements and more is one in the first ones, or else in the others
-position_from-append : {X : Type 0} (p : X → Bool) (i : ℕ) (xs ys : List X)
-    → position_from p i (xs ++ ys) ≡ option_or (position_from p i xs) (position_from p (i + length xs) ys)
-position_from-append p i [] ys = ap (λ (k : ℕ). position_from p k ys) (omega arith)
-position_from-append p i (x ∷ xs) ys = grind (arith, position_from-append p (i + 1) xs ys)
 
 -- the line of a part of a text, in words, stands at its place
 record StandsAt (text : List ℕ) (n : ℕ) (words : List (List ℕ)) : Type 0 where
@@ -42,77 +31,80 @@ stands_at text n part line short is stripped =
     let here : get_or (lines_of text) n line ≡ line = grind (arith, common_steps, get_or-map) in grind (arith, common_steps, get_or-map)
 
 -- one line of a text more
+one_more : (number : ℕ) (lines : List (List (List ℕ))) (words : List (List ℕ)) (events : List LineEvent) (said : Option LineEvent)
+    → AreEvents lines events → SaysLine number words (Ok said) → AreEvents (lines ++ words ∷ []) (events ++ option_to_list said)
+one_more number lines words events None before says = grind (arith, append-nil, filter-append)
+one_more number lines words events (Some event) before says = grind (arith, filter-append, all_zipped_more)
+
 AreEvents-more : (text : List ℕ) (n m number : ℕ) (words : List (List ℕ)) (events new : List LineEvent) (said : Option LineEvent)
     → StandsAt text n words → m ≡ n + 1 → AreEvents (take n (lines_in_words text)) events → SaysLine number words (Ok said)
     → new ≡ events ++ option_to_list said → AreEvents (take m (lines_in_words text)) new
 AreEvents-more text n m number words events new said stands more before says pushed =
     let lines = lines_in_words text in
     let cut : take m lines ≡ take n lines ++ words ∷ [] = grind (arith, take_more, stands.within, stands.is) in
-    rw (cut, pushed) (grind (arith, nat_tests, position_from-append, filter_map-append))
+    rw (cut, pushed) (one_more number (take n lines) words events said before says)
 
 -- the fault of a line is that of its text
 line_fault : (text : List ℕ) (n number : ℕ) (words : List (List ℕ)) (events : List LineEvent) (fault : LineFault)
     → StandsAt text n words → number ≡ n + 1 → AreEvents (take n (lines_in_words text)) events → SaysLine number words (Err fault)
     → IsScriptFault text fault
-line_fault text n number words events (BadLine at) stands counted before says =
-    let cut : lines_in_words text ≡ take n (lines_in_words text) ++ words ∷ drop (suc n) (lines_in_words text) =
-    grind (arith, common_steps, take-append-drop, drop-cons) in grind (arith, common_steps, length-take-le, position_from-append)
+line_fault text n number words events (BadLine at) stands counted before says = record {
+  before = n;
+  words = words;
+  events = events;
+  counted = grind (arith);
+  is = grind (arith, slice_get-get_or, stands.within, stands.is);
+  bad = says.1;
+  good = before;
+}
 line_fault text n number words events (Memory none) stands counted before says =
     (n, words, stands.within, stands.is, (says.0, inr says.1))
 line_fault text n number words events (Undetected event leg) stands counted before says = absurd says
 
 -- a text needs room for the event of a line
 event_needed : (text : List ℕ) (n : ℕ) (words : List (List ℕ)) (event : LineEvent) → StandsAt text n words
-    → (is_skipped words ≡ false) × (event_of words ≡ Some event) → IsNeededByText text 1
-event_needed text n words event stands says =
-    (n, words, stands.within, stands.is, (says.0, inl (rw says.1 refl, refl)))
+    → (is_skipped words ≡ false) × Says words event → IsNeededByText text 1
+event_needed text n words event stands says = (n, words, stands.within, stands.is, (says.0, inl (event, says.1, refl)))
 
-pub returns-in_err-event-clause-fault : goal.returns-in_err-event-clause-fault
-returns-in_err-event-clause-fault c =
+-- so does the line that is read
+stands_here : (c : After-without_return) → StandsAt c.args.text.now (length c.loop-part.yielded) (words_of c.without_return.result.now)
+stands_here c =
     let t = YieldsList-turn (YieldsList-at c.into_iter-part-iterator.ensures.into_iter_gives
     (YieldsList-from_slice_split _ (λ (byte : ℕ). byte == 10) c.args.text.now c.split-part-items.ensures.rest
     c.split-part-items.ensures.done c.split-part-items.ensures.closure (λ x b q k. search (rules, tests))))
     c.loop-part.yielded _ c.loop-part.yielded_by _ _ c.in-Some.part c.in-Some.is c.next.ensures.steps in
+    stands_at c.args.text.now _ c.in-Some.part.now _ t.0 t.1 c.without_return.ensures
+
+pub returns-in_err-event-clause-fault : goal.returns-in_err-event-clause-fault
+returns-in_err-event-clause-fault c =
     let stop = err_from_is_err_and c.from_residual.result c.from_residual.ensures.1 in
-    let stands = stands_at c.args.text.now _ c.in-Some.part.now _ t.0 t.1 c.without_return.ensures in
+    let stands = stands_here (goal.at.returns-in_err-event-clause-fault c).After-without_return in
     rw (stop.1, stop.2) (line_fault c.args.text.now _ _ _ _ _ stands (omega arith) c.loop-part.invariant.said c.in_err-event.ensures)
 
 pub returns-in_err-make_room-clause-fault : goal.returns-in_err-make_room-clause-fault
 returns-in_err-make_room-clause-fault c =
-    let t = YieldsList-turn (YieldsList-at c.into_iter-part-iterator.ensures.into_iter_gives
-    (YieldsList-from_slice_split _ (λ (byte : ℕ). byte == 10) c.args.text.now c.split-part-items.ensures.rest
-    c.split-part-items.ensures.done c.split-part-items.ensures.closure (λ x b q k. search (rules, tests))))
-    c.loop-part.yielded _ c.loop-part.yielded_by _ _ c.in-Some.part c.in-Some.is c.next.ensures.steps in
     let stop = err_from_is_err_and c.from_residual-in_err-make_room.result c.from_residual-in_err-make_room.ensures.1 in
-    let stands = stands_at c.args.text.now _ c.in-Some.part.now _ t.0 t.1 c.without_return.ensures in
+    let stands = stands_here (goal.at.returns-in_err-make_room-clause-fault c).After-without_return in
     rw (stop.1, stop.2, c.in_err-make_room.ensures.number)
     (event_needed c.args.text.now _ _ _ stands (rw c.in-Some-2.is at c.in_ok-event.ensures))
 
 pub loop-part-preserved-in_default : goal.loop-part-preserved-in_default
 loop-part-preserved-in_default c =
-    let t = YieldsList-turn (YieldsList-at c.into_iter-part-iterator.ensures.into_iter_gives
-    (YieldsList-from_slice_split _ (λ (byte : ℕ). byte == 10) c.args.text.now c.split-part-items.ensures.rest
-    c.split-part-items.ensures.done c.split-part-items.ensures.closure (λ x b q k. search (rules, tests))))
-    c.loop-part.yielded _ c.loop-part.yielded_by _ _ c.in-Some.part c.in-Some.is c.next.ensures.steps in
     let m = length_push c.loop-part.yielded c.in-Some.part in
     record {
       counted = omega (arith, c.loop-part.invariant.counted, m);
       said = AreEvents-more c.args.text.now (length c.loop-part.yielded) _ (c.loop-part.number + 1) _ _ _ None
-          (stands_at c.args.text.now _ c.in-Some.part.now _ t.0 t.1 c.without_return.ensures) m c.loop-part.invariant.said
+          (stands_here (goal.at.loop-part-preserved-in_default c).After-without_return) m c.loop-part.invariant.said
           (rw c.in_default.is at c.in_ok-event.ensures) (sym (append-nil c.loop-part.events.items));
     }
 
 pub loop-part-preserved : goal.loop-part-preserved
 loop-part-preserved c =
-    let t = YieldsList-turn (YieldsList-at c.into_iter-part-iterator.ensures.into_iter_gives
-    (YieldsList-from_slice_split _ (λ (byte : ℕ). byte == 10) c.args.text.now c.split-part-items.ensures.rest
-    c.split-part-items.ensures.done c.split-part-items.ensures.closure (λ x b q k. search (rules, tests))))
-    c.loop-part.yielded _ c.loop-part.yielded_by _ _ c.in-Some.part c.in-Some.is c.next.ensures.steps in
     let m = length_push c.loop-part.yielded c.in-Some.part in
     record {
       counted = omega (arith, c.loop-part.invariant.counted, m);
       said = AreEvents-more c.args.text.now (length c.loop-part.yielded) _ (c.loop-part.number + 1) _ _ _ (Some c.in-Some-2.event)
-          (stands_at c.args.text.now _ c.in-Some.part.now _ t.0 t.1 c.without_return.ensures) m c.loop-part.invariant.said
+          (stands_here (goal.at.loop-part-preserved c).After-without_return) m c.loop-part.invariant.said
           (rw c.in-Some-2.is at c.in_ok-event.ensures) (grind (arith, common_steps));
     }
 

@@ -1,4 +1,4 @@
-use Rattle.std.proofs.Common.{◌≡◌, length, take}
+use Rattle.hart_line.proofs.Common.{◌≡◌, length, take}
 use Rattle.hart_line.specs.script.Rows.{AreEvents, lines_in_words}
 use Rattle.hart_line.proofs.script.read_script.Given as goal
 

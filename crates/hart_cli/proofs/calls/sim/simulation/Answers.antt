@@ -24,7 +24,7 @@ logged_fault : (device : DeviceState) (input : List ℕ) (start : Start) (AreNot
     → IsSimulationFault device input (call_fault fault)
 logged_fault device input start AreNoted events (Undetected number leg) script same is =
     record { events = events; script = script; is_fault = rw same at is.0 }
-logged_fault device input start AreNoted events (Memory none) script same (inl needed) = inr (events, script, inl needed)
+logged_fault device input start AreNoted events (Memory none) script same (inl needed) = inr (events, script, inl needed.0)
 logged_fault device input start AreNoted events (Memory none) script same (inr noting) =
     inr (events, script, inr (inl (rw same at noting)))
 logged_fault device input start AreNoted events (BadLine number) script same is = absurd is

@@ -1,6 +1,4 @@
-use Rattle.std.proofs.Common.{arith, None, refl}
-use Rattle.std.proofs.lemmas.Result.{err_from_is_err_and}
-use Rattle.hart_line.specs.declared.event.Heard.TheVariants.{Chars}
+use Rattle.hart_line.proofs.Common.{arith, None, refl, err_from_is_err_and, Chars}
 use Rattle.hart_line.specs.world.Step.{replied}
 use Rattle.hart_line.proofs.lemmas.line.Leg.{noise_answers}
 use Rattle.hart_line.proofs.lemmas.line.Turn.{answered, replied_stands}
@@ -17,7 +15,7 @@ returns-in_err-is_answered-clause-stopped g c =
     ))
 
 pub returns-clause-stepped : goal.returns-clause-stepped
-returns-clause-stepped g c = λ start world process stands.
+returns-clause-stepped g c = λ start world process within stands.
     let s = rw (← c.self.view_is) at stands in
     let a = answered start world (Chars c.args.chars.now) None _ _ _ _ _ _ s process refl
     (grind (arith, noise_answers)) c.self.invariant

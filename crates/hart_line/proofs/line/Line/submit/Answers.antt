@@ -1,11 +1,6 @@
-use Rattle.std.proofs.Common.{Option, [], ◌∷◌, ◌++◌, length, arith}
-use Rattle.hart_values.specs.EachMaster.{of_master, with_master}
-use Rattle.hart_values.specs.declared.address.Address.{Address}
-use Rattle.hart_values.specs.declared.master_id.MasterId.{MasterId}
-use Rattle.hart_commands.specs.declared.request.Request.{Request}
-use Rattle.hart_master.specs.declared.fault.MasterFault.{MasterFault}
+use Rattle.hart_line.proofs.Common.{Option, [], ◌∷◌, ◌++◌, length, arith, of_master, with_master, Address, MasterId, Request, MasterFault}
+use Rattle.hart_line.proofs.Common.{Outcome}
 use Rattle.hart_line.specs.declared.line.masters.Masters.{Masters}
-use Rattle.hart_line.specs.declared.line.report.Outcome.{Outcome}
 use Rattle.hart_line.specs.line.Line.{LineState, Stands}
 use Rattle.hart_line.specs.line.Masters.{AreHeld, Submits}
 use Rattle.hart_line.specs.world.Step.{submitted}

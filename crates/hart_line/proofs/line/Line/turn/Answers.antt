@@ -1,5 +1,4 @@
-use Rattle.std.proofs.Common.{refl}
-use Rattle.std.proofs.lemmas.Result.{err_from_is_err_and}
+use Rattle.hart_line.proofs.Common.{refl, err_from_is_err_and}
 use Rattle.hart_line.specs.world.Step.{sent_back}
 use Rattle.hart_line.proofs.lemmas.line.Leg.{says_request}
 use Rattle.hart_line.proofs.lemmas.line.Turn.{turn_answered, turn_stands}

@@ -1,5 +1,4 @@
-use Rattle.std.proofs.Common.{◌≡◌, Bool, Option, IsSome, IfSome, IsTrue, arith}
-use Rattle.hart_frame.specs.wire.FrameParts.{FrameParts}
+use Rattle.hart_line.proofs.Common.{◌≡◌, Bool, Option, IsSome, IfSome, IsTrue, arith, FrameParts}
 use Rattle.hart_line.specs.world.Spoken.{frame_if}
 use Rattle.hart_line.proofs.line.leg.answer.Goals as goal
 

@@ -1,6 +1,4 @@
-use Rattle.std.proofs.Common.{arith}
-use Rattle.std.proofs.lemmas.Grind.{common_steps}
-use Rattle.hart_device.specs.answer.Delivery.{OneFrame}
+use Rattle.hart_line.proofs.Common.{arith, common_steps, OneFrame}
 use Rattle.hart_line.proofs.lemmas.line.Leg.{among_frame, answered_among}
 use Rattle.hart_line.proofs.line.leg.answer_among.Goals as goal
 

@@ -1,5 +1,4 @@
-use Rattle.std.proofs.Common.{arith}
-use Rattle.hart_device.specs.answer.Delivery.{OneFrame}
+use Rattle.hart_line.proofs.Common.{arith, OneFrame}
 use Rattle.hart_line.proofs.lemmas.line.Leg.{clean_reaches, nothing_reaches}
 use Rattle.hart_line.proofs.line.leg.answer_in.Goals as goal
 

@@ -1,4 +1,4 @@
-use Rattle.std.proofs.Common.{arith}
+use Rattle.hart_line.proofs.Common.{arith}
 use Rattle.hart_line.proofs.lemmas.line.Leg.{message_arrives, nothing_arrives}
 use Rattle.hart_line.proofs.line.leg.arrived_in.Goals as goal
 

@@ -1,9 +1,5 @@
-use Rattle.std.proofs.Common.{◌+◌, ◌++◌, [], arith, refl, take}
-use Rattle.std.proofs.lemmas.List.{take_all}
-use Rattle.std.proofs.lemmas.Option.{slice_get-get_or}
-use Rattle.std.proofs.lemmas.Result.{err_from_is_err_and}
+use Rattle.hart_line.proofs.Common.{◌+◌, ◌++◌, [], arith, refl, take, take_all, slice_get-get_or, err_from_is_err_and, Undetected}
 use Rattle.hart_line.specs.world.Faults.{IsFault}
-use Rattle.hart_line.specs.declared.fault.LineFault.TheVariants.{Undetected}
 use Rattle.hart_line.specs.world.Promises.{start_from}
 use Rattle.hart_line.proofs.lemmas.Laws.{led_keeps, scripts_keep_their_promises-detected}
 use Rattle.hart_line.proofs.lemmas.line.Reached.{Any-append, IsReached, reached_first, reached_led, reached_more, noted_stands, stepped_on}
@@ -31,34 +27,25 @@ step-requires g c = record {
       (room_here c.args.events.now c.loop-index.index _ _ c.loop-index-test.true c.loop-index.invariant.room);
 }
 
-pub returns-in-Err-clause-fault : goal.returns-in-Err-clause-fault
-returns-in-Err-clause-fault g c =
+pub returns-in-Err-clause-stopped : goal.returns-in-Err-clause-stopped
+returns-in-Err-clause-stopped g c =
+    let enough = c.new-line.ensures.device.identity.in_range.response_preambles.0 in
     let start = start_from c.args.device c.args.process.now c.args.primary c.args.secondary in
     let (noted, has, reached) = c.loop-index.invariant.told in
     let stands = noted_stands start reached.world _ noted c.loop-index.invariant.room.nothing_spoken reached.stands in
     let here = slice_get-get_or c.args.events.now c.loop-index.index _ c.loop-index-test.true in
+    let fault : IsFault start c.args.events.now (Undetected c.loop-index.index c.in-Err.damage.leg) = (
+      reached.world,
+      _,
+      reached.is_last,
+      here,
+      undetected_on start reached.world _ _
+          (rw c.index-events-index.is at (c.in-Err.ensures.stopped start (with_spoken [] reached.world) refl stands)),
+    ) in
     rw c.at.ensures (
-      (
-        reached.world,
-        _,
-        reached.is_last,
-        here,
-        undetected_on start reached.world _ _
-            (rw c.index-events-index.is at (c.in-Err.ensures.stopped start (with_spoken [] reached.world) refl stands)),
-      ),
-      noted,
-      reached.stands.spoken_are,
-      has,
+      (fault, noted, reached.stands.spoken_are, has),
+      scripts_keep_their_promises-detected start c.args.events.now (Undetected c.loop-index.index c.in-Err.damage.leg) enough fault,
     )
-
-pub returns-in-Err-clause-detectable_damage_is_detected : goal.returns-in-Err-clause-detectable_damage_is_detected
-returns-in-Err-clause-detectable_damage_is_detected g c =
-    let enough = c.new-line.ensures.device.identity.in_range.response_preambles.0 in
-    let start = start_from c.args.device c.args.process.now c.args.primary c.args.secondary in
-    let fault : IsFault start c.args.events.now (Undetected c.loop-index.index c.in-Err.damage.leg) =
-    (rw c.at.ensures at (returns-in-Err-clause-fault g c)).0 in
-    rw c.at.ensures
-    (scripts_keep_their_promises-detected start c.args.events.now (Undetected c.loop-index.index c.in-Err.damage.leg) enough fault)
 
 -- An event more is carried out, and what is spoken in it is not noted yet.
 carried_out : (g : Over) (c : After-tell g) → IsReached (start_from c.args.device c.args.process.now c.args.primary c.args.secondary)
@@ -84,19 +71,22 @@ loop-index-preserved g c = record {
       c.loop-index.invariant.room (rw c.index-events-index.is at c.in_default.ensures.room));
 }
 
-pub returns-in_err-tell-clause-fault : goal.returns-in_err-tell-clause-fault
-returns-in_err-tell-clause-fault g c =
-    let reached = carried_out g (goal.at.returns-in_err-tell-clause-fault g c).After-tell in
+pub returns-in_err-tell-clause-stopped : goal.returns-in_err-tell-clause-stopped
+returns-in_err-tell-clause-stopped g c =
+    let reached = carried_out g (goal.at.returns-in_err-tell-clause-stopped g c).After-tell in
     let stop = err_from_is_err_and c.from_residual.result c.from_residual.ensures.1 in
-    rw (stop.1, stop.2) (record {
-      number = c.loop-index.index + 1;
-      world = reached.world;
-      is_last = reached.is_last;
-      spoken = c.loop-index.invariant.told.0 ++ c.step.new.self.spoken;
-      are_spoken = reached.stands.spoken_are;
-      needed = Any-append _ c.loop-index.invariant.told.0 _ c.in_err-tell.ensures.refused.1;
-      some = c.in_err-tell.ensures.refused.0;
-    })
+    rw (stop.1, stop.2) (
+      record {
+        number = c.loop-index.index + 1;
+        world = reached.world;
+        is_last = reached.is_last;
+        spoken = c.loop-index.invariant.told.0 ++ c.step.new.self.spoken;
+        are_spoken = reached.stands.spoken_are;
+        needed = Any-append _ c.loop-index.invariant.told.0 _ c.in_err-tell.ensures.refused.1;
+        some = c.in_err-tell.ensures.refused.0;
+      },
+      tt,
+    )
 
 pub returns : goal.returns
 returns g c =
@@ -105,11 +95,14 @@ returns g c =
     let reached = rw (take_all c.loop-index.index c.args.events.now (omega (arith, c.loop-index-test.false))) at told in
     let led = reached_led _ _ reached c.into_ending.ensures.device c.into_ending.ensures.outcomes in
     record {
-      led = (noted, led, has);
-      promises = led_keeps start c.args.events.now _ _ noted (record {
-        device = c.new-line.ensures.device;
-        process = c.processes_are_well_made.ensures;
-      }) reached.well_made led;
-      fault = tt;
-      detectable_damage_is_detected = tt;
+      carried_out = record {
+        spoken = noted;
+        led = led;
+        noted = has;
+        promises = led_keeps start c.args.events.now _ _ noted (record {
+          device = c.new-line.ensures.device;
+          process = c.processes_are_well_made.ensures;
+        }) reached.well_made led;
+      };
+      stopped = tt;
     }

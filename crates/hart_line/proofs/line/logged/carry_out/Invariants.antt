@@ -1,5 +1,4 @@
-use Rattle.std.proofs.Common.{List, drop, take}
-use Rattle.hart_line.specs.declared.line.report.Spoken.{Spoken}
+use Rattle.hart_line.proofs.Common.{List, drop, take, Spoken}
 use Rattle.hart_line.specs.line.Room.{HasRoomFor}
 use Rattle.hart_line.specs.world.Promises.{start_from}
 use Rattle.hart_line.proofs.lemmas.line.Reached.{IsReached}

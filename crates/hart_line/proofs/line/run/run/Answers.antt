@@ -1,13 +1,15 @@
-use Rattle.std.proofs.Common.{arith}
-use Rattle.hart_line.proofs.lemmas.line.Log.{AreSpoken-length, spoken_within}
+use Rattle.hart_line.proofs.Common.{arith}
+use Rattle.hart_line.proofs.lemmas.line.Log.{spoken_within}
+use Rattle.std.proofs.lemmas.Slice.Zip.{AllZip-long}
 use Rattle.hart_line.specs.world.Promises.{start_from}
+use Rattle.hart_line.specs.world.Spoken.{IsSpoken}
 use Rattle.hart_line.proofs.line.run.run.Goals as goal
 
 pub returns-clause-led : goal.returns-clause-led
 returns-clause-led g c =
-    let (spoken, led, notes) = c.in_ok-ending.ensures.led in
+    let ended = c.in_ok-ending.ensures.carried_out in let led = ended.led in let spoken = ended.spoken in
     let within = spoken_within (start_from c.args.device c.args.process.now c.args.primary c.args.secondary) c.args.events.now
     led.world led.last in
-    let long = AreSpoken-length led.world.spoken spoken led.spoken_are in
-    let room = c.in_ok-spoken.ensures.empty in
-    rw (c.new.ensures, c.finish.ensures, notes.items (rw room (omega arith)), room) led
+    let long = AllZip-long IsSpoken led.world.spoken spoken led.spoken_are in
+    let room = c.in_ok-frames.ensures.empty in
+    rw (c.new.ensures, c.finish.ensures, ended.noted.items (rw room (omega arith)), room) led

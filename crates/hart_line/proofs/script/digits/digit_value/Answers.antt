@@ -1,4 +1,4 @@
-use Rattle.std.proofs.Common.{arith, []}
+use Rattle.hart_line.proofs.Common.{arith, []}
 use Rattle.hart_line.specs.script.Items.{Plain}
 use Rattle.hart_line.proofs.script.digits.digit_value.Goals as goal
 

@@ -1,5 +1,4 @@
-use Rattle.std.proofs.Common.{◌≡◌, ◌≢◌, ◌≤◌, ℕ, List, length, ◌∷◌, get_or, refl, ◌∙◌, subst, arith}
-use Rattle.hart_frame.specs.heard.Character.{AreFaultBits, Character}
+use Rattle.hart_line.proofs.Common.{◌≡◌, ◌≢◌, ◌≤◌, ℕ, List, length, ◌∷◌, get_or, refl, ◌∙◌, subst, arith, AreFaultBits, Character}
 use Rattle.hart_line.specs.script.Items.{AreDigits, BeginsAsItem, byte_of, Faulty}
 use Rattle.hart_line.proofs.lemmas.script.Items.{begins_as_plain}
 use Rattle.hart_line.proofs.script.items.leading_item.Goals as goal

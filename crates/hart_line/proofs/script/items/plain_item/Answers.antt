@@ -1,4 +1,4 @@
-use Rattle.std.proofs.Common.{arith}
+use Rattle.hart_line.proofs.Common.{arith}
 use Rattle.hart_line.proofs.lemmas.script.Items.{begins_as_plain}
 use Rattle.hart_line.proofs.script.items.plain_item.Goals as goal
 

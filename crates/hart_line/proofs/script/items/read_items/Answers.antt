@@ -1,19 +1,21 @@
-use Rattle.std.proofs.Common.{arith}
-use Rattle.std.proofs.lemmas.Grind.{common_steps}
-use Rattle.std.proofs.lemmas.List.{append-nil, append_assoc, length-append, length_push, take_rest}
+use Rattle.hart_line.proofs.Common.{arith, common_steps, length_push, take_rest}
+use Rattle.std.proofs.lemmas.List.{length-append}
 use Rattle.std.proofs.Math.Seq.{drop-append_seam}
-use Rattle.hart_line.specs.script.Items.{items_of}
-use Rattle.hart_line.proofs.lemmas.script.Items.{items_of-item, items_of-none}
+use Rattle.hart_line.proofs.lemmas.script.Items.{items_begin, reads_all, reads_item, reads_nothing}
 use Rattle.hart_line.proofs.script.items.read_items.Goals as goal
+
+pub loop-lead-init : goal.loop-lead-init
+loop-lead-init c = grind (arith, common_steps, reads_nothing)
 
 pub loop-lead-preserved : goal.loop-lead-preserved
 loop-lead-preserved c =
-    let lead = c.in-Some.ensures in let items = items_of-item _ lead.item lead.tail lead.begins in
-    grind (arith, common_steps, take_rest, drop-append_seam, length-append, append_assoc, length_push, lead.begins.spelled)
+    let lead = c.in-Some.ensures in
+    let reads = reads_item _ _ _ lead.item lead.tail c.loop-lead.invariant.reads lead.begins in
+    grind (arith, common_steps, take_rest, drop-append_seam, length-append, length_push, lead.begins.spelled)
 
 pub returns-then-not-is_empty : goal.returns-then-not-is_empty
-returns-then-not-is_empty c = grind (arith, common_steps, items_of-none)
+returns-then-not-is_empty c = λ chars said.
+    let (more, are, same) = c.loop-lead.invariant.reads.back chars said.1 in grind (arith, common_steps, items_begin)
 
 pub returns : goal.returns
-unfolding items_of
-returns c = grind (arith, common_steps, append-nil)
+returns c = grind (arith, common_steps, reads_all)

@@ -1,4 +1,4 @@
-use Rattle.std.proofs.Common.{◌≡◌, ◌+◌, ◌*◌, ◌/◌, ◌≤◌, length}
+use Rattle.hart_line.proofs.Common.{◌≡◌, ◌+◌, ◌*◌, ◌/◌, ◌≤◌, length}
 use Rattle.hart_line.proofs.lemmas.script.Items.{ReadsTo}
 use Rattle.hart_line.proofs.script.items.read_items.Given as goal
 

@@ -1,6 +1,5 @@
-use Rattle.std.proofs.Common.{arith, ◌≡◌, ℕ, ◌+◌, suc, Bool, List, [], ◌∷◌, take, drop, refl}
-use Rattle.std.proofs.lemmas.Grind.{common_steps}
-use Rattle.std.specs.List.{filter, onto_first, position_or_len, slice_split}
+use Rattle.hart_line.proofs.Common.{arith, ◌≡◌, ℕ, ◌+◌, suc, Bool, List, [], ◌∷◌, take, drop, refl, common_steps, filter, onto_first}
+use Rattle.hart_line.proofs.Common.{position_or_len, slice_split}
 use Rattle.hart_line.specs.script.Lines.{has_bytes, is_blank}
 use Rattle.hart_line.proofs.script.lines.next_word.Goals as goal
 

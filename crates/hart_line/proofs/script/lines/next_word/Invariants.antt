@@ -1,4 +1,4 @@
-use Rattle.std.proofs.Common.{◌≡◌, length}
+use Rattle.hart_line.proofs.Common.{◌≡◌, length}
 use Rattle.hart_line.specs.script.Lines.{words_of}
 use Rattle.hart_line.proofs.script.lines.next_word.Given as goal
 

@@ -1,42 +1,29 @@
-use Rattle.std.proofs.Common.{◌∷◌, codes, arith, ◌≡◌, ℕ, ◌<◌, List, [], get_or, length, Option, None, Err, refl, subst, sym}
-use Rattle.std.proofs.lemmas.Result.{err_from_is_err_and}
-use Rattle.hart_line.specs.script.Rows.{leg_of, ReadsWords, turn_of}
-use Rattle.hart_line.specs.declared.event.LineEvent.{LineEvent}
-use Rattle.hart_line.specs.declared.script.rows.RowFault.{RowFault}
+use Rattle.hart_line.proofs.Common.{◌∷◌, codes, arith, ◌≡◌, ◌<◌, ◌⊎◌, ℕ, List, [], Err, get_or, inl, inr, refl, subst, sym}
+use Rattle.hart_line.proofs.Common.{err_from_is_err_and, RowFault}
+use Rattle.hart_line.specs.script.Rows.{IsLegWord, ReadsWords, Says}
+use Rattle.hart_line.specs.script.Words.{HasNoValue}
+use Rattle.hart_line.proofs.lemmas.script.Rows.{fault_of_word}
 use Rattle.hart_line.proofs.script.rows.read_turn.Goals as goal
 
--- a line has the fault of a leg
-leg_fault : (words : List (List ℕ)) (k : ℕ) (word : List ℕ) (fault : RowFault) (said : Option LineEvent)
-    → k < length words → get_or words k word ≡ word → (leg_of word ≡ None → said ≡ None)
-    → ReadsWords (word ∷ []) (leg_of word) (Err fault) → ReadsWords words said (Err fault)
-leg_fault words k word fault said short here none reads = grind (arith)
-
 -- a turn of which a leg is none is none
-turn_of-bad_up : (who up down : List ℕ) → leg_of up ≡ None → turn_of (who ∷ up ∷ down ∷ []) ≡ None
-turn_of-bad_up who up down none = grind arith
+no_turn : (who up down leg : List ℕ) → (leg ≡ up) ⊎ (leg ≡ down) → HasNoValue (IsLegWord leg)
+    → HasNoValue (Says (codes "turn" ∷ who ∷ up ∷ down ∷ []))
+no_turn who up down leg one none event said = grind arith
 
-turn_of-bad_down : (who up down : List ℕ) → leg_of down ≡ None → turn_of (who ∷ up ∷ down ∷ []) ≡ None
-turn_of-bad_down who up down none = grind arith
-
--- so a turn has the fault of a leg
-up_fault : (words : List (List ℕ)) (who up down : List ℕ) (fault : RowFault) → words ≡ who ∷ up ∷ down ∷ []
-    → ReadsWords (up ∷ []) (leg_of up) (Err fault) → ReadsWords (codes "turn" ∷ words) (turn_of words) (Err fault)
-up_fault words who up down fault are reads =
-    subst (λ (all : List (List ℕ)). ReadsWords (codes "turn" ∷ all) (turn_of all) (Err fault)) (sym are)
-    (leg_fault (codes "turn" ∷ who ∷ up ∷ down ∷ []) 2 up fault _ (omega arith) refl (turn_of-bad_up who up down) reads)
-
-down_fault : (words : List (List ℕ)) (who up down : List ℕ) (fault : RowFault) → words ≡ who ∷ up ∷ down ∷ []
-    → ReadsWords (down ∷ []) (leg_of down) (Err fault) → ReadsWords (codes "turn" ∷ words) (turn_of words) (Err fault)
-down_fault words who up down fault are reads =
-    subst (λ (all : List (List ℕ)). ReadsWords (codes "turn" ∷ all) (turn_of all) (Err fault)) (sym are)
-    (leg_fault (codes "turn" ∷ who ∷ up ∷ down ∷ []) 3 down fault _ (omega arith) refl (turn_of-bad_down who up down) reads)
+-- so it has the fault of that leg
+turn_fault : (words : List (List ℕ)) (who up down leg : List ℕ) (fault : RowFault) (k : ℕ) → words ≡ who ∷ up ∷ down ∷ [] → k < 4
+    → get_or (codes "turn" ∷ who ∷ up ∷ down ∷ []) k leg ≡ leg → (leg ≡ up) ⊎ (leg ≡ down)
+    → ReadsWords (leg ∷ []) (IsLegWord leg) (Err fault) → ReadsWords (codes "turn" ∷ words) (Says (codes "turn" ∷ words)) (Err fault)
+turn_fault words who up down leg fault k are short here one reads =
+    subst (λ (all : List (List ℕ)). ReadsWords (codes "turn" ∷ all) (Says (codes "turn" ∷ all)) (Err fault)) (sym are)
+    (fault_of_word (codes "turn" ∷ who ∷ up ∷ down ∷ []) k leg fault _ _ (omega (arith, short)) here (no_turn who up down leg one) reads)
 
 pub returns-in_err-read_leg : goal.returns-in_err-read_leg
 returns-in_err-read_leg c =
     let refused = err_from_is_err_and c.from_residual-in_err-read_leg.result c.from_residual-in_err-read_leg.ensures.1 in
-    rw (refused.1, refused.2) (up_fault _ _ _ _ _ c.in-Some.ensures c.in_err-read_leg.ensures)
+    rw (refused.1, refused.2) (turn_fault _ _ _ _ _ _ 2 c.in-Some.ensures (omega arith) refl (inl refl) c.in_err-read_leg.ensures)
 
 pub returns-in_err-read_leg-2 : goal.returns-in_err-read_leg-2
 returns-in_err-read_leg-2 c =
     let refused = err_from_is_err_and c.from_residual-in_err-read_leg-2.result c.from_residual-in_err-read_leg-2.ensures.1 in
-    rw (refused.1, refused.2) (down_fault _ _ _ _ _ c.in-Some.ensures c.in_err-read_leg-2.ensures)
+    rw (refused.1, refused.2) (turn_fault _ _ _ _ _ _ 3 c.in-Some.ensures (omega arith) refl (inr refl) c.in_err-read_leg-2.ensures)

@@ -1,4 +1,4 @@
-use Rattle.std.proofs.Common.{◌≡◌, [], ◌∷◌, arith}
+use Rattle.hart_line.proofs.Common.{◌≡◌, [], ◌∷◌, arith}
 use Rattle.hart_line.proofs.line.event_frames.EventFrames.note_in.Goals as goal
 
 pub returns-clause-noted : goal.returns-clause-noted

@@ -1,6 +1,4 @@
-use Rattle.std.proofs.Common.{arith}
-use Rattle.std.proofs.lemmas.Grind.{common_steps}
-use Rattle.hart_values.specs.declared.master_id.MasterId.TheVariants.{Primary, Secondary}
+use Rattle.hart_line.proofs.Common.{arith, common_steps, Primary, Secondary}
 use Rattle.hart_line.proofs.line.masters.Masters.conclude.Goals as goal
 
 pub returns-in-Primary-clause-concludes : goal.returns-in-Primary-clause-concludes

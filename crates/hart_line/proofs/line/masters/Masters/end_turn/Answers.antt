@@ -1,4 +1,4 @@
-use Rattle.std.proofs.Common.{refl}
+use Rattle.hart_line.proofs.Common.{refl}
 use Rattle.hart_line.proofs.line.masters.Masters.end_turn.Goals as goal
 
 pub returns-then-is_sent-clause-ends : goal.returns-then-is_sent-clause-ends

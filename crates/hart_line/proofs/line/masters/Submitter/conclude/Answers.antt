@@ -1,5 +1,4 @@
-use Rattle.std.proofs.Common.{arith}
-use Rattle.std.proofs.lemmas.Grind.{common_steps}
+use Rattle.hart_line.proofs.Common.{arith, common_steps}
 use Rattle.hart_line.proofs.line.masters.Submitter.conclude.Goals.{in-Some, in-None}
 use Rattle.hart_line.proofs.line.masters.Submitter.conclude.Goals as goal
 

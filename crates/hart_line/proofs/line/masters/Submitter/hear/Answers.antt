@@ -1,7 +1,4 @@
-use Rattle.std.proofs.Common.{arith, ◌≡◌}
-use Rattle.std.proofs.lemmas.Grind.{common_steps}
-use Rattle.hart_commands.specs.declared.reply.Reply.{Reply}
-use Rattle.hart_master.specs.Master.{FrameBrings}
+use Rattle.hart_line.proofs.Common.{arith, ◌≡◌, common_steps, Reply, FrameBrings}
 use Rattle.hart_line.proofs.line.masters.Submitter.hear.Goals as goal
 
 pub returns-in_default : goal.returns-in_default

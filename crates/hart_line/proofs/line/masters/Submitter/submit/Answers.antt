@@ -1,9 +1,5 @@
-use Rattle.std.proofs.Common.{arith, ◌≡◌, ℕ, Option, Err}
-use Rattle.hart_values.specs.declared.address.Address.{Address}
-use Rattle.hart_commands.specs.declared.request.Request.{Request}
-use Rattle.hart_master.specs.Master.{hand_submitted, result_submitted}
+use Rattle.hart_line.proofs.Common.{arith, ◌≡◌, ℕ, Option, Err, Address, Request, hand_submitted, result_submitted, Refused}
 use Rattle.hart_master.specs.declared.fault.Rejected.{Rejected}
-use Rattle.hart_line.specs.declared.line.report.Outcome.TheVariants.{Refused}
 use Rattle.hart_line.specs.line.Masters.{Submits, hand_of}
 use Rattle.hart_line.specs.world.Step.{submission_fault}
 use Rattle.hart_line.specs.world.World.{InHand}

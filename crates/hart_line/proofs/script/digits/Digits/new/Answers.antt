@@ -1,7 +1,5 @@
-use Rattle.std.proofs.Common.{arith}
+use Rattle.hart_line.proofs.Common.{arith, common_steps, get_or-set_at, get_or-set_other}
 use Rattle.std.proofs.lemmas.Bool.{cases_eq}
-use Rattle.std.proofs.lemmas.Grind.{common_steps, get_or-set_at}
-use Rattle.std.proofs.lemmas.List.{get_or-set_other}
 use Rattle.hart_line.proofs.script.digits.Digits.new.Goals as goal
 
 pub loop-place-preserved : goal.loop-place-preserved

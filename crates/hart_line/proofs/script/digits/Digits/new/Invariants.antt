@@ -1,4 +1,4 @@
-use Rattle.std.proofs.Common.{◌≡◌, length}
+use Rattle.hart_line.proofs.Common.{◌≡◌, length}
 use Rattle.hart_line.specs.script.Digits.{AreDigitValues}
 use Rattle.hart_line.proofs.script.digits.Digits.new.Given as goal
 

@@ -1,0 +1,70 @@
+-- What lines say is one thing, and no bad line is among those that say events.
+use Rattle.hart_line.proofs.Common.{◌≡◌, ◌<◌, ℕ, List, [], ◌∷◌, Some, Err, ap, arith, codes, sym, refl, take, pred, length, get_or}
+use Rattle.hart_line.proofs.Common.{common_steps, AllZip, slice_get, Heard, Chars, Clean, Lost, LineEvent, Noise, Turn, Character, RowFault}
+use Rattle.hart_line.specs.script.Items.{AreItems}
+use Rattle.hart_line.specs.script.Rows.{AreEvents, HasFirstBadLine, IsBadLine, IsLegWord, IsScript, ReadsWords, Says, lines_in_words}
+use Rattle.hart_line.specs.script.Words.{HasNoValue}
+use Rattle.hart_line.specs.declared.script.rows.RowFault.TheVariants.{Bad, Memory}
+use Rattle.hart_line.proofs.lemmas.script.Items.{items_begin_with_digit, words_have_one_value-items}
+
+-- ONE THING
+leg_items : (word : List ℕ) (heard : Heard) (chars : List Character) → AreItems word chars → IsLegWord word heard → heard ≡ Chars chars
+leg_items word (Chars xs) chars are is = ap Chars (words_have_one_value-items word xs chars is.1 are)
+leg_items word Clean chars are is = let digit = items_begin_with_digit 111 (codes "k") chars (rw is at are) in cc
+leg_items word Lost chars are is = let digit = items_begin_with_digit 108 (codes "ost") chars (rw is at are) in cc
+
+leg_one : (word : List ℕ) (a b : Heard) → IsLegWord word a → IsLegWord word b → a ≡ b
+leg_one word (Chars xs) y a b = sym (leg_items word y xs a.1 b)
+leg_one word x (Chars ys) a b = leg_items word x ys b.1 a
+leg_one word x y a b = grind arith
+
+says_one : (words : List (List ℕ)) (x y : LineEvent) → Says words x → Says words y → x ≡ y
+says_one words (Turn who up down) (Turn other first second) a b = grind (arith, leg_one)
+says_one words (Noise xs) (Noise ys) a b =
+    let same : b.0 ≡ a.0 = grind arith in ap Noise (words_have_one_value-items a.0 xs ys a.2.1 (rw same at b.2.1))
+says_one words x y a b = grind arith
+
+say_one : (lines : List (List (List ℕ))) (xs ys : List LineEvent) → AllZip Says lines xs → AllZip Says lines ys → xs ≡ ys
+say_one [] [] [] a b = refl
+say_one (words ∷ lines) (x ∷ xs) (y ∷ ys) a b =
+    let first = says_one words x y a.0 b.0 in let others = say_one lines xs ys a.1 b.1 in cc
+say_one lines xs ys a b = absurd (grind arith)
+
+pub texts_have_one_script-one_script : (text : List ℕ) (xs ys : List LineEvent) → IsScript text xs → IsScript text ys → xs ≡ ys
+texts_have_one_script-one_script text xs ys a b = say_one _ xs ys a b
+
+-- NO BAD LINE
+none_bad : (lines : List (List (List ℕ))) (n : ℕ) (words : List (List ℕ)) (events : List LineEvent) → AreEvents lines events
+    → slice_get lines n ≡ Some words → IsBadLine words → ⊥
+none_bad [] n words events are is bad = cc
+none_bad (line ∷ lines) n words [] are is bad = grind (arith, none_bad lines (pred n) words [])
+none_bad (line ∷ lines) n words (event ∷ events) are is bad =
+    grind (arith, none_bad lines (pred n) words (event ∷ events), none_bad lines (pred n) words events)
+
+pub texts_have_one_script-no_bad_line : (text : List ℕ) (events : List LineEvent) (number : ℕ) → IsScript text events
+    → HasFirstBadLine text number → ⊥
+texts_have_one_script-no_bad_line text events number are bad = none_bad (lines_in_words text) bad.before bad.words events are bad.is bad.bad
+
+-- Of two first bad lines none comes before the other.
+slice_get-take : {A : Type 0} (xs : List A) (m n : ℕ) → m < n → slice_get (take n xs) m ≡ slice_get xs m
+slice_get-take [] m n below = grind (arith, common_steps)
+slice_get-take (x ∷ xs) m n below = grind (arith, common_steps, slice_get-take xs (pred m) (pred n))
+
+not_before : (text : List ℕ) (number other : ℕ) (a : HasFirstBadLine text number) (b : HasFirstBadLine text other)
+    → a.before < b.before → ⊥
+not_before text number other a b below = none_bad (take b.before (lines_in_words text)) a.before a.words b.events b.good
+    (grind (arith, slice_get-take, a.is)) a.bad
+
+pub texts_have_one_script-one_bad_line : (text : List ℕ) (number other : ℕ) → HasFirstBadLine text number → HasFirstBadLine text other
+    → number ≡ other
+texts_have_one_script-one_bad_line text number other a b =
+    let first = not_before text number other a b in let second = not_before text other number b a in
+    grind (arith, a.counted, b.counted)
+
+-- WHAT A WORD BRINGS ABOUT
+-- Words that say nothing if one of them says nothing have its fault.
+pub fault_of_word : {A B : Type 0} (words : List (List ℕ)) (k : ℕ) (word : List ℕ) (fault : RowFault) (IsPart : A → Type 0)
+    (IsWhole : B → Type 0) → k < length words → get_or words k word ≡ word → (HasNoValue IsPart → HasNoValue IsWhole)
+    → ReadsWords (word ∷ []) IsPart (Err fault) → ReadsWords words IsWhole (Err fault)
+fault_of_word words k word Bad IsPart IsWhole short here none reads = none reads
+fault_of_word words k word (Memory room) IsPart IsWhole short here none reads = grind arith
