@@ -1,16 +1,15 @@
 -- What `hart serve` writes for the lines that it reads (own profile).
-use Rattle.std.specs.Prelude.{◌≡◌, ◌⊎◌, ℕ, ◌-◌, ◌^◌, ◌/◌, ◌+◌, ◌≤◌, List, [], ◌∷◌, ◌++◌, length, Option, Result, Ok, Err}
+use Rattle.std.specs.Prelude.{◌≡◌, ◌⊎◌, ℕ, ◌-◌, ◌^◌, ◌/◌, ◌+◌, ◌≤◌, List, [], ◌∷◌, ◌++◌, length, Option, Ok, Err}
 use Rattle.std.specs.Io.KnownBytes.{Appends}
 use Rattle.hart_device.specs.Device.{DeviceState}
 use Rattle.hart_line.specs.script.Lines.{lines_of}
 use Rattle.hart_line.specs.declared.memory.NoRoom.{NoRoom}
-use Rattle.hart_cli.specs.declared.fault.CliFault.{CliFault}
 use Rattle.hart_cli.specs.declared.fault.CliFault.TheVariants as faults
 use Rattle.hart_cli.specs.declared.input.InputEnd.TheVariants.{Ended, ReadFailed, TooLong}
 use Rattle.hart_cli.specs.ImageWord.{OutcomeWith, OutcomeRelation}
 use Rattle.hart_cli.specs.input.Input.{CameTo, Ending, Left, ReadsToWithin, input_limit, most_at_once}
 use Rattle.hart_cli.specs.serve.Line.{ServesLine}
-use Rattle.hart_cli.specs.stream.Stream.{FailsToWrite, Stream, WritesAll, WritesNothing}
+use Rattle.hart_cli.specs.stream.Stream.{FailsToWrite, Stream, WritesAll}
 
 -- A device serves lines one after another: it serves each as what the lines before left of it.
 pub data Serves : DeviceState → List (List ℕ) → DeviceState → List ℕ → Type 0 where

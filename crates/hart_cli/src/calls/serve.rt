@@ -19,10 +19,10 @@ mod server;
 
 /// Reads lines until the input ends, and writes a line for each of them, before it reads on.
 ///
-/// A line of hex items is heard at once, and the line for it is the reply of the bench device, in hex, or `-` if it is silent. After
-/// `restart`, `protect on` and `protect off` it says `ok`, after `image` the image of the device and after `counter` its counter.
-/// What is bad in any other line, or that it has more than 1,048,576 bytes, it says after `bad line:`. With an image, a word of hex, the
-/// device goes on from that. The memory that serving takes is taken before the first line is read.
+/// The bench device hears a line of hex items at once; the line for it is the reply in hex, or `-` for silence. `restart`, `protect on`
+/// and `protect off` give `ok`, `image` gives the image of the device, and `counter` its counter. Any other line, and one of more than
+/// 1,048,576 bytes, gives `bad line:` and why, and changes nothing. With an image, a word of hex, the device goes on from that. All
+/// memory is taken before the first line is read.
 ///
 /// # Errors
 ///

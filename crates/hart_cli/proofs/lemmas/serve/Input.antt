@@ -1,5 +1,5 @@
 -- An input that is served while it is read.
-use Rattle.std.proofs.Common.{◌≡◌, ◌≤◌, ◌+◌, ◌-◌, ℕ, List, [], ◌∷◌, ◌++◌, length, map, Option, None, Some, MatchOption, refl, sym, ap, inl, append_assoc, append-nil, arith}
+use Rattle.std.proofs.Common.{◌≡◌, ◌≤◌, ◌+◌, ◌-◌, ℕ, List, [], ◌++◌, length, map, Option, None, Some, MatchOption, refl, inl, append_assoc, append-nil, arith}
 use Rattle.std.proofs.KnownBytes.{Appends-trans, Consumes-trans}
 use Rattle.std.proofs.lemmas.Grind.{common_steps}
 use Rattle.std.proofs.lemmas.List.{map-append}
@@ -9,8 +9,8 @@ use Rattle.hart_device.specs.Device.{DeviceState}
 use Rattle.hart_cli.specs.declared.calls.serve.server.Server.{Server}
 use Rattle.hart_cli.specs.declared.input.InputEnd.{InputEnd}
 use Rattle.hart_cli.specs.declared.input.InputEnd.TheVariants.{Ended}
-use Rattle.hart_cli.specs.input.Input.{CameTo, Ending, Left, ReadsPortion, ReadsToWithin, ReadsWell, ReadsWithin, ending_of, most_at_once}
-use Rattle.hart_cli.specs.serve.Serve.{HasLines, IsServed, SaidInTime, Serves, ServesTo, StopsSaying, last_lines, serve_limit}
+use Rattle.hart_cli.specs.input.Input.{CameTo, Left, ReadsPortion, ReadsToWithin, ReadsWell, ReadsWithin, ending_of, most_at_once}
+use Rattle.hart_cli.specs.serve.Serve.{SaidInTime, Serves, ServesTo, StopsSaying, last_lines, serve_limit}
 use Rattle.hart_cli.specs.serve.Server.{FailsInParts, IsCut, Keeps, ServesAll, ServesParts, ServesWhole}
 use Rattle.hart_cli.specs.stream.Stream.{FailsToWrite, Stream, WritesAll}
 use Rattle.hart_cli.proofs.lemmas.dump.Writes.{FailsToWrite-on, WritesAll-on}

@@ -1,13 +1,11 @@
 -- One line that a device serves.
 use Rattle.std.proofs.Common.{◌≡◌, ◌≤◌, ◌<◌, ◌+◌, ℕ, List, [], length, take, Option, None, Some, refl, sym, ap, ◌∙◌, arith}
 use Rattle.std.proofs.lemmas.Grind.{common_steps}
-use Rattle.std.proofs.lemmas.Bool.Decides.{nat_tests}
 use Rattle.std.specs.Str.Lines.{strip_carriage_return}
 use Rattle.hart_frame.specs.heard.Character.{Character}
 use Rattle.hart_frame.specs.wire.FrameParts.{FrameParts}
 use Rattle.hart_device.specs.Device.{DeviceState}
 use Rattle.hart_device.proofs.lemmas.Laws.{deliveries_bring_one-one}
-use Rattle.hart_cli.specs.input.Input.{input_limit}
 use Rattle.hart_cli.specs.serve.Line.{Hears, IsReplyLine, ServesLine, bad_hex, delivery, too_long, word}
 use Rattle.hart_cli.specs.serve.Server.{most_kept}
 use Rattle.hart_cli.proofs.lemmas.text.InputChars.{not_both, one_place}

@@ -1,4 +1,3 @@
-use Rattle.std.proofs.Common.{arith}
 use Rattle.hart_cli.proofs.lemmas.serve.Served.{one_list, one_text}
 use Rattle.hart_cli.proofs.calls.serve.one_service.Goals as goal
 

@@ -1,4 +1,4 @@
-use Rattle.std.proofs.Common.{◌≡◌, ℕ, List, ◌++◌, length}
+use Rattle.std.proofs.Common.{ℕ, List, length}
 use Rattle.hart_cli.specs.serve.Server.{HasNoFeed, Keeps}
 use Rattle.hart_cli.proofs.lemmas.serve.Server.{ServesFront}
 use Rattle.hart_cli.proofs.calls.serve.server.Server.serve_lines.Given as goal

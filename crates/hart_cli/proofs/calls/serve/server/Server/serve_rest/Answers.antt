@@ -1,4 +1,4 @@
-use Rattle.std.proofs.Common.{arith, refl, [], ◌++◌, ◌∙◌}
+use Rattle.std.proofs.Common.{arith, refl, []}
 use Rattle.std.proofs.KnownBytes.{Appends-nil}
 use Rattle.std.proofs.lemmas.Grind.{common_steps}
 use Rattle.hart_cli.proofs.lemmas.serve.Served.{serves_last_line, serves_no_line}
