@@ -2,9 +2,9 @@
 _hart() {
     local words
     case $COMP_CWORD:${COMP_WORDS[1]} in
-    1:*) words='answer dump explain sim encode help --help --version' ;;
-    *:help) words='answer dump explain sim encode help' ;;
-    *:answer | *:sim) words='--image --help' ;;
+    1:*) words='answer dump explain serve sim encode help --help --version' ;;
+    *:help) words='answer dump explain serve sim encode help' ;;
+    *:answer | *:serve | *:sim) words='--image --help' ;;
     *:encode) words='--preambles --help' ;;
     *) words='--help' ;;
     esac

@@ -7,7 +7,7 @@ fault are heard together, some of them in one call, which is quicker. At first t
 messages. A difference is printed with the smallest words and input that were found to show one. The cases of a seed are always the
 same. The last line is `N passed, M failed`, and the status is 1 after any difference.
 
-Usage: tools/fuzz.py [PROGRAM] [--cases N] [--seed S] [--only dump|explain|answer|sim|encode]; PROGRAM is ./hart, N 10000, and S
+Usage: tools/fuzz.py [PROGRAM] [--cases N] [--seed S] [--only dump|explain|answer|serve|sim|encode]; PROGRAM is ./hart, N 10000, and S
 another one in each run.
 """
 
@@ -21,7 +21,7 @@ from typing import NamedTuple
 
 sys.dont_write_bytecode = True
 
-from fuzz import calls, explain, scripts, texts, worked  # noqa: E402
+from fuzz import calls, explain, scripts, serve, texts, worked  # noqa: E402
 from fuzz.shrink import Shrinker  # noqa: E402
 from fuzz.texts import Given  # noqa: E402
 
@@ -34,7 +34,7 @@ MOST_SHOWN = 2000
 
 
 class Call(NamedTuple):
-    """A call of the program: its name, how often it is tried among twelve, the maker of what it is given, and the model of it."""
+    """A call of the program: its name, how often it is tried among fourteen, the maker of what it is given, and the model of it."""
 
     name: str
     share: int
@@ -46,6 +46,7 @@ CALLS = (
     Call("dump", 3, calls.dump_given, texts.dump),
     Call("explain", 3, calls.explain_given, explain.explain),
     Call("answer", 2, calls.answer_given, texts.answer),
+    Call("serve", 2, calls.serve_given, serve.serve),
     Call("sim", 3, calls.sim_given, scripts.sim),
     Call("encode", 1, calls.encode_given, texts.encode),
 )
@@ -105,6 +106,8 @@ def worked_cases():
         yield "sim", given_of(["--image", image], text), texts.done(played.encode())
     for text, fault in worked.NOT_PLAYED:
         yield "sim", given_of([], text), texts.failed(fault)
+    for image, text, said in worked.SERVED:
+        yield "serve", given_of(["--image", image] if image else [], text), texts.done(said.encode())
     for words, message, fault in worked.ENCODED:
         ends = texts.USAGE if fault is None else texts.failed(fault) if fault else texts.done(message_line(message))
         yield "encode", given_of(words.split(), ""), ends
@@ -112,9 +115,9 @@ def worked_cases():
 
 
 def worked_refusals():
-    """Each word that is no image, for both calls, with an input that is bad too."""
+    """Each word that is no image, for the calls that take one, with an input that is bad too."""
     for image, fault in worked.NO_IMAGES:
-        for name, text in itertools.product(("answer", "sim"), ("turn X ok ok", None)):
+        for name, text in itertools.product(("answer", "serve", "sim"), ("turn X ok ok", None)):
             yield name, given_of(["--image", image], text), texts.failed(fault, unread=True)
 
 

@@ -102,6 +102,12 @@ refuse_each 2 answer
 image=0200018208208208208208208208208208208208208208208208208208208208208208208208208208208208200000000000002020202020202020202020202020202020202020202020202020202020202020000000
 refuse_each 3 answer --image "$image"
 
+# Its own are of a line and of its characters, however many lines there are.
+yes counter | head -n 3000 >"$work/input"
+yes 'counter 0' | head -n 3000 >"$work/wanted"
+refuse_each 2 serve
+refuse_each 3 serve --image "$image"
+
 echo 'FF FF 02 80 00 00 82 FF!40 FF FF 82 B7 42 0A 1B 2C 13 03 01 23 45 3D' >"$work/input"
 printf '%s\n' '2 7 STX P 0 @0 - 0 -' '10 22 STX P 0 37420A1B2C - 19 012345' >"$work/wanted"
 refuse_each 0 dump
@@ -185,6 +191,8 @@ dump 0 58
 explain 0 240
 answer 0 102
 answer with an image 0 102
+serve 0 102
+serve with an image 0 102
 simulate 0 410
 simulate with an image 0 410
 encode_text 0 51
@@ -212,6 +220,8 @@ cat >"$work/growths" <<'GROWTHS'
 2 explain 7 0
 4 read_script 2
 2 run 2
+2 serve 7 0
+3 serve with an image 7 0
 11 simulate 7 0
 12 simulate with an image 7 0
 GROWTHS

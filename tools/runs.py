@@ -16,7 +16,7 @@ from typing import NamedTuple
 
 sys.dont_write_bytecode = True
 
-from rows import answer, dump, encode, explain, images, items, sim, words  # noqa: E402
+from rows import answer, dump, encode, explain, images, items, serve, sim, words  # noqa: E402
 
 DONE, FAULT, NO_CALL = 0, 1, 2
 INPUT_LIMIT = 1_048_576
@@ -29,6 +29,7 @@ CALLS = (
     (["answer"], IDENTIFY, answer.REPLY_TO_PRIMARY),
     (["dump"], dump.TWO_MESSAGES, dump.TWO_LINES),
     (["explain"], IDENTIFY, explain.IDENTIFY),
+    (["serve"], serve.LINES, serve.SAID),
     (["sim"], "turn P ok ok", sim.AS_IT_WAS),
     (["encode", "P", "@0", "0"], "", encode.IDENTIFY),
 )
@@ -146,6 +147,31 @@ def scripts_are_carried_out(runner):
     runner.check_rows(["sim"], sim.ROWS)
 
 
+def lines_are_served_in_turn(runner):
+    runner.check_rows(["serve"], serve.ROWS)
+    runner.check_rows(["serve"], serve.FAILED_READS, "failure")
+
+
+def a_line_is_served_before_more_is_read(runner):
+    # Each read gives a byte, and the second write fails: a line and its line feed had been read twice by then.
+    run = runner.run(["serve"], "counter\n\nrestart\n", most_read=1, failed_output=1)
+    is_named = run.gave(FAULT, "counter 0\n", "write fault\n") and (run.reads, run.writes) == (9, 2)
+    runner.hold(is_named, ["serve"], run)
+
+
+def lines_up_to_the_longest_are_served(runner):
+    longest = "00" * (INPUT_LIMIT // 2 - len(IDENTIFY)) + " " * len(IDENTIFY) + IDENTIFY
+    runner.hold(len(longest) == INPUT_LIMIT, [], "the longest line")
+    for line, said in (
+        (longest, answer.REPLY_TO_PRIMARY),
+        (longest + "\r", answer.REPLY_TO_PRIMARY),
+        (" " + longest, "bad line: too long\n"),
+        (longest + "\r\r", "bad line: too long\n"),
+        (longest * 3, "bad line: too long\n"),
+    ):
+        runner.serves(["serve"], f"protect on\n{line}\ncounter\n", f"ok\n{said}counter 0\n")
+
+
 def long_scripts_have_long_texts(runner):
     spoken = "P 20 82B7420A1B2C13030123453D\nD 5 86B7420A1B2C130500400123457F\n"
     for writes in WRITES:
@@ -183,7 +209,7 @@ def a_device_goes_on_from_its_image(runner):
 
 def a_bad_image_is_named_before_anything_is_read(runner):
     for bad, fault in images.BAD_IMAGES:
-        for word in ("answer", "sim"):
+        for word in ("answer", "serve", "sim"):
             call = [word, "--image", bad]
             # The input would be at fault too.
             run = runner.run(call, "!")
@@ -295,6 +321,9 @@ CHECKS = (
     frames_in_noise_have_a_line_each,
     what_was_heard_is_said_in_words,
     scripts_are_carried_out,
+    lines_are_served_in_turn,
+    a_line_is_served_before_more_is_read,
+    lines_up_to_the_longest_are_served,
     long_scripts_have_long_texts,
     inputs_up_to_the_largest_are_taken,
     words_give_a_message_or_the_first_bad_one,

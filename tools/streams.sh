@@ -100,18 +100,50 @@ if [ "$status" -ne 1 ] || [ "$(cat "$work/errors")" != 'bad hex at 82' ]; then
 fi
 echo "hart dump: ended with $status on an open pipe, and gave '$(cat "$work/errors")'"
 
+# A device that serves says a line for each line, though it could read on, and is the same one all the time.
+mkfifo "$work/asked" "$work/said"
+timeout 60 "$program" serve <"$work/asked" >"$work/said" 2>"$work/errors" &
+serve=$!
+exec 3>"$work/asked" 4<"$work/said"
+while IFS='|' read -r asked wanted; do
+    echo "$asked" >&3
+    IFS= read -r said <&4 || true
+    if [ "$said" != "$wanted" ]; then
+        echo "hart serve: '$said' to '$asked' on an open pipe, but '$wanted' is wanted" >&2
+        exit 1
+    fi
+done <<'LINES'
+FF FF 82 B7 42 0A 1B 2C 13 03 01 23 45 3D|FF FF FF FF FF 86 B7 42 0A 1B 2C 13 05 00 40 01 23 45 7F
+|-
+restart|ok
+FF FF 0G|bad line: bad hex at 6
+FF FF 82 B7 42 0A 1B 2C 10 00 5A|FF FF FF FF FF 86 B7 42 0A 1B 2C 10 05 00 60 01 23 45 5C
+counter|counter 1
+LINES
+exec 3>&- 4<&-
+status=0
+wait "$serve" || status=$?
+if [ "$status" -ne 0 ] || [ -s "$work/errors" ]; then
+    echo "hart serve: status $status and '$(cat "$work/errors")' at the end of an open pipe" >&2
+    exit 1
+fi
+echo "hart serve: said a line for each line on an open pipe, and ended with 0"
+
 ends_with 1 'write fault' /dev/full dump <"$request"
 ends_with 1 'write fault' /dev/full explain <"$request"
 ends_with 1 'write fault' /dev/full answer <"$request"
+ends_with 1 'write fault' /dev/full serve <"$request"
 ends_with 1 'write fault' /dev/full sim </dev/null
 ends_with 1 'write fault' /dev/full encode P @0 0 </dev/null
 ends_with 1 'read fault' "$work/output" dump <"$work"
 ends_with 1 'read fault' "$work/output" explain <"$work"
 ends_with 1 'read fault' "$work/output" answer <"$work"
+ends_with 1 'read fault' "$work/output" serve <"$work"
 ends_with 1 'read fault' "$work/output" sim <"$work"
 # An image that is none is refused before anything is read, and so before the fault of the input.
 ends_with 1 'bad image: version' "$work/output" answer --image 03 <"$work"
 ends_with 1 'bad image: length' "$work/output" answer --image 02 <"$work"
+ends_with 1 'bad image: length' "$work/output" serve --image '' <"$work"
 ends_with 1 'bad image: length' "$work/output" sim --image '' <"$work"
 ends_with 1 'bad hex at 3' "$work/output" sim --image "$(printf '0\303\251')" <"$work"
 ends_with 2 'error: *' "$work/output" answer --image "$(printf '\377')" <"$request"
@@ -127,7 +159,7 @@ writes "$(printf 'counter 1\nimage %s' "$image")" sim --image "$image"
 writes "$(printf 'counter 1\nimage %s' "$image")" sim "--image=$image"
 writes "$(printf 'counter 1\nimage %s' "$image")" sim --image "$earlier"
 shows help --help
-for word in answer dump explain sim encode; do
+for word in answer dump explain serve sim encode; do
     shows "help-$word" "$word" --help
 done
 shows help-help help help

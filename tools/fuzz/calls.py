@@ -1,6 +1,6 @@
 """Makes what a call is given, its words and its text."""
 
-from . import events, heard, images, inputs, misheard
+from . import events, heard, images, inputs, misheard, serve
 from .device import NEW_IMAGE, Device
 from .heard import weighted
 from .texts import INPUT_LIMIT, Given
@@ -34,6 +34,11 @@ def answer_given(rng):
 def sim_given(rng):
     """What `hart sim` is given."""
     return with_image(rng, events.sim_input)
+
+
+def serve_given(rng):
+    """What `hart serve` is given."""
+    return with_image(rng, serve.serve_input)
 
 
 def with_image(rng, make):

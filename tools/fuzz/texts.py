@@ -251,18 +251,24 @@ def image_fault(word):
     return fault and f"bad image: {fault}"
 
 
-def device_of(given):
-    """The device of a call of `hart answer` or `hart sim`; raises `Ended` for its words, for the image, then for its input."""
-    split = split_words(given.words, b"--image")
+def device_at_start(words):
+    """The device of a call that may go on from an image; raises `Ended` for its words, then for the image."""
+    split = split_words(words, b"--image")
     if split is None or split[0]:
         raise Ended(USAGE)
     word = split[1]
     fault = None if word is None else image_fault(word)
     if fault is not None:
         raise Ended(failed(fault, unread=True))
+    return new_device() if word is None else Device.from_image(bytes.fromhex(word.decode()))
+
+
+def device_of(given):
+    """The device of a call of `hart answer` or `hart sim`; raises `Ended` for its words, for the image, then for its input."""
+    device = device_at_start(given.words)
     if given.text is None or len(given.text) > INPUT_LIMIT:
         raise Ended(failed(READ_FAULT if given.text is None else TOO_LONG))
-    return new_device() if word is None else Device.from_image(bytes.fromhex(word.decode()))
+    return device
 
 
 def encode(given):

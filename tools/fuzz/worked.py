@@ -227,6 +227,26 @@ NOT_PLAYED = (
     ("restart now", "bad line 1"),
 )
 
+# The image of the device of `hart serve`, or "" for a new one, an input, and what is said to its lines.
+SERVED = (
+    ("", "", ""),
+    ("", "\n\r\n", "-\n-\n"),
+    (
+        "",
+        f"restart\n{REQUEST}10 00 5A\n{REQUEST}10 00 5A",
+        f"ok\n{REPLY}10 05 00 20 00 00 00 7B\n{REPLY}10 05 00 00 00 00 00 5B\n",
+    ),
+    (
+        "",
+        f"{REQUEST}13 03 01 23 45 3D\r\nprotect on\n{REQUEST}13 03 01 23 45 3D\nprotect off\n{REQUEST}10 00 5A\ncounter\nimage\n",
+        f"{REPLY}13 05 00 40 01 23 45 7F\nok\n{REPLY}13 02 07 40 18\nok\n{REPLY}10 05 00 40 01 23 45 7C\ncounter 1\n"
+        f"{IMAGE_PREFIX}012345{LONG_TAG}000103\n",
+    ),
+    ("", "FF FF 0G\n restart\ncounter\n", "bad line: bad hex at 6\nbad line: bad hex at 1\ncounter 0\n"),
+    (f"{REGISTERS}000000FFFF00", f"counter\n{REQUEST}13 03 01 23 45 3D\ncounter",
+     f"counter 65535\n{REPLY}13 05 00 40 01 23 45 7F\ncounter 0\n"),
+)
+
 # The words of `hart encode`, its message, and its fault; words that make no call have None.
 ENCODED = (
     ("P @0 0", "FF FF FF FF FF 02 80 00 00 82", ""),

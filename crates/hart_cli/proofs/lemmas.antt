@@ -1,4 +1,6 @@
 -- Lemmas, in the rooms of the code and the definitions.
+pub mod Kept
 pub mod dump
 pub mod explain
+pub mod serve
 pub mod text

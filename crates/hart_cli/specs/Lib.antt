@@ -7,6 +7,7 @@ pub mod Answer
 pub mod dump
 pub mod explain
 pub mod sim
+pub mod serve
 pub mod FaultNumbers
 pub mod FaultText
 pub mod program

@@ -1,3 +1,4 @@
 -- Readers and writers.
 pub mod Stream
 pub mod Plain
+pub mod Kept

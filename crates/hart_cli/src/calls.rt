@@ -5,4 +5,5 @@ pub mod dump;
 pub mod encode;
 pub mod explain;
 pub mod program;
+pub mod serve;
 pub mod sim;

@@ -1,7 +1,7 @@
 //! The calls of the command line `hart`, over any reader and any writer.
 //!
 //! Each subcommand is a call. [`dump`] lists the messages in what was heard, [`explain`] says in words what they mean, [`answer`]
-//! gives the reply of the bench device to one delivery, [`simulate`] carries out a script, and [`encode_text`] writes a message to
+//! gives the reply of the bench device to one delivery, [`serve`] gives those to many, a line for each line, [`simulate`] carries out a script, and [`encode_text`] writes a message to
 //! send. [`program`] makes the call that the words after the program's name ask for, and gives the exit status. Each call reads from
 //! a [`Source`] and writes to a [`Sink`]; [`Plain`] makes them of the readers and writers of the standard library. A call that
 //! cannot do all of its work gives a [`CliFault`].
@@ -15,7 +15,8 @@
 //!
 //! The crate `hart` has `main` alone, which calls [`program`] with the arguments and the standard streams.
 //!
-//! At the root stand faults, the device that a call goes on from (`image_word`), reading an input and writing a text. The rooms:
+//! At the root stand faults, the device that a call goes on from (`image_word`), reading an input, and text that is kept until it is
+//! written, whole or piece by piece. The rooms:
 //!
 //! - `stream`: readers and writers as the calls see them.
 //! - `text`: hex items, and lines of words and bytes.
@@ -26,6 +27,7 @@ mod calls;
 mod fault;
 mod image_word;
 mod input;
+mod kept;
 mod output;
 mod stream;
 mod text;
@@ -40,6 +42,7 @@ pub use calls::explain::laws::{
 pub use calls::explain::{explain, one_explanation};
 pub use calls::program::command_line::{one_call, words_are_calls};
 pub use calls::program::{DONE, FAULT, NO_CALL, program};
+pub use calls::serve::{one_service, serve};
 pub use calls::sim::{one_simulation, simulate};
 pub use fault::CliFault;
 pub use image_word::one_device;

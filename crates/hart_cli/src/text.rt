@@ -2,6 +2,7 @@
 
 pub mod chunk;
 pub mod device_digits;
+pub mod device_lines;
 pub mod hex_text;
 pub mod input_chars;
 pub mod items;

@@ -9,4 +9,5 @@ mod limits;
 mod plain;
 mod program;
 mod scripts;
+mod serve;
 mod streams;

@@ -29,26 +29,34 @@ pub record ReadsBeyond (old new : Stream) (bytes : List ℕ) : Type 0 where
   pub beyond : ℕ
   pub read : ReadsWell old new (bytes ++ beyond ∷ [])
 
--- One byte more than the limit was taken: the text is those within it.
-abbrev pub ReadsPastLimit : Stream → Stream → List ℕ → Type 0
-ReadsPastLimit old new text = ReadsBeyond old new text × (length text ≡ input_limit)
+-- One byte more than a limit was taken: the text is those within it.
+abbrev pub ReadsPast : ℕ → Stream → Stream → List ℕ → Type 0
+ReadsPast limit old new text = ReadsBeyond old new text × (length text ≡ limit)
 
--- An input gave this text before it ended, before a read failed, or before it went past the limit.
+-- An input with a limit gave this text before it ended, before a read failed, or before it went past the limit.
+abbrev pub ReadsWithin : ℕ → Stream → Stream → List ℕ → InputEnd → Type 0
+ReadsWithin limit old new text Ended = ReadsWell old new text × IsAtEnd new.bytes × (length text ≤ limit)
+ReadsWithin limit old new text ReadFailed = ReadFails old new text × (length text ≤ limit)
+ReadsWithin limit old new text TooLong = ReadsPast limit old new text
+
+-- An input gave this text before it ended, before a read failed, or before it went past its 1,048,576 bytes.
 abbrev pub Reads : Stream → Stream → List ℕ → InputEnd → Type 0
-Reads old new text Ended = ReadsWell old new text × IsAtEnd new.bytes × (length text ≤ input_limit)
-Reads old new text ReadFailed = ReadFails old new text × (length text ≤ input_limit)
-Reads old new text TooLong = ReadsPastLimit old new text
+Reads old new text end = ReadsWithin input_limit old new text end
 
 -- A call reads an input to its end, or leaves it before.
 pub data Ending : Type 0 where
   Left : Ending
   CameTo : (end : InputEnd) → Ending
 
--- An input gave this text before it came to its end or was left. If it was left it may have had more to read, and perhaps one byte
--- past the limit was read with the last of the text.
+-- An input with a limit gave this text before it came to its end or was left. If it was left it may have had more to read, and perhaps
+-- one byte past the limit was read with the last of the text.
+abbrev pub ReadsToWithin : ℕ → Stream → Stream → List ℕ → Ending → Type 0
+ReadsToWithin limit old new text Left = (ReadsWell old new text × (length text ≤ limit)) ⊎ ReadsPast limit old new text
+ReadsToWithin limit old new text (CameTo end) = ReadsWithin limit old new text end
+
+-- An input of at most 1,048,576 bytes gave this text before it came to its end or was left.
 abbrev pub ReadsTo : Stream → Stream → List ℕ → Ending → Type 0
-ReadsTo old new text Left = (ReadsWell old new text × (length text ≤ input_limit)) ⊎ ReadsPastLimit old new text
-ReadsTo old new text (CameTo end) = Reads old new text end
+ReadsTo old new text ending = ReadsToWithin input_limit old new text ending
 
 -- An input has room for as many bytes as it may have, and for one that makes its last item whole.
 abbrev pub input_room : ℕ

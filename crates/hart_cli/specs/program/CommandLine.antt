@@ -8,7 +8,7 @@ use Rattle.clap.specs.Words.{App, Row, Rule, Text, fault_of, first_of, new_app, 
 use Rattle.clap.specs.declared.builder.value_parser.ValueParser.TheVariants.{Signed}
 use Rattle.hart_cli.specs.encode.MessageWords.{MessageWords}
 use Rattle.hart_cli.specs.declared.calls.program.command_line.Call.{Call}
-use Rattle.hart_cli.specs.declared.calls.program.command_line.Call.TheVariants.{Answer, Dump, Encode, Explain, Sim}
+use Rattle.hart_cli.specs.declared.calls.program.command_line.Call.TheVariants.{Answer, Dump, Encode, Explain, Serve, Sim}
 
 -- The rule of a required word has its name, and the word has to be there.
 abbrev pub required_rule : Text → Rule
@@ -27,7 +27,7 @@ preambles_rule = record (new_rule (codes "preambles")) {
 abbrev pub image_rule : Rule
 image_rule = record (new_rule (codes "image")) { long = Some (codes "image"); value_names = 1 }
 
--- The commands `answer` and `sim` take an image, and no words.
+-- The commands `answer`, `serve` and `sim` take an image, and no words.
 abbrev pub image_app : Text → App
 image_app name = with_rule (new_app name) image_rule
 
@@ -57,15 +57,20 @@ hart_alone =
     } in
     record plain { top = top }
 
--- Its subcommands that read an input are `answer`, `dump`, `explain` and `sim`; `dump` and `explain` take no words.
-abbrev pub reading_app : App
-reading_app =
+-- Its subcommands that read what is heard at once are `answer`, `dump` and `explain`; `dump` and `explain` take no words.
+abbrev pub hearing_app : App
+hearing_app =
     let answer = with_subcommand hart_alone (image_app (codes "answer")).top in
     let dump = with_subcommand answer (new_app (codes "dump")).top in
-    let explain = with_subcommand dump (new_app (codes "explain")).top in
-    with_subcommand explain (image_app (codes "sim")).top
+    with_subcommand dump (new_app (codes "explain")).top
 
--- The command `hart` has five subcommands: these four, and `encode`.
+-- Those that read an input are these three, `serve` and `sim`.
+abbrev pub reading_app : App
+reading_app =
+    let serve = with_subcommand hearing_app (image_app (codes "serve")).top in
+    with_subcommand serve (image_app (codes "sim")).top
+
+-- The command `hart` has six subcommands: these five, and `encode`.
 abbrev pub hart_app : App
 hart_app = with_subcommand reading_app encode_app.top
 
@@ -89,13 +94,14 @@ words_of rows = message_words
     (first_of (codes "WHO") rows) (first_of (codes "ADDRESS") rows) (first_of (codes "COMMAND") rows)
     (unwrap_or (first_of (codes "DATA") rows) [])
 
--- The call of a subcommand by its name: `answer` and `sim` with the word of the image, or none; `dump`; `explain`; `encode` with its
--- words, if the matches give them. No other name has one.
+-- The call of a subcommand by its name: `answer`, `serve` and `sim` with the word of the image, or none; `dump`; `explain`; `encode`
+-- with its words, if the matches give them. No other name has one.
 abbrev pub call_named : Text → List Row → Option Call
 call_named name rows =
     if bytes_eq name (codes "answer") then Some (Answer (first_of (codes "image") rows))
     else if bytes_eq name (codes "dump") then Some Dump
     else if bytes_eq name (codes "explain") then Some Explain
+    else if bytes_eq name (codes "serve") then Some (Serve (first_of (codes "image") rows))
     else if bytes_eq name (codes "sim") then Some (Sim (first_of (codes "image") rows))
     else if bytes_eq name (codes "encode") then option_map (λ words. Encode words) (words_of rows)
     else None

@@ -12,6 +12,7 @@ use crate::calls::answer::answer;
 use crate::calls::dump::dump;
 use crate::calls::encode::{EncodeWords, encode_text};
 use crate::calls::explain::explain;
+use crate::calls::serve::serve;
 use crate::calls::sim::simulate;
 use crate::fault::CliFault;
 use crate::output::write_all;
@@ -32,8 +33,8 @@ pub const NO_CALL: u8 = 2;
 
 /// Makes the call that the words after the program's name ask for, and gives the program's status.
 ///
-/// `answer`, `dump`, `explain` and `sim` read from `reader` and write to `writer`; `encode` reads its words alone. At status 0 nothing goes
-/// to `errors`; at status 1 the line of the call's fault does, or a beginning of it if `errors` failed. Status 2 says that clap
+/// `answer`, `dump`, `explain`, `serve` and `sim` read from `reader` and write to `writer`; `encode` reads its words alone. At status 0
+/// nothing goes to `errors`; at status 1 the line of the call's fault does, or a beginning of it if `errors` failed. Status 2 says that clap
 /// found no matches for the words: reader and writer are not touched, and clap's own text, help among it, goes to `errors`. No
 /// clause says which. A failed write to `errors` ends the text there, and the status stays what it was.
 pub fn program<R: Source, W: Sink, E: Sink>(
@@ -78,6 +79,7 @@ fn make_call<R: Source, W: Sink>(
         Call::Answer(image) => answer(alloc, image.word, reader, writer),
         Call::Dump => dump(alloc, reader, writer),
         Call::Explain => explain(alloc, reader, writer),
+        Call::Serve(image) => serve(alloc, image.word, reader, writer),
         Call::Sim(image) => simulate(alloc, image.word, reader, writer),
         Call::Encode(words) => {
             let EncodeWords {

@@ -51,6 +51,7 @@ pub fn read_pieces(digits: &Digits, text: &[u8], chars: &mut Filling<Char>) -> u
     ensures within { result ≤ length text.now }
     ensures reads { ReadsUpTo text.now chars.new.items (drop result text.now) }
     ensures stops { NoPieceBegins (drop result text.now) }
+    ensures kept { chars.new.room ≡ chars.old.room }
 {
     let mut place = 0;
     while let Some(len) = read_more(digits, &text[place..], chars) {

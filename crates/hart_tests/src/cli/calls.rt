@@ -2,7 +2,9 @@
 
 use super::fakes::{ALL, After, Tape, Trickle};
 use crate::rows::hold_ok;
-use hart_cli::{CliFault, Sink, Source, answer, dump, encode_text, explain, program, simulate};
+use hart_cli::{
+    CliFault, Sink, Source, answer, dump, encode_text, explain, program, serve, simulate,
+};
 use hart_frame::{LEAST_PREAMBLES, is_preamble_count};
 use std::alloc::{AllocError, Global};
 use std::process::Abort;
@@ -15,6 +17,8 @@ pub enum Call<'a> {
     Explain,
     /// With an image.
     Answer(Option<&'a str>),
+    /// With an image.
+    Serve(Option<&'a str>),
     /// With an image.
     Simulate(Option<&'a str>),
     /// With the words of a message. The command line has no word for empty DATA and for 5 preamble bytes.
@@ -49,6 +53,7 @@ impl Call<'_> {
             Call::Dump => "dump",
             Call::Explain => "explain",
             Call::Answer(_) => "answer",
+            Call::Serve(_) => "serve",
             Call::Simulate(_) => "sim",
             Call::Encode { .. } => "encode",
         }
@@ -58,8 +63,12 @@ impl Call<'_> {
     pub fn words(self, alloc: Global) -> Result<Vec<String>, AllocError> {
         let mut words = strings_of(alloc, &[self.subcommand()])?;
         match self {
-            Call::Dump | Call::Explain | Call::Answer(None) | Call::Simulate(None) => {}
-            Call::Answer(Some(image)) | Call::Simulate(Some(image)) => {
+            Call::Dump
+            | Call::Explain
+            | Call::Answer(None)
+            | Call::Serve(None)
+            | Call::Simulate(None) => {}
+            Call::Answer(Some(image)) | Call::Serve(Some(image)) | Call::Simulate(Some(image)) => {
                 push_word(alloc, &mut words, "--image")?;
                 push_word(alloc, &mut words, image)?;
             }
@@ -96,6 +105,7 @@ impl Call<'_> {
             Call::Dump => dump(alloc, reader, writer),
             Call::Explain => explain(alloc, reader, writer),
             Call::Answer(image) => answer(alloc, image, reader, writer),
+            Call::Serve(image) => serve(alloc, image, reader, writer),
             Call::Simulate(image) => simulate(alloc, image, reader, writer),
             Call::Encode { .. } => return self.encode(alloc, writer),
         })

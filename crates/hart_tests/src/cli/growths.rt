@@ -30,6 +30,8 @@ const CALLS: &[(Call, &str, &str)] = &[
     (Call::Explain, "explain", HEARD),
     (Call::Answer(None), "answer", IDENTIFY),
     (Call::Answer(Some(NEW)), "answer with an image", IDENTIFY),
+    (Call::Serve(None), "serve", IDENTIFY),
+    (Call::Serve(Some(NEW)), "serve with an image", IDENTIFY),
     (Call::Simulate(None), "simulate", SCRIPT),
     (Call::Simulate(Some(NEW)), "simulate with an image", SCRIPT),
     (

@@ -3,8 +3,8 @@ ghost use Rattle.std.specs.Prelude.{◌≡◌, ◌++◌, ◌+◌, ◌≤◌, IfS
 ghost use Rattle.std.specs.Option.{option_map};
 ghost use Rattle.hart_cli.specs.explain.Codes.{code_name, code_words};
 
-use crate::calls::explain::kept::Kept;
 use crate::calls::explain::words::push_named_number;
+use crate::kept::Kept;
 
 /// Appends a response code of a command by its number and, if it has one, its name.
 pub fn push_code(text: &mut Kept, command: u8, code: u8)

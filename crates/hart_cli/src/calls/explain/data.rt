@@ -5,8 +5,8 @@ ghost use Rattle.hart_cli.specs.explain.Data.{replied_lines, reply_lines, reques
 
 use crate::calls::explain::codes::push_code;
 use crate::calls::explain::fields::{push_fields, push_taken};
-use crate::calls::explain::kept::Kept;
 use crate::calls::explain::words::{push_bytes_line, push_hex_value, push_name};
+use crate::kept::Kept;
 use crate::text::pairs::Pairs;
 use crate::text::words::push_text;
 use hart_commands::{Reply, Request, command_name, needed_data, reply_rows, request_rows};

@@ -4,9 +4,9 @@ ghost use Rattle.hart_commands.specs.Fields.{bytes_of, fields_of, seen};
 ghost use Rattle.hart_cli.specs.explain.Fields.{are_shown, field_line, field_lines, taken_lines};
 ghost use Rattle.hart_cli.specs.explain.Values.{suits};
 
-use crate::calls::explain::kept::Kept;
 use crate::calls::explain::values::push_value;
 use crate::calls::explain::words::{push_bytes_line, push_name};
+use crate::kept::Kept;
 use crate::text::pairs::Pairs;
 use hart_commands::FieldRow;
 

@@ -4,9 +4,9 @@ ghost use Rattle.hart_frame.specs.declared.wire.kind.FrameKind.TheVariants.{Ack}
 ghost use Rattle.hart_cli.specs.explain.Message.{burst_line, command_words, message_line, paragraph, payload_lines};
 
 use crate::calls::explain::data::{push_reply_data, push_request_data};
-use crate::calls::explain::kept::Kept;
 use crate::calls::explain::status::push_status;
 use crate::calls::explain::words::{push_bytes_line, push_named_number, push_said, push_who};
+use crate::kept::Kept;
 use crate::text::pairs::Pairs;
 use crate::text::words::push_text;
 use hart_commands::command_name;

@@ -2,10 +2,10 @@
 ghost use Rattle.std.specs.Prelude.{◌≡◌, ◌++◌, ◌+◌, ◌-◌, ◌<◌, ◌≤◌, ◌^◌, codes, decimal, length};
 ghost use Rattle.hart_frame.specs.heard.Miss.{is_preamble};
 ghost use Rattle.hart_cli.specs.explain.Misses.{ArePlacesBelow, byte_value, gap_text, is_asked, miss_words, missing_words, place_text};
-ghost use Rattle.hart_cli.specs.explain.Told.{Tells};
+ghost use Rattle.hart_cli.specs.stream.Kept.{Tells};
 
-use crate::calls::explain::kept::{Kept, make_room};
 use crate::calls::explain::words::push_hex_value;
+use crate::kept::{Kept, make_room};
 use crate::stream::{Failed, Sink};
 use crate::text::pairs::Pairs;
 use crate::text::words::push_text;

@@ -5,8 +5,8 @@ ghost use Rattle.hart_cli.specs.explain.Codes.{code_words};
 ghost use Rattle.hart_cli.specs.explain.Words.{said_line};
 
 use crate::calls::explain::codes::push_code;
-use crate::calls::explain::kept::Kept;
 use crate::calls::explain::words::push_name;
+use crate::kept::Kept;
 use crate::text::words::push_text;
 use hart_values::{ByteList, CommFaults, DeviceStatus};
 

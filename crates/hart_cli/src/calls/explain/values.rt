@@ -4,8 +4,8 @@ ghost use Rattle.hart_values.specs.packed_text.Packing.{IsPackedSize};
 ghost use Rattle.hart_cli.specs.explain.Values.{day_words, no_date_words, suits, two_digits, unpacked, value_words, variable_words};
 ghost use Rattle.hart_cli.specs.explain.Values.{variables_words};
 
-use crate::calls::explain::kept::Kept;
 use crate::calls::explain::words::push_hex_value;
+use crate::kept::Kept;
 use crate::text::pairs::Pairs;
 use crate::text::words::push_text;
 use hart_commands::FieldKind;

@@ -3,7 +3,7 @@ ghost use Rattle.std.specs.Prelude.{◌≡◌, ◌++◌, ◌+◌, ◌*◌, ◌�
 ghost use Rattle.std.specs.Option.{option_map};
 ghost use Rattle.hart_cli.specs.explain.Words.{bytes_line, device_words, hex_value, master_words, named_number, said_line, who_words};
 
-use crate::calls::explain::kept::Kept;
+use crate::kept::Kept;
 use crate::text::device_digits::push_device_digits;
 use crate::text::hex_text::push_hex;
 use crate::text::pairs::Pairs;

@@ -5,10 +5,10 @@ ghost use Rattle.clap.specs.Words.{HasKind, app_of, fault_of, first_of, found_of
 ghost use Rattle.clap.specs.Words.{with_rule, with_subcommand};
 ghost use Rattle.std.specs.Option.{option_map};
 ghost use Rattle.hart_cli.specs.program.CommandLine.{Calls, call_of, encode_app, encode_with_required_words, hart_alone, hart_app};
-ghost use Rattle.hart_cli.specs.program.CommandLine.{image_app, image_rule, preambles_of, preambles_rule, reading_app, required_rule};
+ghost use Rattle.hart_cli.specs.program.CommandLine.{hearing_app, image_app, image_rule, preambles_of, preambles_rule, reading_app, required_rule};
 ghost use Rattle.hart_cli.specs.program.CommandLine.{words_of};
 ghost use Rattle.hart_cli.specs.declared.calls.program.command_line.Call.{Call};
-ghost use Rattle.hart_cli.specs.declared.calls.program.command_line.Call.TheVariants.{Answer, Dump, Encode, Explain, Sim};
+ghost use Rattle.hart_cli.specs.declared.calls.program.command_line.Call.TheVariants.{Answer, Dump, Encode, Explain, Serve, Sim};
 
 use super::help;
 use super::help::Page;
@@ -21,13 +21,15 @@ use std::alloc::{AllocError, Global};
 /// The version that `hart --version` shows.
 const VERSION: &str = "0.1.0";
 
-/// The word `answer`, `dump`, `explain` or `sim` alone is a call of it, without an image; `--image 01` after `answer` or `sim` gives it the
-/// image `01`. `encode P @0 0` is a call with no data and 5 preamble bytes, and with 20 if `--preambles 20` follows.
+/// The word `answer`, `dump`, `explain`, `serve` or `sim` alone is a call of it, without an image; `--image 01` after `answer`, `serve` or
+/// `sim` gives it the image `01`. `encode P @0 0` is a call with no data and 5 preamble bytes, and with 20 if `--preambles 20` follows.
 pub fn words_are_calls()
     ensures answer { Calls (Answer None) (codes "answer" ∷ []) }
     ensures answer_image { Calls (Answer (Some (codes "01"))) (codes "answer" ∷ codes "--image" ∷ codes "01" ∷ []) }
     ensures dump { Calls Dump (codes "dump" ∷ []) }
     ensures explain { Calls Explain (codes "explain" ∷ []) }
+    ensures serve { Calls (Serve None) (codes "serve" ∷ []) }
+    ensures serve_image { Calls (Serve (Some (codes "01"))) (codes "serve" ∷ codes "--image" ∷ codes "01" ∷ []) }
     ensures sim { Calls (Sim None) (codes "sim" ∷ []) }
     ensures sim_image { Calls (Sim (Some (codes "01"))) (codes "sim" ∷ codes "--image" ∷ codes "01" ∷ []) }
     ensures encode { Calls
@@ -52,6 +54,8 @@ pub enum Call<'a> {
     Dump,
     /// `hart explain`.
     Explain,
+    /// `hart serve`.
+    Serve(ImageWord<'a>),
     /// `hart sim`.
     Sim(ImageWord<'a>),
     /// `hart encode`.
@@ -75,7 +79,7 @@ pub fn requested_call<'a>(alloc: Global, words: &'a [String]) -> Result<Call<'a>
     }
 }
 
-/// The call of the subcommand that the words named, or `None` if they named none of the five, or if `encode_words` gives `None`.
+/// The call of the subcommand that the words named, or `None` if they named none of the six, or if `encode_words` gives `None`.
 /// clap lets neither pass.
 fn call_of<'a>(matches: &ArgMatches<'a>) -> Option<Call<'a>>
     ensures { result ≡ call_of (subcommand_rows_of matches.now) }
@@ -85,13 +89,14 @@ fn call_of<'a>(matches: &ArgMatches<'a>) -> Option<Call<'a>>
         "answer" => Some(Call::Answer(image_word(given))),
         "dump" => Some(Call::Dump),
         "explain" => Some(Call::Explain),
+        "serve" => Some(Call::Serve(image_word(given))),
         "sim" => Some(Call::Sim(image_word(given))),
         "encode" => Some(Call::Encode(encode_words(given)?)),
         _ => None,
     }
 }
 
-/// The word of the image of `hart answer` or `hart sim`, if it was given one.
+/// The word of the image of `hart answer`, `hart serve` or `hart sim`, if it was given one.
 fn image_word<'a>(given: &ArgMatches<'a>) -> ImageWord<'a>
     ensures { result ≡ first_of (codes "image") (rows_of (found_of given.now)) }
 {
@@ -147,10 +152,18 @@ fn hart_command<'a>(alloc: Global) -> Result<Command<'a>, AllocError>
 fn reading_command<'a>(alloc: Global) -> Result<Command<'a>, AllocError>
     ensures { IfOk result (λ command. app_of command ≡ reading_app) }
 {
+    let hart = hearing_command(alloc)?;
+    let hart = with_image_command(alloc, hart, "serve", help::SERVE)?;
+    with_image_command(alloc, hart, "sim", help::SIM)
+}
+
+/// `hart` with the subcommands that read what is heard at once.
+fn hearing_command<'a>(alloc: Global) -> Result<Command<'a>, AllocError>
+    ensures { IfOk result (λ command. app_of command ≡ hearing_app) }
+{
     let hart = with_image_command(alloc, hart_alone(alloc), "answer", help::ANSWER)?;
     let hart = hart.subcommand(plain_command(alloc, "dump", help::DUMP))?;
-    let hart = hart.subcommand(plain_command(alloc, "explain", help::EXPLAIN))?;
-    with_image_command(alloc, hart, "sim", help::SIM)
+    hart.subcommand(plain_command(alloc, "explain", help::EXPLAIN))
 }
 
 /// `hart` before it has its subcommands.

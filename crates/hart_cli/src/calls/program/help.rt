@@ -173,6 +173,54 @@ writes
   9: no message: the check byte is 0x83 at 13, and 0x82 would fit",
 };
 
+pub(super) const SERVE: Page = Page {
+    about: "Serve as a device, a line for each line, until the input ends",
+    usage: "hart serve [--image HEX]",
+    help: "\
+Serve as the simulated device, a line for each line, until the input ends.
+
+Input (stdin): lines, each of which is one of these.
+  HEX              what the device hears at once, as in hart answer; an empty
+                   line is hearing nothing
+  restart          the device was without power
+  protect on, protect off
+                   the write protection of the device
+  image            asks what the device holds
+  counter          asks for its configuration change counter
+A line has at most 1048576 bytes, and a carriage return at its end does not
+count. The last line needs no line feed.
+
+Output (stdout): a line for each line, out before more is waited for.
+  HEX              the reply of the device, as hart answer writes it
+  -                the device is silent
+  ok               after restart and protect
+  image HEX, counter N
+                   as hart sim writes them in its last two lines
+  bad line: bad hex at N
+                   it is none of these lines: N is a place in it, counted
+                   from 0; nothing has changed, and serving goes on
+  bad line: too long
+                   it has more bytes than a line may have; nothing has changed,
+                   and serving goes on
+
+The device starts as a new one, or with --image from an image, as in hart
+answer. It keeps what it is told until the input ends: a write is read again, a
+restart is shown once to each master. What serving takes of memory does not
+grow with the number of lines.
+
+Standard error says why serving ended if the input did not end: read fault;
+write fault.",
+    example: "\
+Examples:
+  printf '%s\\n' restart 'FF FF 02 80 00 00 82' counter | hart serve
+writes
+  ok
+  FF FF FF FF FF 06 80 00 18 00 20 FE 37 42 05 07 01 02 18 00 0A 1B 2C 05 04 00 00 00 00 37 00 37 01 11
+  counter 0
+and as a device at a pseudo-terminal, with each line of hex a delivery,
+  socat PTY,link=/tmp/device,rawer EXEC:'hart serve'",
+};
+
 pub(super) const SIM: Page = Page {
     about: "Carry out a script of two masters and a device from standard input",
     usage: "hart sim [--image HEX] < FILE",

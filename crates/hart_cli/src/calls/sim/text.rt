@@ -5,6 +5,7 @@ ghost use Rattle.hart_line.specs.declared.line.report.Outcome.TheVariants.{Answe
 ghost use Rattle.hart_cli.specs.sim.Text.{IsNeededByDevice, IsNeededByOutcomes, counter_line, image_line, outcome_line, outcome_words};
 ghost use Rattle.hart_cli.specs.sim.Text.{party_word, spoken_line};
 
+use crate::text::device_lines::{push_counter_line, push_image_line};
 use crate::text::hex_text::push_hex;
 use crate::text::pairs::Pairs;
 use crate::text::words::{TextLine, push_hex_word, push_word};
@@ -189,11 +190,7 @@ fn device_lines<S: RegisterStore>(pairs: &Pairs, device: &Device<S>) -> TextLine
     ensures { result ≡ counter_line device.now ++ image_line device.now }
 {
     let mut lines = TextLine::new();
-    push_word(&mut lines, "counter");
-    lines.extend_from_slice(Buffer::new().format(device.counter()).as_bytes());
-    lines.push(b'\n');
-    push_word(&mut lines, "image");
-    push_hex(&mut lines, pairs, device.image().as_slice());
-    lines.push(b'\n');
+    push_counter_line(&mut lines, device);
+    push_image_line(&mut lines, pairs, device);
     lines
 }

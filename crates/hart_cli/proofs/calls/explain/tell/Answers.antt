@@ -2,7 +2,7 @@ use Rattle.std.proofs.Common.{[], ◌∷◌, append_assoc, arith}
 use Rattle.std.proofs.lemmas.Result.{err_from_is_err_and}
 use Rattle.hart_frame.specs.heard.Frames.{first, none}
 use Rattle.hart_frame.proofs.lemmas.Laws.{every_list_has_frames}
-use Rattle.hart_cli.proofs.lemmas.explain.Told.{adds_then, fails_first, fails_then, writes_kept}
+use Rattle.hart_cli.proofs.lemmas.Kept.{adds_then, fails_first, fails_then, writes_kept}
 use Rattle.hart_cli.proofs.calls.explain.tell.Goals as goal
 
 pub returns-in_err-tell_message : goal.returns-in_err-tell_message

@@ -2,7 +2,7 @@ use Rattle.std.proofs.Common.{◌≤◌, ◌-◌, List, [], ◌++◌, length, �
 use Rattle.hart_frame.specs.declared.heard.found.Found.{Found}
 use Rattle.hart_frame.specs.heard.Frames.{AreFrames}
 use Rattle.hart_cli.specs.explain.Explanation.{explanation, IsExplanationOf}
-use Rattle.hart_cli.specs.explain.Told.{AddsText}
+use Rattle.hart_cli.specs.stream.Kept.{AddsText}
 use Rattle.hart_cli.proofs.calls.explain.tell.Given as goal
 
 -- a text was told that an explanation begins with, whatever frames the characters have from the place on

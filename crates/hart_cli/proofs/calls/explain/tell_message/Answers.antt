@@ -1,6 +1,6 @@
 use Rattle.std.proofs.Common.{arith}
 use Rattle.std.proofs.lemmas.Grind.{common_steps}
-use Rattle.hart_cli.proofs.lemmas.explain.Told.{adds_kept, adds_then, fails_first, fails_then, tells_failure}
+use Rattle.hart_cli.proofs.lemmas.Kept.{adds_kept, adds_then, fails_first, fails_then, tells_failure}
 use Rattle.hart_cli.proofs.calls.explain.tell_message.Goals as goal
 
 pub returns-in_err-tell_gap : goal.returns-in_err-tell_gap

@@ -4,7 +4,7 @@ use Rattle.std.proofs.lemmas.List.{append-nil}
 use Rattle.std.specs.List.{flat_map, range_with_len}
 use Rattle.hart_frame.specs.heard.Character.{Character}
 use Rattle.hart_cli.specs.explain.Misses.{gap_text, place_text}
-use Rattle.hart_cli.proofs.lemmas.explain.Told.{adds_then, fails_first, fails_then, tells_failure}
+use Rattle.hart_cli.proofs.lemmas.Kept.{adds_then, fails_first, fails_then, tells_failure}
 use Rattle.hart_cli.proofs.calls.explain.misses.tell_gap.Goals as goal
 
 -- numbers in a row are some and then others

@@ -1,5 +1,5 @@
 use Rattle.hart_cli.specs.explain.Misses.{gap_text}
-use Rattle.hart_cli.specs.explain.Told.{AddsText}
+use Rattle.hart_cli.specs.stream.Kept.{AddsText}
 use Rattle.hart_cli.proofs.calls.explain.misses.tell_gap.Given as goal
 
 abbrev pub invariant-loop-place : goal.invariant-loop-place

@@ -7,7 +7,7 @@ use Rattle.hart_frame.specs.declared.heard.miss.Miss.{Miss}
 use Rattle.hart_frame.specs.heard.Character.{Character, faultless_bytes}
 use Rattle.hart_frame.specs.heard.Miss.{body_miss, miss_of}
 use Rattle.hart_cli.specs.explain.Misses.{ArePlacesBelow, miss_line, place_text}
-use Rattle.hart_cli.proofs.lemmas.explain.Told.{adds_kept, adds_then, fails_first, tells_failure}
+use Rattle.hart_cli.proofs.lemmas.Kept.{adds_kept, adds_then, fails_first, tells_failure}
 use Rattle.hart_cli.proofs.calls.explain.misses.tell_miss.Goals as goal
 
 -- the places of why no body begins where characters stand lie in them

@@ -7,7 +7,7 @@ use Rattle.std.specs.Prelude.{is_none, not, slice_get}
 use Rattle.hart_frame.specs.heard.Character.{Character}
 use Rattle.hart_frame.specs.heard.Miss.{body_miss, is_preamble}
 use Rattle.hart_cli.specs.explain.Misses.{is_asked, place_text}
-use Rattle.hart_cli.proofs.lemmas.explain.Told.{adds_kept}
+use Rattle.hart_cli.proofs.lemmas.Kept.{adds_kept}
 use Rattle.hart_cli.proofs.calls.explain.misses.tell_place.Goals as goal
 
 -- no body begins with a preamble byte, or where nothing stands

@@ -4,7 +4,7 @@ use Rattle.std.proofs.KnownBytes.{Appends-nil}
 use Rattle.std.proofs.lemmas.Grind.{common_steps}
 use Rattle.std.specs.Result.{IsErrAnd}
 use Rattle.hart_cli.specs.declared.stream.Failed.{Failed}
-use Rattle.hart_cli.specs.explain.Told.{AddsText, Tells}
+use Rattle.hart_cli.specs.stream.Kept.{AddsText, Tells}
 use Rattle.hart_cli.specs.stream.Stream.{FailsToWrite, Stream, Writes}
 use Rattle.hart_cli.proofs.lemmas.dump.Writes.{FailsToWrite-longer, FailsToWrite-on, WritesAll-on}
 

@@ -1,6 +1,6 @@
 //! Text that is kept until it is written.
 ghost use Rattle.std.specs.Prelude.{◌+◌, ◌≤◌, [], OnOk, length};
-ghost use Rattle.hart_cli.specs.explain.Told.{Tells};
+ghost use Rattle.hart_cli.specs.stream.Kept.{Tells};
 
 use crate::output::write_all;
 use crate::stream::{Failed, Sink};
@@ -9,13 +9,13 @@ use hart_values::ByteList;
 /// The most bytes of text that are kept.
 const KEPT_LEN: usize = 32_768;
 
-/// The most bytes of a paragraph, or of a line of a miss.
+/// The most bytes of a piece of text.
 const PIECE_LEN: usize = 8_192;
 
 /// Text that is not yet written.
 pub type Kept = ByteList<KEPT_LEN>;
 
-/// Writes what is kept, unless there is room for a paragraph or a line of a miss.
+/// Writes what is kept, unless there is room for one more piece.
 ///
 /// # Errors
 ///

@@ -1,0 +1,187 @@
+-- An input that is served while it is read.
+use Rattle.std.proofs.Common.{◌≡◌, ◌≤◌, ◌+◌, ◌-◌, ℕ, List, [], ◌++◌, length, map, Option, None, Some, MatchOption, refl, inl, append_assoc, append-nil, arith}
+use Rattle.std.proofs.KnownBytes.{Appends-trans, Consumes-trans}
+use Rattle.std.proofs.lemmas.Grind.{common_steps}
+use Rattle.std.proofs.lemmas.List.{map-append}
+use Rattle.std.specs.Io.KnownBytes.{Appends}
+use Rattle.std.specs.Str.Lines.{strip_carriage_return}
+use Rattle.hart_device.specs.Device.{DeviceState}
+use Rattle.hart_cli.specs.declared.calls.serve.server.Server.{Server}
+use Rattle.hart_cli.specs.declared.input.InputEnd.{InputEnd}
+use Rattle.hart_cli.specs.declared.input.InputEnd.TheVariants.{Ended}
+use Rattle.hart_cli.specs.input.Input.{CameTo, Left, ReadsPortion, ReadsToWithin, ReadsWell, ReadsWithin, ending_of, most_at_once}
+use Rattle.hart_cli.specs.serve.Serve.{SaidInTime, Serves, ServesTo, StopsSaying, last_lines, serve_limit}
+use Rattle.hart_cli.specs.serve.Server.{FailsInParts, IsCut, Keeps, ServesAll, ServesParts, ServesWhole}
+use Rattle.hart_cli.specs.stream.Stream.{FailsToWrite, Stream, WritesAll}
+use Rattle.hart_cli.proofs.lemmas.dump.Writes.{FailsToWrite-on, WritesAll-on}
+use Rattle.hart_cli.proofs.lemmas.serve.Cuts.{cut_has_lines, cut_on}
+use Rattle.hart_cli.proofs.lemmas.serve.Served.{Serves-on}
+use Rattle.hart_cli.proofs.lemmas.serve.Server.{parts_on}
+
+-- one read more
+read_more : (a b c : Stream) (text bytes : List ℕ) (room limit : ℕ) (end : Option InputEnd) → ReadsWell a b text
+    → length text + room ≡ limit → ReadsPortion b c bytes room end
+    → MatchOption end (ReadsWell a c (text ++ bytes) × (length (text ++ bytes) ≤ limit)) (λ came. ReadsWithin limit a c (text ++ bytes) came)
+read_more a b c text bytes room limit end h k e = grind (arith, common_steps, Consumes-trans)
+
+-- an input was read so far, and all that a device says to its whole lines was written
+pub record ServedUpTo (device : DeviceState) (server : Server) (room : ℕ) (old new writer writer_after : Stream) : Type 0 where
+  pub input : List ℕ
+  pub read : ReadsWell old new input
+  pub left : length input + room ≡ serve_limit
+  pub parts : List (List ℕ)
+  pub rest : List ℕ
+  pub cut : IsCut input parts rest
+  pub keeps : Keeps server rest
+  pub said : List ℕ
+  pub serves : ServesParts device parts server.device said
+  pub wrote : WritesAll writer writer_after said
+
+-- what one read gave was served, and the input came to its end with it
+pub served_end : (device : DeviceState) (now next : Server) (room : ℕ) (r r1 r2 w w1 w2 : Stream) (bytes : List ℕ) (end : InputEnd)
+    → (h : ServedUpTo device now room r r1 w w1) → ReadsPortion r1 r2 bytes room (Some end) → now.kept ≡ [] → next.kept ≡ []
+    → ServesWhole now next (h.rest ++ bytes) w1 w2 → ServesAll device next end r r2 w w2
+served_end device now next room r r1 r2 w w1 w2 bytes end h more was quiet k =
+    let same : k.adds.written ≡ k.said = grind (arith, append-nil) in
+    record {
+      input = h.input ++ bytes;
+      reads = read_more r r1 r2 h.input bytes room serve_limit (Some end) h.read h.left more;
+      parts = h.parts ++ k.parts;
+      rest = k.rest;
+      cut = cut_on h.input bytes h.parts h.rest k.parts k.rest h.cut k.cut;
+      keeps = k.keeps;
+      quiet = quiet;
+      said = h.said ++ k.said;
+      serves = parts_on device now.device next.device h.parts k.parts h.said k.said h.serves k.serves;
+      wrote = WritesAll-on w w1 w2 h.said k.said h.wrote (rw same at k.adds.wrote);
+    }
+
+-- what one read gave was served, and the input may go on
+pub served_on : (device : DeviceState) (now next : Server) (room : ℕ) (r r1 r2 w w1 w2 : Stream) (bytes : List ℕ)
+    → (h : ServedUpTo device now room r r1 w w1) → ReadsPortion r1 r2 bytes room None → now.kept ≡ [] → next.kept ≡ []
+    → ServesWhole now next (h.rest ++ bytes) w1 w2 → ServedUpTo device next (room - length bytes) r r2 w w2
+served_on device now next room r r1 r2 w w1 w2 bytes h more was quiet k =
+    let same : k.adds.written ≡ k.said = grind (arith, append-nil) in
+    record {
+      input = h.input ++ bytes;
+      read = (read_more r r1 r2 h.input bytes room serve_limit None h.read h.left more).0;
+      left = grind (arith, common_steps);
+      parts = h.parts ++ k.parts;
+      rest = k.rest;
+      cut = cut_on h.input bytes h.parts h.rest k.parts k.rest h.cut k.cut;
+      keeps = k.keeps;
+      said = h.said ++ k.said;
+      serves = parts_on device now.device next.device h.parts k.parts h.said k.said h.serves k.serves;
+      wrote = WritesAll-on w w1 w2 h.said k.said h.wrote (rw same at k.adds.wrote);
+    }
+
+-- the whole lines before the last bytes of an input were said in time
+said_in_time : (device after : DeviceState) (input bytes : List ℕ) (parts : List (List ℕ)) (rest said : List ℕ) (w w1 w2 : Stream)
+    → IsCut input parts rest → ServesParts device parts after said → WritesAll w w1 said → length bytes ≤ most_at_once
+    → (more : List ℕ) → Appends w1.bytes w2.bytes more → SaidInTime device (input ++ bytes) w w2
+said_in_time device after input bytes parts rest said w w1 w2 cut serves wrote few more written = record {
+  before = input;
+  last = bytes;
+  split = refl;
+  few = few;
+  text = said;
+  is_served = record {
+    lines = map strip_carriage_return parts ++ [];
+    has_lines = cut_has_lines input Left parts rest cut;
+    after = after;
+    serves = rw append-nil serves;
+  };
+  more = more;
+  written = Appends-trans _ _ _ said more wrote.0 written;
+}
+
+-- how far an input was read, if it came to its end or not
+read_to : (old new : Stream) (input : List ℕ) (limit : ℕ) (end : Option InputEnd)
+    → MatchOption end (ReadsWell old new input × (length input ≤ limit)) (λ came. ReadsWithin limit old new input came)
+    → ReadsToWithin limit old new input (ending_of end)
+read_to old new input limit None h = inl h
+read_to old new input limit (Some end) h = h
+
+-- a write failed in what is said to the lines that one read made whole
+pub stops_saying : (device : DeviceState) (now : Server) (room : ℕ) (r r1 r2 w w1 w2 : Stream) (bytes : List ℕ) (end : Option InputEnd)
+    → (h : ServedUpTo device now room r r1 w w1) → ReadsPortion r1 r2 bytes room end → length bytes ≤ most_at_once → now.kept ≡ []
+    → FailsInParts now.device now.kept (h.rest ++ bytes) w1 w2 → StopsSaying device r r2 w w2
+stops_saying device now room r r1 r2 w w1 w2 bytes end h more few was k =
+    let fails : FailsToWrite w1 w2 k.said = rw was at k.fails in
+    let strip = strip_carriage_return in
+    let ends = last_lines (ending_of end) (strip k.rest) in
+    let cut = cut_on h.input bytes h.parts h.rest (k.parts ++ k.later) k.rest h.cut k.cut in
+    let order : map strip (h.parts ++ (k.parts ++ k.later)) ++ ends ≡ map strip (h.parts ++ k.parts) ++ (map strip k.later ++ ends) =
+    rw (map-append, map-append, map-append) (simp append_assoc refl) in
+    record {
+      input = h.input ++ bytes;
+      ending = ending_of end;
+      reads = read_to r r2 (h.input ++ bytes) serve_limit end (read_more r r1 r2 h.input bytes room serve_limit end h.read h.left more);
+      first = map strip (h.parts ++ k.parts);
+      later = map strip k.later ++ ends;
+      has_lines = rw order at (cut_has_lines (h.input ++ bytes) (ending_of end) (h.parts ++ (k.parts ++ k.later)) k.rest cut);
+      after = k.after;
+      text = h.said ++ k.said;
+      serves = parts_on device now.device k.after h.parts k.parts h.said k.said h.serves k.serves;
+      fails = FailsToWrite-on w w1 w2 h.said k.said h.wrote fails;
+      in_time = said_in_time device now.device h.input bytes h.parts h.rest h.said w w1 w2 h.cut h.serves h.wrote few fails.0.prefix fails.0.written;
+    }
+
+-- the last line was served too
+pub serves_to : (device after : DeviceState) (server : Server) (r r1 w w1 w2 : Stream) (said : List ℕ)
+    → (h : ServesAll device server Ended r r1 w w1) → Serves server.device (last_lines (CameTo Ended) (strip_carriage_return h.rest)) after said
+    → WritesAll w1 w2 said → ServesTo device (CameTo Ended) r r1 w w2
+serves_to device after server r r1 w w1 w2 said h serves wrote =
+    let lines = map strip_carriage_return h.parts in
+    let last = last_lines (CameTo Ended) (strip_carriage_return h.rest) in
+    record {
+      input = h.input;
+      reads = h.reads;
+      text = h.said ++ said;
+      is_served = record {
+        lines = lines ++ last;
+        has_lines = cut_has_lines h.input (CameTo Ended) h.parts h.rest h.cut;
+        after = after;
+        serves = Serves-on device server.device after lines last h.said said h.serves serves;
+      };
+      wrote = WritesAll-on w w1 w2 h.said said h.wrote wrote;
+    }
+
+-- a write failed in what is said to the last line
+pub stops_at_last : (device after : DeviceState) (server : Server) (r r1 w w1 w2 : Stream) (said : List ℕ)
+    → (h : ServesAll device server Ended r r1 w w1) → Serves server.device (last_lines (CameTo Ended) (strip_carriage_return h.rest)) after said
+    → FailsToWrite w1 w2 said → StopsSaying device r r1 w w2
+stops_at_last device after server r r1 w w1 w2 said h serves fails =
+    let lines = map strip_carriage_return h.parts in
+    let last = last_lines (CameTo Ended) (strip_carriage_return h.rest) in
+    record {
+      input = h.input;
+      ending = CameTo Ended;
+      reads = h.reads;
+      first = lines ++ last;
+      later = [];
+      has_lines = rw append-nil (cut_has_lines h.input (CameTo Ended) h.parts h.rest h.cut);
+      after = after;
+      text = h.said ++ said;
+      serves = Serves-on device server.device after lines last h.said said h.serves serves;
+      fails = FailsToWrite-on w w1 w2 h.said said h.wrote fails;
+      in_time = rw append-nil at (said_in_time device server.device h.input [] h.parts h.rest h.said w w1 w2 h.cut h.serves h.wrote
+          (omega arith) fails.0.prefix fails.0.written);
+    }
+
+-- the input came to another end: its last line is not served
+pub serves_whole : (device : DeviceState) (server : Server) (end : InputEnd) (r r1 w w1 : Stream)
+    → (h : ServesAll device server end r r1 w w1) → last_lines (CameTo end) (strip_carriage_return h.rest) ≡ []
+    → ServesTo device (CameTo end) r r1 w w1
+serves_whole device server end r r1 w w1 h none_last = record {
+  input = h.input;
+  reads = h.reads;
+  text = h.said;
+  is_served = record {
+    lines = map strip_carriage_return h.parts ++ last_lines (CameTo end) (strip_carriage_return h.rest);
+    has_lines = cut_has_lines h.input (CameTo end) h.parts h.rest h.cut;
+    after = server.device;
+    serves = rw (none_last, append-nil) h.serves;
+  };
+  wrote = h.wrote;
+}

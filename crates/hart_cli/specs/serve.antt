@@ -1,0 +1,4 @@
+-- `hart serve`.
+pub mod Line
+pub mod Serve
+pub mod Server

@@ -1,0 +1,67 @@
+-- What `hart serve` makes of one line (own profile).
+use Rattle.std.specs.Prelude.{◌≡◌, ◌<◌, ◌≤◌, ℕ, true, false, List, [], ◌∷◌, ◌++◌, codes, length, Option, None, Some}
+use Rattle.hart_frame.specs.heard.Character.{Character}
+use Rattle.hart_frame.specs.wire.FrameParts.{FrameParts}
+use Rattle.hart_device.specs.Bench.{bench_process}
+use Rattle.hart_device.specs.Device.{DeviceState, restarted}
+use Rattle.hart_device.specs.answer.Delivery.{Brings, Brought, answer_to, state_after_delivery}
+use Rattle.hart_line.specs.script.Words.{named_in}
+use Rattle.hart_cli.specs.FaultText.{fault_text}
+use Rattle.hart_cli.specs.declared.calls.serve.line.LineWord.{LineWord}
+use Rattle.hart_cli.specs.declared.calls.serve.line.LineWord.TheVariants.{Restart, Protect, Image, Counter}
+use Rattle.hart_cli.specs.declared.fault.CliFault.TheVariants.{BadHex}
+use Rattle.hart_cli.specs.input.Input.{input_limit}
+use Rattle.hart_cli.specs.sim.Text.{counter_line, image_line}
+use Rattle.hart_cli.specs.text.Items.{IsBadHexAt, ReadsAs}
+use Rattle.hart_cli.specs.text.MessageLine.{IsMessageLine}
+use Rattle.hart_cli.specs.text.Words.{line_of}
+
+-- The lines that are no hex have these words, each as it is printed here.
+abbrev pub line_words : List (List ℕ × LineWord)
+line_words =
+    (codes "restart", Restart)
+    ∷ (codes "protect on", Protect true)
+    ∷ (codes "protect off", Protect false)
+    ∷ (codes "image", Image)
+    ∷ (codes "counter", Counter)
+    ∷ []
+
+-- `restart` restarts the device, and `protect` switches its write protection; `image` and `counter` change nothing.
+abbrev pub after_word : LineWord → DeviceState → DeviceState
+after_word Restart device = restarted device
+after_word (Protect protected) device = record device { protected = protected }
+after_word Image device = device
+after_word Counter device = device
+
+-- `image` and `counter` give the lines that end the text of `hart sim`, and the other words `ok`.
+abbrev pub word_said : LineWord → DeviceState → List ℕ
+word_said Image device = image_line device
+word_said Counter device = counter_line device
+word_said _ device = line_of (codes "ok" ∷ [])
+
+-- The line of a device's answer is that of its message, with as many preamble bytes as the identity says; silence is `-`.
+abbrev pub IsReplyLine : DeviceState → Option FrameParts → List ℕ → Type 0
+IsReplyLine device None said = said ≡ line_of (codes "-" ∷ [])
+IsReplyLine device (Some reply) said = IsMessageLine reply device.identity.response_preambles said
+
+-- A device hears a delivery at once, answers what it brings with a line, and is then in this state.
+pub record Hears (device : DeviceState) (delivery : List Character) (after : DeviceState) (said : List ℕ) : Type 0 where
+  pub brought : Brought
+  pub brings : Brings device.identity delivery brought
+  pub becomes : after ≡ state_after_delivery device brought
+  pub answered : IsReplyLine device (answer_to device bench_process brought) said
+
+-- The line for a bad line says why it is bad.
+abbrev pub bad_line : List ℕ → List ℕ
+bad_line reason = codes "bad line: " ++ reason ++ 10 ∷ []
+
+-- A device serves a line with a line. A line of more than 1,048,576 bytes is too long, and changes nothing. Any other one is one of the
+-- words, or the device hears the characters that it reads as, or it has bad hex at a place, which changes nothing.
+pub data ServesLine (device : DeviceState) (line : List ℕ) : DeviceState → List ℕ → Type 0 where
+  too_long : input_limit < length line → ServesLine device line device (bad_line (codes "too long"))
+  word : (word : LineWord) → length line ≤ input_limit → named_in line_words line ≡ Some word
+      → ServesLine device line (after_word word device) (word_said word device)
+  delivery : (delivery : List Character) (after : DeviceState) (said : List ℕ) → length line ≤ input_limit → named_in line_words line ≡ None
+      → ReadsAs line delivery → Hears device delivery after said → ServesLine device line after said
+  bad_hex : (chars : List Character) (place : ℕ) → length line ≤ input_limit → named_in line_words line ≡ None
+      → IsBadHexAt line chars place → ServesLine device line device (bad_line (fault_text (BadHex place)))

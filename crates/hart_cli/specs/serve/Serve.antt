@@ -1,0 +1,110 @@
+-- What `hart serve` writes for the lines that it reads (own profile).
+use Rattle.std.specs.Prelude.{◌≡◌, ◌⊎◌, ℕ, ◌-◌, ◌^◌, ◌/◌, ◌+◌, ◌≤◌, List, [], ◌∷◌, ◌++◌, length, Option, Ok, Err}
+use Rattle.std.specs.Io.KnownBytes.{Appends}
+use Rattle.hart_device.specs.Device.{DeviceState}
+use Rattle.hart_line.specs.script.Lines.{lines_of}
+use Rattle.hart_line.specs.declared.memory.NoRoom.{NoRoom}
+use Rattle.hart_cli.specs.declared.fault.CliFault.TheVariants as faults
+use Rattle.hart_cli.specs.declared.input.InputEnd.TheVariants.{Ended, ReadFailed, TooLong}
+use Rattle.hart_cli.specs.ImageWord.{OutcomeWith, OutcomeRelation}
+use Rattle.hart_cli.specs.input.Input.{CameTo, Ending, Left, ReadsToWithin, input_limit, most_at_once}
+use Rattle.hart_cli.specs.serve.Line.{ServesLine}
+use Rattle.hart_cli.specs.stream.Stream.{FailsToWrite, Stream, WritesAll}
+
+-- A device serves lines one after another: it serves each as what the lines before left of it.
+pub data Serves : DeviceState → List (List ℕ) → DeviceState → List ℕ → Type 0 where
+  nothing : (device : DeviceState) → Serves device [] device []
+  first : (device next after : DeviceState) (line : List ℕ) (lines : List (List ℕ)) (said text : List ℕ)
+      → ServesLine device line next said → Serves next lines after text → Serves device (line ∷ lines) after (said ++ text)
+
+-- The last line of a text, which no line feed follows, is served if the input ended and the line is not empty.
+abbrev pub last_lines : Ending → List ℕ → List (List ℕ)
+last_lines (CameTo Ended) (byte ∷ more) = (byte ∷ more) ∷ []
+last_lines ending last = []
+
+-- The lines of an input are those of its text, as of a script's. The last one, which no line feed follows, counts only at the end.
+pub record HasLines (input : List ℕ) (ending : Ending) (lines : List (List ℕ)) : Type 0 where
+  pub whole : List (List ℕ)
+  pub last : List ℕ
+  pub split : lines_of input ≡ whole ++ last ∷ []
+  pub all : lines ≡ whole ++ last_lines ending last
+
+-- A text is what a device says to the lines of an input.
+pub record IsServed (device : DeviceState) (input : List ℕ) (ending : Ending) (text : List ℕ) : Type 0 where
+  pub lines : List (List ℕ)
+  pub has_lines : HasLines input ending lines
+  pub after : DeviceState
+  pub serves : Serves device lines after text
+
+-- An input of `serve` has at most 2^64 - 1 bytes.
+abbrev pub serve_limit : ℕ
+serve_limit = 2 ^ 64 - 1
+
+-- An input was read up to its end, and all that the device says to its lines was written.
+pub record ServesTo (device : DeviceState) (ending : Ending) (reader reader_after writer writer_after : Stream) : Type 0 where
+  pub input : List ℕ
+  pub reads : ReadsToWithin serve_limit reader reader_after input ending
+  pub text : List ℕ
+  pub is_served : IsServed device input ending text
+  pub wrote : WritesAll writer writer_after text
+
+-- What the device says to all whole lines was written that stand before the last bytes of an input, of which there are no more than one
+-- read gives.
+pub record SaidInTime (device : DeviceState) (input : List ℕ) (writer writer_after : Stream) : Type 0 where
+  pub before : List ℕ
+  pub last : List ℕ
+  pub split : input ≡ before ++ last
+  pub few : length last ≤ most_at_once
+  pub text : List ℕ
+  pub is_served : IsServed device before Left text
+  pub more : List ℕ
+  pub written : Appends writer.bytes writer_after.bytes (text ++ more)
+
+-- A write failed after a prefix of what the device says to the first lines of what was read by then, short of its end. No line was
+-- late: those that were due before the last bytes had been written.
+pub record StopsSaying (device : DeviceState) (reader reader_after writer writer_after : Stream) : Type 0 where
+  pub input : List ℕ
+  pub ending : Ending
+  pub reads : ReadsToWithin serve_limit reader reader_after input ending
+  pub first : List (List ℕ)
+  pub later : List (List ℕ)
+  pub has_lines : HasLines input ending (first ++ later)
+  pub after : DeviceState
+  pub text : List ℕ
+  pub serves : Serves device first after text
+  pub fails : FailsToWrite writer writer_after text
+  pub in_time : SaidInTime device input writer writer_after
+
+-- A line has room for as many bytes as it may have, for one more that shows that it is longer, for a carriage return, and for the byte
+-- that makes its last item whole.
+abbrev pub line_room : ℕ
+line_room = input_limit + 3
+
+-- Its characters have room for half as many as it may have bytes.
+abbrev pub chars_room : ℕ
+chars_room = input_limit / 2
+
+-- Room for a line or for its characters was refused, and nothing was read or written.
+pub record LacksLineRoom (none : NoRoom) (reader reader_after writer writer_after : Stream) : Type 0 where
+  pub refused : (none.items ≡ line_room) ⊎ (none.items ≡ chars_room)
+  pub unread : reader_after ≡ reader
+  pub unwritten : writer_after ≡ writer
+
+-- With a device, a call served its whole input at `Ok`. If a read failed, or at an input of more bytes than the limit, it served the whole
+-- lines before that; if a write failed, a prefix of what is said to them was written; and if room for a line was refused, nothing was.
+abbrev pub ServedOutcome : DeviceState → OutcomeRelation
+ServedOutcome device reader reader_after writer writer_after (Ok done) =
+    ServesTo device (CameTo Ended) reader reader_after writer writer_after
+ServedOutcome device reader reader_after writer writer_after (Err faults.Read) =
+    ServesTo device (CameTo ReadFailed) reader reader_after writer writer_after
+ServedOutcome device reader reader_after writer writer_after (Err faults.TooLong) =
+    ServesTo device (CameTo TooLong) reader reader_after writer writer_after
+ServedOutcome device reader reader_after writer writer_after (Err faults.Write) =
+    StopsSaying device reader reader_after writer writer_after
+ServedOutcome device reader reader_after writer writer_after (Err (faults.Memory none)) =
+    LacksLineRoom none reader reader_after writer writer_after
+ServedOutcome device reader reader_after writer writer_after (Err fault) = ⊥
+
+-- A call of `serve` gave the reason why it has no device, if it has none. Otherwise its device served what it read.
+abbrev pub ServeOutcome : Option (List ℕ) → OutcomeRelation
+ServeOutcome = OutcomeWith ServedOutcome

@@ -1,0 +1,101 @@
+//! `hart serve`: a device over many deliveries, a line for each line.
+ghost use Rattle.std.specs.Prelude.{◌≡◌, [], ℕ, List};
+ghost use Rattle.std.specs.Option.{option_map};
+ghost use Rattle.hart_device.specs.Device.{DeviceState};
+ghost use Rattle.hart_cli.specs.serve.Serve.{IsServed, ServeOutcome, ServedOutcome};
+ghost use Rattle.hart_cli.specs.serve.Server.{Keeps, ServesInput};
+ghost use Rattle.hart_cli.specs.input.Input.{Ending};
+
+use crate::calls::serve::server::Server;
+use crate::fault::CliFault;
+use crate::image_word::device_of;
+use crate::input::{InputEnd, PORTION_LEN, read_portion};
+use crate::stream::{Failed, Sink, Source};
+use hart_device::{Device, ImageRegisters};
+use std::alloc::Global;
+
+mod line;
+mod server;
+
+/// Reads lines until the input ends, and writes a line for each of them, before it reads on.
+///
+/// The bench device hears a line of hex items at once; the line for it is the reply in hex, or `-` for silence. `restart`, `protect on`
+/// and `protect off` give `ok`, `image` gives the image of the device, and `counter` its counter. Any other line, and one of more than
+/// 1,048,576 bytes, gives `bad line:` and why, and changes nothing. With an image, a word of hex, the device goes on from that. All
+/// memory is taken before the first line is read.
+///
+/// # Errors
+///
+/// [`CliFault::BadHex`] and [`CliFault::Image`] of the image, and [`CliFault::Memory`] if memory for the image or for a line is
+/// refused, at all of which nothing is read; then [`CliFault::Read`], and [`CliFault::TooLong`] at an input of more than 2^64 - 1
+/// bytes, with the lines for the whole lines before it written. At the first write that fails the fault is [`CliFault::Write`], with
+/// a prefix of the lines for what was read by then written.
+pub fn serve<R: Source, W: Sink>(
+    alloc: Global,
+    image: Option<&str>,
+    reader: &mut R,
+    writer: &mut W,
+) -> Result<(), CliFault>
+    ensures { ServeOutcome (option_map (λ word. word.now) image.entry)
+        (R.stream reader.old) (R.stream reader.new)
+        (W.stream writer.old) (W.stream writer.new)
+        result }
+{
+    let device = device_of(alloc, image)?;
+    serve_with(alloc, device, reader, writer)
+}
+
+/// A device says one text to the lines of an input, so that what `serve` writes is determined by its image and by what it reads.
+pub fn one_service()
+    ensures { (device : DeviceState) (input : List ℕ) (ending : Ending) (xs ys : List ℕ)
+        → IsServed device input ending xs → IsServed device input ending ys → xs ≡ ys }
+{}
+
+/// Serves the lines of an input with a device.
+fn serve_with<R: Source, W: Sink>(
+    alloc: Global,
+    device: Device<ImageRegisters>,
+    reader: &mut R,
+    writer: &mut W,
+) -> Result<(), CliFault>
+    ensures { ServedOutcome device
+        (R.stream reader.old) (R.stream reader.new)
+        (W.stream writer.old) (W.stream writer.new)
+        result }
+{
+    let mut server = Server::new(alloc, device)?;
+    match serve_input(reader, writer, &mut server)? {
+        InputEnd::Ended => Ok(server.serve_rest(writer)?),
+        InputEnd::ReadFailed => Err(CliFault::Read),
+        InputEnd::TooLong => Err(CliFault::TooLong),
+    }
+}
+
+/// Reads an input until it comes to its end, and serves its whole lines.
+///
+/// # Errors
+///
+/// `Failed` at the first write that fails.
+fn serve_input<R: Source, W: Sink>(
+    reader: &mut R,
+    writer: &mut W,
+    server: &mut Server,
+) -> Result<InputEnd, Failed>
+    requires quiet { server.old.kept ≡ [] }
+    requires keeps { Keeps server.old [] }
+    ensures { ServesInput server.old.device server.new
+        (R.stream reader.old) (R.stream reader.new)
+        (W.stream writer.old) (W.stream writer.new)
+        result }
+{
+    let mut buffer = [0; PORTION_LEN];
+    let mut room = usize::MAX;
+    loop {
+        let portion = read_portion(reader, &mut buffer, room);
+        server.serve_more(writer, &buffer[..portion.len])?;
+        if let Some(end) = portion.end {
+            return Ok(end);
+        }
+        room -= portion.len;
+    }
+}

@@ -1,0 +1,184 @@
+//! A device that serves, with what is read of a line and with what it says until that is written.
+ghost use Rattle.std.specs.Prelude.{◌≡◌, ◌≤◌, ◌↔◌, ◌+◌, ◌⊎◌, ◌++◌, ◌∷◌, [], ℕ, List, IfErr, IfOk, IsTrue, MatchOption, OnOk, length, take};
+ghost use Rattle.std.specs.Str.Lines.{strip_carriage_return};
+ghost use Rattle.hart_cli.specs.serve.Serve.{chars_room, line_room};
+ghost use Rattle.hart_cli.specs.serve.Server.{BeginsWithPart, HasNoFeed, Keeps, ServesLast, ServesPart, ServesText, most_kept};
+
+use crate::calls::serve::line::serve_line;
+use crate::input::INPUT_LIMIT;
+use crate::kept::{Kept, make_room};
+use crate::output::write_all;
+use crate::stream::{Failed, Sink};
+use crate::text::pairs::Pairs;
+use hart_device::{Device, ImageRegisters};
+use hart_frame::Char;
+use hart_line::{Digits, Filling, NoRoom};
+use std::alloc::Global;
+
+/// The most bytes of a part that are kept. If they are all there, the line is too long even if one of them is a carriage return.
+const MOST_KEPT: usize = INPUT_LIMIT + 2;
+
+/// The room for a part, and for the space after its line.
+const LINE_ROOM: usize = MOST_KEPT + 1;
+
+/// The room for the characters of a line, which has two bytes at least for each.
+const CHARS_ROOM: usize = INPUT_LIMIT / 2;
+
+/// A device that serves lines.
+#[derive(Drop)]
+pub struct Server {
+    /// It hears the lines.
+    pub device: Device<ImageRegisters>,
+    /// The first bytes of what is read since the last line feed.
+    pub part: Filling<u8>,
+    /// The characters of a line.
+    pub chars: Filling<Char>,
+    /// The lines that are not yet written.
+    pub kept: Kept,
+    /// What the digits of a line mean.
+    pub digits: Digits,
+    /// The digits of what is said.
+    pub pairs: Pairs,
+}
+
+impl Server {
+    /// Takes the room that serving needs.
+    ///
+    /// # Errors
+    ///
+    /// [`NoRoom`] if it was refused.
+    pub fn new(alloc: Global, device: Device<ImageRegisters>) -> Result<Server, NoRoom>
+        ensures device { IfOk result (λ server. server.device ≡ device) }
+        ensures keeps { IfOk result (λ server. Keeps server []) }
+        ensures quiet { IfOk result (λ server. server.kept ≡ []) }
+        ensures refused { IfErr result (λ none. (none.items ≡ line_room) ⊎ (none.items ≡ chars_room)) }
+    {
+        let part = Filling::with_room(alloc, LINE_ROOM)?;
+        let chars = Filling::with_room(alloc, CHARS_ROOM)?;
+        Ok(Server {
+            device,
+            part,
+            chars,
+            kept: Kept::new(),
+            digits: Digits::new(),
+            pairs: Pairs::new(),
+        })
+    }
+
+    /// Serves the lines that become whole with more of an input, writes what the device says to them, and keeps the rest.
+    ///
+    /// # Errors
+    ///
+    /// `Failed` at the first write that fails.
+    pub fn serve_more<W: Sink>(&mut self, writer: &mut W, more: &[u8]) -> Result<(), Failed>
+        requires quiet { self.old.kept ≡ [] }
+        requires part { (part : List ℕ) × HasNoFeed part × Keeps self.old part }
+        ensures serves { (part : List ℕ) → HasNoFeed part → Keeps self.old part
+            → ServesText self.old self.new (part ++ more.now) (W.stream writer.old) (W.stream writer.new) result }
+        ensures quiet { OnOk result (self.new.kept ≡ []) }
+    {
+        self.serve_lines(writer, more)?;
+        write_all(writer, self.kept.as_slice())?;
+        self.kept.clear();
+        Ok(())
+    }
+
+    /// Serves the lines that become whole with more of an input, and keeps the rest.
+    ///
+    /// # Errors
+    ///
+    /// `Failed` at the first write that fails.
+    fn serve_lines<W: Sink>(&mut self, writer: &mut W, more: &[u8]) -> Result<(), Failed>
+        requires part { (part : List ℕ) × HasNoFeed part × Keeps self.old part }
+        ensures serves { (part : List ℕ) → HasNoFeed part → Keeps self.old part
+            → ServesText self.old self.new (part ++ more.now) (W.stream writer.old) (W.stream writer.new) result }
+    {
+        let mut rest = more;
+        while let Some((part, after)) = next_part(rest) {
+            keep(&mut self.part, part);
+            make_room(writer, &mut self.kept)?;
+            self.serve_part();
+            rest = after;
+        }
+        keep(&mut self.part, rest);
+        Ok(())
+    }
+
+    /// Serves the last line, which no line feed follows, if it is not empty, and writes what the device says to it.
+    ///
+    /// # Errors
+    ///
+    /// `Failed` at the first write that fails.
+    pub fn serve_rest<W: Sink>(&mut self, writer: &mut W) -> Result<(), Failed>
+        requires quiet { self.old.kept ≡ [] }
+        requires part { (part : List ℕ) × Keeps self.old part }
+        ensures { (part : List ℕ) → Keeps self.old part
+            → ServesLast self.old.device (strip_carriage_return part) (W.stream writer.old) (W.stream writer.new) result }
+    {
+        if is_empty_line(self.part.as_slice()) {
+            return Ok(());
+        }
+        self.serve_part();
+        write_all(writer, self.kept.as_slice())
+    }
+
+    /// Serves the line of the part that is kept, and keeps none of it any more.
+    fn serve_part(&mut self)
+        requires few { length self.old.part.items ≤ most_kept }
+        requires part { self.old.part.room ≡ line_room }
+        requires chars { self.old.chars.room ≡ chars_room }
+        requires room { length self.old.kept + 861 ≤ 32768 }
+        ensures { ServesPart self.old self.new }
+    {
+        close(&mut self.part);
+        let said = serve_line(
+            &mut self.device,
+            &self.digits,
+            &self.pairs,
+            &mut self.chars,
+            self.part.as_slice(),
+        );
+        self.kept.extend_from_slice(said.as_slice());
+        self.part.clear();
+    }
+}
+
+/// Returns what stands before the first line feed of a text and what stands after it, or `None` if there is none.
+fn next_part(text: &[u8]) -> Option<(&[u8], &[u8])>
+    ensures { MatchOption result (HasNoFeed text.now) (λ taken. BeginsWithPart text.now (taken.0).now (taken.1).now) }
+{
+    let len = text.iter().position(|byte| *byte == b'\n')?;
+    let (part, rest) = text.split_at(len);
+    Some((part, &rest[1..]))
+}
+
+/// Whether a part is an empty line.
+fn is_empty_line(part: &[u8]) -> bool
+    ensures { IsTrue result ↔ (strip_carriage_return part.now ≡ []) }
+{
+    matches!(part, [] | [b'\r'])
+}
+
+/// Keeps more bytes of a part, as far as there is room for them.
+fn keep(part: &mut Filling<u8>, bytes: &[u8])
+    requires few { length part.old.items ≤ most_kept }
+    requires room { part.old.room ≡ line_room }
+    ensures bytes { part.new.items ≡ take most_kept (part.old.items ++ bytes.now) }
+    ensures kept { part.new.room ≡ part.old.room }
+{
+    let most = bytes.len().min(MOST_KEPT - part.len());
+    part.extend(&bytes[..most]);
+}
+
+/// Puts a space after the line of a part, in the place of the carriage return if the part ends with one.
+fn close(part: &mut Filling<u8>)
+    requires { length part.old.items + 1 ≤ part.old.room }
+    ensures closed { part.new.items ≡ strip_carriage_return part.old.items ++ 32 ∷ [] }
+    ensures kept { part.new.room ≡ part.old.room }
+{
+    if let [.., b'\r'] = part.as_slice() {
+        part.replace(part.len() - 1, b' ');
+    } else {
+        part.push(b' ');
+    }
+}

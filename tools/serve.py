@@ -1,0 +1,120 @@
+#!/usr/bin/env python3
+"""Holds `hart serve` to docs/vectors.tsv and to the plain model in tools/fuzz, as a process that lives through many deliveries.
+
+Each row of the vectors is heard by a process of its own, which begins with the image of the row: its replies have to be those of the row.
+Then one process hears all rows, with a restart and the image between two of them; and one hears deliveries, each after it has answered the
+one before, and may not take more memory than at their beginning.
+
+Usage: tools/serve.py PROGRAM [--deliveries N]; N is 20000 if absent.
+"""
+
+import argparse
+import os
+import pathlib
+import subprocess
+import sys
+
+sys.dont_write_bytecode = True
+
+from fuzz.device import new_device  # noqa: E402
+from fuzz.serve import said  # noqa: E402
+
+FILE = pathlib.Path(__file__).parents[1] / "docs" / "vectors.tsv"
+BETWEEN = "; "
+RESTART = "restart"
+# A request that writes, one that reads what it wrote, one of noise, and a line that is bad.
+LINES = (
+    "FF FF 82 B7 42 0A 1B 2C 13 03 01 23 45 3D",
+    "FF FF 82 B7 42 0A 1B 2C 10 00 5A",
+    "00 FF!40 82",
+    "FF FF 0G",
+    "restart",
+    "image",
+)
+
+
+def rows():
+    """The image of each row, and its parts: what is heard, and the reply."""
+    for line in FILE.read_text(encoding="utf-8").splitlines():
+        if line.startswith(("#", "image\t")):
+            continue
+        image, heard, reply, _ = line.split("\t")
+        yield image, list(zip(heard.split(BETWEEN), reply.split(BETWEEN)))
+
+
+def ended(program, words, lines):
+    """The lines of a process that serves these lines."""
+    text = "".join(f"{line}\n" for line in lines)
+    process = subprocess.run([program, "serve", *words], input=text, capture_output=True, text=True, check=False)
+    if process.returncode or process.stderr:
+        sys.exit(f"serve: ended with {process.returncode} and {process.stderr!r}")
+    return process.stdout.splitlines()
+
+
+def hold(shown, wanted, note):
+    """Ends if lines are not those that are wanted."""
+    if shown != wanted:
+        place = next((place for place, pair in enumerate(zip(shown, wanted)) if pair[0] != pair[1]), min(len(shown), len(wanted)))
+        sys.exit(f"serve: {note}: line {place + 1} is {shown[place:place + 1]}, but {wanted[place:place + 1]} is wanted")
+
+
+def each_row_alone(program):
+    """Lets each row be heard by a process of its own."""
+    count = 0
+    for image, parts in rows():
+        words = [] if image == "-" else ["--image", image]
+        wanted = ["ok" if heard == RESTART else reply for heard, reply in parts]
+        hold(ended(program, words, [heard for heard, _ in parts]), wanted, f"row {count + 1}")
+        count += 1
+    print(f"serve: {count} rows of the vectors, each in a process of its own")
+
+
+def all_rows_together(program):
+    """Lets all rows be heard by one process, with a restart and the image between them."""
+    lines = [line for _, parts in rows() for line in (*(heard for heard, _ in parts), RESTART, "image", "counter")]
+    device = new_device()
+    hold(ended(program, [], lines), [said(device, line.encode()).decode().rstrip("\n") for line in lines], "all rows")
+    print(f"serve: {len(lines)} lines of the vectors in one process")
+
+
+def resident(process):
+    """The most memory that a process has taken so far, in kilobytes."""
+    status = pathlib.Path(f"/proc/{process.pid}/status").read_text(encoding="ascii")
+    return next(int(line.split()[1]) for line in status.splitlines() if line.startswith("VmHWM:"))
+
+
+def many_deliveries(program, count):
+    """Sends lines one by one, each after the line for the last has come."""
+    with subprocess.Popen([program, "serve"], stdin=subprocess.PIPE, stdout=subprocess.PIPE, bufsize=0) as process:
+        device = new_device()
+        taken = 0
+        for number in range(count):
+            line = LINES[number % len(LINES)].encode()
+            process.stdin.write(line + b"\n")
+            shown, wanted = process.stdout.readline(), said(device, line)
+            if shown != wanted:
+                sys.exit(f"serve: delivery {number + 1}: {shown!r}, but {wanted!r} is wanted")
+            if number == len(LINES):
+                taken = resident(process)
+        grown = resident(process) - taken
+        process.stdin.close()
+        left, status = process.stdout.read(), process.wait()
+    if left or status or grown > 0:
+        sys.exit(f"serve: status {status}, {left!r} at the end, and {grown} kB more memory than after {len(LINES)} deliveries")
+    print(f"serve: {count} deliveries one after another, and {taken} kB of memory from the first ones on")
+
+
+def main():
+    """Runs all of them."""
+    parser = argparse.ArgumentParser(description=__doc__.split("\n", maxsplit=1)[0])
+    parser.add_argument("program", help="the built program")
+    parser.add_argument("--deliveries", type=int, default=20000, help="how many lines are sent one by one")
+    chosen = parser.parse_args()
+    program = os.path.realpath(chosen.program)
+    each_row_alone(program)
+    all_rows_together(program)
+    many_deliveries(program, chosen.deliveries)
+
+
+if __name__ == "__main__":
+    main()
