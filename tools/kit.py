@@ -69,10 +69,12 @@ class Kit:
         return self.rt.checked(self.crates[name], texts, flags, kept).stdout
 
     def build_static(self, name, to):
-        """Proves a static library and builds it over the libraries that stand built. Returns what the prover printed, and its status."""
+        """Builds a static library over the libraries that stand built, and proves what is not kept of it. Returns what the prover printed,
+        and its status."""
         crate = self.crates[name]
-        words = [*crate.words(["--jobs", "1"], keeps=False), "--toolchain", f"{self.rt.KIT}/toolchain", "--backend", "llvm", "-o", to]
-        with tempfile.TemporaryDirectory(prefix="library-") as room:
+        with tempfile.TemporaryDirectory(prefix="library-") as room, self.kept(name) as kept:
+            words = [*crate.words(["--jobs", "1"], keeps=False), "--incremental", kept]
+            words += ["--toolchain", f"{self.rt.KIT}/toolchain", "--backend", "llvm", "-o", to]
             for part in self.rt.rtlib.PARTS:
                 if os.path.isdir(f"{crate.folder}/{part}"):
                     shutil.copytree(f"{crate.folder}/{part}", f"{room}/{part}")
