@@ -1,124 +1,12 @@
-//! A call of hart_cli on fake streams, by its name and by the words that make it.
+//! A call on fake streams, by its name and by the words that make it.
 
+use super::call::Call;
 use super::fakes::{ALL, After, Tape, Trickle};
 use crate::rows::hold_ok;
-use hart_cli::{CliFault, Sink, Source, answer, dump, encode_text, explain, program, simulate};
-use hart_frame::{LEAST_PREAMBLES, is_preamble_count};
-use std::alloc::{AllocError, Global};
+use hart_cli::{Sink, program};
+use std::alloc::Global;
 use std::process::Abort;
 use std::test::Fail;
-
-/// A call, with what it is given beside its streams.
-#[derive(Clone, Copy)]
-pub enum Call<'a> {
-    Dump,
-    Explain,
-    /// With an image.
-    Answer(Option<&'a str>),
-    /// With an image.
-    Simulate(Option<&'a str>),
-    /// With the words of a message. The command line has no word for empty DATA and for 5 preamble bytes.
-    Encode {
-        who: &'a str,
-        address: &'a str,
-        command: &'a str,
-        data: &'a str,
-        preambles: u8,
-    },
-}
-
-/// Appends a word to others.
-fn push_word(alloc: Global, words: &mut Vec<String>, word: &str) -> Result<(), AllocError> {
-    words.push(String::from_str(alloc, word)?)?;
-    Ok(())
-}
-
-/// Returns words as strings.
-pub fn strings_of(alloc: Global, words: &[&str]) -> Result<Vec<String>, AllocError> {
-    let mut strings = Vec::new(alloc);
-    for word in words {
-        push_word(alloc, &mut strings, word)?;
-    }
-    Ok(strings)
-}
-
-impl Call<'_> {
-    /// Returns the subcommand that makes the call.
-    pub fn subcommand(self) -> &'static str {
-        match self {
-            Call::Dump => "dump",
-            Call::Explain => "explain",
-            Call::Answer(_) => "answer",
-            Call::Simulate(_) => "sim",
-            Call::Encode { .. } => "encode",
-        }
-    }
-
-    /// Returns the words of the command line that make the call.
-    pub fn words(self, alloc: Global) -> Result<Vec<String>, AllocError> {
-        let mut words = strings_of(alloc, &[self.subcommand()])?;
-        match self {
-            Call::Dump | Call::Explain | Call::Answer(None) | Call::Simulate(None) => {}
-            Call::Answer(Some(image)) | Call::Simulate(Some(image)) => {
-                push_word(alloc, &mut words, "--image")?;
-                push_word(alloc, &mut words, image)?;
-            }
-            Call::Encode {
-                who,
-                address,
-                command,
-                data,
-                preambles,
-            } => {
-                if preambles != LEAST_PREAMBLES {
-                    push_word(alloc, &mut words, "--preambles")?;
-                    words.push(format!(in alloc; "{preambles}")?)?;
-                }
-                push_word(alloc, &mut words, who)?;
-                push_word(alloc, &mut words, address)?;
-                push_word(alloc, &mut words, command)?;
-                if !data.is_empty() {
-                    push_word(alloc, &mut words, data)?;
-                }
-            }
-        }
-        Ok(words)
-    }
-
-    /// Makes the call by its name.
-    pub fn make<R: Source, W: Sink>(
-        self,
-        alloc: Global,
-        reader: &mut R,
-        writer: &mut W,
-    ) -> Result<Result<(), CliFault>, Fail> {
-        Ok(match self {
-            Call::Dump => dump(alloc, reader, writer),
-            Call::Explain => explain(alloc, reader, writer),
-            Call::Answer(image) => answer(alloc, image, reader, writer),
-            Call::Simulate(image) => simulate(alloc, image, reader, writer),
-            Call::Encode { .. } => return self.encode(alloc, writer),
-        })
-    }
-
-    /// Makes the call of `encode_text`, and no other.
-    fn encode<W: Sink>(self, alloc: Global, writer: &mut W) -> Result<Result<(), CliFault>, Fail> {
-        let Call::Encode {
-            who,
-            address,
-            command,
-            data,
-            preambles,
-        } = self
-        else {
-            return Err("another call".into());
-        };
-        if !is_preamble_count(preambles) {
-            return Err("a number of preamble bytes".into());
-        }
-        Ok(encode_text(alloc, who, address, command, data, preambles, writer))
-    }
-}
 
 /// The streams that a call is given: spaces, an input and what comes after it, the most bytes of a read and of a write, and the
 /// number of the write that fails, from 0.
