@@ -132,8 +132,9 @@ impl Call<'_> {
     }
 }
 
-// `Call::make` would carry the promise of each call to the others. So each is made in a function of its own, which promises nothing.
+// Each call is made in a function of its own, without a contract: in one function the proof of each would carry the contracts of all.
 
+/// Makes the call of `dump`.
 fn make_dump<R: Source, W: Sink>(
     alloc: Global,
     reader: &mut R,
@@ -142,6 +143,7 @@ fn make_dump<R: Source, W: Sink>(
     dump(alloc, reader, writer)
 }
 
+/// Makes the call of `explain`.
 fn make_explain<R: Source, W: Sink>(
     alloc: Global,
     reader: &mut R,
@@ -150,6 +152,7 @@ fn make_explain<R: Source, W: Sink>(
     explain(alloc, reader, writer)
 }
 
+/// Makes the call of `answer`.
 fn make_answer<R: Source, W: Sink>(
     alloc: Global,
     image: Option<&str>,
@@ -159,6 +162,7 @@ fn make_answer<R: Source, W: Sink>(
     answer(alloc, image, reader, writer)
 }
 
+/// Makes the call of `simulate`.
 fn make_simulate<R: Source, W: Sink>(
     alloc: Global,
     image: Option<&str>,
