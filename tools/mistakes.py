@@ -41,8 +41,8 @@ def judged_anew(kit, crate, batch):
 def judged_crate(kit, crate, mistakes):
     """The verdict on each mistake of a crate.
 
-    Each batch begins with what is kept of the crate as it stands: after a batch, what it changed would be proved again. If nothing is kept, a
-    batch begins with what those before it proved."""
+    Each batch begins with what is kept of the crate as it stands, since after a batch what that changed would be proved again. If nothing
+    is kept, it begins with what those before it proved."""
     batches = batches_of(mistakes)
     if kit.has_kept(crate):
         return [pair for batch in batches for pair in judged_anew(kit, crate, batch)]
