@@ -33,8 +33,8 @@ if [ -z "${RT_JOBS:-}" ]; then
     export RT_JOBS
 fi
 
-# What the gate proved of a crate before it tries its wrong bodies, for those that are tried after it. They are links to files that the
-# gate does not change, and soon removes.
+# What the gate proved of a crate before it tries its wrong bodies, for those that are tried after it and for the library for C. They are
+# links to files that the gate does not change, and soon removes.
 keep_proved() {
     for proved in "$work"/gate/rt-edits-*/seed; do
         if find "$proved" -name "Rattle-$1-*" -print -quit | grep -q .; then
@@ -66,7 +66,7 @@ if [ -f "$program" ]; then
     passed=$((passed + ${refused:-0}))
     failed=$((failed + ${unrefused:-1}))
     for script in "python3 tools/mistakes.py --gate $work/proved --can-fail" "sh tools/"{runs,refused-growths,streams,examples,vectors,manual,held-view}".sh $program" \
-        "sh tools/library-examples.sh --gate $program"; do
+        "sh tools/library-examples.sh --gate $work/proved $program"; do
         if ! $script; then
             echo "$script: FAILED"
             note 1

@@ -1,7 +1,8 @@
 #!/usr/bin/env python3
-"""Proves hart_c and builds its static library over the libraries that the gate has just built, which `rt lib` would prove again.
+"""Builds the static library of hart_c over what the gate has just proved and built, which `rt lib` would prove again.
 
-Usage: tools/gate_library.py FILE.a; it writes nothing, and ends with 3, unless all libraries that stand built are the gate's.
+Usage: tools/gate_library.py FOLDER FILE.a; the folder has what the gate proved of each crate. It writes nothing, and ends with 3, unless
+all libraries that stand built are the gate's.
 """
 
 import os
@@ -11,10 +12,10 @@ from kit import Kit
 
 
 def main():
-    kit = Kit()
+    kit = Kit(sys.argv[1])
     if not kit.has_gates_libraries():
         sys.exit(3)
-    said, status = kit.build_static("hart_c", os.path.realpath(sys.argv[1]))
+    said, status = kit.build_static("hart_c", os.path.realpath(sys.argv[2]))
     if status:
         print(said, end="", file=sys.stderr)
     sys.exit(status)

@@ -48,13 +48,18 @@ class Kit:
                     return False
         return True
 
+    def begun(self, name):
+        """The folder of what the gate has proved of a crate, or else of what `rt check` has kept in the tree; None if there is neither."""
+        found = [f"{self.proved}/{name}"] * bool(self.proved) + [f"{self.crates[name].folder}/out/incremental"]
+        return next((it for it in found if os.path.isdir(it)), None)
+
+    def has_kept(self, name):
+        return self.begun(name) is not None
+
     @contextlib.contextmanager
     def kept(self, name):
-        """A folder for what checks of a crate prove, which later ones need not prove again.
-
-        It begins with what the gate has proved, or else with what `rt check` has kept in the tree."""
-        begun = [f"{self.proved}/{name}"] * bool(self.proved) + [f"{self.crates[name].folder}/out/incremental"]
-        begun = next((it for it in begun if os.path.isdir(it)), None)
+        """A folder for what checks of a crate prove, which later ones need not prove again. It begins with what was proved of it before."""
+        begun = self.begun(name)
         with tempfile.TemporaryDirectory(prefix="mistakes-") as room:
             folder = f"{room}/kept"
             if begun:
@@ -69,10 +74,12 @@ class Kit:
         return self.rt.checked(self.crates[name], texts, flags, kept).stdout
 
     def build_static(self, name, to):
-        """Proves a static library and builds it over the libraries that stand built. Returns what the prover printed, and its status."""
+        """Builds a static library over the libraries that stand built, and proves what is not kept of it. Returns what the prover printed,
+        and its status."""
         crate = self.crates[name]
-        words = [*crate.words(["--jobs", "1"], keeps=False), "--toolchain", f"{self.rt.KIT}/toolchain", "--backend", "llvm", "-o", to]
-        with tempfile.TemporaryDirectory(prefix="library-") as room:
+        with tempfile.TemporaryDirectory(prefix="library-") as room, self.kept(name) as kept:
+            words = [*crate.words(["--jobs", "1"], keeps=False), "--incremental", kept]
+            words += ["--toolchain", f"{self.rt.KIT}/toolchain", "--backend", "llvm", "-o", to]
             for part in self.rt.rtlib.PARTS:
                 if os.path.isdir(f"{crate.folder}/{part}"):
                     shutil.copytree(f"{crate.folder}/{part}", f"{room}/{part}")

@@ -6,12 +6,13 @@
 #
 # A C compiler and Python are needed. C++ and Rust are tried where they are found, and so are the sanitizers of the C compiler.
 #
-# Usage: tools/library-examples.sh [--gate] [PROGRAM]; PROGRAM is the ./hart of the repository if absent. `--gate` is for tools/library.sh.
+# Usage: tools/library-examples.sh [--gate PROVED] [PROGRAM]; PROGRAM is the ./hart of the repository if absent. `--gate` is for
+# tools/library.sh.
 set -eu
-after=
+proved=
 if [ "${1:-}" = --gate ]; then
-    after=--gate
-    shift
+    proved=$(realpath "$2")
+    shift 2
 fi
 program=$(realpath "${1:-$(dirname "$0")/../hart}")
 cd "$(dirname "$0")/.."
@@ -23,7 +24,11 @@ strict='-O2 -Wall -Wextra -Wpedantic -Werror'
 sanitized='-fsanitize=address,undefined -fno-sanitize-recover=all'
 
 python3 tools/header.py
-sh tools/library.sh $after "$work"
+if [ -n "$proved" ]; then
+    sh tools/library.sh --gate "$proved" "$work"
+else
+    sh tools/library.sh "$work"
+fi
 
 # The calls that a file in C names.
 calls_in() {

@@ -3,13 +3,14 @@
 # offer the calls of include/hart.h and no other symbol. libhart.so is a link to libhart.so.0, whose number grows when a program that was
 # built before would not run with it.
 #
-# Usage: tools/library.sh [--gate] FOLDER; the folder is where both are put. With `--gate`, hart_c is proved and built over the libraries
-# that the gate has just built. Else `rt lib` builds it, and proves again what does not stand proved below it, which takes some minutes.
+# Usage: tools/library.sh [--gate PROVED] FOLDER; the folder is where both are put. With `--gate`, hart_c is built over the libraries that
+# the gate has just built, and over what it proved of each crate, which stands in PROVED. Else `rt lib` builds it, and proves again what
+# does not stand proved, which takes some minutes.
 set -eu
-over=rt
+proved=
 if [ "$1" = --gate ]; then
-    over=gate
-    shift
+    proved=$(realpath "$2")
+    shift 2
 fi
 folder=$(realpath "$1")
 cd "$(dirname "$0")/.."
@@ -20,7 +21,7 @@ cc=${CC:-cc}
 
 made=crates/hart_c/out/libhart_c.a
 mkdir -p crates/hart_c/out
-if [ "$over" != gate ] || ! python3 tools/gate_library.py "$made" >"$work/said" 2>&1; then
+if [ -z "$proved" ] || ! python3 tools/gate_library.py "$proved" "$made" >"$work/said" 2>&1; then
     (cd crates/hart_c && rt lib) >"$work/said" 2>&1 || {
         cat "$work/said" >&2
         exit 1

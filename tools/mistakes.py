@@ -32,10 +32,22 @@ def judged(kit, batch, kept=None):
     return [pair if pair[1].is_refused() else judged(kit, [pair[0]], kept)[0] for pair in found]
 
 
-def judged_crate(kit, crate, mistakes):
-    """The verdict on each mistake of a crate. A batch is checked over what those before it proved."""
+def judged_anew(kit, crate, batch):
+    """The verdict on each mistake of a batch that begins with what is kept of the crate."""
     with kit.kept(crate) as kept:
-        return [pair for batch in batches_of(mistakes) for pair in judged(kit, batch, kept)]
+        return judged(kit, batch, kept)
+
+
+def judged_crate(kit, crate, mistakes):
+    """The verdict on each mistake of a crate.
+
+    Each batch begins with what is kept of the crate as it stands, since after a batch what that changed would be proved again. If nothing
+    is kept, it begins with what those before it proved."""
+    batches = batches_of(mistakes)
+    if kit.has_kept(crate):
+        return [pair for batch in batches for pair in judged_anew(kit, crate, batch)]
+    with kit.kept(crate) as kept:
+        return [pair for batch in batches for pair in judged(kit, batch, kept)]
 
 
 def mistakes_of(edits):

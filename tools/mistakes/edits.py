@@ -129,28 +129,11 @@ def function_at(edit, modules):
     raise BadEdit(f"there is no function {edit.refused_at}")
 
 
-def has_written_proofs(crate, function):
-    return bool(glob.glob(f"{crate}/{function.proofs()}/*.antt"))
-
-
-def calls(crate, caller, callee):
-    """Whether the body of a function names another one. What it names by another name is not seen; such a batch is tried once more, apart."""
-    with open(f"{crate}/{caller.file}", encoding="utf-8") as it:
-        body = it.read().split("\n")[caller.body : caller.last]
-    return bool(re.search(rf"\b{callee.name()}\b", "\n".join(body)))
-
-
 def can_stand_beside(one, other):
-    """Whether two mistakes can be refused in one check: no function is changed twice, and none with written proofs calls a changed one."""
-    crate = one.edit.crate
-    for mine in one.functions:
-        for its in other.functions:
-            if mine.path == its.path:
-                return False
-            for caller, callee in ((mine, its), (its, mine)):
-                if has_written_proofs(crate, caller) and calls(crate, caller, callee):
-                    return False
-    return True
+    """Whether two mistakes can be refused in one check: no function is changed twice.
+
+    One may call the other: a proof rests on the contracts of the functions that it calls, and not on their proofs."""
+    return not {it.path for it in one.functions} & {it.path for it in other.functions}
 
 
 def batches_of(mistakes):

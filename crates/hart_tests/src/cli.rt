@@ -1,4 +1,5 @@
 //! The calls of hart_cli by their names, and `program` with the words that make them.
+mod call;
 mod calls;
 mod encode;
 mod fakes;

@@ -2,7 +2,7 @@ mod line;
 mod start;
 mod stream;
 
-use crate::rows::{has_text, hold, hold_ok, write_chars};
+use crate::rows::{exclusive_or, has_text, hold, hold_ok, write_chars};
 use hart_frame::*;
 use hart_values::{Address, MasterId};
 use std::test::Fail;
@@ -197,15 +197,6 @@ fn the_longest_message_has_287_bytes(rt: HostRuntime) -> Result<(), Fail> {
 const CHECKED_LENGTHS: &[usize] = &[0, 1, 31, 32, 33, 63, 64, 65, 255, 267, MOST_CHECKED];
 
 const MOST_CHECKED: usize = 1000;
-
-/// The exclusive or of bytes, taken one after another.
-fn exclusive_or(bytes: &[u8]) -> u8 {
-    let mut all = 0;
-    for byte in bytes {
-        all ^= *byte;
-    }
-    all
-}
 
 /// Bytes of many values.
 fn checked_bytes() -> [u8; MOST_CHECKED] {

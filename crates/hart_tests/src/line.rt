@@ -1,3 +1,4 @@
+pub mod carried;
 mod room;
 mod runs;
 pub mod scripts;

@@ -1,4 +1,4 @@
-use crate::rows::{has_text, hold, hold_ok};
+use crate::rows::{has_text, hold, hold_ok, write_faultless};
 use hart_commands::{Reply, ReplyContent, Request};
 use hart_frame::{Char, Frame, decode};
 use hart_master::*;
@@ -125,10 +125,18 @@ const CALLS: &[Call] = &[
     Call::StaysSilent,
 ];
 
+/// Whether a master sends this request.
+fn sends(master: &mut Master, request: &Frame) -> bool {
+    match master.send() {
+        Some(sent) => sent == *request,
+        None => false,
+    }
+}
+
 /// Whether a call gives what it says; what is sent has to be this request.
 fn gives(master: &mut Master, call: &Call, request: &Frame) -> bool {
     match call {
-        Call::Sends => master.send().as_ref() == Some(request),
+        Call::Sends => sends(master, request),
         Call::StaysSilent => master.send().is_none(),
         Call::Waits(times) => master.tick(*times) == MasterEvent::Nothing,
         Call::Retries(times) => master.tick(*times) == MasterEvent::Retry,
@@ -208,9 +216,8 @@ const HEARD: &[Heard] = &[
 /// The characters of what is heard in two parts, and of zeros after them.
 fn heard(first: &[u8], second: &[u8]) -> Option<[Char; 80]> {
     let mut chars = [Char::new(0, 0)?; 80];
-    for (place, byte) in chars.iter_mut().zip(first.iter().chain(second)) {
-        *place = Char::new(*byte, 0)?;
-    }
+    write_faultless(&mut chars, first)?;
+    write_faultless(chars.get_mut(first.len()..)?, second)?;
     Some(chars)
 }
 

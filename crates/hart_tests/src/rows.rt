@@ -29,12 +29,42 @@ pub fn has_text(alloc: Global, value: &impl Display, text: &str) -> Result<bool,
     Ok(written.as_str() == text)
 }
 
+/// Returns the character of a byte and of fault bits, which are the high byte.
+pub fn char_of(both: u16) -> Option<Char> {
+    let [faults, byte] = both.to_be_bytes();
+    Char::new(byte, faults)
+}
+
 /// Writes characters over the first of some others. The high byte of each is its fault bits.
 pub fn write_chars(chars: &mut [Char], heard: &[u16]) -> Option<()> {
     for (character, both) in chars.iter_mut().zip(heard) {
-        *character = Char::new((both % 256) as u8, (both / 256) as u8)?;
+        *character = char_of(*both)?;
     }
     Some(())
+}
+
+/// The exclusive or of bytes, taken one after another.
+pub fn exclusive_or(bytes: &[u8]) -> u8 {
+    let mut all = 0;
+    for byte in bytes {
+        all ^= *byte;
+    }
+    all
+}
+
+/// Writes faultless characters of these bytes over the first of some others.
+pub fn write_faultless(chars: &mut [Char], bytes: &[u8]) -> Option<()> {
+    for (character, byte) in chars.iter_mut().zip(bytes) {
+        *character = Char::new(*byte, 0)?;
+    }
+    Some(())
+}
+
+/// Returns the first character of a text of items, and the text after it, if an item is next after spaces.
+fn first_item(text: &[u8]) -> Option<(Char, &[u8])> {
+    let text = text.trim_ascii_start();
+    let item = leading_item(text)?;
+    Some((item.char, text.get(item.len..)?))
 }
 
 /// The characters that the items of a text stand for, with spaces between them.
@@ -42,15 +72,17 @@ pub fn chars_of_items(alloc: Global, text: &str) -> Result<Vec<Char>, Fail> {
     let mut chars = Vec::new(alloc);
     let mut rest = text.as_bytes();
     for _ in 0..text.len() {
-        rest = rest.trim_ascii_start();
-        if rest.is_empty() {
+        let Some((character, after)) = first_item(rest) else {
             break;
-        }
-        let item = leading_item(rest).ok_or("an item")?;
-        chars.push(item.char)?;
-        rest = rest.get(item.len..).ok_or("its bytes")?;
+        };
+        chars.push(character)?;
+        rest = after;
     }
-    Ok(chars)
+    if rest.trim_ascii_start().is_empty() {
+        Ok(chars)
+    } else {
+        Err("an item".into())
+    }
 }
 
 /// The bytes of characters, whatever their faults.

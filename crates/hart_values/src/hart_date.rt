@@ -14,7 +14,7 @@ const NOT_SET: [u8; 3] = [0; 3];
 /// A day of the years 1900 to 2155 (HCF_SPEC-127), or "not set" (own profile).
 ///
 /// Contracts see its three bytes: the day, the month, and the year less 1900.
-#[derive(Clone, Copy, Debug, PartialEq, Eq, Hash)]
+#[derive(Clone, Copy, Debug, PartialEq, Eq)]
 pub struct HartDate {
     bytes: [u8; 3],
 }

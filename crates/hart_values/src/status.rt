@@ -11,7 +11,7 @@ pub mod response_code;
 const FAULTS_BIT: u8 = 0x80;
 
 /// What the two status bytes of a reply say (HCF_SPEC-099).
-#[derive(Clone, Copy, Debug, PartialEq, Eq, Hash)]
+#[derive(Clone, Copy, Debug, PartialEq, Eq)]
 pub enum Status {
     /// The device has received the request: its answer to it, and its own state.
     Code(ResponseCode, DeviceStatus),

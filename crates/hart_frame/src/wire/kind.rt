@@ -1,5 +1,5 @@
 /// What a frame is for (HCF_SPEC-081).
-#[derive(Clone, Copy, Debug, PartialEq, Eq, Hash)]
+#[derive(Clone, Copy, Debug, PartialEq, Eq)]
 pub enum FrameKind {
     /// A master's request to a device.
     Stx,

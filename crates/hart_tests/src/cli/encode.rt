@@ -1,6 +1,7 @@
 //! Words of a message to send.
 
-use super::calls::{Call, EMPTY, Fault, Given, NONE, Wanted, does};
+use super::call::{Call, Words};
+use super::calls::{EMPTY, Fault, Given, NONE, Wanted, does};
 use crate::rows::{hold_ok, text_of};
 use std::alloc::Global;
 use std::test::Fail;
@@ -68,13 +69,13 @@ const ROWS: &[Row] = &[
 /// Whether the words of a row are written as a message, or have a fault. Nothing is read for them.
 fn is_written(rt: &impl Eprint, alloc: Global, row: Row) -> Result<bool, Fail> {
     let (who, address, command, data, preambles, text, fault) = row;
-    let call = Call::Encode {
+    let call = Call::Encode(Words {
         who,
         address,
         command,
         data,
         preambles,
-    };
+    });
     let given = Given {
         input: "!",
         most_written: 1,

@@ -3,10 +3,11 @@
 //! `tools/refused-growths.sh` runs this test again and again, and refuses another growth each time. So nothing but the calls takes
 //! memory here: inputs are constants, and texts go into an array.
 
-use super::calls::Call;
+use super::call::{Call, Words};
 use super::images::NEW;
+use crate::line::carried::new_device;
 use hart_cli::Plain;
-use hart_device::{Device, FieldRegisters, bench};
+use hart_device::{FieldRegisters, bench};
 use hart_line::{LineEvent, LineFault, read_script, run};
 use hart_master::{Master, MasterFault};
 use hart_values::MasterId;
@@ -35,13 +36,13 @@ const CALLS: &[(Call, &str, &str)] = &[
     (Call::Simulate(None), "simulate", SCRIPT),
     (Call::Simulate(Some(NEW)), "simulate with an image", SCRIPT),
     (
-        Call::Encode {
+        Call::Encode(Words {
             who: "P",
             address: "37420A1B2C",
             command: "19",
             data: "012345",
             preambles: 5,
-        },
+        }),
         "encode_text",
         "",
     ),
@@ -63,9 +64,9 @@ fn made(alloc: Global, call: Call, input: &str) -> Result<(u8, usize), Fail> {
 
 /// Carries events out on the bench device, and returns the number of the fault, or 0.
 fn carried_out(alloc: Global, events: &[LineEvent]) -> Result<u8, MasterFault> {
-    let device: Device<FieldRegisters> = Device::new(bench::identity(), &bench::register_values());
     let primary = Master::new(MasterId::Primary, 3, 33)?;
     let secondary = Master::new(MasterId::Secondary, 3, 41)?;
+    let device = new_device::<FieldRegisters>();
     let report = run(alloc, device, primary, secondary, events, &bench::process());
     Ok(number_of(&report))
 }

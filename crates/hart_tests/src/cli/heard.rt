@@ -1,6 +1,7 @@
 //! Calls on what was heard: `dump`, `explain` and `answer`.
 
-use super::calls::{Call, EMPTY, Given, NONE, READ, Row, Wanted, does, does_as, hold_rows};
+use super::call::Call;
+use super::calls::{EMPTY, Given, NONE, READ, Row, Wanted, does, does_as, hold_rows};
 use super::fakes::After;
 use crate::device::worked::{HEARD, OWN, OwnRow, REPLY, REQUEST};
 use crate::rows::{hold_ok, text_of};

@@ -1,6 +1,7 @@
 //! Calls with an image.
 
-use super::calls::{Call, EMPTY, Fault, Given, NONE, Row, Wanted, does, hold_rows};
+use super::call::Call;
+use super::calls::{EMPTY, Fault, Given, NONE, Row, Wanted, does, hold_rows};
 use super::fakes::After;
 use crate::rows::hold_ok;
 use std::alloc::Global;

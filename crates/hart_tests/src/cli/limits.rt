@@ -1,6 +1,7 @@
 //! Inputs that are as long as they may be, longer, and without end.
 
-use super::calls::{Call, EMPTY, Fault, Given, NONE, TOO_LONG, Wanted, does_by_name};
+use super::call::Call;
+use super::calls::{EMPTY, Fault, Given, NONE, TOO_LONG, Wanted, does_by_name};
 use super::fakes::After;
 use super::heard::{IDENTIFY, IDENTIFY_LINE, IDENTIFY_SAID, IDENTIFY_WHOLE};
 use super::streams::{AS_NEW, Written};

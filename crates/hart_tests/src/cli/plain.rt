@@ -2,6 +2,7 @@
 
 ghost use Rattle.std.specs.Prelude.{◌≡◌, IfOk};
 
+use super::call::Call;
 use super::streams::{WRITTEN, Written};
 use crate::rows::hold_ok;
 use hart_cli::{DONE, Failed, Plain, Sink, Source, program};
@@ -10,25 +11,28 @@ use std::io;
 use std::io::{ErrorKind, Read, Write};
 use std::test::Fail;
 
-/// Whether a call on readers and writers of the standard library writes its text, by its name and by its words.
-fn serves(alloc: Global, (call, input, text): &Written) -> Result<bool, Fail> {
+/// Whether a call by its name on readers and writers of the standard library writes a text.
+fn serves_by_name(alloc: Global, call: Call, input: &str, text: &str) -> Result<bool, Fail> {
     let mut output = Plain::new(Vec::new(alloc));
     let result = call.make(alloc, &mut Plain::new(input.as_bytes()), &mut output)?;
-    let written = output.into_inner();
-    let words = call.words(alloc)?;
+    Ok(result.is_ok() && output.into_inner().as_slice() == text.as_bytes())
+}
+
+/// Whether `program` on readers and writers of the standard library writes a text, and nothing to its errors.
+fn serves_by_words(alloc: Global, words: &[String], input: &str, text: &str) -> bool {
     let mut reader = Plain::new(input.as_bytes());
     let mut output = Plain::new(Vec::new(alloc));
     let mut errors = Plain::new(Vec::new(alloc));
-    let status = program(
-        alloc,
-        words.as_slice(),
-        &mut reader,
-        &mut output,
-        &mut errors,
-    );
-    let is_named = result.is_ok() && written.as_slice() == text.as_bytes();
-    let is_run = status == DONE && output.into_inner().as_slice() == text.as_bytes();
-    Ok(is_named && is_run && errors.into_inner().is_empty())
+    let status = program(alloc, words, &mut reader, &mut output, &mut errors);
+    let is_written = output.into_inner().as_slice() == text.as_bytes();
+    status == DONE && is_written && errors.into_inner().is_empty()
+}
+
+/// Whether a call on readers and writers of the standard library writes its text, by its name and by its words.
+fn serves(alloc: Global, (call, input, text): &Written) -> Result<bool, Fail> {
+    let words = call.words(alloc)?;
+    let is_run = serves_by_words(alloc, words.as_slice(), input, text);
+    Ok(is_run && serves_by_name(alloc, *call, input, text)?)
 }
 
 /// Whether a call whose output is a slice, which takes no byte once it is full, fills it with the beginning of its text, and ends
@@ -84,17 +88,24 @@ impl Write for Counted {
     }
 }
 
+/// Whether a read into a buffer gives `want`, and makes one call of what is inside.
+fn reads_once(buffer: &mut [u8], fails: bool, want: Result<usize, Failed>) -> bool {
+    let mut reader = Plain::new(Counted { calls: 0, fails });
+    reader.read(buffer) == want && reader.into_inner().calls == 1
+}
+
+/// Whether a write of bytes gives `want`, and makes one call of what is inside.
+fn writes_once(bytes: &[u8], fails: bool, want: Result<usize, Failed>) -> bool {
+    let mut writer = Plain::new(Counted { calls: 0, fails });
+    writer.write(bytes) == want && writer.into_inner().calls == 1
+}
+
 /// Whether one read and one write of `size` bytes succeed, or are failures if what is inside is interrupted, and make one call of it
 /// each.
 fn makes_one_call(alloc: Global, size: usize, fails: bool) -> Result<bool, Fail> {
     let want = if fails { Err(Failed) } else { Ok(size) };
     let mut bytes = vec![in alloc; 0; size]?;
-    let mut reader = Plain::new(Counted { calls: 0, fails });
-    let read = reader.read(bytes.as_mut_slice());
-    let mut writer = Plain::new(Counted { calls: 0, fails });
-    let written = writer.write(bytes.as_slice());
-    let is_one = reader.into_inner().calls == 1 && writer.into_inner().calls == 1;
-    Ok(read == want && written == want && is_one)
+    Ok(reads_once(bytes.as_mut_slice(), fails, want) && writes_once(bytes.as_slice(), fails, want))
 }
 
 #[test]

@@ -1,6 +1,7 @@
 //! Words that make no call, and a writer of errors that fails.
 
-use super::calls::{EMPTY, Given, Outcome, by_words, strings_of};
+use super::call::strings_of;
+use super::calls::{EMPTY, Given, Outcome, by_words};
 use super::fakes::Trickle;
 use crate::rows::hold_ok;
 use hart_cli::{FAULT, NO_CALL};

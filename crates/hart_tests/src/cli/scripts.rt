@@ -1,6 +1,7 @@
 //! Scripts that `simulate` carries out.
 
-use super::calls::{Call, NONE, Row, does_as, hold_rows};
+use super::call::Call;
+use super::calls::{NONE, Row, does_as, hold_rows};
 use super::fakes::After;
 use super::images::{CHANGED, COUNTED_TO_THE_END};
 use crate::line::scripts::*;

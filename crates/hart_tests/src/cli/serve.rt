@@ -1,7 +1,8 @@
 //! `serve`: a device over many deliveries.
 
+use super::call::Call;
 use super::calls::{
-    Call, EMPTY, Fault, Given, NONE, READ, Row, WRITE, Wanted, does, does_by_name, hold_rows,
+    EMPTY, Fault, Given, NONE, READ, Row, WRITE, Wanted, does, does_by_name, hold_rows,
 };
 use super::fakes::{ALL, After};
 use super::images::NEW;

@@ -1,6 +1,7 @@
 //! Readers and writers that fail, and the order of reads and writes.
 
-use super::calls::{Call, EMPTY, Fault, Given, NONE, READ, WRITE, Wanted, does};
+use super::call::{Call, Words};
+use super::calls::{EMPTY, Fault, Given, NONE, READ, WRITE, Wanted, does};
 use super::fakes::{ALL, After};
 use super::heard::{
     IDENTIFY, IDENTIFY_LINE, IDENTIFY_SAID, IDENTIFY_WHOLE, TWO_LINES, TWO_MESSAGES,
@@ -24,13 +25,13 @@ pub const WRITTEN: &[Written] = &[
     ),
     (Call::Simulate(None), "turn P ok ok", AS_NEW),
     (
-        Call::Encode {
+        Call::Encode(Words {
             who: "P",
             address: "@0",
             command: "0",
             data: "",
             preambles: 5,
-        },
+        }),
         "",
         "FF FF FF FF FF 02 80 00 00 82\n",
     ),

@@ -102,12 +102,11 @@ fn fall_into(rows: &[FieldRow], data: &[u8], fields: Named) -> bool {
 /// Whether data have their fields.
 fn have_fields(row: &Data) -> bool {
     let (command, replies, data, fields) = *row;
-    let rows = if replies {
-        reply_rows(command)
+    if replies {
+        fall_into(reply_rows(command), data, fields)
     } else {
-        request_rows(command)
-    };
-    fall_into(rows, data, fields)
+        fall_into(request_rows(command), data, fields)
+    }
 }
 
 #[test]

@@ -1,6 +1,6 @@
 //! Which device answers a request, at which address.
 use super::*;
-use hart_values::{LoopMode, PackedText, PollingAddress};
+use hart_values::{LoopMode, PackedText, PollingAddress, ValueFault};
 
 /// Whom a request is for.
 #[derive(Clone, Copy)]
@@ -15,6 +15,16 @@ pub(super) enum Asked {
     All,
 }
 
+/// Returns the address of a request.
+fn address_of(asked: Asked) -> Result<Address, ValueFault> {
+    match asked {
+        Asked::Own => Ok(Address::Unique(bench::identity().unique_address())),
+        Asked::Polling(number) => Address::polling(number),
+        Asked::Another => Address::unique(0x3742, 0x0A1B2D),
+        Asked::All => Address::unique(0, 0),
+    }
+}
+
 /// A master's request of a command to whom it is for.
 pub(super) fn request_to(
     asked: Asked,
@@ -22,12 +32,7 @@ pub(super) fn request_to(
     command: u8,
     data: &[u8],
 ) -> Result<Frame, Fail> {
-    let address = match asked {
-        Asked::Own => Address::Unique(bench::identity().unique_address()),
-        Asked::Polling(number) => Address::polling(number)?,
-        Asked::Another => Address::unique(0x3742, 0x0A1B2D)?,
-        Asked::All => Address::unique(0, 0)?,
-    };
+    let address = address_of(asked)?;
     let payload = Payload::from_slice(data).ok_or("too long")?;
     Ok(Frame::request(master, address, command, payload))
 }

@@ -1,6 +1,7 @@
 //! What a new bench device answers to a message that is cut, changed or damaged, and to noise.
 use super::images::{ENDING, IMAGE_2, image_with};
 use super::*;
+use crate::rows::{exclusive_or, write_faultless};
 use hart_frame::{Message, encode};
 
 /// The place in an image from which the register stands that a row here writes.
@@ -58,12 +59,10 @@ const FAULT_SETS: &[u8] = &[
 ];
 
 /// The characters of a request, all faultless, and others after them.
-fn chars_of(request: &[u8]) -> Result<[Char; MOST], Fail> {
-    let mut chars = [Char::new(0, 0).ok_or("faults")?; MOST];
-    for (character, byte) in chars.iter_mut().zip(request) {
-        *character = Char::new(*byte, 0).ok_or("faults")?;
-    }
-    Ok(chars)
+fn chars_of(request: &[u8]) -> Option<[Char; MOST]> {
+    let mut chars = [Char::new(0, 0)?; MOST];
+    write_faultless(&mut chars, request)?;
+    Some(chars)
 }
 
 /// Whether a new bench device replies so to a delivery, by nothing if it is silent, and this stands in its image then.
@@ -82,7 +81,7 @@ fn leads_to(delivery: &[Char], reply: &[u8], held: Held) -> Result<bool, Fail> {
 /// The message of a communication-fault reply of the bench device: with this first byte of its address, this command and this
 /// first status byte. FB is the exclusive or of the other bytes.
 fn faulty_reply(address: u8, command: u8, status: u8) -> [u8; 16] {
-    let check = 0xFB ^ address ^ command ^ status;
+    let check = exclusive_or(&[0xFB, address, command, status]);
     [
         0xFF, 0xFF, 0xFF, 0xFF, 0xFF, 0x86, address, 0x42, 0x0A, 0x1B, 0x2C, command, 0x02, status,
         0x00, check,
@@ -105,7 +104,7 @@ fn reply_to_change(place: usize, byte: u8, faults: u8) -> Option<[u8; 16]> {
 /// place the reading, which is for a polling address, is met with silence, and the writing with its communication faults or with
 /// silence.
 fn is_met_at(exchange: &Exchange, place: usize, byte: u8, faults: u8) -> Result<bool, Fail> {
-    let mut chars = chars_of(exchange.request)?;
+    let mut chars = chars_of(exchange.request).ok_or("characters")?;
     let character = chars.get_mut(place).ok_or("a place")?;
     *character = Char::new(byte, faults).ok_or("faults")?;
     let delivery = chars.get(..exchange.request.len()).ok_or("too long")?;
@@ -122,7 +121,7 @@ fn is_met_at(exchange: &Exchange, place: usize, byte: u8, faults: u8) -> Result<
 
 /// Whether so many first characters of a request lead to a reply, and to this in the image.
 fn lead_to(request: &[u8], len: usize, reply: &[u8], held: Held) -> Result<bool, Fail> {
-    let chars = chars_of(request)?;
+    let chars = chars_of(request).ok_or("characters")?;
     leads_to(chars.get(..len).ok_or("too long")?, reply, held)
 }
 
@@ -191,7 +190,7 @@ const FAULTY: &[u8] = &[
 ];
 
 /// The characters of the writing with another check byte.
-pub(super) fn garbled_write() -> Result<[Char; MOST], Fail> {
+pub(super) fn garbled_write() -> Option<[Char; MOST]> {
     chars_of(BAD_CHECK)
 }
 
@@ -318,14 +317,20 @@ const BESIDE: &[Delivered] = &[
     ),
 ];
 
+/// Appends characters of these bytes, each with these fault bits.
+fn push_part(chars: &mut Vec<Char>, bytes: &[u8], faults: u8) -> Result<(), Fail> {
+    for byte in bytes {
+        chars.push(Char::new(*byte, faults).ok_or("faults")?)?;
+    }
+    Ok(())
+}
+
 /// The characters of noise.
 fn chars_of_noise(alloc: Global, noise: Noise) -> Result<Vec<Char>, Fail> {
     let mut chars = Vec::new(alloc);
     for (bytes, times, faults) in noise {
         for _ in 0..*times {
-            for byte in *bytes {
-                chars.push(Char::new(*byte, *faults).ok_or("faults")?)?;
-            }
+            push_part(&mut chars, bytes, *faults)?;
         }
     }
     Ok(chars)

@@ -32,12 +32,12 @@ pub(super) fn image_with<const N: usize>(image: [u8; N], place: usize, bytes: &[
     changed
 }
 
-/// Writes bytes over others from a place on.
+/// Writes bytes over others from a place on, if all of them have room there.
 fn write_from(image: &mut [u8], place: usize, bytes: &[u8]) {
-    for (offset, other) in bytes.iter().enumerate() {
-        if let Some(byte) = image.get_mut(place.wrapping_add(offset)) {
-            *byte = *other;
-        }
+    if let Some(rest) = image.get_mut(place..)
+        && let Some(part) = rest.get_mut(..bytes.len())
+    {
+        part.copy_from_slice(bytes);
     }
 }
 
@@ -83,11 +83,18 @@ const BAD_LENGTHS: &[(&[u8], DeviceFault)] = &[
 
 /// Whether images of both versions are refused for the fault with these bytes, and taken without them.
 fn is_refused(row: &BadImage) -> bool {
-    let (bytes, first, second, fault) = row;
-    image_fault(&IMAGE_1).is_none()
-        && image_fault(&IMAGE_2).is_none()
-        && image_fault(&image_with(IMAGE_1, *first, bytes)) == Some(*fault)
-        && image_fault(&image_with(IMAGE_2, *second, bytes)) == Some(*fault)
+    let (bytes, first, second, fault) = *row;
+    is_refused_with(IMAGE_1, first, bytes, fault) && is_refused_with(IMAGE_2, second, bytes, fault)
+}
+
+/// Whether an image is taken as it is, and refused for the fault with these bytes from a place on.
+fn is_refused_with<const N: usize>(
+    image: [u8; N],
+    place: usize,
+    bytes: &[u8],
+    fault: DeviceFault,
+) -> bool {
+    image_fault(&image).is_none() && image_fault(&image_with(image, place, bytes)) == Some(fault)
 }
 
 #[test]
@@ -147,14 +154,18 @@ fn devices_go_on_from_their_images(rt: HostRuntime) {
     }
 }
 
+/// Returns the image of a device that goes on from an image.
+fn image_after<S: RegisterStore + Drop>(image: &[u8]) -> Result<Image, DeviceFault> {
+    Ok(Device::<S>::from_image(bench::identity(), image)?.image())
+}
+
 /// Whether a device that goes on from one image has another.
-fn has_image<S: RegisterStore + Drop>(image: &[u8], other: &[u8]) -> Result<bool, Fail> {
-    let device: Device<S> = Device::from_image(bench::identity(), image)?;
-    Ok(device.image().as_slice() == other)
+fn has_image<S: RegisterStore + Drop>(image: &[u8], other: &[u8]) -> Result<bool, DeviceFault> {
+    Ok(image_after::<S>(image)?.as_slice() == other)
 }
 
 /// Whether devices of both stores that go on from one image have another.
-fn have_image(image: &[u8], other: &[u8]) -> Result<bool, Fail> {
+fn have_image(image: &[u8], other: &[u8]) -> Result<bool, DeviceFault> {
     Ok(has_image::<FieldRegisters>(image, other)? && has_image::<ImageRegisters>(image, other)?)
 }
 
@@ -196,14 +207,14 @@ fn long_tag_of(group: u8) -> [u8; 32] {
 /// Whether devices that go on from an image with the long tag of a group have that image.
 fn keep_long_tag(group: u8) -> Result<bool, Fail> {
     let image = image_with(IMAGE_2, LONG_TAG, &long_tag_of(group));
-    have_image(&image, &image)
+    Ok(have_image(&image, &image)?)
 }
 
 /// Whether devices that go on from the image of version 1 of a row have that of version 2.
 fn migrate(row: &Migrated) -> Result<bool, Fail> {
     let (place, bytes, text) = *row;
     let image = image_with(IMAGE_1, place, bytes);
-    have_image(&image, &migrated(&image, text))
+    Ok(have_image(&image, &migrated(&image, text))?)
 }
 
 #[test]

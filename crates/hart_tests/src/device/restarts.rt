@@ -59,6 +59,14 @@ const FIRST_REPLIES: &[Row] = &[
     (false, Asked::Own, [49, 255], &[], [0x40, 0x20]),
 ];
 
+/// Returns the first two bytes of a payload.
+fn first_two(payload: &[u8]) -> Option<[u8; 2]> {
+    match payload {
+        [code, status, ..] => Some([*code, *status]),
+        _ => None,
+    }
+}
+
 /// The status bytes of the device's reply to a master's request, if it replies.
 fn status_bytes(
     device: &mut Device<FieldRegisters>,
@@ -68,13 +76,10 @@ fn status_bytes(
     data: &[u8],
 ) -> Result<Option<[u8; 2]>, Fail> {
     let request = request_to(asked, master, command, data)?;
-    let Some(reply) = device.receive(&request, &bench::process()) else {
-        return Ok(None);
-    };
-    let [code, status, ..] = reply.payload() else {
-        return Ok(None);
-    };
-    Ok(Some([*code, *status]))
+    Ok(match device.receive(&request, &bench::process()) {
+        Some(reply) => first_two(reply.payload()),
+        None => None,
+    })
 }
 
 /// A bench device that was restarted twice, and has since met silent requests and a garbled one.
@@ -95,9 +100,8 @@ fn restarted_device(rt: &impl Abort, protected: bool) -> Result<Device<FieldRegi
 
 /// Whether a device replies to a garbled request with its communication faults.
 fn replies_with_faults(device: &mut Device<FieldRegisters>) -> Result<bool, Fail> {
-    let reply = device
-        .hear(&garbled_write()?, &bench::process())
-        .ok_or("silence")?;
+    let garbled = garbled_write().ok_or("characters")?;
+    let reply = device.hear(&garbled, &bench::process()).ok_or("silence")?;
     Ok(reply.payload() == [0x88, 0x00].as_slice())
 }
 

@@ -1,6 +1,6 @@
 //! A scanner against the first frames of the whole list.
 use super::*;
-use crate::rows::bytes_of;
+use crate::rows::{bytes_of, char_of};
 use std::alloc::Global;
 
 /// Characters one after another, each so many times. The high byte of a character is its fault bits.
@@ -122,11 +122,10 @@ fn heard(alloc: Global, parts: Parts) -> Result<Vec<Char>, Fail> {
     Ok(chars)
 }
 
-/// Adds the characters of a part.
+/// Appends the characters of a part.
 fn push_part(chars: &mut Vec<Char>, part: &[u16]) -> Result<(), Fail> {
     for both in part {
-        let character = Char::new((both % 256) as u8, (both / 256) as u8).ok_or("a character")?;
-        chars.push(character)?;
+        chars.push(char_of(*both).ok_or("a character")?)?;
     }
     Ok(())
 }
@@ -210,27 +209,37 @@ fn by_chunks(chars: &[Char], size: usize, chunks: Chunks) -> Option<usize> {
     last_taken(&mut scanner, chars, stop)
 }
 
-/// Pushes the first faultless characters, so many at most, or the first if it has faults, if the scanner is drained, and gives how
-/// many it heard.
-fn push_bytes(scanner: &mut Scanner, chars: &[Char], size: usize) -> Option<usize> {
-    let first = chars.first()?;
-    if !first.is_faultless() {
-        push(scanner, *first)?;
-        return Some(1);
-    }
-    let mut bytes = [0; MOST_RUN];
+/// Writes faultless characters from the first on as bytes, up to one with faults or the end of the room. Returns their number.
+fn write_bytes(bytes: &mut [u8], chars: &[Char]) -> usize {
     let mut count: usize = 0;
-    for (place, character) in bytes.iter_mut().zip(chars.iter().take(size)) {
+    for (place, character) in bytes.iter_mut().zip(chars) {
         if !character.is_faultless() {
             break;
         }
         *place = character.byte();
-        count = count.checked_add(1)?;
+        count = count.saturating_add(1);
     }
+    count
+}
+
+/// Pushes bytes if the scanner is drained, and returns how many it heard.
+fn push_drained(scanner: &mut Scanner, bytes: &[u8]) -> Option<usize> {
     if !scanner.is_drained() || scanner.pushed() >= MOST_PUSHED {
         return None;
     }
-    Some(scanner.push_bytes(bytes.get(..count)?))
+    Some(scanner.push_bytes(bytes))
+}
+
+/// Pushes the first faultless characters, at most `size`, or the first character if it has faults, if the scanner is drained. Returns
+/// how many it heard.
+fn push_bytes(scanner: &mut Scanner, chars: &[Char], size: usize) -> Option<usize> {
+    let mut bytes = [0; MOST_RUN];
+    let count = write_bytes(bytes.get_mut(..size)?, chars);
+    if count == 0 {
+        push(scanner, *chars.first()?)?;
+        return Some(1);
+    }
+    push_drained(scanner, bytes.get(..count)?)
 }
 
 /// Pushes the first characters, so many at most, if the scanner is drained, and gives how many it heard.
@@ -264,20 +273,27 @@ fn a_scanner_gives_the_frames(rt: HostRuntime) -> Result<(), Fail> {
     Ok(())
 }
 
-/// How many characters were heard when the view came that was the first, and where it starts and stops.
-fn first_view(chars: &[Char]) -> Option<(usize, u64, u64)> {
+/// How many characters were heard when a view came, and where its frame starts and stops.
+type Viewed = (usize, u64, u64);
+
+/// Returns the view that the scanner gives next, if there is one, after `count` characters.
+fn viewed(scanner: &mut Scanner, count: usize) -> Option<Viewed> {
+    let view = scanner.take()?;
+    Some((count, view.start, view.stop))
+}
+
+/// Returns the first view of a list, which may come after the finish alone.
+fn first_view(chars: &[Char]) -> Option<Viewed> {
     let mut scanner = Scanner::new();
-    let mut count: usize = 0;
-    for character in chars {
+    for (place, character) in chars.iter().enumerate() {
         push(&mut scanner, *character)?;
-        count = count.checked_add(1)?;
-        if let Some(view) = scanner.take() {
-            return Some((count, view.start, view.stop));
+        let view = viewed(&mut scanner, place.saturating_add(1));
+        if view.is_some() {
+            return view;
         }
     }
     scanner.finish();
-    let view = scanner.take()?;
-    Some((count, view.start, view.stop))
+    viewed(&mut scanner, chars.len())
 }
 
 #[test]

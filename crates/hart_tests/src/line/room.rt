@@ -1,9 +1,9 @@
 //! Scripts of many kinds and lengths, none of which is refused if there is memory.
-use super::runs::run_on;
+use super::carried::{carried_out, new_device};
 use super::*;
 use crate::rows::text_of;
 use hart_commands::Request;
-use hart_device::{Device, FieldRegisters, bench};
+use hart_device::FieldRegisters;
 use std::process::Abort;
 
 /// As many zeros as the data of any command need.
@@ -101,8 +101,9 @@ const GROWING: &[Growing] = &[
 
 /// The numbers of outcomes and of spoken frames that a script leads to.
 fn lens_of(alloc: Global, script: &str) -> Result<(usize, usize), Fail> {
-    let device: Device<FieldRegisters> = Device::new(bench::identity(), &bench::register_values());
-    let report = run_on(alloc, device, 3, script)??;
+    let events = read_script(alloc, script.as_bytes())?;
+    let device = new_device::<FieldRegisters>();
+    let report = carried_out(alloc, device, 3, events.as_slice())??;
     Ok((
         report.outcomes.as_slice().len(),
         report.spoken.as_slice().len(),

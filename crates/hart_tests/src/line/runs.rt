@@ -1,9 +1,10 @@
 //! Scripts that are carried out on the bench device.
+use super::carried::{carried_out, new_device};
 use super::scripts::*;
 use super::*;
 use hart_commands::{Register, Reply};
 use hart_device::{Device, FieldRegisters, Image, ImageRegisters, RegisterStore, bench};
-use hart_master::{Master, MasterFault};
+use hart_master::MasterFault;
 use std::process::Abort;
 
 /// What becomes of a submission.
@@ -282,64 +283,48 @@ const RESTARTED: &[Row] = &[
     },
 ];
 
-/// What comes of a script on a device, with a primary master that sends so often again.
-pub fn run_on<S: RegisterStore + Drop>(
-    alloc: Global,
-    device: Device<S>,
-    retries: u8,
-    script: &str,
-) -> Result<Result<Report<S>, LineFault>, Fail> {
-    let primary = Master::new(MasterId::Primary, retries, 33)?;
-    let secondary = Master::new(MasterId::Secondary, 3, 41)?;
-    let events = read_script(alloc, script.as_bytes())?;
-    Ok(run(
-        alloc,
-        device,
-        primary,
-        secondary,
-        events.as_slice(),
-        &bench::process(),
-    ))
+/// Returns an image with another ending.
+fn with_ending(image: &Image, ending: &[u8; 3]) -> Option<Image> {
+    let registers = image.len().checked_sub(ending.len())?;
+    let mut changed = Image::from_slice(image.as_slice().get(..registers)?)?;
+    changed.extend_from_slice(ending);
+    Some(changed)
 }
 
-/// The fault of a script on the bench device with a store of this kind.
-pub fn fault_of<S: RegisterStore + Drop>(alloc: Global, script: &str) -> Result<LineFault, Fail> {
-    let device = Device::<S>::new(bench::identity(), &bench::register_values());
-    Ok(run_on(alloc, device, 3, script)?.err().ok_or("a report")?)
+/// Returns the device with this store that goes on from the image of a row.
+fn device_of<S: RegisterStore + Drop>(row: &Row) -> Result<Device<S>, Fail> {
+    let image = with_ending(&new_device::<S>().image(), &row.ending).ok_or("too long")?;
+    Ok(Device::from_image(bench::identity(), image.as_slice())?)
 }
 
-/// What a row's script leads to, on a device with this store that goes on from the row's image.
+/// Returns what a row's script leads to, on a device with this store that goes on from the row's image.
 fn report_of<S: RegisterStore + Drop>(alloc: Global, row: &Row) -> Result<Report<S>, Fail> {
-    let new = Device::<S>::new(bench::identity(), &bench::register_values()).image();
-    let registers = &new.as_slice()[..new.len() - row.ending.len()];
-    let mut image = Image::from_slice(registers).ok_or("too long")?;
-    image.extend_from_slice(&row.ending);
-    let device = Device::from_image(bench::identity(), image.as_slice())?;
-    Ok(run_on(alloc, device, row.retries, row.script)??)
+    let events = read_script(alloc, row.script.as_bytes())?;
+    let device = device_of::<S>(row)?;
+    Ok(carried_out(alloc, device, row.retries, events.as_slice())??)
 }
 
-/// The outcome of a submission with this fate.
-fn outcome_of(fate: &Fate) -> Result<Outcome, Fail> {
-    Ok(match fate {
-        Fate::Answered(command, sendings, payload) => Outcome::Answered {
-            reply: Reply::read(*command, payload).ok_or("a reply")?,
-            sendings: *sendings,
-        },
-        Fate::NoReply(sendings) => Outcome::NoReply {
-            sendings: *sendings,
-        },
-        Fate::Unfinished(sendings) => Outcome::Unfinished {
-            sendings: *sendings,
-        },
-        Fate::Refused(fault) => Outcome::Refused(*fault),
-    })
+/// Returns the outcome of a reply to a command with this payload, after `sendings` sendings.
+fn answered(command: u8, sendings: u8, payload: &[u8]) -> Option<Outcome> {
+    let reply = Reply::read(command, payload)?;
+    Some(Outcome::Answered { reply, sendings })
+}
+
+/// Returns the outcome of a submission with this fate, if its payload is one of a reply.
+fn outcome_of(fate: &Fate) -> Option<Outcome> {
+    match *fate {
+        Fate::Answered(command, sendings, payload) => answered(command, sendings, payload),
+        Fate::NoReply(sendings) => Some(Outcome::NoReply { sendings }),
+        Fate::Unfinished(sendings) => Some(Outcome::Unfinished { sendings }),
+        Fate::Refused(fault) => Some(Outcome::Refused(fault)),
+    }
 }
 
 /// The outcomes of submissions with these fates.
 fn outcomes_of(alloc: Global, fates: &[Fate]) -> Result<Vec<Outcome>, Fail> {
     let mut outcomes = Vec::new(alloc);
     for fate in fates {
-        outcomes.push(outcome_of(fate)?)?;
+        outcomes.push(outcome_of(fate).ok_or("a reply")?)?;
     }
     Ok(outcomes)
 }

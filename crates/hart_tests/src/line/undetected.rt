@@ -1,5 +1,5 @@
 //! Scripts that stop at undetected damage.
-use super::runs::fault_of;
+use super::carried::fault_of;
 use super::*;
 use hart_device::{FieldRegisters, ImageRegisters};
 

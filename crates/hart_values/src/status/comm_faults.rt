@@ -6,7 +6,7 @@ use std::marker::Model;
 /// The communication faults of one message, as seven bits (HCF_SPEC-099).
 ///
 /// The constants name five of the bits; hex 04 and 01 have no name.
-#[derive(Clone, Copy, Debug, PartialEq, Eq, Hash)]
+#[derive(Clone, Copy, Debug, PartialEq, Eq)]
 pub struct CommFaults {
     bits: u8,
 }

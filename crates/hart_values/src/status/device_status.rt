@@ -1,5 +1,5 @@
 /// The state of a device as its replies show it, as eight bits (HCF_SPEC-099).
-#[derive(Clone, Copy, Debug, PartialEq, Eq, Hash)]
+#[derive(Clone, Copy, Debug, PartialEq, Eq)]
 pub struct DeviceStatus(pub u8);
 
 impl DeviceStatus {

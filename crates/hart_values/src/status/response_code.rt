@@ -4,7 +4,7 @@ use crate::ValueFault;
 use std::marker::Model;
 
 /// What a device answers to a request, 0 to 127, 0 being success (HCF_SPEC-099).
-#[derive(Clone, Copy, Debug, PartialEq, Eq, Hash)]
+#[derive(Clone, Copy, Debug, PartialEq, Eq)]
 pub struct ResponseCode {
     value: u8,
 }

@@ -1,0 +1,191 @@
+//! A call of hart_cli, which is made by its name or by words.
+
+use hart_cli::{CliFault, Sink, Source, answer, dump, encode_text, explain, serve, simulate};
+use hart_frame::{LEAST_PREAMBLES, is_preamble_count};
+use std::alloc::{AllocError, Global};
+use std::test::Fail;
+
+/// A message to send, in the words of the command line, which has no word for empty DATA and for 5 preamble bytes.
+#[derive(Clone, Copy)]
+pub struct Words<'a> {
+    pub who: &'a str,
+    pub address: &'a str,
+    pub command: &'a str,
+    pub data: &'a str,
+    pub preambles: u8,
+}
+
+/// A call, with what it is given beside its streams.
+#[derive(Clone, Copy)]
+pub enum Call<'a> {
+    Dump,
+    Explain,
+    /// With an image.
+    Answer(Option<&'a str>),
+    /// With an image.
+    Serve(Option<&'a str>),
+    /// With an image.
+    Simulate(Option<&'a str>),
+    Encode(Words<'a>),
+}
+
+/// Appends a word to others.
+fn push_word(alloc: Global, words: &mut Vec<String>, word: &str) -> Result<(), AllocError> {
+    words.push(String::from_str(alloc, word)?)?;
+    Ok(())
+}
+
+/// Appends words to others.
+fn push_words(alloc: Global, words: &mut Vec<String>, more: &[&str]) -> Result<(), AllocError> {
+    for word in more {
+        push_word(alloc, words, word)?;
+    }
+    Ok(())
+}
+
+/// Returns words as strings.
+pub fn strings_of(alloc: Global, words: &[&str]) -> Result<Vec<String>, AllocError> {
+    let mut strings = Vec::new(alloc);
+    push_words(alloc, &mut strings, words)?;
+    Ok(strings)
+}
+
+impl Words<'_> {
+    /// Appends the option that gives the number of preamble bytes, if there is a word for it.
+    fn push_preambles(self, alloc: Global, words: &mut Vec<String>) -> Result<(), AllocError> {
+        let preambles = self.preambles;
+        if preambles == LEAST_PREAMBLES {
+            return Ok(());
+        }
+        push_word(alloc, words, "--preambles")?;
+        words.push(format!(in alloc; "{preambles}")?)?;
+        Ok(())
+    }
+
+    /// Appends the words of the command line.
+    fn push_to(self, alloc: Global, words: &mut Vec<String>) -> Result<(), AllocError> {
+        self.push_preambles(alloc, words)?;
+        let all = [self.who, self.address, self.command, self.data];
+        let given = if self.data.is_empty() { 3 } else { 4 };
+        push_words(alloc, words, &all[..given])
+    }
+
+    /// Makes the call of `encode_text`.
+    fn encode<W: Sink>(self, alloc: Global, writer: &mut W) -> Result<Result<(), CliFault>, Fail> {
+        if !is_preamble_count(self.preambles) {
+            return Err("a number of preamble bytes".into());
+        }
+        Ok(encode_text(
+            alloc,
+            self.who,
+            self.address,
+            self.command,
+            self.data,
+            self.preambles,
+            writer,
+        ))
+    }
+}
+
+impl Call<'_> {
+    /// Returns the subcommand that makes the call.
+    pub fn subcommand(self) -> &'static str {
+        match self {
+            Call::Dump => "dump",
+            Call::Explain => "explain",
+            Call::Answer(_) => "answer",
+            Call::Serve(_) => "serve",
+            Call::Simulate(_) => "sim",
+            Call::Encode(_) => "encode",
+        }
+    }
+
+    /// Returns the words of the command line that make the call.
+    pub fn words(self, alloc: Global) -> Result<Vec<String>, AllocError> {
+        let mut words = strings_of(alloc, &[self.subcommand()])?;
+        self.push_rest(alloc, &mut words)?;
+        Ok(words)
+    }
+
+    /// Appends the words after the subcommand.
+    fn push_rest(self, alloc: Global, words: &mut Vec<String>) -> Result<(), AllocError> {
+        match self {
+            Call::Answer(Some(image)) | Call::Serve(Some(image)) | Call::Simulate(Some(image)) => {
+                push_words(alloc, words, &["--image", image])
+            }
+            Call::Encode(message) => message.push_to(alloc, words),
+            Call::Dump
+            | Call::Explain
+            | Call::Answer(None)
+            | Call::Serve(None)
+            | Call::Simulate(None) => Ok(()),
+        }
+    }
+
+    /// Makes the call by its name.
+    pub fn make<R: Source, W: Sink>(
+        self,
+        alloc: Global,
+        reader: &mut R,
+        writer: &mut W,
+    ) -> Result<Result<(), CliFault>, Fail> {
+        match self {
+            Call::Dump => Ok(make_dump(alloc, reader, writer)),
+            Call::Explain => Ok(make_explain(alloc, reader, writer)),
+            Call::Answer(image) => Ok(make_answer(alloc, image, reader, writer)),
+            Call::Serve(image) => Ok(make_serve(alloc, image, reader, writer)),
+            Call::Simulate(image) => Ok(make_simulate(alloc, image, reader, writer)),
+            Call::Encode(message) => message.encode(alloc, writer),
+        }
+    }
+}
+
+// Each call is made in a function of its own, without a contract: in one function the proof of each would carry the contracts of all.
+
+/// Makes the call of `dump`.
+fn make_dump<R: Source, W: Sink>(
+    alloc: Global,
+    reader: &mut R,
+    writer: &mut W,
+) -> Result<(), CliFault> {
+    dump(alloc, reader, writer)
+}
+
+/// Makes the call of `explain`.
+fn make_explain<R: Source, W: Sink>(
+    alloc: Global,
+    reader: &mut R,
+    writer: &mut W,
+) -> Result<(), CliFault> {
+    explain(alloc, reader, writer)
+}
+
+/// Makes the call of `answer`.
+fn make_answer<R: Source, W: Sink>(
+    alloc: Global,
+    image: Option<&str>,
+    reader: &mut R,
+    writer: &mut W,
+) -> Result<(), CliFault> {
+    answer(alloc, image, reader, writer)
+}
+
+/// Makes the call of `serve`.
+fn make_serve<R: Source, W: Sink>(
+    alloc: Global,
+    image: Option<&str>,
+    reader: &mut R,
+    writer: &mut W,
+) -> Result<(), CliFault> {
+    serve(alloc, image, reader, writer)
+}
+
+/// Makes the call of `simulate`.
+fn make_simulate<R: Source, W: Sink>(
+    alloc: Global,
+    image: Option<&str>,
+    reader: &mut R,
+    writer: &mut W,
+) -> Result<(), CliFault> {
+    simulate(alloc, image, reader, writer)
+}
