@@ -14,8 +14,8 @@ abbrev pub LeadsOn : List Character → Bool → ℕ → List Found → ℕ → 
 LeadsOn chars ended from given to = (more : List Character) (later : List Found) → (IsTrue ended → more ≡ [])
     → AreFrames (chars ++ more) to later → AreFrames (chars ++ more) from (given ++ later)
 
--- Frames are the next ones of some characters from one place on up to another if they lead on from there to there, and each of them stops
--- at the second place or before it.
+-- Frames are the next ones of some characters, from one place up to another, if the frames from the first place on are these, and then
+-- those from the second place on, whatever comes later; and if each of them stops at the second place or before it.
 pub record AreNext (chars : List Character) (ended : Bool) (from : ℕ) (given : List Found) (to : ℕ) : Type 0 where
   pub onward : from ≤ to
   pub within : to ≤ length chars

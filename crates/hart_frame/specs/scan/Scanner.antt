@@ -28,8 +28,8 @@ hearing scan chars = record scan { held = scan.held ++ chars; drained = false }
 abbrev pub finishing : Scan → Scan
 finishing scan = record scan { finished = true; drained = false }
 
--- A scanner moves past some frames if it lets the first so many go of the characters that it held, up to which these are the next frames of
--- those. They are found at places counted from the first of those, and given with their places in all that was heard.
+-- A scanner moves past some frames if it lets the first `count` characters go that it held, and the frames are the next ones of what it
+-- held, up to there. They are found at places counted from the first character held, and given with their places in all that was heard.
 pub record MovesPast (old new : Scan) (given : List Found) : Type 0 where
   pub count : ℕ
   pub found : List Found

@@ -65,10 +65,11 @@ pub fn next_in_bytes(bytes: &[u8], from: usize, ended: bool) -> NextInBytes<'_>
     }
 }
 
-/// The next frames are none at first. Those that are given one after another are the next ones, also if more is heard, or if no more comes.
-/// If there is one, some characters are used up. With what comes later, the rest alone has those that are left, so whoever keeps only the
-/// rest has them all: the next ones of the rest, moved to their places, are the next ones from there on. Once all characters are used up,
-/// they are all frames.
+/// Frames that are given one after another are the next ones, also if more is heard, or if no more comes. If one is given, some characters
+/// are used up.
+///
+/// With what comes later, the rest alone has the frames that are left, so whoever keeps only the rest has them all: the next ones of the
+/// rest, moved to their places, are the next ones from there on. Once all characters are used up, the frames given are all frames.
 pub fn next_frames_are_all()
     ensures nothing { (chars : List Character) (ended : Bool) (place : ℕ) → place ≤ length chars → AreNext chars ended place [] place }
     ensures some { (chars : List Character) (ended : Bool) (from to : ℕ) (found : Found) (more : List Found)

@@ -20,8 +20,8 @@ pub fn frames_are_streamed()
         → scan.first + length scan.held ≡ length past }
 {}
 
-/// What a scanner moves past by and by, it moves past in all, and whatever it hears later, it moved past the same frames. Of all that was
-/// heard, whatever it let go before and whatever comes later, they are the next frames.
+/// A scanner that moves past frames and then past others moves past all of them. Whatever it hears later, it moved past the same frames.
+/// In all that was heard, whatever it let go before and whatever comes later, they are the next frames.
 pub fn scanners_move_past_the_next_frames()
     ensures onward { (old mid new : Scan) (given found : List Found) → MovesPast old mid given → MovesPast mid new found
         → MovesPast old new (given ++ found) }

@@ -1,7 +1,6 @@
-use Rattle.std.proofs.Common.{◌<◌, arith, inr, length, refl, take, true, ◌≡◌, ◌≤◌, ◌⊎◌, false, Bool, ℕ, IsTrue, List, All, append_assoc, drop, ◌-◌, inl}
-use Rattle.std.proofs.Math.Seq.{take-length, drop-length}
-use Rattle.std.proofs.lemmas.Grind.{common_steps}
-use Rattle.std.proofs.lemmas.List.{drop-drop, append-nil, drop-append-le, length-take, take-append-drop}
+use Rattle.std.proofs.Common.{◌<◌, arith, inr, length, refl, take, true, ◌≡◌, ◌≤◌, ◌⊎◌, false, Bool, ℕ, IsTrue, List, All, drop, ◌-◌, inl}
+use Rattle.std.proofs.Math.Seq.{take-length}
+use Rattle.std.proofs.lemmas.List.{drop-drop, length-take, take-append-drop}
 use Rattle.hart_frame.specs.declared.heard.found.Found.{Found}
 use Rattle.hart_frame.specs.scan.Next.{AreNext}
 use Rattle.hart_frame.specs.scan.Streamed.{IsHistory, finish}

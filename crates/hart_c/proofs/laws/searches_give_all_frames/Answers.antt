@@ -1,4 +1,4 @@
-use Rattle.std.proofs.Common.{◌≡◌, ◌+◌, ◌≤◌, true, false, Bool, ℕ, List, [], ◌++◌, drop, length, IsTrue, map, arith, refl, subst, sym}
+use Rattle.std.proofs.Common.{◌≡◌, ◌+◌, true, false, Bool, ℕ, List, [], ◌++◌, drop, length, IsTrue, map, arith, refl}
 use Rattle.std.proofs.lemmas.List.{append-nil, drop-append-le}
 use Rattle.hart_frame.specs.declared.heard.found.Found.{Found}
 use Rattle.hart_frame.specs.heard.Character.{Character}

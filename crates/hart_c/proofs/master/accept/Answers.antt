@@ -1,4 +1,4 @@
-use Rattle.std.proofs.Common.{List, ◌∙◌, arith, refl}
+use Rattle.std.proofs.Common.{◌∙◌, arith, refl}
 use Rattle.std.proofs.lemmas.Grind.{common_steps}
 use Rattle.hart_master.proofs.lemmas.Laws.{acceptance_is_decided-by_its_frame}
 use Rattle.hart_c.specs.Checks.{AllPass}
