@@ -54,5 +54,5 @@ pub record IsWritten (frame : HartFrame) (preambles : ℕ) (before after : List 
 abbrev pub EncodeOutcome : HartFrame → ℕ → List ℕ → List ℕ → HartOutcome → Type 0
 EncodeOutcome frame preambles before after outcome =
     ((outcome.fault ≡ 0) × IsWritten frame preambles before after outcome.len)
-    ⊎ ((fault : Fault) × IsFirstOf (encode_checks frame preambles (length before)) fault × (outcome.fault ≡ number_of fault) × (outcome.len ≡ 0)
-    × (after ≡ before))
+    ⊎ ((fault : Fault) × IsFirstOf (encode_checks frame preambles (length before)) fault × (outcome.fault ≡ number_of fault)
+    × (outcome.len ≡ 0) × (after ≡ before))

@@ -1,10 +1,10 @@
 //! The calls of the command line `hart`, over any reader and any writer.
 //!
 //! Each subcommand is a call. [`dump`] lists the messages in what was heard, [`explain`] says in words what they mean, [`answer`]
-//! gives the reply of the bench device to one delivery, [`serve`] gives those to many, a line for each line, [`simulate`] carries out a script, and [`encode_text`] writes a message to
-//! send. [`program`] makes the call that the words after the program's name ask for, and gives the exit status. Each call reads from
-//! a [`Source`] and writes to a [`Sink`]; [`Plain`] makes them of the readers and writers of the standard library. A call that
-//! cannot do all of its work gives a [`CliFault`].
+//! gives the reply of the bench device to one delivery, [`serve`] gives those to many, a line for each line, [`simulate`] carries out
+//! a script, and [`encode_text`] writes a message to send. [`program`] makes the call that the words after the program's name ask
+//! for, and gives the exit status. Each call reads from a [`Source`] and writes to a [`Sink`]; [`Plain`] makes them of the readers
+//! and writers of the standard library. A call that cannot do all of its work gives a [`CliFault`].
 //!
 //! ```rust
 //! let mut reader = Plain::new(b"FF FF 02 80 00 00 82".as_slice());

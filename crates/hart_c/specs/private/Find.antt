@@ -8,7 +8,8 @@ use Rattle.hart_frame.specs.scan.Streamed.{IsHistory}
 use Rattle.hart_c.specs.declared.frame.HartFrame.{HartFrame}
 use Rattle.hart_c.specs.Frames.{IsTidy, found_in_first}
 
--- So many characters were searched by a scanner that goes on, and so many frames that it gave are shown. If there is room for more, all were searched, and nothing is decided in what the scanner holds, which is at most 268 characters.
+-- The first `n` characters were searched by a scanner that goes on, and the first `count` frames that it gave are shown. If there is room
+-- for more, all characters were searched, and nothing is decided in what the scanner holds, at most 268 of them.
 pub record IsSearched (n : ℕ) (chars : List Character) (before after : List HartFrame) (count : ℕ) (scan : Scan) : Type 0 where
   pub within : n ≤ length chars
   pub room : count ≤ length after

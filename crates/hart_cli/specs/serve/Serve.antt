@@ -75,12 +75,12 @@ pub record StopsSaying (device : DeviceState) (reader reader_after writer writer
   pub fails : FailsToWrite writer writer_after text
   pub in_time : SaidInTime device input writer writer_after
 
--- A line has room for as many bytes as it may have, for one more that shows that it is longer, for a carriage return, and for the byte
--- that makes its last item whole.
+-- Room for a line: the most bytes that it may have, one more that shows that it is longer, a carriage return, and the byte after which
+-- its last item is whole.
 abbrev pub line_room : ℕ
 line_room = input_limit + 3
 
--- Its characters have room for half as many as it may have bytes.
+-- Room for the characters of a line: one for every two bytes that it may have.
 abbrev pub chars_room : ℕ
 chars_room = input_limit / 2
 

@@ -32,7 +32,7 @@ pub record BeginsWithPart (text part rest : List ℕ) : Type 0 where
   pub free : HasNoFeed part
   pub feed : text ≡ part ++ 10 ∷ rest
 
--- At most so many bytes of a part are kept; a part of so many or more is a line that is too long.
+-- At most this number of bytes of a part are kept. A part that has this number or more is a line that is too long.
 abbrev pub most_kept : ℕ
 most_kept = input_limit + 2
 

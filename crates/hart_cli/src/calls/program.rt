@@ -34,8 +34,8 @@ pub const NO_CALL: u8 = 2;
 /// Makes the call that the words after the program's name ask for, and gives the program's status.
 ///
 /// `answer`, `dump`, `explain`, `serve` and `sim` read from `reader` and write to `writer`; `encode` reads its words alone. At status 0
-/// nothing goes to `errors`; at status 1 the line of the call's fault does, or a beginning of it if `errors` failed. Status 2 says that clap
-/// found no matches for the words: reader and writer are not touched, and clap's own text, help among it, goes to `errors`. No
+/// nothing goes to `errors`; at status 1 the line of the call's fault does, or a beginning of it if `errors` failed. Status 2 says that
+/// clap found no matches for the words: reader and writer are not touched, and clap's own text, help among it, goes to `errors`. No
 /// clause says which. A failed write to `errors` ends the text there, and the status stays what it was.
 pub fn program<R: Source, W: Sink, E: Sink>(
     alloc: Global,

@@ -49,7 +49,8 @@ pub next_frames_are_all-all : (chars : List Character) (ended : Bool) (given : L
     → AreFrames chars 0 given
 next_frames_are_all-all chars ended given next =
     rw append-nil at
-    (next_frames chars ended 0 (length chars) given [] next (AreFrames.none (length chars) (HasNoFrame-end chars (length chars) (omega arith))))
+    (next_frames chars ended 0 (length chars) given [] next
+    (AreFrames.none (length chars) (HasNoFrame-end chars (length chars) (omega arith))))
 
 pub damaged_messages_have_no_other_frame-marked : (frame : FrameParts) (preambles : ℕ) (chars : List Character)
     (damage : IsMarkedDamage frame preambles chars)

@@ -5,7 +5,8 @@ use Rattle.hart_frame.specs.heard.Frames.{IsUndecided}
 use Rattle.hart_frame.specs.scan.Chunk.{StopsAt}
 use Rattle.hart_frame.specs.scan.Scanner.{MovesPast, Scan, hearing}
 
--- A scanner hears so many characters of a chunk: at least one of some, up to the first at which a frame is decided, or else all.
+-- A scanner hears the first `count` characters of a chunk: at least one if there is one, up to the first at which a frame is decided, or
+-- else all.
 pub record Hears (old new : Scan) (chunk : List Character) (count : ℕ) : Type 0 where
   pub within : count ≤ length chunk
   pub some : 0 < length chunk → 0 < count

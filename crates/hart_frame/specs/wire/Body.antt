@@ -26,7 +26,7 @@ pub record IsBody (frame : FrameParts) (bytes : List ℕ) : Type 0 where
   pub bytes_fit : All (λ byte. byte < 256) bytes
   pub parity : HasEvenParity bytes
 
--- The first so many bytes of a list are a body of the frame.
+-- The first `count` bytes of a list are a body of the frame.
 pub record BeginsWithBody (bytes : List ℕ) (frame : FrameParts) (count : ℕ) : Type 0 where
   pub within : count ≤ length bytes
   pub body : IsBody frame (take count bytes)

@@ -7,7 +7,7 @@ use Rattle.hart_frame.specs.wire.Body.{IsBody}
 abbrev pub IsPreambleCount : ℕ → Type 0
 IsPreambleCount count = (5 ≤ count) × (count ≤ 20)
 
--- A message is so many preamble bytes FF, and then a body of the frame.
+-- A message is a number of preamble bytes FF, and then a body of the frame.
 pub record IsMessage (frame : FrameParts) (preambles : ℕ) (bytes : List ℕ) : Type 0 where
   pub body : List ℕ
   pub is_body : IsBody frame body

@@ -109,7 +109,7 @@ impl Scanner {
     /// The next frame that is decided, or `None` if there is none for now. After the finish `None` is given once no frame is
     /// left; the scanner is then new, and places begin at 0 again.
     pub fn take(&mut self) -> Option<FoundView<'_>>
-        // As the view borrows the scanner, this says of what the scanner is once the view is dropped: GivesNextOrNothing self.old after result.
+        // As the view borrows the scanner, this speaks of the scanner once the view is dropped: GivesNextOrNothing self.old after result.
         ensures* after { sem 𝓛 (follows_so the_row the_row self.entry.ghost_name none (λ _ _. ⊤)
             (λ after. GivesNextOrNothing self.old after result)) }
     {

@@ -94,7 +94,8 @@ module _ (identity : HartIdentity) (process : HartProcess) (heard : List HartCha
   -- the checks of what it hears
   hear_sound : (c : After-bytes_have_one_image_fault) (room : ℕ) → AreSound (hear_checks identity process heard device room)
   hear_sound c room =
-      let who : IsSound (record { passes = AreIdentityParts (parts_of identity); refuses = OfDevice (IsIdentityFault (parts_of identity)) }) =
+      let who : IsSound
+      (record { passes = AreIdentityParts (parts_of identity); refuses = OfDevice (IsIdentityFault (parts_of identity)) }) =
       record { one = λ fault other why because. grind arith; not_both = λ fault is why. grind arith } in
       let kept : IsSound (record { passes = IsInState identity device; refuses = OfDevice (IsKeptFault device) }) = record {
         one = λ fault other why because. grind (arith, c.bytes_have_one_image_fault.ensures);

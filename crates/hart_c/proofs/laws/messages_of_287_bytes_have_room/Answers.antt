@@ -42,14 +42,16 @@ reply_fits short (Some reply) preambles room few enough none = frame_fits short 
 -- what is heard is refused at the end alone for want of room
 hear_fits : AreShort → (identity : HartIdentity) (process : HartProcess) (heard : List HartChar) (device : HartDevice) (room : ℕ)
     (fault : Fault) → 287 ≤ room → IsFirstOf (hear_checks identity process heard device room) fault → fault ≡ NoRoom → ⊥
-hear_fits short id process heard device room fault enough (inr (who, inr (kept, inr (count, inr (bits, inr (few, inl (tight, is))))))) none =
+hear_fits short id process heard device room fault enough
+    (inr (who, inr (kept, inr (count, inr (bits, inr (few, inl (tight, is))))))) none =
     reply_fits short _ id.response_preambles room tight.0.kept.is_identity.in_range.response_preambles.1 enough tight.1
 hear_fits short id process heard device room fault enough (inl (other, why, is)) none = cc
 hear_fits short id process heard device room fault enough (inr (who, inl (other, why, is))) none = cc
 hear_fits short id process heard device room fault enough (inr (who, inr (kept, inl (why, is)))) none = cc
 hear_fits short id process heard device room fault enough (inr (who, inr (kept, inr (count, inl (why, is))))) none = cc
 hear_fits short id process heard device room fault enough (inr (who, inr (kept, inr (count, inr (bits, inl (why, is)))))) none = cc
-hear_fits short id process heard device room fault enough (inr (who, inr (kept, inr (count, inr (bits, inr (few, inr (_, end))))))) none = end
+hear_fits short id process heard device room fault enough
+    (inr (who, inr (kept, inr (count, inr (bits, inr (few, inr (_, end))))))) none = end
 
 pub returns-clause-encode : goal.returns-clause-encode
 returns-clause-encode c frame preambles before after outcome room told none = elim told [

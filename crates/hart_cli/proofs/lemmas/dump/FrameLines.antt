@@ -87,8 +87,8 @@ all_frames chars scan last after given more moves on ends =
     let whole : gone ++ (scan.held ++ []) ≡ chars = rw (append-nil, ← held) (take-append-drop scan.first chars) in
     let rest : drop last.first chars ≡ last.held = rw (on.first, on.held, ← held) (sym (drop-drop on.count scan.first chars)) in
     let none = (the_rest_has_the_later_frames last.first chars []).0 (rw rest (AreFrames.none 0 ends.none)) in
-    let after_it = scanners_move_past_the_next_frames-frames (finishing scan) last more [] gone [] on (length-take-le scan.first chars within)
-    (λ over. refl) (rw whole none) in
+    let after_it = scanners_move_past_the_next_frames-frames (finishing scan) last more [] gone [] on
+    (length-take-le scan.first chars within) (λ over. refl) (rw whole none) in
     rw append-nil at (first_frames chars [] scan given more moves (rw append-nil (rw (whole, append-nil) at after_it)))
 
 -- a new scanner waits for what it is to hear

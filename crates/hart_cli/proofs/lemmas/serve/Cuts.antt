@@ -58,7 +58,8 @@ pub cut_on : (text more : List ℕ) (parts : List (List ℕ)) (rest : List ℕ) 
 cut_on text more parts rest later last h k =
     let w = λ (part : List ℕ). part ++ 10 ∷ [] in
     record {
-      all = rw (h.all, append_assoc (flat_map w parts) rest more, k.all, flat_map-append w parts later) (sym (append_assoc (flat_map w parts) _ last));
+      all = rw (h.all, append_assoc (flat_map w parts) rest more, k.all, flat_map-append w parts later)
+          (sym (append_assoc (flat_map w parts) _ last));
       whole = all_parts parts later h.whole k.whole;
       open_end = k.open_end;
     }
@@ -85,7 +86,11 @@ byte_first x xs [] rest false is h = record {
 byte_first x xs (part ∷ parts) rest false is h = record {
   parts = (x ∷ part) ∷ parts;
   rest = rest;
-  cut = record { all = ap (λ ys. x ∷ ys) h.all; whole = (All-cons (λ (byte : ℕ). (byte == 10) ≡ false) x part is h.whole.0, h.whole.1); open_end = h.open_end };
+  cut = record {
+    all = ap (λ ys. x ∷ ys) h.all;
+    whole = (All-cons (λ (byte : ℕ). (byte == 10) ≡ false) x part is h.whole.0, h.whole.1);
+    open_end = h.open_end;
+  };
 }
 
 -- each text is cut somehow

@@ -21,7 +21,8 @@ use Rattle.hart_cli.proofs.lemmas.serve.Server.{parts_on}
 -- one read more
 read_more : (a b c : Stream) (text bytes : List ℕ) (room limit : ℕ) (end : Option InputEnd) → ReadsWell a b text
     → length text + room ≡ limit → ReadsPortion b c bytes room end
-    → MatchOption end (ReadsWell a c (text ++ bytes) × (length (text ++ bytes) ≤ limit)) (λ came. ReadsWithin limit a c (text ++ bytes) came)
+    → MatchOption end (ReadsWell a c (text ++ bytes) × (length (text ++ bytes) ≤ limit))
+    (λ came. ReadsWithin limit a c (text ++ bytes) came)
 read_more a b c text bytes room limit end h k e = grind (arith, common_steps, Consumes-trans)
 
 -- an input was read so far, and all that a device says to its whole lines was written
@@ -124,12 +125,14 @@ stops_saying device now room r r1 r2 w w1 w2 bytes end h more few was k =
       text = h.said ++ k.said;
       serves = parts_on device now.device k.after h.parts k.parts h.said k.said h.serves k.serves;
       fails = FailsToWrite-on w w1 w2 h.said k.said h.wrote fails;
-      in_time = said_in_time device now.device h.input bytes h.parts h.rest h.said w w1 w2 h.cut h.serves h.wrote few fails.0.prefix fails.0.written;
+      in_time = said_in_time device now.device h.input bytes h.parts h.rest h.said w w1 w2 h.cut h.serves h.wrote few
+          fails.0.prefix fails.0.written;
     }
 
 -- the last line was served too
 pub serves_to : (device after : DeviceState) (server : Server) (r r1 w w1 w2 : Stream) (said : List ℕ)
-    → (h : ServesAll device server Ended r r1 w w1) → Serves server.device (last_lines (CameTo Ended) (strip_carriage_return h.rest)) after said
+    → (h : ServesAll device server Ended r r1 w w1)
+    → Serves server.device (last_lines (CameTo Ended) (strip_carriage_return h.rest)) after said
     → WritesAll w1 w2 said → ServesTo device (CameTo Ended) r r1 w w2
 serves_to device after server r r1 w w1 w2 said h serves wrote =
     let lines = map strip_carriage_return h.parts in
@@ -149,7 +152,8 @@ serves_to device after server r r1 w w1 w2 said h serves wrote =
 
 -- a write failed in what is said to the last line
 pub stops_at_last : (device after : DeviceState) (server : Server) (r r1 w w1 w2 : Stream) (said : List ℕ)
-    → (h : ServesAll device server Ended r r1 w w1) → Serves server.device (last_lines (CameTo Ended) (strip_carriage_return h.rest)) after said
+    → (h : ServesAll device server Ended r r1 w w1)
+    → Serves server.device (last_lines (CameTo Ended) (strip_carriage_return h.rest)) after said
     → FailsToWrite w1 w2 said → StopsSaying device r r1 w w2
 stops_at_last device after server r r1 w w1 w2 said h serves fails =
     let lines = map strip_carriage_return h.parts in

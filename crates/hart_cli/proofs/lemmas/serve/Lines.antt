@@ -13,7 +13,8 @@ use Rattle.hart_cli.proofs.lemmas.text.Items.{NoPieceBegins-nil, one_reading}
 use Rattle.hart_cli.proofs.lemmas.text.MessageLine.{IsMessageLine-one}
 
 -- a carriage return at most is stripped
-pub strips_one : (part : List ℕ) → (length (strip_carriage_return part) ≤ length part) × (length part ≤ length (strip_carriage_return part) + 1)
+pub strips_one : (part : List ℕ)
+    → (length (strip_carriage_return part) ≤ length part) × (length part ≤ length (strip_carriage_return part) + 1)
 strips_one part = grind (arith, common_steps)
 
 -- a part whose kept line is short enough is kept whole
@@ -33,12 +34,14 @@ kept_long : (part : List ℕ) (most : ℕ) → most < length (strip_carriage_ret
 kept_long part most long = grind (arith, common_steps, strips_one part, strips_one (take most part))
 
 -- a part that is kept whole is served as what is kept of it
-serves_same : (device after : DeviceState) (part kept said : List ℕ) → kept ≡ part → ServesLine device (strip_carriage_return kept) after said
+serves_same : (device after : DeviceState) (part kept said : List ℕ) → kept ≡ part
+    → ServesLine device (strip_carriage_return kept) after said
     → ServesLine device (strip_carriage_return part) after said
 serves_same device after part kept said same h = rw same at h
 
 -- the kept bytes of a part are served as all of them
-pub serves_kept : (device after : DeviceState) (part said : List ℕ) → ServesLine device (strip_carriage_return (take most_kept part)) after said
+pub serves_kept : (device after : DeviceState) (part said : List ℕ)
+    → ServesLine device (strip_carriage_return (take most_kept part)) after said
     → ServesLine device (strip_carriage_return part) after said
 serves_kept device _ part _ (too_long long) = too_long (omega (arith, kept_long part most_kept (omega arith)))
 serves_kept device _ part _ (word w few named) =

@@ -53,7 +53,8 @@ pub serves_next : (old now kept next : Server) (text piece : List ℕ) (w w1 w2 
     → ServesPart kept next → ServesWhole old next (text ++ (piece ++ 10 ∷ [])) w w2
 serves_next old now kept next text piece w w1 w2 h free device bytes adds part =
     let whole = h.rest ++ piece in
-    let is : kept.part.items ≡ take most_kept whole = bytes ∙ (ap (λ xs. take most_kept (xs ++ piece)) h.keeps.bytes ∙ take_more most_kept h.rest piece) in
+    let is : kept.part.items ≡ take most_kept whole =
+    bytes ∙ (ap (λ xs. take most_kept (xs ++ piece)) h.keeps.bytes ∙ take_more most_kept h.rest piece) in
     let served : ServesLine now.device (strip_carriage_return whole) next.device part.said =
     serves_kept now.device next.device whole part.said (rw (is, device) at part.serves) in
     let freed : HasNoFeed whole = All-append (λ (byte : ℕ). (byte == 10) ≡ false) h.rest piece h.cut.open_end free in

@@ -102,7 +102,8 @@ last_given chars waiting old new (Some span) moves finished given =
     let after = moves_frames (finishing waiting) (scan_of new) (found ∷ []) later gone [] last long (λ over. refl) (rw parts are) in (
       later,
       rw append-nil at
-          (moves_frames (hearing new_scan chars) waiting [] (found ∷ later) [] [] moves refl (λ over. refl) (rw append-nil (rw parts at after))),
+          (moves_frames (hearing new_scan chars) waiting [] (found ∷ later) [] [] moves refl (λ over. refl)
+          (rw append-nil (rw parts at after))),
     ))
 
 -- as all of it was heard then

@@ -77,7 +77,8 @@ next_of_rest n chars ended given to within next = record {
       let (own, are, same) = rest_all (n + to) (chars ++ more) later frames in
       let rest : AreFrames (drop n chars ++ more) to (map (moved to) own) =
       rw (← front) (rest_frames to (drop n (chars ++ more)) own (rw drop-drop are)) in
-      let whole = rest_frames n (chars ++ more) (given ++ map (moved to) own) (rw front (next.leads more (map (moved to) own) closed rest)) in
+      let whole = rest_frames n (chars ++ more) (given ++ map (moved to) own)
+      (rw front (next.leads more (map (moved to) own) closed rest)) in
       let all = rw (map-append, moved_twice) at whole in
       subst (λ (fs : List Found). AreFrames (chars ++ more) n (map (moved n) given ++ fs)) (sym same) all;
   stops = All-map (StopsBy (n + to)) (moved n) given
@@ -93,7 +94,8 @@ next_frames chars ended from to given later next are = rw append-nil at (next.le
 all_stop : (chars : List Character) (from : ℕ) (frames : List Found) → AreFrames chars from frames → All (StopsBy (length chars)) frames
 all_stop chars from frames (none place empty) = All-nil (StopsBy (length chars))
 all_stop chars from frames (first place found later is others) =
-    All-cons (StopsBy (length chars)) found later (StandsIn-within found chars from is.stands).within (all_stop chars found.stop later others)
+    All-cons (StopsBy (length chars)) found later (StandsIn-within found chars from is.stands).within
+    (all_stop chars found.stop later others)
 
 pub next_whole : (chars : List Character) (given : List Found) → AreFrames chars 0 given → AreNext chars true 0 given (length chars)
 next_whole chars given are = record {

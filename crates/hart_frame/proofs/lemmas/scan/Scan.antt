@@ -56,8 +56,8 @@ pub moves_frames : (old new : Scan) (given later : List Found) (past more : List
     → AreFrames (past ++ (old.held ++ more)) old.first (given ++ later)
 moves_frames old new given later past more moves long closed frames =
     let rest : drop old.first (past ++ old.held) ≡ old.held = drop_at past old.held old.first long in
-    let next = next_of_rest old.first (past ++ old.held) old.finished moves.found moves.count (omega (arith, long, length-append past old.held))
-    (rw rest moves.next) in
+    let next = next_of_rest old.first (past ++ old.held) old.finished moves.found moves.count
+    (omega (arith, long, length-append past old.held)) (rw rest moves.next) in
     let led = next.leads more later closed (rw (append_assoc, ← moves.first) frames) in rw (moves.given_are, ← append_assoc) led
 
 -- what is moved past is let go, and the rest is held

@@ -64,8 +64,11 @@ history_held past scan given history = (streamed past scan given history).held
 pub history_first : (past more : List Character) (scan : Scan) (given frames : List Found) → IsHistory past scan given
     → (IsTrue scan.finished → more ≡ []) → AreFrames (past ++ more) 0 frames → (later : List Found) × (frames ≡ given ++ later)
 history_first past more scan given frames history ended are =
-    let (later, after) = AreFrames-found (past ++ more) scan.first in
-    (later, AreFrames-one (past ++ more) 0 frames (given ++ later) are ((history_next past scan given history).leads more later ended after))
+    let (later, after) = AreFrames-found (past ++ more) scan.first in (
+      later,
+      AreFrames-one (past ++ more) 0 frames (given ++ later) are
+          ((history_next past scan given history).leads more later ended after),
+    )
 
 -- what was pushed was let go or is held
 pub history_length : (past : List Character) (scan : Scan) (given : List Found) → IsHistory past scan given
