@@ -55,7 +55,7 @@ pub fn serve_line(
     }
 }
 
-/// The word that a line is, or `None` if it is none.
+/// Returns the word that a line is, or `None` if it is none.
 fn word_of(line: &[u8]) -> Option<LineWord>
     ensures { result ≡ named_in line_words line.now }
 {
@@ -120,7 +120,7 @@ fn hear(device: &mut Device<ImageRegisters>, delivery: &[Char]) -> HexLine
     }
 }
 
-/// The line of silence.
+/// Returns the line of silence.
 fn silence() -> HexLine
     ensures { result ≡ line_of (codes "-" ∷ []) }
 {
@@ -129,7 +129,7 @@ fn silence() -> HexLine
     said
 }
 
-/// The line for a line that is too long.
+/// Returns the line for a line that is too long.
 fn too_long() -> HexLine
     ensures { result ≡ bad_line (codes "too long") }
 {
@@ -138,7 +138,7 @@ fn too_long() -> HexLine
     said
 }
 
-/// The line for a line with bad hex at a place.
+/// Returns the line for a line with bad hex at a place.
 fn bad_hex(place: usize) -> HexLine
     ensures { result ≡ bad_line (fault_text (BadHex place)) }
 {
