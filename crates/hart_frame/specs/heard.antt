@@ -5,6 +5,7 @@ pub mod Frames
 pub mod Start
 pub mod Miss
 pub mod InTheWay
+pub mod Sighting
 pub mod Delivery
 pub mod Damage
 pub mod DamageExamples

@@ -5,6 +5,7 @@ pub mod Miss
 pub mod Address
 pub mod Candidate
 pub mod Search
+pub mod Sighting
 pub mod Buffer
 pub mod Chunk
 pub mod Decision

@@ -5,3 +5,4 @@ pub mod Streamed
 pub mod PlainAddress
 pub mod View
 pub mod Next
+pub mod Sighting

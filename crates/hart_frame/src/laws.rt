@@ -10,6 +10,8 @@
 //! - For whoever keeps only the rest of what was heard: [`the_rest_has_the_later_frames`]; with a scanner
 //!   [`held_characters_have_the_later_frames`], from the place that [`Scanner::first_held`](crate::Scanner::first_held) gives; and with
 //!   [`next_in_bytes`](crate::next_in_bytes) [`next_frames_are_all`].
+//! - Of messages and misses: [`sightings_are_unambiguous`], [`the_rest_has_the_later_sightings`]; and with
+//!   [`next_sighting`](crate::next_sighting) [`next_sightings_are_all`].
 ghost use Rattle.std.specs.Prelude.{◌≡◌, ◌<◌, ◌≤◌, ◌↔◌, List, ℕ, [], ◌∷◌, ◌++◌, length, drop, map, All};
 ghost use Rattle.hart_frame.specs.wire.FrameParts.{FrameParts};
 ghost use Rattle.hart_frame.specs.wire.Body.{IsBody, BeginsWithBody, CanBecomeBody, HasNoBody};
@@ -28,6 +30,9 @@ pub use crate::heard::miss::{
 };
 pub use crate::heard::start::first_starts_are_decided;
 pub use crate::scan::next::next_frames_are_all;
+pub use crate::scan::sighting::{
+    next_sightings_are_all, sightings_are_unambiguous, the_rest_has_the_later_sightings,
+};
 pub use crate::scan::streamed::{
     any_chunking_gives_the_same_frames, frames_are_streamed, held_characters_have_the_later_frames,
     held_frames_are_given, scanners_move_past_the_next_frames,

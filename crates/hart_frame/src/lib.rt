@@ -4,6 +4,7 @@
 //! that bytes begin with, or says what is wrong with them. [`first_frame`] finds the frames of what was heard, which is
 //! a list of characters ([`Char`]): bytes, each with the faults that the receiver noticed at it. [`why_none`] says why none stands at
 //! a place. A [`Scanner`] finds the frames while they are heard, and [`next_in_bytes`] those of bytes in memory, where they lie.
+//! [`next_sighting`] gives the messages of bytes and the places at which one seems to start and none stands, as soon as they are decided.
 //!
 //! ```rust
 //! let (frame, len) = decode(&[0x02, 0x80, 0x00, 0x00, 0x82])?;
@@ -33,6 +34,7 @@ pub use heard::start::{first_start, is_start};
 pub use scan::first::{LoneFrame, first_frame, lone_frame};
 pub use scan::next::{NextInBytes, next_in_bytes};
 pub use scan::scanner::Scanner;
+pub use scan::sighting::{After, NextSighting, Sighting, next_sighting};
 pub use scan::view::{FoundView, FrameView};
 pub use wire::body::{Body, decode};
 pub use wire::delimiter::{UNIQUE_COMMAND_PLACE, UNIQUE_REQUEST};

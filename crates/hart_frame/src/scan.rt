@@ -9,5 +9,6 @@ pub mod next;
 pub mod plain_address;
 pub mod scanner;
 pub mod search;
+pub mod sighting;
 pub mod streamed;
 pub mod view;

@@ -7,6 +7,8 @@ pub mod Open
 pub mod Message
 pub mod Delivery
 pub mod Rest
+pub mod Sighting
+pub mod Seen
 pub mod Damage
 pub mod Example
 pub mod Start

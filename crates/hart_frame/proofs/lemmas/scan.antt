@@ -2,6 +2,13 @@
 pub mod Scan
 pub mod Candidate
 pub mod Search
+pub mod BodyAt
+pub mod Sighted
+pub mod Alone
+pub mod NextSeen
+pub mod Completed
+pub mod UndecidedSeen
+pub mod SightingLaws
 pub mod ToEnd
 pub mod Undecided
 pub mod Stream

@@ -135,7 +135,7 @@ fn faulty_or(heard: &[Char], count: usize, start: usize, at_end: Miss) -> Miss
 }
 
 /// Why this first byte is no delimiter of this profile.
-fn delimiter_miss(byte: u8) -> Miss
+pub(crate) fn delimiter_miss(byte: u8) -> Miss
     ensures { result ≡ delimiter_miss byte }
 {
     if is_burst_delimiter(byte) {

@@ -84,7 +84,7 @@ fn next_candidate(bytes: &[u8], from: usize) -> Option<usize>
 }
 
 /// The place of the first preamble byte from a place on, or the place after the last byte if there is none.
-fn next_preamble(bytes: &[u8], from: usize) -> usize
+pub(crate) fn next_preamble(bytes: &[u8], from: usize) -> usize
     requires { from ≤ length bytes.now }
     ensures after { from ≤ result }
     ensures within { result ≤ length bytes.now }
@@ -101,7 +101,7 @@ fn next_preamble(bytes: &[u8], from: usize) -> usize
 }
 
 /// The place of the first other byte from a place on, or the place after the last byte if there is none.
-fn preamble_end(bytes: &[u8], from: usize) -> usize
+pub(crate) fn preamble_end(bytes: &[u8], from: usize) -> usize
     requires { from ≤ length bytes.now }
     ensures after { from ≤ result }
     ensures within { result ≤ length bytes.now }

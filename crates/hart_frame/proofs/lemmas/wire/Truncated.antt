@@ -36,7 +36,7 @@ fitted bytes fit good last =
     completed (bytes ++ 0 ∷ []) bytes fits (grind (arith, HasGoodByteCount-more, length-append)) (grind (arith, take_at))
 
 -- bytes that end too early go on to a check byte if many bytes 2 follow: 2 is the delimiter of an STX, and a good byte count
-filled : (bytes : List ℕ) (more : ℕ) → All (λ byte. byte < 256) bytes → IsTruncated bytes → 300 ≤ more
+pub filled : (bytes : List ℕ) (more : ℕ) → All (λ byte. byte < 256) bytes → IsTruncated bytes → 300 ≤ more
     → HasCheckByte (bytes ++ replicate more 2) × (length bytes < body_length (bytes ++ replicate more 2))
 filled bytes more fit truncated enough =
     grind (arith, fits_at, get_or_append_left, get_or-append_right, get_or-replicate, length-append, length-replicate)

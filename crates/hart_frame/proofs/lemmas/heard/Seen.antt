@@ -1,0 +1,178 @@
+-- What is seen of a list from a place on, by what is seen of it from a later one on.
+use Rattle.std.proofs.Common.{◌≡◌, ℕ, zero, suc, ◌+◌, ◌-◌, ◌≤◌, List, [], ◌∷◌, ◌++◌, length}
+use Rattle.std.proofs.Common.{◌<◌, drop, true, false, None, inl, arith, append_assoc, refl, sym}
+use Rattle.std.proofs.lemmas.Bool.Decides.{nat_tests}
+use Rattle.std.proofs.lemmas.List.{append-nil}
+use Rattle.hart_frame.specs.declared.heard.miss.Miss.{Miss}
+use Rattle.hart_frame.specs.heard.Miss.{body_miss}
+use Rattle.hart_frame.proofs.lemmas.heard.FramesFound.{body_of, start_of}
+use Rattle.hart_frame.proofs.lemmas.heard.Missed.{none_of}
+use Rattle.hart_frame.proofs.lemmas.heard.Place.{preamble}
+use Rattle.hart_frame.proofs.lemmas.heard.Sighting.{IsClean, follows_from, is_other_at, is_preamble_at, same_from}
+use Rattle.hart_frame.proofs.lemmas.heard.Start.{starts_at, tested}
+use Rattle.std.proofs.lemmas.Grind.{flat_map-append}
+use Rattle.std.specs.List.{flat_map, range_with_len}
+use Rattle.hart_frame.specs.declared.heard.found.Found.{Found}
+use Rattle.hart_frame.specs.heard.Character.{Character}
+use Rattle.hart_frame.specs.heard.Frames.{AreFrames, IsFirst, first, none}
+use Rattle.hart_frame.specs.heard.Place.{StandsIn}
+use Rattle.hart_frame.specs.heard.Sighting.{AreSightings, Message, Missed, Seen, missed, missed_at, sightings}
+
+-- from a place to another this is seen, no frame begins, and from there on the list is seen as from the first of them
+pub record Passes (chars : List Character) (from to : ℕ) (given : List Seen) : Type 0 where
+  pub order : from ≤ to
+  pub within : to ≤ length chars
+  pub told : missed chars from to ≡ given
+  pub frames : (found : Found) → StandsIn found chars from → to + 2 ≤ found.start
+  pub same : (place : ℕ) → to ≤ place → missed_at chars from place ≡ missed_at chars to place
+
+-- numbers in a row are some and then others
+range_parts : (a n m : ℕ) → range_with_len a (n + m) ≡ range_with_len a n ++ range_with_len (a + n) m
+range_parts a zero m = grind arith
+range_parts a (suc n) m = let long : suc n + m ≡ suc (n + m) = omega arith in rw long (grind (arith, range_parts (a + 1) n m))
+
+-- the places from one on are told alike
+same_places : (chars : List Character) (from to a k : ℕ) → to ≤ a
+    → ((place : ℕ) → to ≤ place → missed_at chars from place ≡ missed_at chars to place)
+    → flat_map (λ p. missed_at chars from p) (range_with_len a k) ≡ flat_map (λ p. missed_at chars to p) (range_with_len a k)
+same_places chars from to a zero after same = refl
+same_places chars from to a (suc k) after same = grind (arith, same a, same_places chars from to (a + 1) k (omega (arith, after)) same)
+
+gap_on : (chars : List Character) (from to stop : ℕ) (given : List Seen) → Passes chars from to given → to ≤ stop
+    → missed chars from stop ≡ given ++ missed chars to stop
+gap_on chars from to stop given passes before =
+    let order = passes.order in
+    let long : stop - from ≡ (to - from) + (stop - to) = omega (arith, order, before) in
+    let at : from + (to - from) ≡ to = omega (arith, order) in
+    let parts = rw at at (range_parts from (to - from) (stop - to)) in
+    let told = passes.told in
+    rw (long, parts, flat_map-append, told, same_places chars from to to (stop - to) (omega arith) passes.same) refl
+
+-- a frame stands from the later place on
+stands_on : (chars : List Character) (from to : ℕ) (given : List Seen) (found : Found) → Passes chars from to given
+    → StandsIn found chars from → StandsIn found chars to
+stands_on chars from to given found passes stands =
+    let late = passes.frames found stands in grind arith
+
+stands_back : (chars : List Character) (from to : ℕ) (found : Found) → from ≤ to → StandsIn found chars to → StandsIn found chars from
+stands_back chars from to found order stands = grind arith
+
+first_on : (chars : List Character) (from to : ℕ) (given : List Seen) (found : Found) → Passes chars from to given
+    → IsFirst found chars to → IsFirst found chars from
+first_on chars from to given found passes is = record {
+  stands = stands_back chars from to found passes.order is.stands;
+  least = λ other there. is.least other (stands_on chars from to given other passes there);
+}
+
+-- the frames are the same
+frames_on : (chars : List Character) (from to : ℕ) (given : List Seen) (frames : List Found) → Passes chars from to given
+    → AreFrames chars to frames → AreFrames chars from frames
+frames_on chars from _ given _ passes (none to empty) =
+    AreFrames.none from (λ found stands. empty found (stands_on chars from to given found passes stands))
+frames_on chars from _ given _ passes (first to found later is are) =
+    AreFrames.first from found later (first_on chars from to given found passes is) are
+
+-- and what is seen of them is this, and then what is seen from the later place on
+seen_on : (chars : List Character) (from to : ℕ) (given : List Seen) (frames : List Found) → Passes chars from to given
+    → AreFrames chars to frames → sightings chars from frames ≡ given ++ sightings chars to frames
+seen_on chars from _ given _ passes (none to empty) = gap_on chars from to (length chars) given passes passes.within
+seen_on chars from _ given _ passes (first to found later is are) =
+    let before : to ≤ found.start = omega (arith, is.stands.after, is.stands.start) in
+    let gap = gap_on chars from to found.start given passes before in
+    rw gap (append_assoc given (missed chars to found.start) (Message found ∷ sightings chars found.stop later))
+
+pub passes_on : (chars : List Character) (from to : ℕ) (given later : List Seen) → Passes chars from to given
+    → AreSightings chars to later → AreSightings chars from (given ++ later)
+passes_on chars from to given later passes are = record {
+  frames = are.frames;
+  are_frames = frames_on chars from to given are.frames passes are.are_frames;
+  seen_is = rw are.seen_is (sym (seen_on chars from to given are.frames passes are.are_frames));
+}
+
+-- a message is seen after places at which nothing is
+pub message_on : (chars : List Character) (from : ℕ) (found : Found) (later : List Seen) → missed chars from found.start ≡ []
+    → IsFirst found chars from → AreSightings chars found.stop later → AreSightings chars from (Message found ∷ later)
+message_on chars from found later nothing is are = record {
+  frames = found ∷ are.frames;
+  are_frames = AreFrames.first from found are.frames is are.are_frames;
+  seen_is = rw (nothing, are.seen_is) refl;
+}
+
+-- nothing is seen at some places in a row
+none_between : (chars : List Character) (from a k : ℕ) → ((p : ℕ) → a ≤ p → p < a + k → missed_at chars from p ≡ [])
+    → flat_map (λ p. missed_at chars from p) (range_with_len a k) ≡ []
+none_between chars from a zero silent = refl
+none_between chars from a (suc k) silent =
+    let here : missed_at chars from a ≡ [] = silent a (omega arith) (omega arith) in
+    let later = none_between chars from (a + 1) k (λ p after before. silent p (omega (arith, after)) (omega (arith, before))) in
+    rw (here, later) refl
+
+abbrev pub NoneSeen : List Character → ℕ → ℕ → Type 0
+NoneSeen chars from to = (p : ℕ) → from ≤ p → p < to → missed_at chars from p ≡ []
+
+pub missed_none : (chars : List Character) (from stop : ℕ) → NoneSeen chars from stop → missed chars from stop ≡ []
+missed_none chars from stop silent =
+    none_between chars from from (stop - from) (λ p after before. silent p after (omega (arith, before)))
+
+pub missed_one : (chars : List Character) (from start : ℕ) → from ≤ start → NoneSeen chars from start
+    → missed chars from (start + 1) ≡ missed_at chars from start
+missed_one chars from start order silent =
+    let long : start + 1 - from ≡ (start - from) + 1 = omega (arith, order) in
+    let at : from + (start - from) ≡ start = omega (arith, order) in
+    let parts = rw at at (range_parts from (start - from) 1) in
+    let before = missed_none chars from start silent in
+    rw (long, parts, flat_map-append, before, append-nil) refl
+
+-- a list passes from a place to another at which it is clean, if nothing is seen between them
+pub passes_silent : (chars : List Character) (from used : ℕ) → from ≤ used → used ≤ length chars → NoneSeen chars from used
+    → ((found : Found) → StandsIn found chars from → used + 2 ≤ found.start) → IsClean chars from used → Passes chars from used []
+passes_silent chars from used order within silent frames clean = record {
+  order = order;
+  within = within;
+  told = missed_none chars from used silent;
+  frames = frames;
+  same = λ place after. same_from chars from used place order after clean;
+}
+
+-- and to the place after a miss
+pub passes_miss : (chars : List Character) (from start : ℕ) (miss : Miss) → from ≤ start → start < length chars
+    → NoneSeen chars from start → missed_at chars from start ≡ Missed start miss ∷ []
+    → ((found : Found) → StandsIn found chars from → start + 3 ≤ found.start) → is_preamble_at chars start ≡ false
+    → Passes chars from (start + 1) (Missed start miss ∷ [])
+passes_miss chars from start miss order within silent is frames other =
+    let back : start + 1 - 1 ≡ start = omega arith in record {
+      order = omega (arith, order);
+      within = omega (arith, within);
+      told = rw (missed_one chars from start order silent) is;
+      frames = λ found stands. omega (arith, frames found stands);
+      same = λ place after. same_from chars from (start + 1) place (omega (arith, order)) after (inl (λ _. rw back other));
+    }
+
+-- where a frame stands
+pub record FrameAt (chars : List Character) (from start : ℕ) : Type 0 where
+  pub order : from + 2 ≤ start
+  pub within : start < length chars
+  pub one : follows_from chars from start ≡ true
+  pub two : follows_from chars from (start - 1) ≡ true
+  pub other : is_other_at chars start ≡ true
+  pub before : is_preamble_at chars (start - 2) ≡ true
+  pub last : is_preamble_at chars (start - 1) ≡ true
+  pub body : body_miss start (drop start chars) ≡ None
+
+pub frame_at : (chars : List Character) (from : ℕ) (found : Found) → StandsIn found chars from → FrameAt chars from found.start
+frame_at chars from found stands =
+    let at = starts_at chars found.start preamble (start_of chars found from stands) in
+    let order : from + 2 ≤ found.start = omega (arith, stands.after, stands.start) in
+    let last : is_preamble_at chars (found.start - 1) ≡ true = grind (arith, nat_tests, tested chars (found.start - 1)) in
+    let before : is_preamble_at chars (found.start - 2) ≡ true = grind (arith, nat_tests, tested chars (found.start - 2)) in
+    let same : found.start - 1 - 1 ≡ found.start - 2 = omega arith in
+    record {
+      order = order;
+      within = at.within;
+      one = grind (arith, nat_tests);
+      two = grind (arith, nat_tests);
+      other = grind (arith, nat_tests, tested chars found.start);
+      before = before;
+      last = last;
+      body = none_of chars found.start (body_of chars found from stands);
+    }

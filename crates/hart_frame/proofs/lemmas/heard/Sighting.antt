@@ -1,0 +1,250 @@
+-- What is seen of the rest of a list, and after a character that is no preamble byte.
+use Rattle.std.proofs.Common.{◌≡◌, ℕ, zero, suc, ◌+◌, ◌-◌, ◌<◌, ◌≤◌, Bool, true, false, List, [], ◌∷◌, length, map, drop, Option, None}
+use Rattle.std.proofs.Common.{Some}
+use Rattle.std.proofs.Common.{◌∙◌, ◌⊎◌, inl, inr, ap, sym, arith, refl, length-drop}
+use Rattle.std.proofs.lemmas.Bool.Decides.{nat_tests}
+use Rattle.std.proofs.lemmas.Grind.{common_steps}
+use Rattle.std.proofs.lemmas.List.{drop_all, drop_more, drop-drop, get_or-drop, map-append}
+use Rattle.hart_frame.proofs.lemmas.heard.Front.{faultless_bytes-more}
+use Rattle.hart_frame.proofs.lemmas.heard.Place.{preamble}
+use Rattle.std.proofs.lemmas.Option.{slice_get-get_or, slice_get_cases}
+use Rattle.std.specs.List.{flat_map, range_with_len, slice_get}
+use Rattle.std.specs.Option.{option_map_or}
+use Rattle.std.specs.Prelude.{◌&&◌, if◌then◌else◌, is_none, nat_lt, not, option_map}
+use Rattle.hart_frame.specs.declared.heard.found.Found.{Found}
+use Rattle.hart_frame.specs.declared.heard.miss.Miss.{Miss}
+use Rattle.hart_frame.specs.declared.heard.miss.Miss.TheVariants.{OnePreamble}
+use Rattle.hart_frame.specs.heard.Character.{Character}
+use Rattle.hart_frame.specs.heard.Frames.{moved}
+use Rattle.hart_frame.specs.heard.Miss.{body_miss, follows_preamble, is_preamble}
+use Rattle.hart_frame.specs.private.Sighting.{stands_alone}
+use Rattle.hart_frame.proofs.lemmas.heard.Start.{tested}
+use Rattle.hart_frame.specs.heard.Sighting.{Missed, missed, missed_at, miss_in_whole, moved_seen, seen_miss, sightings, two_begin_in_body}
+
+-- a place that is told is told so many places later
+told_moved : (n from p : ℕ) (m : Option Miss) → option_map_or (λ miss. Missed (n + p) (miss_in_whole (n + from) miss) ∷ []) m []
+    ≡ map (moved_seen n) (option_map_or (λ miss. Missed p (miss_in_whole from miss) ∷ []) m [])
+told_moved n from p None = refl
+told_moved n from p (Some miss) = grind (arith, common_steps)
+
+at_moved : (chars : List Character) (n from p : ℕ) → missed_at chars (n + from) (n + p)
+    ≡ map (moved_seen n) (missed_at (drop n chars) from p)
+at_moved chars n from p =
+    let same : n + p - (n + from) ≡ p - from = omega arith in
+    let rest : drop from (drop n chars) ≡ drop (n + from) chars = grind (arith, drop-drop) in
+    rw (same, rest) (told_moved n from p (seen_miss (drop (n + from) chars) (p - from)))
+
+places_moved : (chars : List Character) (n from a k : ℕ)
+    → flat_map (λ p. missed_at chars (n + from) p) (range_with_len (n + a) k)
+    ≡ map (moved_seen n) (flat_map (λ p. missed_at (drop n chars) from p) (range_with_len a k))
+places_moved chars n from a zero = refl
+places_moved chars n from a (suc k) =
+    let next : n + a + 1 ≡ n + (a + 1) = omega arith in
+    grind (arith, common_steps, map-append, at_moved chars n from a, places_moved chars n from (a + 1) k)
+
+missed_moved : (chars : List Character) (n from stop end : ℕ) → end - (n + from) ≡ stop - from
+    → missed chars (n + from) end ≡ map (moved_seen n) (missed (drop n chars) from stop)
+missed_moved chars n from stop end same = rw same (places_moved chars n from from (stop - from))
+
+-- what is seen of the rest is seen of the list so many places later
+pub sightings_moved : (chars : List Character) (n from : ℕ) (frames : List Found)
+    → sightings chars (n + from) (map (moved n) frames) ≡ map (moved_seen n) (sightings (drop n chars) from frames)
+sightings_moved chars n from [] = missed_moved chars n from (length (drop n chars)) (length chars) (omega (arith, length-drop n chars))
+sightings_moved chars n from (found ∷ later) =
+    let gap = missed_moved chars n from found.start (n + found.start) (omega arith) in
+    grind (arith, common_steps, map-append, sightings_moved chars n found.stop later)
+
+-- the miss of characters that begin at a place, counted from another
+pub body_moved : (n start : ℕ) (heard : List Character) → option_map (miss_in_whole n) (body_miss start heard) ≡ body_miss (n + start) heard
+body_moved n start heard = grind (arith, nat_tests)
+
+-- a character of the rest of a list
+rest_at : (chars : List Character) (start n : ℕ) → slice_get (drop start chars) n ≡ slice_get chars (start + n)
+rest_at chars start n = grind (arith, common_steps, slice_get_cases, slice_get-get_or, get_or-drop, length-drop)
+
+-- whether a faultless FF stands at a place, and right before a place of the rest of a list
+abbrev pub is_preamble_at : List Character → ℕ → Bool
+is_preamble_at chars place = option_map_or is_preamble (slice_get chars place) false
+
+abbrev pub follows_from : List Character → ℕ → ℕ → Bool
+follows_from chars from place = nat_lt from place && is_preamble_at chars (place - 1)
+
+follows_at : (chars : List Character) (from place k : ℕ) → place - from ≡ k
+    → follows_preamble (drop from chars) k ≡ follows_from chars from place
+follows_at chars from place zero is = grind (arith, nat_tests)
+follows_at chars from place (suc k) is =
+    let before : from + k ≡ place - 1 = omega (arith, is) in grind (arith, nat_tests, rest_at chars from k)
+
+follows_is : (chars : List Character) (from place : ℕ) → follows_preamble (drop from chars) (place - from) ≡ follows_from chars from place
+follows_is chars from place = follows_at chars from place (place - from) refl
+
+-- the miss that is seen at a place, in places of the whole list, by whether two or one FF stand before it, and whether a character stands
+-- there that is none
+abbrev pub whole_miss : List Character → ℕ → Bool → Bool → Bool → Option Miss
+whole_miss chars place one two asked =
+    if (one && not two) && two_begin_in_body chars place then None
+    else if (one && two) && asked then body_miss place (drop place chars)
+    else if (one && not two) && is_none (body_miss place (drop place chars)) then Some OnePreamble
+    else None
+
+abbrev pub is_other_at : List Character → ℕ → Bool
+is_other_at chars place = option_map_or (λ first. not (is_preamble first)) (slice_get chars place) false
+
+pub is_none-map : {A B : Type 0} (f : A → B) (m : Option A) → is_none (option_map f m) ≡ is_none m
+is_none-map f None = refl
+is_none-map f (Some x) = refl
+
+-- places in a miss do not say which is told
+pick : (f : Miss → Miss) (m told : Option Miss) (one two asked crossed : Bool) → option_map f m ≡ told → f OnePreamble ≡ OnePreamble
+    → option_map f (if (one && not two) && crossed then None
+    else if (one && two) && asked then m else if (one && not two) && is_none m then Some OnePreamble else None)
+    ≡ (if (one && not two) && crossed then None
+    else if (one && two) && asked then told else if (one && not two) && is_none told then Some OnePreamble else None)
+pick f m told true true true crossed is same = is
+pick f m told true true false crossed is same = refl
+pick f m told true false asked true is same = refl
+pick f m told true false asked false is same = grind (arith, is_none-map)
+pick f m told false two asked crossed is same = refl
+
+pub miss_is : (chars : List Character) (from place : ℕ) → from ≤ place
+    → option_map (miss_in_whole from) (seen_miss (drop from chars) (place - from))
+    ≡ whole_miss chars place (follows_from chars from place) (follows_from chars from (place - 1)) (is_other_at chars place)
+miss_is chars from place after =
+    let at : from + (place - from) ≡ place = omega (arith, after) in
+    let before : place - from - 1 ≡ place - 1 - from = omega arith in
+    let rest : drop (place - from) (drop from chars) ≡ drop place chars = grind (arith, drop-drop) in
+    let told = rw at at (body_moved from (place - from) (drop place chars)) in
+    rw (follows_is chars from place, before, follows_is chars from (place - 1), rest_at chars from (place - from), at, rest)
+    (pick (miss_in_whole from) (body_miss (place - from) (drop place chars)) (body_miss place (drop place chars))
+    (follows_from chars from place) (follows_from chars from (place - 1)) (is_other_at chars place) (two_begin_in_body chars place)
+    told refl)
+
+-- a place is told by its miss
+told_is : (from place : ℕ) (m : Option Miss) → option_map_or (λ miss. Missed place (miss_in_whole from miss) ∷ []) m []
+    ≡ option_map_or (λ miss. Missed place miss ∷ []) (option_map (miss_in_whole from) m) []
+told_is from place None = refl
+told_is from place (Some miss) = refl
+
+-- so two places from which a list is looked at tell the same of a place if the same stands before it
+same_miss : (chars : List Character) (place : ℕ) (one two other asked : Bool) → (one ≡ true → two ≡ other)
+    → whole_miss chars place one two asked ≡ whole_miss chars place one other asked
+same_miss chars place true two other asked same = rw (same refl) refl
+same_miss chars place false two other asked same = refl
+
+pub same_at : (chars : List Character) (from to place : ℕ) → from ≤ place → to ≤ place
+    → follows_from chars from place ≡ follows_from chars to place
+    → (follows_from chars to place ≡ true → follows_from chars from (place - 1) ≡ follows_from chars to (place - 1))
+    → missed_at chars from place ≡ missed_at chars to place
+same_at chars from to place after later one two =
+    rw (
+      told_is from place (seen_miss (drop from chars) (place - from)),
+      told_is to place (seen_miss (drop to chars) (place - to)),
+      miss_is chars from place after,
+      miss_is chars to place later,
+      one,
+      same_miss chars place (follows_from chars to place) _ _ (is_other_at chars place) two,
+    ) refl
+
+-- a place has the miss that is seen there
+pub told_at : (chars : List Character) (from place : ℕ) → from ≤ place → missed_at chars from place
+    ≡ option_map_or (λ miss. Missed place miss ∷ []) (whole_miss chars place (follows_from chars from place)
+    (follows_from chars from (place - 1)) (is_other_at chars place)) []
+told_at chars from place after =
+    told_is from place (seen_miss (drop from chars) (place - from))
+    ∙ ap (λ (m : Option Miss). option_map_or (λ miss. Missed place miss ∷ []) m []) (miss_is chars from place after)
+
+-- nothing is seen at a place unless a preamble byte stands before it, and another character at it
+pub unasked : (chars : List Character) (from place : ℕ) → from ≤ place → follows_from chars from place ≡ false
+    → missed_at chars from place ≡ []
+unasked chars from place after not = told_at chars from place after ∙ rw not refl
+
+no_body : (chars : List Character) (place : ℕ) → is_other_at chars place ≡ false → is_none (body_miss place (drop place chars)) ≡ false
+no_body chars place is =
+    let cases : (is_preamble_at chars place ≡ true) ⊎ (length chars ≤ place) = grind (arith, nat_tests, tested chars place) in
+    elim cases [
+      | inl here ↦
+          let first : drop place chars ≡ preamble ∷ drop (place + 1) chars = grind (arith, nat_tests, tested chars place, drop_more) in
+          grind (arith, nat_tests, faultless_bytes-more preamble (drop (place + 1) chars))
+      | inr end ↦ rw (drop_all place chars end) refl
+    ]
+
+pick_other : (m : Option Miss) (one two crossed : Bool) → is_none m ≡ false
+    → (if (one && not two) && crossed then None
+    else if (one && two) && false then m else if (one && not two) && is_none m then Some OnePreamble else None) ≡ None
+pick_other m false two crossed is = refl
+pick_other m true true crossed is = refl
+pick_other m true false true is = refl
+pick_other None true false false is = absurd cc
+pick_other (Some miss) true false false is = refl
+
+pub not_other : (chars : List Character) (from place : ℕ) → from ≤ place → is_other_at chars place ≡ false
+    → missed_at chars from place ≡ []
+not_other chars from place after is =
+    told_at chars from place after ∙ rw is (ap (λ (m : Option Miss). option_map_or (λ miss. Missed place miss ∷ []) m [])
+    (pick_other (body_miss place (drop place chars)) (follows_from chars from place) (follows_from chars from (place - 1))
+    (two_begin_in_body chars place) (no_body chars place is)))
+
+-- after one preamble byte alone it is whether a body stands alone
+pick_one : (m : Option Miss) (one asked crossed : Bool) → (is_none m && not crossed) ≡ false
+    → (if (one && not false) && crossed then None
+    else if (one && false) && asked then m else if (one && not false) && is_none m then Some OnePreamble else None) ≡ None
+pick_one m false asked crossed is = refl
+pick_one m true asked true is = refl
+pick_one None true asked false is = absurd cc
+pick_one (Some miss) true asked false is = refl
+
+pub after_one-none : (chars : List Character) (from place : ℕ) → from ≤ place → follows_from chars from (place - 1) ≡ false
+    → stands_alone chars place ≡ false → missed_at chars from place ≡ []
+after_one-none chars from place after one alone =
+    told_at chars from place after ∙ rw one (ap (λ (m : Option Miss). option_map_or (λ miss. Missed place miss ∷ []) m [])
+    (pick_one (body_miss place (drop place chars)) (follows_from chars from place) (is_other_at chars place)
+    (two_begin_in_body chars place) alone))
+
+pub after_one-miss : (chars : List Character) (from place : ℕ) → from ≤ place → follows_from chars from place ≡ true
+    → follows_from chars from (place - 1) ≡ false → stands_alone chars place ≡ true
+    → missed_at chars from place ≡ Missed place OnePreamble ∷ []
+after_one-miss chars from place after follows one alone = told_at chars from place after ∙ grind (arith, nat_tests)
+
+-- and after two it is the miss of what begins there
+pub after_two-miss : (chars : List Character) (from place : ℕ) (miss : Miss) → from ≤ place → follows_from chars from place ≡ true
+    → follows_from chars from (place - 1) ≡ true → is_other_at chars place ≡ true → body_miss place (drop place chars) ≡ Some miss
+    → missed_at chars from place ≡ Missed place miss ∷ []
+after_two-miss chars from place miss after follows two other is = told_at chars from place after ∙ rw (follows, two, other, is) refl
+
+-- from a place that comes right after a character that is no preamble byte, or at which two stand, or at the end, the list is seen as from
+-- an earlier one
+abbrev pub IsClean : List Character → ℕ → ℕ → Type 0
+IsClean chars from used = (from < used → is_preamble_at chars (used - 1) ≡ false)
+    ⊎ ((is_preamble_at chars used ≡ true) × (is_preamble_at chars (used + 1) ≡ true))
+    ⊎ (length chars ≤ used)
+
+pub not_both : (chars : List Character) (place : ℕ) → is_preamble_at chars place ≡ true → is_other_at chars place ≡ false
+not_both chars place is = grind (arith, nat_tests, tested chars place)
+
+past : (chars : List Character) (place : ℕ) → length chars ≤ place → is_other_at chars place ≡ false
+past chars place end = grind (arith, nat_tests, tested chars place)
+
+pub same_from : (chars : List Character) (from used place : ℕ) → from ≤ used → used ≤ place → IsClean chars from used
+    → missed_at chars from place ≡ missed_at chars used place
+same_from chars from used place order after (inl cut) =
+    let one : follows_from chars from place ≡ follows_from chars used place = grind (arith, nat_tests) in
+    let two : follows_from chars used place ≡ true → follows_from chars from (place - 1) ≡ follows_from chars used (place - 1) =
+    grind (arith, nat_tests) in
+    same_at chars from used place (omega (arith, order, after)) after one two
+same_from chars from used place order after (inr (inl (first, second))) =
+    let cases : (place ≡ used) ⊎ (place ≡ used + 1) ⊎ (used + 2 ≤ place) = grind arith in
+    elim cases [
+      | inl here ↦
+          let not : is_other_at chars place ≡ false = not_both chars place (rw here first) in
+          not_other chars from place (omega (arith, order, after)) not ∙ sym (not_other chars used place after not)
+      | inr (inl next) ↦
+          let not : is_other_at chars place ≡ false = not_both chars place (rw next second) in
+          not_other chars from place (omega (arith, order, after)) not ∙ sym (not_other chars used place after not)
+      | inr (inr late) ↦
+          let one : follows_from chars from place ≡ follows_from chars used place = grind (arith, nat_tests) in
+          let two : follows_from chars from (place - 1) ≡ follows_from chars used (place - 1) = grind (arith, nat_tests) in
+          same_at chars from used place (omega (arith, order, after)) after one (λ _. two)
+    ]
+same_from chars from used place order after (inr (inr end)) =
+    let not = past chars place (omega (arith, end, after)) in
+    not_other chars from place (omega (arith, order, after)) not ∙ sym (not_other chars used place after not)

@@ -1,0 +1,184 @@
+-- When a whole body ends before two preamble bytes in a row begin.
+use Rattle.std.proofs.Common.{◌≡◌, ◌≢◌, ℕ, ◌+◌, ◌-◌, ◌<◌, ◌≤◌, ◌⊎◌, inl, inr, true, false, List, [], ◌∷◌, ◌++◌, length, take, drop}
+use Rattle.std.proofs.Common.{get_or, min}
+use Rattle.std.proofs.Common.{◌∙◌, add-zero, ap, sym, arith, refl, length-append, length-drop, None, Option}
+use Rattle.std.proofs.lemmas.Bool.Decides.{nat_tests}
+use Rattle.std.proofs.lemmas.List.{append-nil, get_or_append_left, take_all, take-append-le}
+use Rattle.std.proofs.Math.Seq.{take-append-add}
+use Rattle.std.specs.Prelude.{IsTrue, is_none}
+use Rattle.hart_frame.specs.declared.scan.sighting.After.{After}
+use Rattle.hart_frame.specs.declared.scan.sighting.After.TheVariants.{Damaged, End, More}
+use Rattle.hart_frame.specs.heard.Character.{Character, faultless, faultless_bytes}
+use Rattle.hart_frame.specs.heard.Miss.{body_miss, check_miss, miss_in}
+use Rattle.hart_frame.specs.heard.Sighting.{has_two_preambles, two_begin_in_body}
+use Rattle.hart_frame.specs.scan.Sighting.{AfterIsValid, heard_with, is_end}
+use Rattle.hart_frame.specs.private.Sighting.{HasBodyMiss, MayStandAlone, Whatever, stands_alone}
+use Rattle.hart_frame.specs.wire.Layout.{body_length, byte_count_place}
+use Rattle.hart_frame.specs.wire.Refusal.{HasCheckByte, IsTruncated}
+use Rattle.hart_frame.proofs.lemmas.heard.Place.{preamble}
+use Rattle.hart_frame.proofs.lemmas.heard.Front.{faultless_bytes-end}
+use Rattle.hart_frame.specs.heard.Sighting.{miss_in_whole}
+use Rattle.hart_frame.proofs.lemmas.heard.Sighting.{body_moved, is_none-map}
+use Rattle.hart_frame.proofs.lemmas.scan.BodyAt.{bytes_from-heard, drop-heard, following}
+use Rattle.hart_frame.proofs.lemmas.wire.Prefix.{length_more}
+
+-- two preamble bytes in a row stay whatever follows
+pub two_more : (xs ys : List ℕ) → has_two_preambles xs ≡ true → has_two_preambles (xs ++ ys) ≡ true
+two_more [] ys two = absurd (grind arith)
+two_more (x ∷ []) ys two = absurd (grind (arith, nat_tests))
+two_more (x ∷ y ∷ xs) ys two = grind (arith, nat_tests, two_more (y ∷ xs) ys)
+
+-- another one after a last one makes two
+pub two_last : (xs ys : List ℕ) → get_or xs (length xs - 1) 0 ≡ 255 → has_two_preambles (xs ++ 255 ∷ ys) ≡ true
+two_last [] ys last = absurd (grind arith)
+two_last (x ∷ []) ys last = grind (arith, nat_tests)
+two_last (x ∷ y ∷ xs) ys last = grind (arith, nat_tests, two_last (y ∷ xs) ys)
+
+-- one more byte makes no two after another last one
+pub two_end : (xs ys : List ℕ) → get_or xs (length xs - 1) 0 ≢ 255 → length ys ≤ 1 → has_two_preambles (xs ++ ys) ≡ has_two_preambles xs
+two_end [] [] last few = refl
+two_end [] (y ∷ []) last few = grind (arith, nat_tests)
+two_end [] (y ∷ z ∷ ys) last few = absurd (omega (arith, few))
+two_end (x ∷ []) [] last few = refl
+two_end (x ∷ []) (y ∷ []) last few = grind (arith, nat_tests)
+two_end (x ∷ []) (y ∷ z ∷ ys) last few = absurd (omega (arith, few))
+two_end (x ∷ z ∷ xs) ys last few = grind (arith, nat_tests, two_end (z ∷ xs) ys)
+
+-- nor does a byte that is none before it
+pub two_other : (xs ys : List ℕ) (y : ℕ) → y ≢ 255 → has_two_preambles xs ≡ false → has_two_preambles (y ∷ ys) ≡ false
+    → has_two_preambles (xs ++ y ∷ ys) ≡ false
+two_other [] ys y other none rest = rest
+two_other (x ∷ []) ys y other none rest = grind (arith, nat_tests)
+two_other (x ∷ z ∷ xs) ys y other none rest = grind (arith, nat_tests, two_other (z ∷ xs) ys y)
+
+-- a last byte alone makes two only with the one before it
+pub two_push : (xs : List ℕ) (y : ℕ) → has_two_preambles xs ≡ false → (get_or xs (length xs - 1) 0 ≡ 255 → y ≢ 255)
+    → has_two_preambles (xs ++ y ∷ []) ≡ false
+two_push [] y none other = grind (arith, nat_tests)
+two_push (x ∷ []) y none other = grind (arith, nat_tests)
+two_push (x ∷ z ∷ xs) y none other = grind (arith, nat_tests, two_push (z ∷ xs) y)
+
+-- the bytes of what is heard from a place on, up to a body and one byte more
+pub two_in : (bytes : List ℕ) (after : After) (more : List Character) (start n : ℕ) → start ≤ length bytes
+    → body_length (drop start bytes) ≡ n → n ≤ length (drop start bytes)
+    → two_begin_in_body (heard_with bytes after ++ more) start
+    ≡ has_two_preambles (take (n + 1) (drop start bytes ++ faultless_bytes (following after more)))
+two_in bytes after more start n within long whole =
+    let xs = drop start bytes in
+    let ys = faultless_bytes (following after more) in
+    let same : body_length (xs ++ ys) ≡ n = length_more xs ys (omega (arith, long, whole)) ∙ long in
+    rw (bytes_from-heard bytes after more start within, same) refl
+
+-- a byte follows only if more may come
+more_of : (after : After) (more : List Character) → AfterIsValid after → (IsTrue (is_end after) → more ≡ [])
+    → 0 < length (faultless_bytes (following after more)) → after ≡ More
+more_of More more valid closed some = refl
+more_of End more valid closed some = let ends : more ≡ [] = closed refl in absurd (omega (arith, rw ends at some))
+more_of (Damaged c) more valid closed some = absurd (omega (arith, rw (faultless_bytes-end c more valid) at some))
+
+end_none : (xs ys : List ℕ) → has_two_preambles xs ≡ false → (0 < length ys → get_or xs (length xs - 1) 0 ≢ 255)
+    → has_two_preambles (xs ++ take 1 ys) ≡ false
+end_none xs [] none last = rw (append-nil xs) none
+end_none xs (y ∷ ys) none last = two_end xs (y ∷ []) (last (omega arith)) (omega arith) ∙ none
+
+-- whether a whole body stands alone
+module _ (bytes : List ℕ) (after : After) (start n : ℕ) (within : start ≤ length bytes) (long : body_length (drop start bytes) ≡ n)
+    (enough : n ≤ length (drop start bytes)) (whole : Whatever bytes after (HasBodyMiss start None)) where
+  part : (ys : List ℕ) → ((n + 1 ≤ length (drop start bytes)) × (take (n + 1) (drop start bytes ++ ys) ≡ take (n + 1) (drop start bytes)))
+      ⊎ ((n ≡ length (drop start bytes)) × (take (n + 1) (drop start bytes ++ ys) ≡ drop start bytes ++ take 1 ys)
+      × (take (n + 1) (drop start bytes) ≡ drop start bytes))
+  part ys =
+      let xs = drop start bytes in
+      let cases : (n + 1 ≤ length xs) ⊎ (n ≡ length xs) = grind arith in
+      elim cases [
+        | inl fits ↦ inl (fits, take-append-le (n + 1) xs ys fits)
+        | inr all ↦ inr (all, rw all (take-append-add xs ys 1), take_all (n + 1) xs (omega (arith, all)))
+      ]
+
+  pub crossed : has_two_preambles (take (n + 1) (drop start bytes)) ≡ true
+      → Whatever bytes after (λ chars. stands_alone chars start ≡ false)
+  crossed two more closed =
+      let ys = faultless_bytes (following after more) in
+      let is = two_in bytes after more start n within long enough in
+      let cases = part ys in
+      let both : two_begin_in_body (heard_with bytes after ++ more) start ≡ true = elim cases [
+        | inl (fits, same) ↦ is ∙ ap has_two_preambles same ∙ two
+        | inr (all, same, own) ↦ is ∙ ap has_two_preambles same ∙ two_more (drop start bytes) (take 1 ys) (rw own at two)
+      ] in
+      grind (arith, nat_tests)
+
+  pub alone : AfterIsValid after → has_two_preambles (take (n + 1) (drop start bytes)) ≡ false
+      → (after ≡ More → n ≡ length (drop start bytes) → get_or (drop start bytes) (n - 1) 0 ≢ 255)
+      → Whatever bytes after (λ chars. stands_alone chars start ≡ true)
+  alone valid none last more closed =
+      let xs = drop start bytes in
+      let ys = faultless_bytes (following after more) in
+      let is = two_in bytes after more start n within long enough in
+      let cases = part ys in
+      let not : two_begin_in_body (heard_with bytes after ++ more) start ≡ false = elim cases [
+        | inl (fits, same) ↦ is ∙ ap has_two_preambles same ∙ none
+        | inr (all, same, own) ↦ is ∙ ap has_two_preambles same ∙ end_none xs ys (rw own at none)
+            (λ some. rw all at (last (more_of after more valid closed some) all))
+      ] in
+      let stands = whole more closed in
+      grind (arith, nat_tests)
+
+-- the bytes of a body that are looked at, and one more
+pub looked_at : (bytes : List ℕ) (start stop : ℕ) → start < stop → stop ≤ length bytes
+    → take (min (length bytes) (stop + 1) - start) (drop start bytes) ≡ take (stop - start + 1) (drop start bytes)
+looked_at bytes start stop order within =
+    let cases : (stop + 1 ≤ length bytes) ⊎ (stop ≡ length bytes) = grind arith in
+    elim cases [
+      | inl fits ↦
+          let same : min (length bytes) (stop + 1) - start ≡ stop - start + 1 = omega (arith, fits, order) in
+          ap (λ (k : ℕ). take k (drop start bytes)) same
+      | inr all ↦
+          let long = length-drop start bytes in
+          take_all _ (drop start bytes) (omega (arith, long, all)) ∙ sym (take_all _ (drop start bytes) (omega (arith, long, all, order)))
+    ]
+
+-- a whole body that ends in a preamble byte at the end may or may not stand alone
+pub lone_open : (bytes : List ℕ) (start n : ℕ) → start ≤ length bytes → body_length (drop start bytes) ≡ n → n ≡ length (drop start bytes)
+    → Whatever bytes More (HasBodyMiss start None) → has_two_preambles (take (n + 1) (drop start bytes)) ≡ false
+    → get_or (drop start bytes) (n - 1) 0 ≡ 255 → MayStandAlone bytes start
+lone_open bytes start n within long all whole none last =
+    let xs = drop start bytes in
+    let own : take (n + 1) xs ≡ xs = take_all (n + 1) xs (omega (arith, all)) in
+    let clear : has_two_preambles xs ≡ false = rw own at none in
+    let ends : get_or xs (length xs - 1) 0 ≡ 255 = rw all at last in
+    let one : two_begin_in_body (faultless bytes ++ []) start ≡ false =
+    two_in bytes More [] start n within long (omega (arith, all)) ∙ rw (append-nil xs, own) clear in
+    let longer : take (n + 1) (xs ++ 255 ∷ []) ≡ xs ++ 255 ∷ [] = take_all (n + 1) (xs ++ 255 ∷ [])
+    (omega (arith, all, length-append xs (255 ∷ []))) in
+    let two : two_begin_in_body (faultless bytes ++ preamble ∷ []) start ≡ true =
+    two_in bytes More (preamble ∷ []) start n within long (omega (arith, all)) ∙ rw longer (two_last xs [] ends) in
+    let stands = whole [] (λ _. refl) in
+    record {
+      one = [];
+      alone = grind (arith, nat_tests);
+      other = preamble ∷ [];
+      not_alone = grind (arith, nat_tests);
+    }
+
+-- what the bytes of a whole body say
+pub whole_has : (xs : List ℕ) (f : Option Character) (fp start : ℕ) → miss_in xs f fp start ≡ None
+    → HasCheckByte xs × (check_miss xs start ≡ None)
+whole_has xs f fp start is = grind (arith, nat_tests)
+
+-- bytes that end too early and become a body with others do so after their end
+pub whole_past : (xs ys : List ℕ) → IsTruncated xs → HasCheckByte (xs ++ ys) → length xs < body_length (xs ++ ys)
+whole_past xs ys truncated has = grind (arith, length-append, get_or_append_left)
+
+-- where a body begins does not matter to whether it is whole
+some_moved : (heard : List Character) (start : ℕ) → is_none (body_miss start heard) ≡ is_none (body_miss 0 heard)
+some_moved heard start = ap is_none (sym (rw (add-zero start) at (body_moved start 0 heard)))
+    ∙ is_none-map (miss_in_whole start) (body_miss 0 heard)
+
+pub alone_moved : (bytes : List ℕ) (more : List Character) (start : ℕ) → start ≤ length bytes
+    → stands_alone (faultless bytes ++ more) start ≡ stands_alone (faultless (drop start bytes) ++ more) 0
+alone_moved bytes more start within =
+    rw (drop-heard bytes more start within, some_moved (faultless (drop start bytes) ++ more) start) refl
+
+-- bytes that end too early are few
+pub truncated_few : (xs : List ℕ) → ((i : ℕ) → get_or xs i 0 < 256) → IsTruncated xs → length xs < 267
+truncated_few xs fits truncated = grind (arith, fits 0, fits (byte_count_place xs))

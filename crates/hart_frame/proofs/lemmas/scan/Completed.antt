@@ -1,0 +1,164 @@
+-- Whether bytes that end too early for a body may become one that stands alone.
+use Rattle.std.proofs.Common.{◌≡◌, ◌≢◌, ℕ, zero, suc, ◌+◌, ◌-◌, ◌<◌, ◌≤◌, inl, inr, true, false, List, [], ◌∷◌, ◌++◌, length, take}
+use Rattle.std.proofs.Common.{get_or, fold, bit_xor}
+use Rattle.std.proofs.Common.{None, ◌∙◌, ap, sym, arith, refl, append_assoc, length-append, replicate}
+use Rattle.std.proofs.Math.Seq.{take-append-add}
+use Rattle.std.proofs.lemmas.Bool.Decides.{nat_tests}
+use Rattle.std.proofs.lemmas.List.{append-nil, get_or_at, length-replicate, length-take-le, map-append, take-replicate, take_all, take_at}
+use Rattle.std.proofs.lemmas.List.Elements.{All-append, All-replicate, All-take}
+use Rattle.std.specs.List.{All}
+use Rattle.hart_frame.specs.heard.Character.{Character, faultless, faultless_bytes}
+use Rattle.hart_frame.specs.heard.InTheWay.{HasBodyAt, bytes_from}
+use Rattle.hart_frame.specs.heard.Miss.{body_miss, check_miss}
+use Rattle.hart_frame.specs.heard.Sighting.{has_two_preambles, two_begin_in_body}
+use Rattle.hart_frame.specs.private.Sighting.{LacksOnePreamble, MayStandAlone, stands_alone}
+use Rattle.hart_frame.specs.wire.Body.{IsBody}
+use Rattle.hart_frame.specs.wire.FrameParts.{FrameParts}
+use Rattle.hart_frame.specs.wire.Layout.{body_length}
+use Rattle.hart_frame.specs.wire.Refusal.{HasCheckByte, IsTruncated}
+use Rattle.hart_frame.proofs.lemmas.heard.FramesFound.{begins_at}
+use Rattle.hart_frame.proofs.lemmas.heard.Front.{faultless_bytes-append}
+use Rattle.hart_frame.proofs.lemmas.heard.InTheWay.{fits-is}
+use Rattle.hart_frame.proofs.lemmas.heard.Missed.{good_prefix, none_of}
+use Rattle.hart_frame.proofs.lemmas.scan.Alone.{two_last, two_more, two_other, two_push, whole_has, whole_past}
+use Rattle.hart_frame.proofs.lemmas.scan.BodyAt.{miss_more}
+use Rattle.hart_frame.proofs.lemmas.scan.Sighted.{bool_cases}
+use Rattle.hart_frame.proofs.lemmas.wire.Parity.{IsCheckByte-fold, fits_at}
+use Rattle.hart_frame.proofs.lemmas.wire.Prefix.{length_more}
+use Rattle.hart_frame.proofs.lemmas.wire.Refusal.{says}
+use Rattle.hart_frame.proofs.lemmas.wire.Truncated.{filled, fitted}
+
+-- what a body that stands alone says of bytes and those after them
+pub record SaysAlone (xs ys : List ℕ) : Type 0 where
+  pub has : HasCheckByte (xs ++ ys)
+  pub check : check_miss (xs ++ ys) 0 ≡ None
+  pub clear : has_two_preambles (take (body_length (xs ++ ys) + 1) (xs ++ ys)) ≡ false
+
+pub says_alone : (xs : List ℕ) (more : List Character) → stands_alone (faultless xs ++ more) 0 ≡ true
+    → SaysAlone xs (faultless_bytes more)
+says_alone xs more alone =
+    let whole : body_miss 0 (faultless xs ++ more) ≡ None = grind arith in
+    let both = whole_has (xs ++ faultless_bytes more) _ _ 0 (sym (miss_more xs more 0) ∙ whole) in
+    let clear : two_begin_in_body (faultless xs ++ more) 0 ≡ false = grind (arith, nat_tests) in
+    record { has = both.0; check = both.1; clear = rw (faultless_bytes-append xs more) at clear }
+
+-- bytes that end too early are no body by themselves
+pub not_yet : (xs : List ℕ) → IsTruncated xs → stands_alone (faultless xs ++ []) 0 ≡ false
+not_yet xs truncated = elim (bool_cases (stands_alone (faultless xs ++ []) 0)) [
+  | inr not ↦ not
+  | inl alone ↦
+      let is = says_alone xs [] alone in
+      let past = whole_past xs [] truncated is.has in
+      absurd (omega (arith, past, is.has.1, length-append xs []))
+]
+
+-- nor ever with two preamble bytes in a row, or where a second one has to come
+pub never_two : (xs : List ℕ) (more : List Character) → IsTruncated xs → has_two_preambles xs ≡ true
+    → stands_alone (faultless xs ++ more) 0 ≡ false
+never_two xs more truncated two = elim (bool_cases (stands_alone (faultless xs ++ more) 0)) [
+  | inr not ↦ not
+  | inl alone ↦
+      let ys : List ℕ = faultless_bytes more in
+      let is = says_alone xs more alone in
+      let past = whole_past xs ys truncated is.has in
+      let k : ℕ = body_length (xs ++ ys) + 1 - length xs in
+      let long : body_length (xs ++ ys) + 1 ≡ length xs + k = omega (arith, past) in
+      let parts : take (body_length (xs ++ ys) + 1) (xs ++ ys) ≡ xs ++ take k ys =
+      ap (λ (j : ℕ). take j (xs ++ ys)) long ∙ take-append-add xs ys k in
+      let clear = rw parts at is.clear in
+      absurd (cc (clear, two_more xs (take k ys) two))
+]
+
+lacks_next : (xs ys : List ℕ) → All (λ byte. byte < 256) xs → LacksOnePreamble xs → HasCheckByte (xs ++ ys)
+    → check_miss (xs ++ ys) 0 ≡ None → has_two_preambles (take (body_length (xs ++ ys) + 1) (xs ++ ys)) ≡ true
+lacks_next xs [] fit lacks has check =
+    let same = length_more xs [] lacks.good.0.1 in absurd (omega (arith, has.1, same, lacks.last, length-append xs []))
+lacks_next xs (y ∷ ys) fit lacks has check =
+    let same = length_more xs (y ∷ ys) lacks.good.0.1 in
+    let n : body_length (xs ++ y ∷ ys) - 1 ≡ length xs = omega (arith, same, lacks.last) in
+    let fits : 255 ≡ fold bit_xor 0 xs = fits-is xs 255 fit lacks.check in
+    let front : take (length xs) (xs ++ y ∷ ys) ≡ xs = take_at xs (y ∷ ys) (length xs) refl in
+    let there : get_or (xs ++ y ∷ ys) (length xs) 0 ≡ y = get_or_at xs y ys 0 (length xs) refl in
+    let is : y ≡ 255 = grind (arith, nat_tests) in
+    let long : body_length (xs ++ y ∷ ys) + 1 ≡ length xs + 2 = omega (arith, same, lacks.last) in
+    let parts : take (body_length (xs ++ y ∷ ys) + 1) (xs ++ y ∷ ys) ≡ xs ++ y ∷ take 1 ys =
+    ap (λ (j : ℕ). take j (xs ++ y ∷ ys)) long ∙ take-append-add xs (y ∷ ys) 2 in
+    rw (parts, is) (two_last xs (take 1 ys) lacks.before)
+
+pub never_lacks : (xs : List ℕ) (more : List Character) → All (λ byte. byte < 256) xs → LacksOnePreamble xs
+    → stands_alone (faultless xs ++ more) 0 ≡ false
+never_lacks xs more fit lacks = elim (bool_cases (stands_alone (faultless xs ++ more) 0)) [
+  | inr not ↦ not
+  | inl alone ↦
+      let is = says_alone xs more alone in
+      absurd (cc (is.clear, lacks_next xs (faultless_bytes more) fit lacks is.has is.check))
+]
+
+-- bytes 2 and a check byte hold no two preamble bytes in a row
+twos : (k check : ℕ) → has_two_preambles (replicate k 2 ++ check ∷ []) ≡ false
+twos zero check = grind (arith, nat_tests)
+twos (suc zero) check = grind (arith, nat_tests)
+twos (suc (suc k)) check = grind (arith, nat_tests, twos (suc k) check)
+
+clear_rest : (xs : List ℕ) (k check : ℕ) → has_two_preambles xs ≡ false
+    → (k ≡ 0 → get_or xs (length xs - 1) 0 ≡ 255 → check ≢ 255) → has_two_preambles (xs ++ (replicate k 2 ++ check ∷ [])) ≡ false
+clear_rest xs zero check clear differs = two_push xs check clear (differs refl)
+clear_rest xs (suc k) check clear differs = two_other xs (replicate k 2 ++ check ∷ []) 2 (omega arith) clear (twos (suc k) check)
+
+-- a body stands alone if no two preamble bytes in a row stand in it, and nothing comes after it
+body_alone : (chars : List Character) (body : List ℕ) (f : FrameParts) → IsBody f body → chars ≡ faultless body
+    → has_two_preambles body ≡ false → stands_alone chars 0 ≡ true
+body_alone chars body f is all clear =
+    let has : HasBodyAt chars 0 = record {
+      frame = f;
+      body = body;
+      rest = [];
+      is_body = is;
+      parts = all
+          ∙ sym (append-nil (faultless body));
+    } in
+    let whole = none_of chars 0 has in
+    let bytes : bytes_from chars 0 ≡ body = grind (arith, append-nil, faultless_bytes-append body []) in
+    let long = (says (bytes_from chars 0) f (length body) (begins_at chars 0 has)).whole in
+    let own : take (body_length (bytes_from chars 0) + 1) (bytes_from chars 0) ≡ body =
+    take_all _ (bytes_from chars 0) (omega (arith, long, ap length bytes)) ∙ bytes in
+    let none : two_begin_in_body chars 0 ≡ false = rw own clear in
+    grind (arith, nat_tests)
+
+-- so bytes that end too early may stand alone otherwise
+pub may : (xs : List ℕ) (m : ℕ) → All (λ byte. byte < 256) xs → IsTruncated xs → has_two_preambles xs ≡ false → (LacksOnePreamble xs → ⊥)
+    → 300 ≤ m → MayStandAlone xs 0
+may xs m fit truncated clear not enough =
+    let whole : List ℕ = xs ++ replicate m 2 in
+    let (has, past) = filled xs m fit truncated enough in
+    let n : ℕ = body_length whole - 1 in
+    let fits = All-append (λ byte. byte < 256) xs (replicate m 2) fit (All-replicate (λ byte. byte < 256) m 2 (omega arith)) in
+    let p : List ℕ = take n whole in
+    let good = good_prefix whole n has (omega arith) (omega (arith, has.1)) in
+    let fitp = All-take (λ byte. byte < 256) n whole fits in
+    let long : length p ≡ n = length-take-le n whole (omega (arith, has.1)) in
+    let (frame, is) = fitted p fitp good.0 (omega (arith, good.1, long, past)) in
+    let check : ℕ = fold bit_xor 0 p in
+    let k : ℕ = n - length xs in
+    let split : n ≡ length xs + k = omega (arith, past) in
+    let few : k ≤ m = omega (arith, split, has.1, length-append xs (replicate m 2), length-replicate {A = ℕ} m 2) in
+    let parts : p ≡ xs ++ replicate k 2 =
+    ap (λ (j : ℕ). take j (xs ++ replicate m 2)) split ∙ take-append-add xs (replicate m 2) k
+    ∙ ap (λ (ys : List ℕ). xs ++ ys) (take-replicate k m 2 few) in
+    let rest : List ℕ = replicate k 2 ++ check ∷ [] in
+    let body : p ++ check ∷ [] ≡ xs ++ rest = ap (λ (ys : List ℕ). ys ++ check ∷ []) parts ∙ append_assoc xs (replicate k 2) (check ∷ []) in
+    let differs : k ≡ 0 → get_or xs (length xs - 1) 0 ≡ 255 → check ≢ 255 = λ none last same.
+    let own : p ≡ xs = grind (arith, append-nil) in
+    not (record {
+      good = rw own at good.0;
+      last = omega (arith, rw own at good.1, split, none, past);
+      before = last;
+      check = IsCheckByte-fold xs 255 (fits_at xs fit) (sym same ∙ ap (λ (ys : List ℕ). fold bit_xor 0 ys) own);
+    }) in
+    record {
+      one = faultless rest;
+      alone = body_alone (faultless xs ++ faultless rest) (xs ++ rest) frame (rw body at is) (sym (map-append _ xs rest))
+          (clear_rest xs k check clear differs);
+      other = [];
+      not_alone = not_yet xs truncated;
+    }

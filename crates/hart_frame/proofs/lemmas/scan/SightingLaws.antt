@@ -1,0 +1,62 @@
+-- Sightings that are given one after another are all of a list, and a list has one list of sightings.
+use Rattle.std.proofs.Common.{◌≡◌, ◌≤◌, ℕ, Bool, false, List, [], ◌++◌, length, drop, map, ◌∙◌, add-zero, ap, sym, arith, refl}
+use Rattle.std.proofs.Common.{append_assoc}
+use Rattle.std.proofs.lemmas.List.{append-nil, drop-append-le}
+use Rattle.std.specs.Prelude.{IsTrue}
+use Rattle.hart_frame.specs.heard.Character.{Character}
+use Rattle.hart_frame.specs.heard.Frames.{AreFrames, moved}
+use Rattle.hart_frame.specs.heard.Sighting.{AreSightings, Seen, SeesOn, moved_seen, sightings}
+use Rattle.hart_frame.proofs.lemmas.Laws.{frames_are_unambiguous-one_list, the_rest_has_the_later_frames}
+use Rattle.hart_frame.proofs.lemmas.heard.FramesFound.{AreFrames-found}
+use Rattle.hart_frame.proofs.lemmas.heard.Place.{HasNoFrame-end}
+use Rattle.hart_frame.proofs.lemmas.heard.Seen.{missed_none}
+use Rattle.hart_frame.proofs.lemmas.heard.Sighting.{sightings_moved}
+
+pub rest : (place : ℕ) (chars : List Character) (seen : List Seen)
+    → AreSightings (drop place chars) 0 seen → AreSightings chars place (map (moved_seen place) seen)
+rest place chars seen are = record {
+  frames = map (moved place) are.frames;
+  are_frames = (the_rest_has_the_later_frames place chars are.frames).0 are.are_frames;
+  seen_is = ap (map (moved_seen place)) are.seen_is ∙ rw (add-zero place) at (sym (sightings_moved chars place 0 are.frames));
+}
+
+pub onward : (chars : List Character) (ended : Bool) (from to after : ℕ) (given found : List Seen)
+    → SeesOn chars ended from given to → SeesOn chars ended to found after → SeesOn chars ended from (given ++ found) after
+onward chars ended from to after given found first second more later closed are =
+    rw (append_assoc given found later) (first more (found ++ later) closed (second more later closed are))
+
+pub grown : (chars piece : List Character) (ended : Bool) (from to : ℕ) (given : List Seen)
+    → SeesOn chars false from given to → SeesOn (chars ++ piece) ended from given to
+grown chars piece ended from to given sees more later closed are =
+    rw (append_assoc chars piece more) (sees (piece ++ more) later (λ never. absurd cc) (rw (append_assoc chars piece more) at are))
+
+pub rest_all : (chars more : List Character) (ended : Bool) (given later : List Seen) (to : ℕ) → to ≤ length chars
+    → SeesOn chars ended 0 given to → (IsTrue ended → more ≡ []) → AreSightings (drop to chars ++ more) 0 later
+    → AreSightings (chars ++ more) 0 (given ++ map (moved_seen to) later)
+rest_all chars more ended given later to within sees closed are =
+    sees more (map (moved_seen to) later) closed (rest to (chars ++ more) later (rw (drop-append-le to chars more within) are))
+
+pub all : (chars : List Character) (ended : Bool) (given : List Seen) → SeesOn chars ended 0 given (length chars)
+    → AreSightings chars 0 given
+all chars ended given sees =
+    let same : chars ++ [] ≡ chars = append-nil chars in
+    let end : AreSightings (chars ++ []) (length chars) [] = record {
+      frames = [];
+      are_frames = AreFrames.none (length chars) (HasNoFrame-end (chars ++ []) (length chars) (omega (arith, ap length same)));
+      seen_is = sym (missed_none (chars ++ []) (length chars) (length (chars ++ []))
+          (λ p low high. absurd (omega (arith, low, high, ap length same))));
+    } in
+    let whole = sees [] [] (λ _. refl) end in
+    rw (append-nil given) at (rw same at whole)
+
+pub one : (chars : List Character) (from : ℕ) (xs ys : List Seen) → AreSightings chars from xs → AreSightings chars from ys → xs ≡ ys
+one chars from xs ys first second =
+    first.seen_is
+    ∙ ap (sightings chars from)
+    (frames_are_unambiguous-one_list chars from first.frames second.frames first.are_frames second.are_frames)
+    ∙ sym second.seen_is
+
+pub some : (chars : List Character) (from : ℕ) → (seen : List Seen) × AreSightings chars from seen
+some chars from =
+    let (frames, are) = AreFrames-found chars from in
+    (sightings chars from frames, record { frames = frames; are_frames = are; seen_is = refl })

@@ -1,0 +1,144 @@
+-- What stands next in bytes, and what is passed before it (own profile).
+use Rattle.std.specs.Prelude.{◌≡◌, ◌≢◌, ◌<◌, ◌≤◌, ◌+◌, ◌-◌, ◌&&◌, ◌⊎◌, ◌↔◌, not, ℕ, Bool, IsTrue, true, false, List, [], ◌++◌, Option}
+use Rattle.std.specs.Prelude.{None, Some, drop, is_none, length, slice_index, take}
+use Rattle.hart_frame.specs.heard.Character.{Character, faultless}
+use Rattle.hart_frame.specs.heard.Miss.{body_miss}
+use Rattle.hart_frame.specs.heard.Sighting.{two_begin_in_body}
+use Rattle.hart_frame.specs.private.Candidate.{IsWholeBody}
+use Rattle.hart_frame.specs.scan.View.{parts_of}
+use Rattle.hart_frame.specs.wire.Body.{IsBody}
+use Rattle.std.specs.List.{slice_range}
+use Rattle.hart_frame.specs.wire.Layout.{body_length}
+use Rattle.hart_frame.specs.private.Layout.{layout_length}
+use Rattle.hart_frame.specs.wire.Parity.{IsCheckByte}
+use Rattle.hart_frame.specs.wire.Refusal.{HasGoodByteCount, IsTruncated}
+use Rattle.hart_frame.specs.declared.heard.miss.Miss.{Miss}
+use Rattle.hart_frame.specs.declared.heard.miss.Miss.TheVariants.{Faulty, Missing, OnePreamble}
+use Rattle.hart_frame.specs.declared.scan.sighting.After.{After}
+use Rattle.hart_frame.specs.declared.scan.sighting.After.TheVariants.{Damaged, End, More}
+use Rattle.hart_frame.specs.declared.scan.sighting.BodyAt.{BodyAt}
+use Rattle.hart_frame.specs.declared.scan.sighting.BodyAt.TheVariants as at
+use Rattle.hart_frame.specs.declared.scan.sighting.Sighting.{Sighting}
+use Rattle.hart_frame.specs.declared.scan.sighting.Sighting.TheVariants as given
+use Rattle.hart_frame.specs.declared.scan.sighting.Standing.{Standing}
+use Rattle.hart_frame.specs.declared.scan.sighting.Standing.TheVariants as standing
+use Rattle.hart_frame.specs.declared.scan.sighting.Standing.TheVariants.{Nothing, Open}
+use Rattle.hart_frame.specs.scan.Sighting.{NamesPlacesBelow, heard_with, is_end}
+
+-- A preamble byte stands right before a place that lies after another, and at it another byte, or a character with fault bits.
+pub record IsAsked (bytes : List ℕ) (after : After) (from place : ℕ) : Type 0 where
+  pub order : from < place
+  pub within : place ≤ length bytes
+  pub preamble : slice_index bytes (place - 1) ≡ 255
+  pub other : place < length bytes → slice_index bytes place ≢ 255
+  pub heard : place < length (heard_with bytes after)
+
+-- The next such place after a place, or none.
+abbrev pub IsNextAsked : List ℕ → After → ℕ → Option ℕ → Type 0
+IsNextAsked bytes after from None = (place : ℕ) → IsAsked bytes after from place → ⊥
+IsNextAsked bytes after from (Some next) =
+    IsAsked bytes after from next × ((place : ℕ) → IsAsked bytes after from place → next ≤ place)
+
+-- Whatever comes after bytes and what follows them, this holds of all characters. If they ended, nothing comes.
+abbrev pub Whatever : List ℕ → After → (List Character → Type 0) → Type 0
+Whatever bytes after holds = (more : List Character) → (IsTrue (is_end after) → more ≡ []) → holds (heard_with bytes after ++ more)
+
+-- What begins at a place of some characters has this miss, or is a whole body.
+abbrev pub HasBodyMiss : ℕ → Option Miss → List Character → Type 0
+HasBodyMiss start miss chars = body_miss start (drop start chars) ≡ miss
+
+-- The miss of bytes at an end is that one character is missing just if that is their check byte.
+abbrev pub SaysWhatLacks : List ℕ → Miss → Type 0
+SaysWhatLacks bytes at_end = (at_end ≡ Missing 1) ↔ (HasGoodByteCount bytes × (body_length bytes ≡ length bytes + 1))
+
+-- What stands at a place: what may become a body, with the miss of it at an end; a body by a layout; or none for this reason.
+abbrev pub IsBodyAt : List ℕ → After → ℕ → BodyAt → Type 0
+IsBodyAt bytes after start (at.Open at_end) =
+    (after ≡ More) × IsTruncated (drop start bytes) × SaysWhatLacks (drop start bytes) at_end
+IsBodyAt bytes after start (at.Whole layout) =
+    Whatever bytes after (HasBodyMiss start None) × (layout_length layout ≤ length (drop start bytes))
+    × IsWholeBody layout (take (layout_length layout) (drop start bytes))
+IsBodyAt bytes after start (at.Wrong miss) =
+    Whatever bytes after (HasBodyMiss start (Some miss)) × NamesPlacesBelow (length (heard_with bytes after)) miss
+
+-- Where bytes stop too early for a body, for want of more of them what begins there may become one; otherwise it is the character with
+-- fault bits after them, or the reason at an end.
+abbrev pub ends_early : List ℕ → After → Miss → BodyAt
+ends_early bytes More at_end = at.Open at_end
+ends_early bytes (Damaged character) at_end = at.Wrong (Faulty (length bytes) character.faults)
+ends_early bytes End at_end = at.Wrong at_end
+
+-- A whole body stands at a place, and no two FF in a row begin in it.
+abbrev pub stands_alone : List Character → ℕ → Bool
+stands_alone chars start = is_none (body_miss start (drop start chars)) && not (two_begin_in_body chars start)
+
+-- With some characters after bytes a body stands alone at a place, and with others it does not.
+pub record MayStandAlone (bytes : List ℕ) (start : ℕ) : Type 0 where
+  pub one : List Character
+  pub alone : stands_alone (faultless bytes ++ one) start ≡ true
+  pub other : List Character
+  pub not_alone : stands_alone (faultless bytes ++ other) start ≡ false
+
+-- Bytes end in FF, and only their check byte is missing for a body, which is FF too.
+pub record LacksOnePreamble (bytes : List ℕ) : Type 0 where
+  pub good : HasGoodByteCount bytes
+  pub last : body_length bytes ≡ length bytes + 1
+  pub before : slice_index bytes (length bytes - 1) ≡ 255
+  pub check : IsCheckByte bytes 255
+
+-- What stands at a place right before which one preamble byte alone stands: no body that stands alone, whatever comes; or that is not
+-- decided; or a body stands alone, which is a miss.
+abbrev pub IsAfterOne : List ℕ → After → ℕ → Standing → Type 0
+IsAfterOne bytes after start Nothing = Whatever bytes after (λ chars. stands_alone chars start ≡ false)
+IsAfterOne bytes after start (Open used) =
+    (after ≡ More) × (used + 1 ≡ start) × (length bytes ≤ start + 267) × MayStandAlone bytes start
+IsAfterOne bytes after start (standing.Message layout) = ⊥
+IsAfterOne bytes after start (standing.Missed miss) =
+    (miss ≡ OnePreamble) × Whatever bytes after (λ chars. stands_alone chars start ≡ true)
+
+-- What stands at a place right before which two preamble bytes stand: what may become a body, so that nothing is decided; or a message; or
+-- a miss.
+abbrev pub IsAfterTwo : List ℕ → After → ℕ → Standing → Type 0
+IsAfterTwo bytes after start Nothing = ⊥
+IsAfterTwo bytes after start (Open used) = (after ≡ More) × (used + 2 ≡ start) × IsTruncated (drop start bytes)
+IsAfterTwo bytes after start (standing.Message layout) = IsBodyAt bytes after start (at.Whole layout)
+IsAfterTwo bytes after start (standing.Missed miss) = IsBodyAt bytes after start (at.Wrong miss)
+
+-- Two preamble bytes stand right before a place, at or after another.
+abbrev pub FollowsTwo : List ℕ → ℕ → ℕ → Type 0
+FollowsTwo bytes from start = (from + 2 ≤ start) × (slice_index bytes (start - 2) ≡ 255)
+
+-- What stands at a place right before which a preamble byte stands.
+abbrev pub IsStandingAt : List ℕ → After → ℕ → ℕ → Standing → Type 0
+IsStandingAt bytes after from start standing =
+    (FollowsTwo bytes from start × IsAfterTwo bytes after start standing)
+    ⊎ ((FollowsTwo bytes from start → ⊥) × IsAfterOne bytes after start standing)
+
+-- A message starts at a place and stops at another, and the body between them is that of its frame.
+abbrev pub IsMessageAt : List ℕ → ℕ → ℕ → Sighting → Type 0
+IsMessageAt bytes start stop (given.Message view) =
+    (view.start ≡ start) × (view.stop ≡ stop) × (start < stop) × (stop ≤ length bytes)
+    × IsBody (parts_of view.frame) (slice_range bytes start stop)
+IsMessageAt bytes start stop (given.Missed place miss) = ⊥
+
+-- The list is used up to a place after another: to its end, or to the last preamble bytes, two at most.
+abbrev pub IsUsed : List ℕ → ℕ → ℕ → Type 0
+IsUsed bytes from used = (from ≤ used) × (
+    ((used ≡ length bytes) × ((from < used) → slice_index bytes (used - 1) ≢ 255))
+    ⊎ ((used + 1 ≡ length bytes) × (slice_index bytes used ≡ 255) × ((from < used) → slice_index bytes (used - 1) ≢ 255))
+    ⊎ ((used + 2 ≡ length bytes) × (slice_index bytes used ≡ 255) × (slice_index bytes (used + 1) ≡ 255)))
+
+-- All is used, with the character that has fault bits, if nothing more can matter.
+abbrev pub IsPassed : List ℕ → After → ℕ → ℕ → Type 0
+IsPassed bytes More from used = IsUsed bytes from used
+IsPassed bytes (Damaged character) from used = used ≡ length bytes + 1
+IsPassed bytes End from used = used ≡ length bytes
+
+-- Nothing is seen at a place, whatever comes: no body stands alone there after one preamble byte alone, and two do not stand before it.
+abbrev pub IsSilent : List ℕ → After → ℕ → ℕ → Type 0
+IsSilent bytes after from place =
+    (FollowsTwo bytes from place → ⊥) × Whatever bytes after (λ chars. stands_alone chars place ≡ false)
+
+-- Nothing is seen at the places up to one, right before which a preamble byte stands.
+abbrev pub AreSilent : List ℕ → After → ℕ → ℕ → Type 0
+AreSilent bytes after from to = (place : ℕ) → IsAsked bytes after from place → place ≤ to → IsSilent bytes after from place

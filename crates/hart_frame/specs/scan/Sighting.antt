@@ -1,0 +1,51 @@
+-- What is promised of the next message or miss of bytes that lie in memory (own profile).
+use Rattle.std.specs.Prelude.{◌≡◌, ◌≢◌, ◌<◌, ℕ, Bool, true, false, ⊤, List, [], ◌∷◌, ◌++◌, Option}
+use Rattle.std.specs.Prelude.{None, Some}
+use Rattle.hart_frame.specs.heard.Character.{Character, faultless}
+use Rattle.hart_frame.specs.heard.Sighting.{Message, Missed, Seen}
+use Rattle.hart_frame.specs.scan.View.{found_of}
+use Rattle.hart_frame.specs.declared.heard.miss.Miss.{Miss}
+use Rattle.hart_frame.specs.declared.heard.miss.Miss.TheVariants.{BadCheck, Faulty}
+use Rattle.hart_frame.specs.declared.scan.sighting.After.{After}
+use Rattle.hart_frame.specs.declared.scan.sighting.After.TheVariants.{Damaged, End, More}
+use Rattle.hart_frame.specs.declared.scan.sighting.Sighting.{Sighting}
+use Rattle.hart_frame.specs.declared.scan.sighting.Sighting.TheVariants as given
+
+-- Bytes that were heard without faults, and a character with fault bits after them, if one is known to come.
+abbrev pub heard_with : List ℕ → After → List Character
+heard_with bytes More = faultless bytes
+heard_with bytes (Damaged character) = faultless bytes ++ character ∷ []
+heard_with bytes End = faultless bytes
+
+-- Nothing comes after them.
+abbrev pub is_end : After → Bool
+is_end More = false
+is_end (Damaged character) = false
+is_end End = true
+
+-- A character that follows has fault bits.
+abbrev pub AfterIsValid : After → Type 0
+AfterIsValid (Damaged character) = character.faults ≢ 0
+AfterIsValid _ = ⊤
+
+-- What a sighting in memory shows.
+abbrev pub seen_of : Sighting → Seen
+seen_of (given.Message view) = Message (found_of view)
+seen_of (given.Missed place miss) = Missed place miss
+
+-- What a sighting shows, or nothing without one.
+abbrev pub sightings_of : Option Sighting → List Seen
+sightings_of None = []
+sightings_of (Some sighting) = seen_of sighting ∷ []
+
+-- The places that a miss names lie below a number.
+abbrev pub NamesPlacesBelow : ℕ → Miss → Type 0
+NamesPlacesBelow count (Faulty place faults) = place < count
+NamesPlacesBelow count (BadCheck place byte fits) = place < count
+NamesPlacesBelow count _ = ⊤
+
+-- A sighting ends at a place of so many characters: a message stops there, and a missed place stands before it, with a miss that names
+-- places of the characters alone.
+abbrev pub EndsAt : ℕ → ℕ → Sighting → Type 0
+EndsAt count used (given.Message view) = (view.start < view.stop) × (view.stop ≡ used)
+EndsAt count used (given.Missed place miss) = (place < used) × NamesPlacesBelow count miss

@@ -1,0 +1,384 @@
+//! The next message in bytes that were heard, or the next place at which one seems to start and none stands.
+ghost use Rattle.std.specs.Prelude.{None, Some, ◌≡◌, ◌↔◌, ◌<◌, ◌≤◌, ◌+◌, ◌-◌, ◌^◌, ◌++◌, [], ℕ, Bool, List, false, IfSome, IsSome};
+ghost use Rattle.std.specs.Prelude.{IsTrue, drop, length, map, take};
+ghost use Rattle.hart_frame.specs.heard.Character.{Character, faultless};
+ghost use Rattle.hart_frame.specs.heard.Sighting.{AreSightings, IsUndecidedSighting, Seen, SeesOn, has_two_preambles, moved_seen};
+ghost use Rattle.hart_frame.specs.private.Candidate.{IsWholeBody};
+ghost use Rattle.hart_frame.specs.scan.Sighting.{AfterIsValid, EndsAt};
+ghost use Rattle.hart_frame.specs.private.Sighting.{HasBodyMiss, IsAfterOne, IsAfterTwo, IsAsked, IsBodyAt, IsNextAsked};
+ghost use Rattle.hart_frame.specs.private.Sighting.{IsMessageAt, IsPassed, IsStandingAt, LacksOnePreamble, MayStandAlone};
+ghost use Rattle.hart_frame.specs.private.Sighting.{SaysWhatLacks, Whatever, ends_early};
+ghost use Rattle.hart_frame.specs.scan.Sighting.{heard_with, is_end, sightings_of};
+ghost use Rattle.hart_frame.specs.private.Sighting.{stands_alone};
+ghost use Rattle.hart_frame.specs.wire.Layout.{body_length};
+ghost use Rattle.hart_frame.specs.private.Layout.{layout_length};
+ghost use Rattle.hart_frame.specs.wire.Refusal.{IsTruncated};
+ghost use Rattle.hart_frame.specs.declared.scan.sighting.After.TheVariants.{More};
+ghost use Rattle.hart_frame.specs.declared.scan.sighting.Sighting.TheVariants.{Missed};
+
+use crate::Char;
+use crate::heard::miss::{Miss, delimiter_miss};
+use crate::scan::search::{next_preamble, preamble_end};
+use crate::scan::view::{FoundView, FrameView};
+use crate::wire::delimiter::read_delimiter;
+use crate::wire::layout::Layout;
+use crate::wire::message::PREAMBLE;
+use crate::wire::parity::body_check;
+
+/// What comes after bytes that were heard without faults.
+#[derive(Clone, Copy, Debug, PartialEq, Eq)]
+pub enum After {
+    /// It is not heard yet.
+    More,
+    /// This character, which has fault bits.
+    Damaged(Char),
+    /// Nothing.
+    End,
+}
+
+/// A message, or a place that has none though one seems to start there.
+#[derive(Drop)]
+pub enum Sighting<'a> {
+    /// A message, whose frame lies where it was found.
+    Message(FoundView<'a>),
+    /// Why no frame stands at this place.
+    Missed { place: usize, miss: Miss },
+}
+
+/// The next sighting in bytes.
+#[derive(Drop)]
+pub struct NextSighting<'a> {
+    /// The next message or miss, or `None` if none is decided, or none is left.
+    pub sighting: Option<Sighting<'a>>,
+    /// The place from which on the later ones stand.
+    pub used: usize,
+}
+
+/// Returns the next message or miss of bytes that were heard without faults and of what comes after them.
+///
+/// The preamble bytes of the message, or those before the place of the miss, stand at `from` or after it. Sightings come in the order of
+/// their places. A whole body after one `FF` alone is a miss only if it ends before two `FF` in a row begin. Places are counted from
+/// the first byte that is passed, also those in a miss.
+///
+/// The sighting after it is the next one from [`NextSighting::used`] on. If there is none, and the bytes ended or a character with fault
+/// bits follows them, all of them are used. If more may follow, at most 268 bytes are not used, and these decide nothing.
+pub fn next_sighting(bytes: &[u8], after: After, from: usize) -> NextSighting<'_>
+    requires within { from ≤ length (heard_with bytes.now after) }
+    requires valid { AfterIsValid after }
+    requires places { length bytes.now < 2 ^ 64 - 1 }
+    ensures sightings { SeesOn (heard_with bytes.now after) (is_end after) from (sightings_of result.sighting) result.used }
+    ensures within { result.used ≤ length (heard_with bytes.now after) }
+    ensures onward { from ≤ result.used }
+    ensures further { IfSome result.sighting (λ sighting. from < result.used) }
+    ensures places { IfSome result.sighting (EndsAt (length (heard_with bytes.now after)) result.used) }
+    ensures few { result.sighting ≡ None → length (heard_with bytes.now after) < result.used + 269 }
+    ensures all { result.sighting ≡ None → (after ≡ More → ⊥) → result.used ≡ length (heard_with bytes.now after) }
+    ensures undecided { result.sighting ≡ None → after ≡ More → IsUndecidedSighting (heard_with (drop result.used bytes.now) More) }
+{
+    if from > bytes.len() {
+        return none_decided(from);
+    }
+    let mut place = from;
+    while let Some(start) = next_asked(bytes, &after, place) {
+        match standing_at(bytes, &after, from, start) {
+            Standing::Nothing => place = start,
+            Standing::Open(used) => return none_decided(used),
+            Standing::Message(layout) => return message_at(bytes, start, layout),
+            Standing::Missed(miss) => return missed(start, miss),
+        }
+    }
+    none_decided(passed(bytes, &after, from))
+}
+
+/// Returns no sighting, with the place up to which all is used.
+fn none_decided<'a>(used: usize) -> NextSighting<'a>
+    ensures { result ≡ record { sighting = None; used = used } }
+{
+    NextSighting {
+        sighting: None,
+        used,
+    }
+}
+
+/// Returns the miss of a place.
+fn missed<'a>(place: usize, miss: Miss) -> NextSighting<'a>
+    requires { place < 2 ^ 64 - 1 }
+    ensures { result ≡ record { sighting = Some (Missed place miss); used = place + 1 } }
+{
+    NextSighting {
+        sighting: Some(Sighting::Missed { place, miss }),
+        used: place + 1,
+    }
+}
+
+/// Returns the message whose body stands at `start` by this layout.
+fn message_at(bytes: &[u8], start: usize, layout: Layout) -> NextSighting<'_>
+    requires order { start ≤ length bytes.now }
+    requires places { length bytes.now < 2 ^ 64 - 1 }
+    requires within { layout_length layout ≤ length (drop start bytes.now) }
+    requires whole { IsWholeBody layout (take (layout_length layout) (drop start bytes.now)) }
+    ensures message { IfSome result.sighting (IsMessageAt bytes.now start result.used) }
+    ensures some { IsSome result.sighting }
+    ensures used { result.used ≡ start + layout_length layout }
+{
+    let stop = start + layout.body_len();
+    NextSighting {
+        sighting: Some(Sighting::Message(FoundView {
+            start: start as u64,
+            stop: stop as u64,
+            frame: FrameView::view_in(layout, &bytes[start..stop]),
+        })),
+        used: stop,
+    }
+}
+
+/// What stands at a place right before which a preamble byte stands.
+#[derive(Clone, Copy)]
+pub(crate) enum Standing {
+    /// Nothing that is seen.
+    Nothing,
+    /// What is not decided yet. All before this place is used.
+    Open(usize),
+    /// A message, by the layout of its body.
+    Message(Layout),
+    /// A miss.
+    Missed(Miss),
+}
+
+/// Returns what stands at `start`.
+fn standing_at(bytes: &[u8], after: &After, from: usize, start: usize) -> Standing
+    requires asked { IsAsked bytes.now after.now from start }
+    requires valid { AfterIsValid after.now }
+    requires places { length bytes.now < 2 ^ 64 - 1 }
+    ensures { IsStandingAt bytes.now after.now from start result }
+{
+    if start >= from + 2 && bytes[start - 2] == PREAMBLE {
+        return after_two(bytes, after, start);
+    }
+    after_one(bytes, after, start)
+}
+
+/// Returns what stands at `start` if two preamble bytes stand right before it.
+fn after_two(bytes: &[u8], after: &After, start: usize) -> Standing
+    requires two { 2 ≤ start }
+    requires within { start ≤ length bytes.now }
+    requires valid { AfterIsValid after.now }
+    requires places { length bytes.now < 2 ^ 64 - 1 }
+    ensures { IsAfterTwo bytes.now after.now start result }
+{
+    match body_at(bytes, after, start) {
+        BodyAt::Open(_) => Standing::Open(start - 2),
+        BodyAt::Whole(layout) => Standing::Message(layout),
+        BodyAt::Wrong(miss) => Standing::Missed(miss),
+    }
+}
+
+/// Returns what stands at `start` if one preamble byte alone stands right before it: a body is a miss there if it ends before two preamble
+/// bytes in a row begin.
+fn after_one(bytes: &[u8], after: &After, start: usize) -> Standing
+    requires one { 1 ≤ start }
+    requires within { start ≤ length bytes.now }
+    requires valid { AfterIsValid after.now }
+    requires places { length bytes.now < 2 ^ 64 - 1 }
+    ensures { IsAfterOne bytes.now after.now start result }
+{
+    match body_at(bytes, after, start) {
+        BodyAt::Open(at_end) => {
+            if can_stand_alone(&bytes[start..], at_end) {
+                Standing::Open(start - 1)
+            } else {
+                Standing::Nothing
+            }
+        }
+        BodyAt::Whole(layout) => lone_body(bytes, after, start, start + layout.body_len()),
+        BodyAt::Wrong(_) => Standing::Nothing,
+    }
+}
+
+/// Returns what stands at `start` if a whole body stands there after one preamble byte alone, up to `stop`.
+fn lone_body(bytes: &[u8], after: &After, start: usize, stop: usize) -> Standing
+    requires one { 1 ≤ start }
+    requires order { start < stop }
+    requires within { stop ≤ length bytes.now }
+    requires body { body_length (drop start bytes.now) ≡ stop - start }
+    requires long { stop ≤ start + 267 }
+    requires whole { Whatever bytes.now after.now (HasBodyMiss start None) }
+    requires valid { AfterIsValid after.now }
+    requires places { length bytes.now < 2 ^ 64 - 1 }
+    ensures { IsAfterOne bytes.now after.now start result }
+{
+    let end = bytes.len().min(stop + 1);
+    if has_two_preambles(&bytes[start..end]) {
+        return Standing::Nothing;
+    }
+    if *after == After::More && stop == bytes.len() && bytes[stop - 1] == PREAMBLE {
+        return Standing::Open(start - 1);
+    }
+    Standing::Missed(Miss::OnePreamble)
+}
+
+/// Whether bytes that may become a body, and have this miss at an end, may become one in which no two preamble bytes in a row begin.
+fn can_stand_alone(bytes: &[u8], at_end: Miss) -> bool
+    requires truncated { IsTruncated bytes.now }
+    requires lacks { SaysWhatLacks bytes.now at_end }
+    ensures may { IsTrue result → MayStandAlone bytes.now 0 }
+    ensures never { result ≡ false → (more : List Character) → stands_alone (faultless bytes.now ++ more) 0 ≡ false }
+{
+    !has_two_preambles(bytes) && !lacks_one_preamble(bytes, at_end)
+}
+
+/// Whether bytes that have this miss at an end end in a preamble byte, and lack their check byte alone, which is another.
+fn lacks_one_preamble(bytes: &[u8], at_end: Miss) -> bool
+    requires { SaysWhatLacks bytes.now at_end }
+    ensures { IsTrue result ↔ LacksOnePreamble bytes.now }
+{
+    if at_end != (Miss::Missing { count: 1 }) {
+        return false;
+    }
+    bytes.last() == Some(&PREAMBLE) && body_check(bytes) == PREAMBLE
+}
+
+/// Whether two preamble bytes stand in a row.
+fn has_two_preambles(bytes: &[u8]) -> bool
+    ensures { result ≡ has_two_preambles bytes.now }
+{
+    let mut before = false;
+    for byte in bytes {
+        let preamble = *byte == PREAMBLE;
+        if before && preamble {
+            return true;
+        }
+        before = preamble;
+    }
+    false
+}
+
+/// Returns the place up to which bytes are used in which nothing is open. They are used with the character that has fault bits, if one
+/// follows. If more may follow, the last preamble bytes, two at most, are not used.
+fn passed(bytes: &[u8], after: &After, from: usize) -> usize
+    requires within { from ≤ length bytes.now }
+    requires places { length bytes.now < 2 ^ 64 - 1 }
+    ensures { IsPassed bytes.now after.now from result }
+{
+    let len = bytes.len();
+    match after {
+        After::End => len,
+        After::Damaged(_) => len + 1,
+        After::More => {
+            if len == from || bytes[len - 1] != PREAMBLE {
+                len
+            } else if len - 1 == from || bytes[len - 2] != PREAMBLE {
+                len - 1
+            } else {
+                len - 2
+            }
+        }
+    }
+}
+
+/// Finds the next place right before which a preamble byte stands, at `from` or after it, and at which another character stands.
+fn next_asked(bytes: &[u8], after: &After, from: usize) -> Option<usize>
+    requires within { from ≤ length bytes.now }
+    ensures { IsNextAsked bytes.now after.now from result }
+{
+    let first = next_preamble(bytes, from);
+    if first == bytes.len() {
+        return None;
+    }
+    let place = preamble_end(bytes, first);
+    let stands = place < bytes.len() || matches!(after, After::Damaged(_));
+    stands.then_some(place)
+}
+
+/// What stands where a body may begin.
+#[derive(Clone, Copy)]
+pub(crate) enum BodyAt {
+    /// What may become a body, and has this miss if the bytes end.
+    Open(Miss),
+    /// A body, by this layout.
+    Whole(Layout),
+    /// No body, for this reason.
+    Wrong(Miss),
+}
+
+/// Returns what stands at a place.
+fn body_at(bytes: &[u8], after: &After, start: usize) -> BodyAt
+    requires within { start ≤ length bytes.now }
+    requires valid { AfterIsValid after.now }
+    requires places { length bytes.now < 2 ^ 64 - 1 }
+    ensures { IsBodyAt bytes.now after.now start result }
+{
+    let heard = &bytes[start..];
+    let Some(first) = heard.first() else {
+        return ends_early(bytes, after, Miss::EndsBeforeByteCount);
+    };
+    let Some(delimiter) = read_delimiter(*first) else {
+        return BodyAt::Wrong(delimiter_miss(*first));
+    };
+    let Some(byte_count) = heard.get(delimiter.byte_count_place()) else {
+        return ends_early(bytes, after, Miss::EndsBeforeByteCount);
+    };
+    let Some(layout) = delimiter.layout(*byte_count) else {
+        return BodyAt::Wrong(Miss::ShortReply {
+            byte_count: *byte_count,
+        });
+    };
+    let len = layout.body_len();
+    if heard.len() < len {
+        let count = len - heard.len();
+        return ends_early(bytes, after, Miss::Missing { count });
+    }
+    let check = body_check(&heard[..len]);
+    if check == 0 {
+        return BodyAt::Whole(layout);
+    }
+    let last = heard[len - 1];
+    BodyAt::Wrong(Miss::BadCheck {
+        place: start + len - 1,
+        byte: last,
+        fits: check ^ last,
+    })
+}
+
+/// Returns what stands where the bytes stop too early for a body. If more may follow, they may become one; otherwise it is the character
+/// with fault bits after them, or the reason at an end.
+fn ends_early(bytes: &[u8], after: &After, at_end: Miss) -> BodyAt
+    ensures { result ≡ ends_early bytes.now after.now at_end }
+{
+    match after {
+        After::More => BodyAt::Open(at_end),
+        After::End => BodyAt::Wrong(at_end),
+        After::Damaged(character) => BodyAt::Wrong(Miss::Faulty {
+            place: bytes.len(),
+            faults: character.faults(),
+        }),
+    }
+}
+
+/// The rest of a list, from a place on, has exactly the sightings of the list from that place on, so many places later. So whoever keeps
+/// only the rest has all that are left.
+pub fn the_rest_has_the_later_sightings()
+    ensures { (place : ℕ) (chars : List Character) (seen : List Seen)
+        → AreSightings (drop place chars) 0 seen → AreSightings chars place (map (moved_seen place) seen) }
+{}
+
+/// A list of characters has one list of sightings from each place on.
+pub fn sightings_are_unambiguous()
+    ensures one { (chars : List Character) (from : ℕ) (xs ys : List Seen)
+        → AreSightings chars from xs → AreSightings chars from ys → xs ≡ ys }
+    ensures some { (chars : List Character) (from : ℕ) → (seen : List Seen) × AreSightings chars from seen }
+{}
+
+/// The sightings that are given one after another are the next ones, also of characters that grow at their end. With what comes after the
+/// characters, the rest alone has those that are left. Once all characters are used, they are all sightings of the list.
+pub fn next_sightings_are_all()
+    ensures onward { (chars : List Character) (ended : Bool) (from to after : ℕ) (given found : List Seen)
+        → SeesOn chars ended from given to → SeesOn chars ended to found after → SeesOn chars ended from (given ++ found) after }
+    ensures grown { (chars piece : List Character) (ended : Bool) (from to : ℕ) (given : List Seen)
+        → SeesOn chars false from given to → SeesOn (chars ++ piece) ended from given to }
+    ensures rest { (chars more : List Character) (ended : Bool) (given later : List Seen) (to : ℕ) → to ≤ length chars
+        → SeesOn chars ended 0 given to → (IsTrue ended → more ≡ []) → AreSightings (drop to chars ++ more) 0 later
+        → AreSightings (chars ++ more) 0 (given ++ map (moved_seen to) later) }
+    ensures all { (chars : List Character) (ended : Bool) (given : List Seen) → SeesOn chars ended 0 given (length chars)
+        → AreSightings chars 0 given }
+{}
