@@ -24,14 +24,14 @@ pub enum InputEnd {
     Ended,
     /// A read failed.
     ReadFailed,
-    /// A further byte was there after [`INPUT_LIMIT`] of them.
+    /// A further byte was there after the last one within the limit, which is [`INPUT_LIMIT`] but for `serve`.
     TooLong,
 }
 
 /// What one read gave: bytes at the beginning of its buffer, and how the input came to its end with them, if it did.
 #[derive(Clone, Copy)]
 pub struct Portion {
-    /// The number of bytes that are still within [`INPUT_LIMIT`].
+    /// The number of bytes that are still within the limit.
     pub len: usize,
     /// Why there are no more of them, or `None` if there may be.
     pub end: Option<InputEnd>,

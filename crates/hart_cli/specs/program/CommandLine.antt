@@ -57,7 +57,7 @@ hart_alone =
     } in
     record plain { top = top }
 
--- Its subcommands that read what is heard at once are `answer`, `dump` and `explain`; `dump` and `explain` take no words.
+-- Its subcommands that read what was heard are `answer`, `dump` and `explain`; `dump` and `explain` take no words.
 abbrev pub hearing_app : App
 hearing_app =
     let answer = with_subcommand hart_alone (image_app (codes "answer")).top in

@@ -39,7 +39,7 @@ word_said Image device = image_line device
 word_said Counter device = counter_line device
 word_said _ device = line_of (codes "ok" ∷ [])
 
--- The line of a device's answer is that of its message, with as many preamble bytes as the identity says; silence is `-`.
+-- The line of a device's answer is that of its message, with the identity's number of response preambles; silence is `-`.
 abbrev pub IsReplyLine : DeviceState → Option FrameParts → List ℕ → Type 0
 IsReplyLine device None said = said ≡ line_of (codes "-" ∷ [])
 IsReplyLine device (Some reply) said = IsMessageLine reply device.identity.response_preambles said
@@ -55,8 +55,8 @@ pub record Hears (device : DeviceState) (delivery : List Character) (after : Dev
 abbrev pub bad_line : List ℕ → List ℕ
 bad_line reason = codes "bad line: " ++ reason ++ 10 ∷ []
 
--- A device serves a line with a line. A line of more than 1,048,576 bytes is too long, and changes nothing. Any other one is one of the
--- words, or the device hears the characters that it reads as, or it has bad hex at a place, which changes nothing.
+-- What a device says to one line, and its state afterwards. A line of more than 1,048,576 bytes is too long, and changes nothing. Any
+-- other is one of the words, or the device hears the characters that it reads as, or it has bad hex at a place, which changes nothing.
 pub data ServesLine (device : DeviceState) (line : List ℕ) : DeviceState → List ℕ → Type 0 where
   too_long : input_limit < length line → ServesLine device line device (bad_line (codes "too long"))
   word : (word : LineWord) → length line ≤ input_limit → named_in line_words line ≡ Some word

@@ -11,7 +11,7 @@ use Rattle.hart_cli.specs.input.Input.{CameTo, Ending, Left, ReadsToWithin, inpu
 use Rattle.hart_cli.specs.serve.Line.{ServesLine}
 use Rattle.hart_cli.specs.stream.Stream.{FailsToWrite, Stream, WritesAll}
 
--- A device serves lines one after another: it serves each as what the lines before left of it.
+-- A device serves lines one after another, each in the state that the lines before left.
 pub data Serves : DeviceState → List (List ℕ) → DeviceState → List ℕ → Type 0 where
   nothing : (device : DeviceState) → Serves device [] device []
   first : (device next after : DeviceState) (line : List ℕ) (lines : List (List ℕ)) (said text : List ℕ)
@@ -48,8 +48,8 @@ pub record ServesTo (device : DeviceState) (ending : Ending) (reader reader_afte
   pub is_served : IsServed device input ending text
   pub wrote : WritesAll writer writer_after text
 
--- What the device says to all whole lines was written that stand before the last bytes of an input, of which there are no more than one
--- read gives.
+-- What the device says to all whole lines before some last part of the input was written. That part has at most 16,384 bytes, the most that
+-- one read gives.
 pub record SaidInTime (device : DeviceState) (input : List ℕ) (writer writer_after : Stream) : Type 0 where
   pub before : List ℕ
   pub last : List ℕ

@@ -106,8 +106,8 @@ abbrev pub asked_content : DeviceState → Process → Reading → ReplyContent
 asked_content state process (Ok request) = reply_content state process request
 asked_content state process (Err code) = Refused
 
--- What the device replies to a frame that it answers: the code of the frame; and the status and, with code 0, what was asked, by the state
--- after the command. With another code it says nothing else. So a reply shows the cold start bit that it clears.
+-- What the device replies to a frame that it answers: the code of the frame, and the status after the command; with code 0 also the data
+-- that were asked for, by the state after the command. So a reply shows the cold start bit that it clears.
 abbrev pub reply_of : DeviceState → Process → FrameParts → Reply
 reply_of state process frame = record {
   command = frame.command;

@@ -25,6 +25,6 @@ abbrev pub IsUndecided : List Character → Type 0
 IsUndecided chars = HasNoFrame chars 0
     ⊎ ((place : ℕ) × IsOpen place chars × ((found : Found) → StandsIn found chars 0 → place < found.start))
 
--- A found frame moved by a number of places: the same frame, which starts and stops that number later.
+-- A found frame, moved: the same frame, with both its places increased by `places`.
 abbrev pub moved : ℕ → Found → Found
 moved places found = record { start = places + found.start; stop = places + found.stop; frame = found.frame }

@@ -1,5 +1,5 @@
 -- The miss of a place, found step by step (HCF_SPEC-081; own profile). It is the one that `IsMiss` of InTheWay allows, as a law says
--- (`misses_are_in_the_way`): whoever believes that relation need not read this.
+-- (`misses_are_in_the_way`). The texts of `explain` and the sightings of a list are said by it.
 use Rattle.std.specs.Prelude.{◌+◌, ◌-◌, ◌/◌, ◌%◌, ◌==◌, ◌&&◌, ◌||◌, not, nat_le, nat_lt, if◌then◌else◌, ℕ, zero, suc, Bool, false}
 use Rattle.std.specs.Prelude.{List, Option, None, Some, drop, fold, is_none, length, slice_get, slice_index, take, bit_xor}
 use Rattle.std.specs.Option.{option_map_or}

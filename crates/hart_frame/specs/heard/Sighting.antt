@@ -23,7 +23,7 @@ miss_in_whole from (Faulty place faults) = Faulty (from + place) faults
 miss_in_whole from (BadCheck place byte fits) = BadCheck (from + place) byte fits
 miss_in_whole from miss = miss
 
--- A sighting, moved by so many places.
+-- A sighting, moved: the same one, with its places increased by `places`.
 abbrev pub moved_seen : ℕ → Seen → Seen
 moved_seen places (Message found) = Message (moved places found)
 moved_seen places (Missed place miss) = Missed (places + place) (miss_in_whole places miss)

@@ -44,8 +44,8 @@ NamesPlacesBelow count (Faulty place faults) = place < count
 NamesPlacesBelow count (BadCheck place byte fits) = place < count
 NamesPlacesBelow count _ = ⊤
 
--- A sighting ends at a place of so many characters: a message stops there, and a missed place stands before it, with a miss that names
--- places of the characters alone.
+-- A sighting ends at a place of `count` characters: a message stops there, and a missed place stands before it, with a miss that names
+-- places below `count` alone.
 abbrev pub EndsAt : ℕ → ℕ → Sighting → Type 0
 EndsAt count used (given.Message view) = (view.start < view.stop) × (view.stop ≡ used)
 EndsAt count used (given.Missed place miss) = (place < used) × NamesPlacesBelow count miss

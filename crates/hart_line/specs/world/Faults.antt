@@ -26,7 +26,7 @@ HeardIn start world (Turn who up down) legs.Down heard sent = (heard ≡ down) �
 HeardIn start world (Noise chars) legs.Noise heard sent = (heard ≡ Chars chars) × (sent ≡ None)
 HeardIn start world _ _ heard sent = ⊥
 
--- A leg has damage of a kind if what is heard in it is such damage of what was sent in it.
+-- A leg has damage of a kind if `IsDamage` holds of what is heard and what was sent in it.
 abbrev pub HasDamage : (Heard → Option SpokenFrame → Type 0) → Start → World → LineEvent → Leg → Type 0
 HasDamage IsDamage start world event leg =
     (heard : Heard) × (sent : Option SpokenFrame) × HeardIn start world event leg heard sent × IsDamage heard sent

@@ -33,7 +33,7 @@ IsNotingFault Needs AreNoted start events (Undetected number leg) = (undetected 
 IsNotingFault Needs AreNoted start events (Memory room) = IsNeededByNoting Needs start events room.items
 IsNotingFault Needs AreNoted start events (BadLine line) = ⊥
 
--- Events with a log were carried out, and this is given back: they have led to that, all that was spoken has been noted, and what is
+-- Events were carried out with a log: they led to this device and these outcomes, every frame that was spoken has been noted, and what is
 -- promised of scripts holds.
 pub record AreCarriedOut (AreNoted : List Spoken → Type 0) (start : Start) (events : List LineEvent) (device : DeviceState)
     (outcomes : List Outcome) : Type 0 where

@@ -209,7 +209,8 @@ restart is shown once to each master. What serving takes of memory does not
 grow with the number of lines.
 
 Standard error says why serving ended if the input did not end: read fault;
-write fault.",
+write fault; input too long, after 2^64 - 1 bytes. Before the first line it
+may say: out of memory; what is wrong with the image, as in hart answer.",
     example: "\
 Examples:
   printf '%s\\n' restart 'FF FF 02 80 00 00 82' counter | hart serve
@@ -218,7 +219,7 @@ writes
   FF FF FF FF FF 06 80 00 18 00 20 FE 37 42 05 07 01 02 18 00 0A 1B 2C 05 04 00 00 00 00 37 00 37 01 11
   counter 0
 and as a device at a pseudo-terminal, with each line of hex a delivery,
-  socat PTY,link=/tmp/device,rawer EXEC:'hart serve'",
+  socat PTY,link=device,rawer EXEC:'hart serve'",
 };
 
 pub(super) const SIM: Page = Page {
