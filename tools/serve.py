@@ -5,7 +5,7 @@ Each row of the vectors is heard by a process of its own, which begins with the 
 Then one process hears all rows, with a restart and the image between two of them; and one hears deliveries, each after it has answered the
 one before, and may not take more memory than at their beginning.
 
-Usage: tools/serve.py PROGRAM [--deliveries N]; N is 20000 if absent.
+Usage: tools/serve.py PROGRAM [--deliveries N]; N is 100000 if absent.
 """
 
 import argparse
@@ -108,7 +108,7 @@ def main():
     """Runs all of them."""
     parser = argparse.ArgumentParser(description=__doc__.split("\n", maxsplit=1)[0])
     parser.add_argument("program", help="the built program")
-    parser.add_argument("--deliveries", type=int, default=20000, help="how many lines are sent one by one")
+    parser.add_argument("--deliveries", type=int, default=100000, help="how many lines are sent one by one")
     chosen = parser.parse_args()
     program = os.path.realpath(chosen.program)
     each_row_alone(program)

@@ -1,4 +1,5 @@
 mod line;
+mod sighting;
 mod start;
 mod stream;
 
