@@ -1,8 +1,7 @@
 //! Laws over the definitions alone, for the crates above.
 ghost use Rattle.std.specs.Prelude.{◌≡◌, ◌≢◌, ◌==◌, ◌||◌, ◌<◌, ◌≤◌, All, AllPairs, Contains, ◌↔◌, ◌++◌, List, ℕ, false, true, Ok, Err, Some};
 ghost use Rattle.std.specs.Prelude.{IsTrue, IsSome, drop, is_some, length, take};
-ghost use Rattle.hart_commands.specs.RequestData.{IsRequest, MayFollow, command_of, is_known};
-ghost use Rattle.hart_commands.specs.RequestData.{request_reading, request_data};
+ghost use Rattle.hart_commands.specs.RequestData.{IsRequest, MayFollow, command_of, is_known, request_data, request_reading};
 ghost use Rattle.hart_commands.specs.Commands.{command_name, reply_rows, request_rows, written_by};
 ghost use Rattle.hart_commands.specs.Fields.{bytes_of, field_bytes, fields_of};
 ghost use Rattle.hart_commands.specs.FieldWidths.{HasWidthOfKind};
@@ -10,8 +9,7 @@ ghost use Rattle.hart_commands.specs.NeededData.{AreTooFew, needed_data};
 ghost use Rattle.hart_commands.specs.Parts.{content_bytes, content_parts, request_parts};
 ghost use Rattle.hart_commands.specs.RequestCode.{is_write};
 ghost use Rattle.hart_commands.specs.Registers.{AreValid, Contents, named_in, overwrite_of, overwritten, registers};
-ghost use Rattle.hart_commands.specs.ReplyData.{IsReply};
-ghost use Rattle.hart_commands.specs.ReplyData.{reply_reading, reply_payload};
+ghost use Rattle.hart_commands.specs.ReplyData.{IsReply, reply_payload, reply_reading};
 ghost use Rattle.hart_commands.specs.declared.register.Register.{Register};
 ghost use Rattle.hart_commands.specs.declared.request.Request.{Request};
 ghost use Rattle.hart_commands.specs.declared.reply.Reply.{Reply};

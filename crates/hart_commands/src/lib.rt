@@ -16,14 +16,11 @@
 //! [`writes_of`] says which registers a write gives which bytes. Who answers, and with what, is not of this crate. No call
 //! of it takes memory.
 //!
-//! Each command has a name, [`command_name`], and so has each field of its data, in [`request_rows`] and [`reply_rows`]: by
-//! these rows data fall into the parts that they have. How many bytes a field of each kind may have says the law
-//! [`laws::fields_have_the_width_of_their_kind`]. How many of the bytes that were heard a request or a reply takes say
-//! [`Request::data_len`] and [`Reply::data_len`], and how many a command needs says [`needed_data`].
+//! [`command_name`] names a command; [`request_rows`] and [`reply_rows`] name the fields into which its data fall. [`needed_data`] says how
+//! many data bytes a command needs; [`Request::data_len`] and [`Reply::data_len`], how many a request or a reply takes.
 //!
-//! The other crates of `hart` call neither [`is_write`] nor [`CodeList::new`]: these are for whoever makes requests with this
-//! library. The module [`laws`] has what is proved of the definitions alone: that a written request or reply is read again, that names and
-//! fields cover the data, which commands write, and that overwrites are valid.
+//! Nothing else of `hart` calls [`is_write`] or [`CodeList::new`]: they are for programs that make requests. [`laws`] has what is proved of
+//! the definitions alone: that what is written is read again, that fields cover the data, which commands write, what widths fields have.
 #![tactic(auto)]
 
 mod code_list;

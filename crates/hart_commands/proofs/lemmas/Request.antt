@@ -9,8 +9,7 @@ use Rattle.hart_values.proofs.lemmas.Laws.{dates_are_decided-date}
 use Rattle.hart_commands.specs.RequestData.{IsRequest, MayFollow, command_of, request_reading, request_data}
 use Rattle.hart_commands.specs.RequestReading.{needing, tag_reading}
 use Rattle.hart_commands.specs.declared.request.Request.{Request}
-use Rattle.hart_commands.specs.declared.request.Request.TheVariants.{SetPolling, ReadVariables, WriteTag}
-use Rattle.hart_commands.specs.declared.request.Request.TheVariants.{ResetChanged}
+use Rattle.hart_commands.specs.declared.request.Request.TheVariants.{SetPolling, ReadVariables, ResetChanged, WriteTag}
 use Rattle.hart_commands.proofs.lemmas.Parts.{spelled}
 
 -- needed bytes are read, whatever follows
