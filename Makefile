@@ -14,6 +14,7 @@
 #   make held-view            tries that nothing is pushed to a scanner while a view of it is held, as make check does
 #   make fuzz N=..            holds ./hart against a plain model of it on N random inputs; make check does not
 #   make manual               holds the page of man and the completion for bash against the help of ./hart, as make check does
+#   make links                finds dead links in the pages, as make check does
 #   make install PREFIX=DIR   puts hart into DIR/bin, and its page of man, the completion and the guide into DIR/share
 #   make library              proves the library for C and leaves it as build/libhart.a and build/libhart.so
 #   make library-examples     makes each call of the library from C, builds its examples and holds them against ./hart, as make check does
@@ -27,7 +28,7 @@ TESTS := crates/hart_tests/out/hart_tests_tests
 GUIDE := docs/GUIDE.md docs/COMMANDS.md docs/PROTOCOL.md docs/vectors.tsv
 SOURCES := crates.txt $(shell find crates -name out -prune -o \( -name '*.rt' -o -name '*.antt' \) -print)
 
-.PHONY: all quick check test mistakes mistakes-table runs refused-growths streams examples vectors manual held-view library library-examples fuzz bench install install-library clean
+.PHONY: all quick check test mistakes mistakes-table runs refused-growths streams examples vectors manual held-view links library library-examples fuzz bench install install-library clean
 
 all: hart
 
@@ -55,6 +56,7 @@ test: hart
 	sh tools/manual.sh
 	sh tools/held-view.sh
 	sh tools/library-examples.sh
+	python3 tools/links.py
 
 mistakes:
 	python3 tools/mistakes.py
@@ -65,6 +67,9 @@ mistakes-table:
 
 held-view:
 	sh tools/held-view.sh
+
+links:
+	python3 tools/links.py
 
 refused-growths: $(TESTS)
 
