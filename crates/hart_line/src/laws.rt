@@ -1,5 +1,5 @@
 //! Laws over the definitions alone, for the crates above.
-ghost use Rattle.std.specs.Prelude.{◌≡◌, ◌<◌, ◌≤◌, ◌^◌, [], List, ℕ, Some};
+ghost use Rattle.std.specs.Prelude.{◌≡◌, ◌⊎◌, ◌<◌, ◌≤◌, ◌^◌, [], List, ℕ, Some};
 ghost use Rattle.std.specs.List.{AllPass};
 ghost use Rattle.hart_values.specs.declared.address.Address.{Address};
 ghost use Rattle.hart_values.specs.declared.address.Address.TheVariants.{Unique};
@@ -35,6 +35,12 @@ pub fn words_have_one_value()
     ensures command { (word : List ℕ) (m n : ℕ) → IsCommandWord word m → IsCommandWord word n → m ≡ n }
     ensures payload { (word xs ys : List ℕ) → IsDataWord word xs → IsDataWord word ys → xs ≡ ys }
     ensures items { (word : List ℕ) (xs ys : List Character) → AreItems word xs → AreItems word ys → xs ≡ ys }
+{}
+
+/// Every text is a script, or it has a first bad line; by [`texts_have_one_script`] one script or one such line, and not both.
+pub fn every_text_is_a_script_or_has_a_first_bad_line()
+    ensures { (text : List ℕ)
+        → ((events : List LineEvent) × IsScript text events) ⊎ ((number : ℕ) × HasFirstBadLine text number) }
 {}
 
 /// The lines of a text say one script at most, a text has one first bad line at most, and none if it is a script.

@@ -1,15 +1,13 @@
 //! The HART line: a device and its two masters, and what an event does to them.
 ghost use Rattle.std.specs.Prelude.{◌≡◌, ◌<◌, [], ◌∷◌, Any, IfErr, OnOk};
 ghost use Rattle.std.specs.Option.{option_copied};
-ghost use Rattle.hart_values.specs.EachMaster.{of_master};
 ghost use Rattle.hart_commands.specs.RequestData.{IsRequest};
 ghost use Rattle.hart_device.specs.Device.{IsDevice};
+ghost use Rattle.hart_device.specs.declared.process.Process.{Process};
 ghost use Rattle.hart_line.specs.line.Room.{HasRoomFor, LeavesRoom};
-ghost use Rattle.hart_line.specs.line.Line.{Stands, StepsOn, StopsAt};
+ghost use Rattle.hart_line.specs.line.Line.{StepsOn, StopsAt};
 ghost use Rattle.hart_line.specs.world.Promises.{AreWellMade};
 ghost use Rattle.hart_line.specs.world.Spoken.{frame_if, party_of};
-ghost use Rattle.hart_line.specs.world.Step.{submission_fault, submitted};
-ghost use Rattle.hart_line.specs.world.World.{Start, World};
 ghost use Rattle.hart_line.specs.declared.event.LineEvent.TheVariants.{Noise, Submit, Turn};
 
 use crate::line::event_frames::EventFrames;
@@ -167,8 +165,7 @@ impl<S: RegisterStore> Line<S> {
     /// A submission of a master.
     fn submit(&mut self, who: MasterId, address: Address, request: &Request)
         requires room { HasRoomFor (Submit who address request.now ∷ []) self.old }
-        ensures stands { (start : Start) (world : World) → Stands start world self.old → Stands start
-            (submitted world who address request.now (submission_fault (of_master who world.hands) address request.now)) self.new }
+        ensures stepped { (process : Process) → StepsOn process (Submit who address request.now) self.old self.new }
         ensures well_made { IsRequest request.now }
         ensures room { LeavesRoom (Submit who address request.now) self.old self.new }
     {

@@ -1,14 +1,14 @@
 -- The laws of scripts and of their worlds, for the proofs of this crate and of those above.
-use Rattle.hart_line.proofs.Common.{arith, length, take, refl, ◌≡◌, ◌<◌, ◌≤◌, ◌^◌, ℕ, List, mod-eq_of_lt, common_steps, take_all}
-use Rattle.hart_line.proofs.Common.{slice_get_within, after_refusal, registers_of_lists-none, LineEvent, Leg, LineFault, Undetected, Spoken}
+use Rattle.hart_line.proofs.Common.{arith, length, take, refl, ◌≡◌, ◌<◌, ◌^◌, ℕ, List, mod-eq_of_lt, common_steps, take_all}
+use Rattle.hart_line.proofs.Common.{slice_get_within, registers_of_lists-none, LineEvent, Leg, Undetected, Spoken}
 use Rattle.hart_line.proofs.Common.{Outcome, DeviceState}
-use Rattle.hart_line.specs.world.Faults.{AreAllDetected, IsFault, IsNotDetectable}
+use Rattle.hart_line.specs.world.Faults.{IsFault}
 use Rattle.hart_line.specs.world.Kept.{KeepsPromises}
-use Rattle.hart_line.specs.world.Promises.{AreWellMade, IsRefusedByDevice, IsWellMadeStart}
+use Rattle.hart_line.specs.world.Promises.{AreWellMade, IsWellMadeStart}
 use Rattle.hart_line.specs.world.Step.{IsLast}
 use Rattle.hart_line.specs.world.World.{Start, World, first_world, state_of}
 use Rattle.hart_line.proofs.lemmas.world.Answered.{answered_last}
-use Rattle.hart_line.proofs.lemmas.world.Leads.{fault_before, fault_not_detectable, leads_exists, leads_one, undetected_one}
+use Rattle.hart_line.proofs.lemmas.world.Leads.{fault_before, leads_one, undetected_one}
 use Rattle.hart_line.proofs.lemmas.world.Reset.{refused_last, refused_step, unseen}
 use Rattle.hart_line.proofs.lemmas.world.Submitted.{executed_at_most}
 use Rattle.hart_line.proofs.lemmas.world.Written.{answered_executed, registers_last, step_stays, turn_executed}
@@ -16,15 +16,12 @@ use Rattle.hart_line.proofs.lemmas.world.Steps.{same_state}
 pub use Rattle.hart_line.proofs.lemmas.script.Items.{words_have_one_value-items}
 pub use Rattle.hart_line.proofs.lemmas.script.Rows.{texts_have_one_script-no_bad_line, texts_have_one_script-one_bad_line}
 pub use Rattle.hart_line.proofs.lemmas.script.Rows.{texts_have_one_script-one_script}
+pub use Rattle.hart_line.proofs.lemmas.world.Leads.{fault_not_detectable as scripts_keep_their_promises-detected}
 use Rattle.hart_line.specs.world.Led.{Led}
 
 pub scripts_have_one_last_world-one_world : (start : Start) (events : List LineEvent) (a b : World)
     → IsLast start events a → IsLast start events b → a ≡ b
 scripts_have_one_last_world-one_world start events = leads_one start events (first_world start)
-
-pub scripts_have_one_last_world-detected : (start : Start) (events : List LineEvent)
-    → AreAllDetected start (first_world start) events → (last : World) × IsLast start events last
-scripts_have_one_last_world-detected start events = leads_exists start (first_world start) events
 
 pub scripts_have_one_last_world-no_fault : (start : Start) (events : List LineEvent) (world : World) (number : ℕ) (leg : Leg)
     → IsLast start events world → IsFault start events (Undetected number leg) → ⊥
@@ -49,11 +46,6 @@ scripts_have_one_last_world-one_fault start events number other leg another f g 
     let same = same_number number other
     (λ h. fault_before start events number other leg g.0 h f g.2) (λ h. fault_before start events other number another f.0 h g f.2) in
     (same, same_leg start events other leg another (rw same at f) g)
-
-pub refused_turns_change_nothing : (start : Start) (events : List LineEvent) (before next : World)
-    (refused : IsRefusedByDevice start events before next)
-    → state_of start.device next ≡ after_refusal (state_of start.device before) refused.frame
-refused_turns_change_nothing = refused_step
 
 pub scripts_keep_their_promises-first_world : (start : Start) → start.device.counter < 2 ^ 16
     → state_of start.device (first_world start) ≡ start.device
@@ -86,7 +78,3 @@ pub led_keeps : (start : Start) (events : List LineEvent) (device : DeviceState)
     → IsWellMadeStart start → AreWellMade events → Led start events device outcomes spoken → KeepsPromises start events device outcomes
 led_keeps start events device outcomes spoken made well_made led =
     rw (led.device_is, led.outcomes_are) (scripts_keep_their_promises-kept start events led.world made well_made led.last)
-
-pub scripts_keep_their_promises-detected : (start : Start) (events : List LineEvent) (fault : LineFault)
-    → 5 ≤ start.device.identity.response_preambles → IsFault start events fault → IsNotDetectable start events fault
-scripts_keep_their_promises-detected = fault_not_detectable

@@ -1,10 +1,10 @@
 -- The line as one value, as the world of a script has it, for private calls alone (own profile).
-use Rattle.std.specs.Prelude.{◌≡◌, ℕ, List}
+use Rattle.std.specs.Prelude.{◌≡◌, ◌++◌, ℕ, List}
 use Rattle.hart_device.specs.Device.{DeviceState}
 use Rattle.hart_device.specs.declared.process.Process.{Process}
 use Rattle.hart_line.specs.line.Masters.{AreHeld}
 use Rattle.hart_line.specs.world.Faults.{HasUndetected}
-use Rattle.hart_line.specs.world.Spoken.{AreSpoken}
+use Rattle.hart_line.specs.world.Spoken.{AreSpoken, SpokenFrame}
 use Rattle.hart_line.specs.world.Step.{Step}
 use Rattle.hart_line.specs.world.World.{MarksWithin, Start, World, state_of}
 use Rattle.hart_line.specs.declared.event.LineEvent.{LineEvent}
@@ -23,20 +23,22 @@ pub record LineState : Type 0 where
   pub outcomes_room : ℕ
   pub response_preambles : ℕ
 
--- A line stands for a world: its parts are those of the world, and its device's replies have the number of preamble bytes that the identity
--- says.
+-- A line stands for a world: its device, its masters and its outcomes are those of the world, and its device's replies have the number of
+-- preamble bytes that the identity says.
 pub record Stands (start : Start) (world : World) (line : LineState) : Type 0 where
   pub device_is : line.device ≡ state_of start.device world
   pub masters_are : AreHeld start.retries world.hands line.masters
   pub outcomes_are : line.outcomes ≡ world.outcomes
-  pub spoken_are : AreSpoken world.spoken line.spoken
   pub preambles_are : line.response_preambles ≡ start.device.identity.response_preambles
 
--- An event leads from a world to a next one, and the line stands for that.
+-- An event leads from a world to a next one, the line stands for that, and has what was spoken in the event.
 pub record Stepped (start : Start) (world : World) (event : LineEvent) (line : LineState) : Type 0 where
   pub next : World
   pub step : Step start world event next
   pub stands : Stands start next line
+  pub said : List SpokenFrame
+  pub said_is : next.spoken ≡ world.spoken ++ said
+  pub spoken_are : AreSpoken said line.spoken
 
 -- Whichever world a line stood for, an event in which the device is handed this process leads on from it, and the line stands for the next.
 abbrev pub StepsOn : Process → LineEvent → LineState → LineState → Type 0

@@ -59,44 +59,37 @@ pub record IsStepOf (start : Start) (from : World) (events : List LineEvent) (be
   pub led : LeadsTo start from prefix before
   pub step : Step start before event next
 
--- The turn in which a submission was answered, in the events after some world: the request in hand was sent for the last time, and
--- arrived; the device's answer to it came back, and was accepted as this reply; what the request did entered the executions; and the
--- request left the hand.
-pub record AnswersLastSendingFrom (start : Start) (from : World) (events : List LineEvent) (number : ℕ) (reply : Reply)
-    (sendings : ℕ) : Type 0 where
+-- A start is well made if its device and its process are, as every value of their types is.
+pub record IsWellMadeStart (start : Start) : Type 0 where
+  pub device : IsDevice start.device
+  pub process : IsProcess start.process
+
+-- An accepted reply is the device's answer in the turn of its request's last sending: the request in hand, which with its address is the
+-- one that was submitted under this number to that turn's master, was sent for the last time, and arrived; the device's answer to it came
+-- back, and was accepted as this reply; what the request did entered the executions; and the request left the hand. The reply says what
+-- the device replied, with its code, its status and its data.
+pub record AnswersLastSending (start : Start) (events : List LineEvent) (number : ℕ) (reply : Reply) (sendings : ℕ) : Type 0 where
   pub before : World
   pub next : World
   pub who : MasterId
   pub up : Heard
   pub down : Heard
-  pub turn : IsStepOf start from events before (Turn who up down) next
+  pub turn : IsStepOf start (first_world start) events before (Turn who up down) next
   pub held : InHand
   pub in_hand : of_master who before.hands ≡ Some held
   pub of_submission : held.submission ≡ number
+  pub submitted_as : slice_get (submissions_of events) number ≡ Some (submission_in who held)
   pub sent : sendings ≡ held.sendings + 1
   pub brought : turn.step.brought ≡ OneFrame (spoken_request who held).frame
   pub answer : FrameParts
   pub answered : answer_of (state_of start.device before) start.process (spoken_request who held).frame ≡ Some answer
   pub returned : turn.step.returned ≡ Some answer
   pub is_reply : IsReplyTo who held.address held.request answer reply
+  pub reply_is : reply ≡ reply_of (state_of start.device before) start.process (spoken_request who held).frame
   pub executions : next.executions
       ≡ executions_after (effect_of (state_of start.device before) (spoken_request who held).frame) number before.executions
   pub reached : slice_get next.outcomes number ≡ Some (Answered reply sendings)
   pub left : of_master who next.hands ≡ None
-
--- A start is well made if its device and its process are, as every value of their types is.
-pub record IsWellMadeStart (start : Start) : Type 0 where
-  pub device : IsDevice start.device
-  pub process : IsProcess start.process
-
--- An accepted reply is the device's answer in the turn of its request's last sending; the request in hand in that turn, with its
--- address, is the one that was submitted under this number to that turn's master; and the reply says what the device replied, with its
--- code, its status and its data.
-pub record AnswersLastSending (start : Start) (events : List LineEvent) (number : ℕ) (reply : Reply) (sendings : ℕ) : Type 0 where
-  pub last_turn : AnswersLastSendingFrom start (first_world start) events number reply sendings
-  pub submitted_as : slice_get (submissions_of events) number ≡ Some (submission_in last_turn.who last_turn.held)
-  pub reply_is : reply
-      ≡ reply_of (state_of start.device last_turn.before) start.process (spoken_request last_turn.who last_turn.held).frame
 
 -- The requests that are submitted, in order, refused ones too.
 abbrev pub requests_of : List LineEvent → List Request
@@ -120,8 +113,7 @@ pub record IsExecutedInItsTurn (start : Start) (events : List LineEvent) (number
   pub answered : AnswersLastSending start events number reply sendings
   pub overwrite : Overwrite
   pub overwrites : overwrite_of request ≡ Some overwrite
-  pub executed : answered.last_turn.next.executions
-      ≡ answered.last_turn.before.executions ++ record { submission = number; overwrite = overwrite } ∷ []
+  pub executed : answered.next.executions ≡ answered.before.executions ++ record { submission = number; overwrite = overwrite } ∷ []
 
 -- What an event brought the device: a turn what its leg up brought. Every other event is taken to bring no message, as none of them can
 -- bring a frame: noise may bring a garbled request, which has no effect.

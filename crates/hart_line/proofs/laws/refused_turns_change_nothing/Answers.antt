@@ -1,5 +1,5 @@
-use Rattle.hart_line.proofs.lemmas.Laws.{refused_turns_change_nothing}
+use Rattle.hart_line.proofs.lemmas.world.Reset.{refused_step}
 use Rattle.hart_line.proofs.laws.refused_turns_change_nothing.Goals as goal
 
 pub returns : goal.returns
-returns c = refused_turns_change_nothing
+returns c = refused_step

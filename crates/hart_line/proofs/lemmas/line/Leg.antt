@@ -2,7 +2,7 @@
 use Rattle.hart_line.proofs.Common.{◌≡◌, ℕ, ◌≤◌, ap, refl, arith, Option, None, Some, List, [], ◌∷◌, ◌++◌, replicate, common_steps}
 use Rattle.hart_line.proofs.Common.{MatchOption, option_to_list, MasterId, Character, FrameParts, DeviceState, Brought, BringsBy, Garbled}
 use Rattle.hart_line.proofs.Common.{NoMessage, OneFrame, IdentityParts, Process, Heard, Chars, Clean, Spoken}
-use Rattle.std.proofs.Common.{length-append, append-nil}
+use Rattle.std.proofs.Common.{length-append}
 use Rattle.hart_frame.specs.wire.Message.{IsMessage}
 use Rattle.hart_frame.proofs.lemmas.Laws.{messages_have_their_frame_alone-message, messages_have_their_frame_alone-nothing}
 use Rattle.hart_device.specs.answer.Garbled.{HasGarbled, garbled_reply}
@@ -95,6 +95,7 @@ AreSpoken-append [] more [] others are next = next
 AreSpoken-append (said ∷ frames) more (spoken ∷ list) others are next = (are.0, AreSpoken-append frames more list others are.1 next)
 AreSpoken-append frames more list others are next = absurd are
 
-pub AreSpoken-more : (frames : List SpokenFrame) (said : Option SpokenFrame) (old new : List Spoken)
-    → AreSpoken frames old → Speaks said old new → AreSpoken (frames ++ option_to_list said) new
-AreSpoken-more frames said old new are speaks = grind (arith, append-nil, AreSpoken-append)
+-- What is spoken first and second in an event is put down so.
+pub AreSpoken-two : (first second : Option SpokenFrame) (mid new : List Spoken) → Speaks first [] mid → Speaks second mid new
+    → AreSpoken (option_to_list first ++ option_to_list second) new
+AreSpoken-two first second mid new one two = grind arith

@@ -1,32 +1,32 @@
 -- A turn of the line is a turn of the world, and noise on it is noise there.
-use Rattle.hart_line.proofs.Common.{◌≡◌, Bool, false, ◌∙◌, refl, Option, None, Some, List, ◌++◌, ◌⊎◌, arith, common_steps, option_to_list}
+use Rattle.hart_line.proofs.Common.{◌≡◌, Bool, false, ◌∙◌, refl, Option, None, Some, List, [], ◌∷◌, ◌++◌, ◌⊎◌, arith, common_steps, option_to_list}
 use Rattle.hart_line.proofs.Common.{of_master, with_master, MasterId, FrameParts, DeviceState, Effect, Nothing, after, after_reply, Brought}
-use Rattle.hart_line.proofs.Common.{OneFrame, state_after_delivery, Process, Heard, Turn, Spoken}
-use Rattle.std.proofs.Common.{◌&&◌, if◌then◌else◌, append_assoc}
+use Rattle.hart_line.proofs.Common.{OneFrame, state_after_delivery, Process, Heard, LineEvent, Turn, Spoken}
+use Rattle.std.proofs.Common.{◌&&◌, if◌then◌else◌, append-nil}
 use Rattle.hart_frame.specs.wire.Message.{IsPreambleCount}
 use Rattle.hart_line.specs.line.Leg.{AnswersTo, IsSent}
 use Rattle.hart_line.specs.line.Line.{LineState, Stands, Stepped}
 use Rattle.hart_line.specs.line.Masters.{AreHeld, Ends, Sends}
 use Rattle.hart_line.specs.world.Damage.{Arrives, Reaches}
 use Rattle.hart_line.specs.world.Spoken.{AreSpoken, SpokenFrame, Speaks, master_preambles, party_of, spoken_by}
-use Rattle.hart_line.specs.world.Step.{cold_start_after, effect_on, replied, spoken_request, sent_back, sent_by, turned}
+use Rattle.hart_line.specs.world.Step.{Step, cold_start_after, effect_on, replied, spoken_request, sent_back, sent_by, turned}
 use Rattle.hart_line.specs.world.World.{InHand, Start, World, state_of, MarksWithin}
-use Rattle.hart_line.proofs.lemmas.line.Leg.{AreSpoken-more, says_request, speaks_sent}
+use Rattle.hart_line.proofs.lemmas.line.Leg.{AreSpoken-two, says_request, speaks_sent}
 use Rattle.hart_line.proofs.lemmas.world.Steps.{frame_in, none_reaches, reaches_sent, state-after}
 use Rattle.hart_line.specs.declared.line.report.Party.TheVariants as parties
 
--- What the device answered to what this leg brought it was spoken after what was said in it.
+-- What the device answered to what this leg brought it was spoken after what was said in it, and nothing else in this event.
 pub record IsAnswered (start : Start) (world : World) (heard : Heard) (said : Option SpokenFrame) (answer : Option FrameParts)
     (after : DeviceState) (spoken : List Spoken) : Type 0 where
   pub brought : Brought
   pub arrives : Reaches start.device.identity heard said brought
   pub after_is : after ≡ state_after_delivery (state_of start.device world) brought
   pub was_sent : IsSent answer (sent_back start world brought)
-  pub spoken_are : AreSpoken (world.spoken ++ (option_to_list said ++ option_to_list (sent_back start world brought))) spoken
+  pub spoken_are : AreSpoken (option_to_list said ++ option_to_list (sent_back start world brought)) spoken
 
 pub answered : (start : Start) (world : World) (heard : Heard) (said : Option SpokenFrame) (answer : Option FrameParts)
     (process : Process) (line : LineState) (after : DeviceState) (mid new : List Spoken) → Stands start world line
-    → start.process ≡ process → Speaks said line.spoken mid
+    → start.process ≡ process → Speaks said [] mid
     → AnswersTo (Reaches line.device.identity heard said) line.device process answer after → IsPreambleCount line.response_preambles
     → Speaks (spoken_by parties.Device line.response_preambles answer) mid new → IsAnswered start world heard said answer after new
 answered start world heard said answer process line after mid new s same says given count replies =
@@ -38,23 +38,33 @@ answered start world heard said answer process line after mid new s same says gi
       arrives = a.is_brought;
       after_is = a.after_is;
       was_sent = rw back at (speaks_sent parties.Device line.response_preambles answer mid new (omega (arith, count.0)) replies);
-      spoken_are = rw (← append_assoc world.spoken (option_to_list said) (option_to_list (sent_back start world a.brought)))
-          (AreSpoken-more (world.spoken ++ option_to_list said) (sent_back start world a.brought) mid new
-          (AreSpoken-more world.spoken said line.spoken mid s.spoken_are says) (rw back at replies));
+      spoken_are = AreSpoken-two said (sent_back start world a.brought) mid new says (rw back at replies);
     }
 
 -- In a turn the request of the master was said, if it has one in hand.
 pub turn_answered : (start : Start) (world : World) (who : MasterId) (up : Heard) (Silent : Type 0) (Sent : InHand → Type 0)
     (sent answer : Option FrameParts) (process : Process) (line : LineState) (after : DeviceState) (mid new : List Spoken)
     → Stands start world line → start.process ≡ process → Sends who (of_master who world.hands) sent Silent Sent
-    → Speaks (spoken_by (party_of who) master_preambles sent) line.spoken mid
+    → Speaks (spoken_by (party_of who) master_preambles sent) [] mid
     → ((said : Option SpokenFrame) → IsSent sent said → AnswersTo (Reaches line.device.identity up said) line.device process answer after)
     → IsPreambleCount line.response_preambles → Speaks (spoken_by parties.Device line.response_preambles answer) mid new
     → IsAnswered start world up (sent_by who (of_master who world.hands)) answer after new
 turn_answered start world who up Silent Sent sent answer process line after mid new s same sends speaks answers count replies =
-    let says = says_request Silent Sent who (of_master who world.hands) sent line.spoken mid sends speaks in
+    let says = says_request Silent Sent who (of_master who world.hands) sent [] mid sends speaks in
     answered start world up (sent_by who (of_master who world.hands)) answer process line after mid new s same says.0
     (answers (sent_by who (of_master who world.hands)) says.1) count replies
+
+-- An event in which nothing is spoken.
+pub silent_step : (start : Start) (world next : World) (event : LineEvent) (line : LineState) → Step start world event next
+    → next.spoken ≡ world.spoken → line.spoken ≡ [] → Stands start next line → Stepped start world event line
+silent_step start world next event line step same silent stands = record {
+  next = next;
+  step = step;
+  stands = stands;
+  said = [];
+  said_is = grind (arith, append-nil);
+  spoken_are = rw silent tt;
+}
 
 -- A device that is brought no frame stays as it is.
 unheard : (state : DeviceState) (brought : Brought) → frame_in brought ≡ None → state_after_delivery state brought ≡ state
@@ -71,7 +81,6 @@ replied_stands start world heard answer line a held same preambles_are = record 
       (none_reaches start.device.identity heard a.brought a.arrives);
   masters_are = held;
   outcomes_are = same;
-  spoken_are = a.spoken_are;
   preambles_are = preambles_are;
 }
 
@@ -102,6 +111,9 @@ turn_stands start world who up down None answer returned line within in_hand a r
   next = replied start world a.brought;
   step = grind (arith, common_steps);
   stands = replied_stands start world up answer line a ends.0 ends.1 preambles_are;
+  said = option_to_list (sent_back start world a.brought);
+  said_is = refl;
+  spoken_are = a.spoken_are;
 }
 turn_stands start world who up down (Some held) answer returned line within in_hand a returns ends preambles_are =
     let next = turned start world who (Some held) a.brought ends.accepted in record {
@@ -114,7 +126,9 @@ turn_stands start world who up down (Some held) answer returned line within in_h
             within refl refl refl;
         masters_are = ends.left;
         outcomes_are = ends.outcomes_are;
-        spoken_are = a.spoken_are;
         preambles_are = preambles_are;
       };
+      said = spoken_request who held ∷ option_to_list (sent_back start world a.brought);
+      said_is = refl;
+      spoken_are = a.spoken_are;
     }

@@ -60,7 +60,7 @@ reads_all text chars reads =
     rw append-nil at (reads.on [] (record { items = []; valid = tt; spelled = refl; means = refl }))
 
 -- A text that begins with an item is these characters exactly if the text after that is those after the first.
-after_item : (rest : List ℕ) (item : Item) (tail : List ℕ) (all : List Character) → BeginsWithItem rest item tail → AreItems rest all
+pub after_item : (rest : List ℕ) (item : Item) (tail : List ℕ) (all : List Character) → BeginsWithItem rest item tail → AreItems rest all
     → (more : List Character) × AreItems tail more × (all ≡ item_meaning item ∷ more)
 after_item rest item tail all begins are = after are.items are.valid are.spelled are.means
   where
@@ -71,15 +71,21 @@ after_item rest item tail all begins are = after are.items are.valid are.spelled
         let same = begins_one rest item first tail _ begins (first_begins rest first items spelled valid) in
         (map item_meaning items, record { items = items; valid = valid.1; spelled = same.1; means = refl }, cc)
 
+-- An item before items is items too.
+pub before_items : (text : List ℕ) (item : Item) (tail : List ℕ) (more : List Character) → BeginsWithItem text item tail
+    → AreItems tail more → AreItems text (item_meaning item ∷ more)
+before_items text item tail more begins are = record {
+  items = item ∷ are.items;
+  valid = (begins.valid, are.valid);
+  spelled = grind (arith, begins.spelled, are.spelled);
+  means = ap (λ others. item_meaning item ∷ others) are.means;
+}
+
 pub reads_item : (text : List ℕ) (chars : List Character) (rest : List ℕ) (item : Item) (tail : List ℕ) → ReadsTo text chars rest
     → BeginsWithItem rest item tail → ReadsTo text (chars ++ item_meaning item ∷ []) tail
 reads_item text chars rest item tail reads begins = record {
-  on = λ more are. rw (append_assoc chars (item_meaning item ∷ []) more) (reads.on (item_meaning item ∷ more) (record {
-    items = item ∷ are.items;
-    valid = (begins.valid, are.valid);
-    spelled = grind (arith, begins.spelled, are.spelled);
-    means = ap (λ others. item_meaning item ∷ others) are.means;
-  }));
+  on = λ more are. rw (append_assoc chars (item_meaning item ∷ []) more)
+      (reads.on (item_meaning item ∷ more) (before_items rest item tail more begins are));
   back = λ all are.
       let (read, are_read, is) = reads.back all are in
       let (more, are_more, same) = after_item rest item tail read begins are_read in

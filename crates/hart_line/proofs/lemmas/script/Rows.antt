@@ -1,7 +1,7 @@
 -- What lines say is one thing, and no bad line is among those that say events.
-use Rattle.hart_line.proofs.Common.{◌≡◌, ◌<◌, ℕ, List, [], ◌∷◌, Some, Err, ap, arith, codes, sym, refl, take, pred, length, get_or}
+use Rattle.hart_line.proofs.Common.{◌≡◌, ◌<◌, ◌⊎◌, ℕ, List, [], ◌∷◌, Some, Err, ap, arith, codes, subst, suc, sym, refl, take, pred, length, get_or}
 use Rattle.hart_line.proofs.Common.{common_steps, AllZip, slice_get, Heard, Chars, Clean, Lost, LineEvent, Noise, Turn, Character, RowFault}
-use Rattle.hart_line.specs.script.Items.{AreItems}
+use Rattle.hart_line.specs.script.Items.{AreItems, IsItemsWord}
 use Rattle.hart_line.specs.script.Rows.{AreEvents, HasFirstBadLine, IsBadLine, IsLegWord, IsScript, ReadsWords, Says, lines_in_words}
 use Rattle.hart_line.specs.script.Words.{HasNoValue}
 use Rattle.hart_line.specs.declared.script.rows.RowFault.TheVariants.{Bad, Memory}
@@ -61,6 +61,33 @@ texts_have_one_script-one_bad_line text number other a b =
     let first = not_before text number other a b in let second = not_before text other number b a in
     grind (arith, a.counted, b.counted)
 
+-- WORDS THAT SAY NOTHING
+-- A word is the first one of no row.
+abbrev pub IsOther : List ℕ → Type 0
+IsOther first = (first ≡ codes "submit" → ⊥) × (first ≡ codes "turn" → ⊥) × (first ≡ codes "protect" → ⊥)
+    × (first ≡ codes "noise" → ⊥) × (first ≡ codes "restart" → ⊥)
+
+-- So it says no event.
+pub says_none : (first : List ℕ) (words : List (List ℕ)) → IsOther first → HasNoValue (Says (first ∷ words))
+says_none first words other event said = grind arith
+
+-- A leg that is no items is none but for two words.
+pub no_leg : (word : List ℕ) → (word ≡ codes "ok" → ⊥) × (word ≡ codes "lost" → ⊥) → HasNoValue (IsItemsWord word)
+    → HasNoValue (IsLegWord word)
+no_leg word other none Clean is = other.0 is
+no_leg word other none Lost is = other.1 is
+no_leg word other none (Chars chars) is = none chars is
+
+-- A turn of which a leg is none is none.
+pub no_turn : (who up down leg : List ℕ) → (leg ≡ up) ⊎ (leg ≡ down) → HasNoValue (IsLegWord leg)
+    → HasNoValue (Says (codes "turn" ∷ who ∷ up ∷ down ∷ []))
+no_turn who up down leg one none event said = grind arith
+
+-- Noise whose word is no items is none.
+pub no_noise : (word : List ℕ) → HasNoValue (IsItemsWord word) → HasNoValue (Says (codes "noise" ∷ word ∷ []))
+no_noise word none (Noise chars) said = let same : said.0 ≡ word = grind arith in none chars (rw same at said.2)
+no_noise word none event said = grind arith
+
 -- WHAT A WORD BRINGS ABOUT
 -- Words that say nothing if one of them says nothing have its fault.
 pub fault_of_word : {A B : Type 0} (words : List (List ℕ)) (k : ℕ) (word : List ℕ) (fault : RowFault) (IsPart : A → Type 0)
@@ -68,3 +95,12 @@ pub fault_of_word : {A B : Type 0} (words : List (List ℕ)) (k : ℕ) (word : L
     → ReadsWords (word ∷ []) IsPart (Err fault) → ReadsWords words IsWhole (Err fault)
 fault_of_word words k word Bad IsPart IsWhole short here none reads = none reads
 fault_of_word words k word (Memory room) IsPart IsWhole short here none reads = grind arith
+
+-- So does a row, if one of the words after its first one says nothing.
+pub fault_in_row : {A : Type 0} (row : List ℕ) (words given : List (List ℕ)) (k : ℕ) (word : List ℕ) (fault : RowFault)
+    (IsPart : A → Type 0) → words ≡ given → k < length given → get_or given k word ≡ word
+    → (HasNoValue IsPart → HasNoValue (Says (row ∷ given))) → ReadsWords (word ∷ []) IsPart (Err fault)
+    → ReadsWords (row ∷ words) (Says (row ∷ words)) (Err fault)
+fault_in_row row words given k word fault IsPart are short here none reads =
+    subst (λ (all : List (List ℕ)). ReadsWords (row ∷ all) (Says (row ∷ all)) (Err fault)) (sym are)
+    (fault_of_word (row ∷ given) (suc k) word fault IsPart _ (omega (arith, short)) here none reads)

@@ -10,7 +10,7 @@ use Rattle.hart_master.proofs.lemmas.Laws.{communication_faults_are_no_reply-fra
 use Rattle.hart_commands.proofs.lemmas.Laws.{overwrites_are_valid}
 use Rattle.hart_line.specs.declared.line.report.Party.{Party}
 use Rattle.hart_line.specs.world.Damage.{Arrives}
-use Rattle.hart_line.specs.world.Promises.{AnswersLastSending, AnswersLastSendingFrom, IsWellMadeStart, IsStepOf, submissions_of}
+use Rattle.hart_line.specs.world.Promises.{AnswersLastSending, IsWellMadeStart, IsStepOf, submissions_of}
 use Rattle.hart_line.specs.world.Promises.{brought_in_step}
 use Rattle.hart_line.specs.world.Spoken.{spoken_by}
 use Rattle.hart_line.specs.world.Step.{submitted, Accepts, IsLast, spoken_request, outcome_of, LeadsTo, effect_on, executions_after}
@@ -44,14 +44,14 @@ led_valid start valid events = along start (first_world start) events (λ es wor
     (effect_made (state_of start.device before) brought) holds)) (rw registers_of_lists-none valid)
 
 -- The reply that is accepted of the device's answer is the one that the device made.
-device_replied : (start : Start) (events : List LineEvent) (number : ℕ) (reply : Reply) (sendings : ℕ)
-    → (a : AnswersLastSendingFrom start (first_world start) events number reply sendings) → IsWellMadeStart start
-    → reply ≡ reply_of (state_of start.device a.before) start.process (spoken_request a.who a.held).frame
-device_replied start events number reply sendings a made =
-    let frame = (spoken_request a.who a.held).frame in
-    let state = state_of start.device a.before in
-    let read = answers_are_replies-read state start.process frame a.answer
-    (led_valid start made.device.contents a.turn.prefix a.before a.turn.led) made.process (grind arith) a.answered in
+device_replied : (start : Start) (events : List LineEvent) (before : World) (who : MasterId) (held : InHand) (answer : FrameParts)
+    (reply : Reply) → IsWellMadeStart start → LeadsTo start (first_world start) events before
+    → answer_of (state_of start.device before) start.process (spoken_request who held).frame ≡ Some answer
+    → IsReplyTo who held.address held.request answer reply
+    → reply ≡ reply_of (state_of start.device before) start.process (spoken_request who held).frame
+device_replied start events before who held answer reply made led answered is =
+    let read = answers_are_replies-read (state_of start.device before) start.process (spoken_request who held).frame answer
+    (led_valid start made.device.contents events before led) made.process (grind arith) answered in
     grind (arith, common_steps, some_one)
 
 -- THE TURN OF THE LAST SENDING
@@ -86,26 +86,15 @@ not_answered : (world : World) (who : MasterId) (address : Address) (request : R
     → slice_get world.outcomes number ≡ Some (Answered reply sendings)
 not_answered world who address request fault number reply sendings is = grind (arith, slice_get-append)
 
--- The request that was answered is the one that was submitted.
-as_submitted : (start : Start) (events : List LineEvent) (number : ℕ) (reply : Reply) (sendings : ℕ) → IsWellMadeStart start
-    → AnswersLastSendingFrom start (first_world start) events number reply sendings
-    → AnswersLastSending start events number reply sendings
-as_submitted start events number reply sendings made a = record {
-  last_turn = a;
-  submitted_as = ap (slice_get (submissions_of events)) (sym a.of_submission)
-      ∙ (held_in start events a.turn a.who a.held a.in_hand).submitted_as;
-  reply_is = device_replied start events number reply sendings a made;
-}
-
 pub answered_last : (start : Start) (events : List LineEvent) → IsWellMadeStart start → (last : World) → IsLast start events last
     → (number : ℕ) (reply : Reply) (sendings : ℕ) → slice_get last.outcomes number ≡ Some (Answered reply sendings)
     → AnswersLastSending start events number reply sendings
-answered_last start events made last run number reply sendings is = as_submitted start events number reply sendings made
-    (along start (first_world start) events (λ es. Known) step_known (λ none. cc) last run is)
+answered_last start events made last run number reply sendings is =
+    along start (first_world start) events (λ es. Known) step_known (λ none. cc) last run is
   where
     Known : World → Type 0
     Known world = slice_get world.outcomes number ≡ Some (Answered reply sendings)
-        → AnswersLastSendingFrom start (first_world start) events number reply sendings
+        → AnswersLastSending start events number reply sendings
 
     step_known : (before next : World) (event : LineEvent) (here : IsStepOf start (first_world start) events before event next)
         → Known before → Known next
@@ -127,12 +116,14 @@ answered_last start events made last run number reply sendings is = as_submitted
               held = s.held;
               in_hand = s.in_hand;
               of_submission = sym new.0;
+              submitted_as = ap (slice_get (submissions_of events)) new.0 ∙ (held_in start events here who s.held s.in_hand).submitted_as;
               sent = sent;
               brought = arrived;
               answer = answer;
               answered = given;
               returned = came;
               is_reply = replies;
+              reply_is = device_replied start here.prefix before who s.held answer reply made here.led given replies;
               executions = grind (arith, common_steps);
               reached = is;
               left = grind (arith, s.next_is, new.1);

@@ -58,19 +58,18 @@ pub answered_executed : (start : Start) (events : List LineEvent) → AreWellMad
     → IsTrue (is_write (command_of request)) → reply.code ≡ 0
     → IsExecutedInItsTurn start events number request reply sendings
 answered_executed start events made number request reply sendings a submitted write success =
-    let t = a.last_turn in
-    let state = state_of start.device t.before in
-    let frame = (spoken_request t.who t.held).frame in
-    let coded = answers_give_their_code-answered state start.process frame t.answer t.answered in
-    let code : code_of state frame ≡ 0 = sym (reading_code t.answer.command t.answer.payload reply _ t.is_reply.read coded.2) ∙ success in
-    let same : t.held.request ≡ request = some_one (sym (request_there events number _ a.submitted_as) ∙ submitted) in
+    let state = state_of start.device a.before in
+    let frame = (spoken_request a.who a.held).frame in
+    let coded = answers_give_their_code-answered state start.process frame a.answer a.answered in
+    let code : code_of state frame ≡ 0 = sym (reading_code a.answer.command a.answer.payload reply _ a.is_reply.read coded.2) ∙ success in
+    let same : a.held.request ≡ request = some_one (sym (request_there events number _ a.submitted_as) ∙ submitted) in
     let unrefused : IsUnrefusedWrite state (OneFrame frame) = (rw (← same) at write, coded.0, code) in
-    let e = turn_executed start events made t.before t.next t.who t.up t.down t.turn (rw t.brought unrefused) in
-    let held : e.held ≡ t.held = cc (e.in_hand, t.in_hand) in record {
+    let e = turn_executed start events made a.before a.next a.who a.up a.down a.turn (rw a.brought unrefused) in
+    let held : e.held ≡ a.held = cc (e.in_hand, a.in_hand) in record {
       answered = a;
       overwrite = e.overwrite;
       overwrites = cc (e.overwrites, held, same);
-      executed = grind (arith, e.executed, t.of_submission);
+      executed = grind (arith, e.executed, a.of_submission);
     }
 
 -- NOTHING ELSE

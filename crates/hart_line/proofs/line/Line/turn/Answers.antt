@@ -18,16 +18,18 @@ returns-in_err-returned-clause-stopped g c =
     let stop = err_from_is_err_and c.from_residual-in_err-returned.result c.from_residual-in_err-returned.ensures.1 in
     rw (stop.1, stop.2, c.in_err-returned.ensures.leg) (λ start world process stands.
     let sends = c.send-is_sent.ensures start.retries world.hands (rw (← c.self.view_is) at stands.masters_are) in
+    let nothing = rw (← c.self.view_is) at c.requires.room.nothing_spoken in
     let a = turn_answered start world c.args.who c.args.up.now _ _ _ _ _ _ _ _ _ (rw (← c.self.view_is) at stands) process
-    (rw (← c.frame_if-sent.ensures) at sends) (rw c.party_of.ensures at c.speak.ensures.speaks)
+    (rw (← c.frame_if-sent.ensures) at sends) (rw (c.party_of.ensures, nothing) at c.speak.ensures.speaks)
     (rw (← c.frame_if-sent_back.ensures) at c.in_ok-is_answered.ensures.answers) c.self.invariant c.speak-2.ensures.speaks in
     (_, _, (refl, a.brought, a.arrives, refl), c.in_err-returned.ensures.undetected (sent_back start world a.brought) a.was_sent))
 
 pub returns-clause-stepped : goal.returns-clause-stepped
 returns-clause-stepped g c = λ start world process within stands.
     let sends = c.send-is_sent.ensures start.retries world.hands (rw (← c.self.view_is) at stands.masters_are) in
+    let nothing = rw (← c.self.view_is) at c.requires.room.nothing_spoken in
     let a = turn_answered start world c.args.who c.args.up.now _ _ _ _ _ _ _ _ _ (rw (← c.self.view_is) at stands) process
-    (rw (← c.frame_if-sent.ensures) at sends) (rw c.party_of.ensures at c.speak.ensures.speaks)
+    (rw (← c.frame_if-sent.ensures) at sends) (rw (c.party_of.ensures, nothing) at c.speak.ensures.speaks)
     (rw (← c.frame_if-sent_back.ensures) at c.in_ok-is_answered.ensures.answers) c.self.invariant c.speak-2.ensures.speaks in
     let ends = c.end_turn.ensures.ends start.retries world.hands _ sends in
     turn_stands start world c.args.who c.args.up.now c.args.down.now _ _ _ _ within refl a c.in_ok-returned.ensures.arrives

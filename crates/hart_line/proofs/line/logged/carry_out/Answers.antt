@@ -2,8 +2,7 @@ use Rattle.hart_line.proofs.Common.{◌+◌, ◌++◌, [], arith, refl, take, ta
 use Rattle.hart_line.specs.world.Faults.{IsFault}
 use Rattle.hart_line.specs.world.Promises.{start_from}
 use Rattle.hart_line.proofs.lemmas.Laws.{led_keeps, scripts_keep_their_promises-detected}
-use Rattle.hart_line.proofs.lemmas.line.Reached.{Any-append, IsReached, reached_first, reached_led, reached_more, noted_stands, stepped_on}
-use Rattle.hart_line.proofs.lemmas.line.Reached.{undetected_on, with_spoken}
+use Rattle.hart_line.proofs.lemmas.line.Reached.{Any-append, IsReached, reached_first, reached_led, reached_more}
 use Rattle.hart_line.proofs.lemmas.line.Room.{room_after, room_here}
 use Rattle.hart_line.proofs.line.logged.carry_out.Given.{Over}
 use Rattle.hart_line.proofs.line.logged.carry_out.Goals.{After-tell}
@@ -16,7 +15,7 @@ loop-index-init g c =
         [],
         g.met.L.Log.none _,
         reached_first c.args.device c.args.process.now c.args.primary c.args.secondary _ c.new-line.ensures.device
-            c.requires.primary c.requires.secondary refl refl refl refl refl refl,
+            c.requires.primary c.requires.secondary refl refl refl refl refl,
       );
       room = record { outcomes = omega (arith, c.requires.room.room); nothing_spoken = refl };
     })
@@ -32,32 +31,28 @@ returns-in-Err-clause-stopped g c =
     let enough = c.new-line.ensures.device.identity.in_range.response_preambles.0 in
     let start = start_from c.args.device c.args.process.now c.args.primary c.args.secondary in
     let (noted, has, reached) = c.loop-index.invariant.told in
-    let stands = noted_stands start reached.world _ noted c.loop-index.invariant.room.nothing_spoken reached.stands in
     let here = slice_get-get_or c.args.events.now c.loop-index.index _ c.loop-index-test.true in
     let fault : IsFault start c.args.events.now (Undetected c.loop-index.index c.in-Err.damage.leg) = (
       reached.world,
       _,
       reached.is_last,
       here,
-      undetected_on start reached.world _ _
-          (rw c.index-events-index.is at (c.in-Err.ensures.stopped start (with_spoken [] reached.world) refl stands)),
+      rw c.index-events-index.is at (c.in-Err.ensures.stopped start reached.world refl reached.stands),
     ) in
     rw c.at.ensures (
-      (fault, noted, reached.stands.spoken_are, has),
+      (fault, noted, reached.spoken_are, has),
       scripts_keep_their_promises-detected start c.args.events.now (Undetected c.loop-index.index c.in-Err.damage.leg) enough fault,
     )
 
--- An event more is carried out, and what is spoken in it is not noted yet.
+-- An event more is carried out, whose spoken frames are to be noted.
 carried_out : (g : Over) (c : After-tell g) → IsReached (start_from c.args.device c.args.process.now c.args.primary c.args.secondary)
-    (take (c.loop-index.index + 1) c.args.events.now)
-    (record c.step.new.self { spoken = c.loop-index.invariant.told.0 ++ c.step.new.self.spoken })
+    (take (c.loop-index.index + 1) c.args.events.now) (record c.step.new.self { spoken = [] })
+    (c.loop-index.invariant.told.0 ++ c.step.new.self.spoken)
 carried_out g c =
     let start = start_from c.args.device c.args.process.now c.args.primary c.args.secondary in
     let (noted, has, reached) = c.loop-index.invariant.told in
-    let stands = noted_stands start reached.world _ noted c.loop-index.invariant.room.nothing_spoken reached.stands in
-    reached_more start c.args.events.now c.loop-index.index _ _ _
-    c.loop-index-test.true reached (stepped_on start reached.world _ _ noted reached.stands.spoken_are
-    (rw c.index-events-index.is at (c.in_default.ensures.stepped start (with_spoken [] reached.world) refl reached.marks stands)))
+    reached_more start c.args.events.now c.loop-index.index _ _ _ noted c.loop-index-test.true reached
+    (rw c.index-events-index.is at (c.in_default.ensures.stepped start reached.world refl reached.marks reached.stands))
     (rw c.index-events-index.is at c.in_default.ensures.well_made)
 
 pub loop-index-preserved : goal.loop-index-preserved
@@ -81,7 +76,7 @@ returns-in_err-tell-clause-stopped g c =
         world = reached.world;
         is_last = reached.is_last;
         spoken = c.loop-index.invariant.told.0 ++ c.step.new.self.spoken;
-        are_spoken = reached.stands.spoken_are;
+        are_spoken = reached.spoken_are;
         needed = Any-append _ c.loop-index.invariant.told.0 _ c.in_err-tell.ensures.refused.1;
         some = c.in_err-tell.ensures.refused.0;
       },

@@ -2,8 +2,9 @@ use Rattle.hart_line.proofs.Common.{codes, arith, rules, ◌≡◌, ℕ, List, �
 use Rattle.std.proofs.lemmas.Slice.Eq.{text_from_reads}
 use Rattle.hart_line.specs.declared.script.rows.RowFault.TheVariants.{Bad}
 use Rattle.hart_line.specs.script.Lines.{words_of}
-use Rattle.hart_line.specs.script.Rows.{ReadsWords, Says}
-use Rattle.hart_line.specs.script.Words.{Finds, HasNoValue}
+use Rattle.hart_line.specs.script.Rows.{ReadsWords}
+use Rattle.hart_line.specs.script.Words.{Finds}
+use Rattle.hart_line.proofs.lemmas.script.Rows.{says_none}
 use Rattle.hart_line.proofs.script.rows.read_event.Goals as goal
 
 -- a row whose words need no memory is read, or its line is bad
@@ -11,15 +12,6 @@ found_or_bad : (words : List (List ℕ)) (IsSaid : LineEvent → Type 0) (read :
     → Finds IsSaid read → result ≡ ok_or read Bad → ReadsWords words IsSaid result
 found_or_bad words IsSaid None result finds gives = rw gives finds
 found_or_bad words IsSaid (Some event) result finds gives = rw gives finds
-
--- a word is the first one of no row
-abbrev IsOther : List ℕ → Type 0
-IsOther first = (first ≡ codes "submit" → ⊥) × (first ≡ codes "turn" → ⊥) × (first ≡ codes "protect" → ⊥)
-    × (first ≡ codes "noise" → ⊥) × (first ≡ codes "restart" → ⊥)
-
--- and then it says no event
-says_none : (first : List ℕ) (words : List (List ℕ)) → IsOther first → HasNoValue (Says (first ∷ words))
-says_none first words other event said = grind arith
 
 pub returns-in-submit : goal.returns-in-submit
 returns-in-submit c = rw (text_from_reads c.args.first.now (codes "submit") (omega arith) (search rules))
