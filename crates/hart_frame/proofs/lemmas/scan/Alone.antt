@@ -13,7 +13,7 @@ use Rattle.hart_frame.specs.heard.Miss.{body_miss, check_miss, miss_in}
 use Rattle.hart_frame.specs.heard.Sighting.{has_two_preambles, two_begin_in_body}
 use Rattle.hart_frame.specs.scan.Sighting.{AfterIsValid, heard_with, is_end}
 use Rattle.hart_frame.specs.private.Sighting.{HasBodyMiss, MayStandAlone, Whatever, stands_alone}
-use Rattle.hart_frame.specs.wire.Layout.{body_length, byte_count_place}
+use Rattle.hart_frame.specs.wire.Layout.{body_length}
 use Rattle.hart_frame.specs.wire.Refusal.{HasCheckByte, IsTruncated}
 use Rattle.hart_frame.proofs.lemmas.heard.Place.{preamble}
 use Rattle.hart_frame.proofs.lemmas.heard.Front.{faultless_bytes-end}
@@ -178,7 +178,3 @@ pub alone_moved : (bytes : List ℕ) (more : List Character) (start : ℕ) → s
     → stands_alone (faultless bytes ++ more) start ≡ stands_alone (faultless (drop start bytes) ++ more) 0
 alone_moved bytes more start within =
     rw (drop-heard bytes more start within, some_moved (faultless (drop start bytes) ++ more) start) refl
-
--- bytes that end too early are few
-pub truncated_few : (xs : List ℕ) → ((i : ℕ) → get_or xs i 0 < 256) → IsTruncated xs → length xs < 267
-truncated_few xs fits truncated = grind (arith, fits 0, fits (byte_count_place xs))

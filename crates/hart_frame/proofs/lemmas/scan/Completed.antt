@@ -18,13 +18,12 @@ use Rattle.hart_frame.specs.wire.Layout.{body_length}
 use Rattle.hart_frame.specs.wire.Refusal.{HasCheckByte, IsTruncated}
 use Rattle.hart_frame.proofs.lemmas.heard.FramesFound.{begins_at}
 use Rattle.hart_frame.proofs.lemmas.heard.Front.{faultless_bytes-append}
-use Rattle.hart_frame.proofs.lemmas.heard.InTheWay.{fits-is}
-use Rattle.hart_frame.proofs.lemmas.heard.Missed.{good_prefix, none_of}
+use Rattle.hart_frame.proofs.lemmas.heard.Missed.{none_of}
 use Rattle.hart_frame.proofs.lemmas.scan.Alone.{two_last, two_more, two_other, two_push, whole_has, whole_past}
 use Rattle.hart_frame.proofs.lemmas.scan.BodyAt.{miss_more}
 use Rattle.hart_frame.proofs.lemmas.scan.Sighted.{bool_cases}
-use Rattle.hart_frame.proofs.lemmas.wire.Parity.{IsCheckByte-fold, fits_at}
-use Rattle.hart_frame.proofs.lemmas.wire.Prefix.{length_more}
+use Rattle.hart_frame.proofs.lemmas.wire.Parity.{IsCheckByte-fold, fits-is, fits_at}
+use Rattle.hart_frame.proofs.lemmas.wire.Prefix.{good_prefix, length_more}
 use Rattle.hart_frame.proofs.lemmas.wire.Refusal.{says}
 use Rattle.hart_frame.proofs.lemmas.wire.Truncated.{filled, fitted}
 
