@@ -1,5 +1,6 @@
 -- What private calls promise one another. Whoever believes the promises of the public ones need not read it.
 pub mod Layout
+pub mod Prefix
 pub mod Body
 pub mod Miss
 pub mod Address

@@ -2,7 +2,6 @@
 pub mod Scanner
 pub mod Chunk
 pub mod Streamed
-pub mod PlainAddress
 pub mod View
 pub mod Next
 pub mod Sighting

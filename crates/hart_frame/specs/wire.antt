@@ -7,3 +7,5 @@ pub mod Layout
 pub mod Refusal
 pub mod Message
 pub mod FaultNumbers
+pub mod PlainAddress
+pub mod View

@@ -6,7 +6,6 @@ pub mod chunk;
 pub mod decision;
 pub mod first;
 pub mod next;
-pub mod plain_address;
 pub mod scanner;
 pub mod search;
 pub mod sighting;

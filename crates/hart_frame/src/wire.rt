@@ -8,3 +8,6 @@ pub mod kind;
 pub mod layout;
 pub mod message;
 pub mod parity;
+pub mod plain_address;
+pub mod prefix;
+pub mod view;

@@ -13,7 +13,7 @@ pub mod Damage
 pub mod Example
 pub mod Start
 pub mod Front
-pub mod Sum
+pub mod Told
 pub mod Missed
 pub mod Hint
 pub mod InTheWay

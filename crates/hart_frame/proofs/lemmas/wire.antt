@@ -8,3 +8,4 @@ pub mod Layout
 pub mod Refusal
 pub mod BodiesFound
 pub mod Truncated
+pub mod Reading

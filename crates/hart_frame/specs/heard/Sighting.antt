@@ -1,7 +1,7 @@
 -- What stands in a list of characters, or seems to: its messages, and the places that miss one, in their order (own profile).
-use Rattle.std.specs.Prelude.{◌≡◌, ◌+◌, ◌-◌, ◌==◌, ◌&&◌, ◌||◌, if◌then◌else◌, ℕ, Bool, false, IsTrue, List, [], ◌∷◌, ◌++◌}
-use Rattle.std.specs.Prelude.{Option, None, drop, length, slice_index, take}
-use Rattle.std.specs.List.{flat_map, range_with_len}
+use Rattle.std.specs.Prelude.{◌≡◌, ◌+◌, ◌-◌, ◌==◌, ◌&&◌, if◌then◌else◌, ℕ, Bool, IsTrue, List, [], ◌∷◌, ◌++◌}
+use Rattle.std.specs.Prelude.{Option, None, drop, length, take, zip}
+use Rattle.std.specs.List.{flat_map, list_any, range_with_len}
 use Rattle.std.specs.Option.{option_map_or}
 use Rattle.hart_frame.specs.heard.Character.{Character}
 use Rattle.hart_frame.specs.heard.Frames.{AreFrames, moved}
@@ -28,10 +28,9 @@ abbrev pub moved_seen : ℕ → Seen → Seen
 moved_seen places (Message found) = Message (moved places found)
 moved_seen places (Missed place miss) = Missed (places + place) (miss_in_whole places miss)
 
--- Two preamble bytes FF stand in a row in some bytes.
-abbrev pub has_two_preambles : List ℕ → Bool
-has_two_preambles [] = false
-has_two_preambles (byte ∷ rest) = ((byte == 255) && (slice_index rest 0 == 255)) || has_two_preambles rest
+-- Two preamble bytes FF stand in a row in some bytes: one of the bytes and the next one, which follows right after it.
+unfoldable pub has_two_preambles : List ℕ → Bool
+has_two_preambles bytes = list_any (λ (byte, next). (byte == 255) && (next == 255)) (zip bytes (drop 1 bytes))
 
 -- Two faultless FF in a row begin in the body at a place: the second may be the character right after the body.
 abbrev pub two_begin_in_body : List Character → ℕ → Bool

@@ -1,7 +1,7 @@
 -- The range of the numbers of an address in a view (HCF_SPEC-081).
 use Rattle.std.specs.Prelude.{ℕ, ◌<◌, ◌^◌}
-use Rattle.hart_frame.specs.declared.scan.plain_address.PlainAddress.{PlainAddress}
-use Rattle.hart_frame.specs.declared.scan.plain_address.PlainAddress.TheVariants.{Polling, Unique}
+use Rattle.hart_frame.specs.declared.wire.plain_address.PlainAddress.{PlainAddress}
+use Rattle.hart_frame.specs.declared.wire.plain_address.PlainAddress.TheVariants.{Polling, Unique}
 
 -- The number of a polling address, 0 if it is none.
 abbrev pub polling_number : PlainAddress → ℕ

@@ -1,41 +1,14 @@
 -- How the bytes that a scanner looks at begin (HCF_SPEC-081).
 use Rattle.std.specs.Prelude.{◌≡◌, ◌≢◌, ℕ, ◌+◌, ◌<◌, ◌≤◌, ◌⊎◌, List, [], ◌∷◌, ◌++◌, length, take}
-use Rattle.std.specs.List.{All}
 use Rattle.hart_frame.specs.heard.Character.{Character, faultless}
 use Rattle.hart_frame.specs.wire.FrameParts.{FrameParts}
 use Rattle.hart_frame.specs.wire.Body.{IsBody}
-use Rattle.hart_frame.specs.private.Layout.{Describes, layout_length}
-use Rattle.hart_frame.specs.wire.Parity.{HasEvenParity}
-use Rattle.hart_frame.specs.wire.Refusal.{HasCheckByte, IsRefusedWith, IsTruncated}
-use Rattle.hart_frame.specs.declared.wire.fault.FrameFault.{FrameFault}
-use Rattle.hart_frame.specs.declared.wire.fault.FrameFault.TheVariants.{Truncated}
+use Rattle.hart_frame.specs.private.Layout.{layout_length}
+use Rattle.hart_frame.specs.private.Prefix.{IsWholeBody}
+use Rattle.hart_frame.specs.wire.Refusal.{IsTruncated}
 use Rattle.hart_frame.specs.declared.wire.layout.Layout.{Layout}
 use Rattle.hart_frame.specs.declared.scan.candidate.Candidate.{Candidate}
 use Rattle.hart_frame.specs.declared.scan.candidate.Candidate.TheVariants.{Never, Open, Whole}
-
--- Bytes never become a body if they are refused, and not because they end too early.
-pub record NeverBecomeBody (bytes : List ℕ) : Type 0 where
-  pub fault : FrameFault
-  pub refused : IsRefusedWith bytes fault
-  pub decided : fault ≢ Truncated
-
--- Bytes are a whole body by a layout if nothing is wrong up to their check byte, the layout describes them and ends where they end,
--- their parity is even, and all are bytes.
-pub record IsWholeBody (layout : Layout) (bytes : List ℕ) : Type 0 where
-  pub described : Describes layout bytes
-  pub checked : HasCheckByte bytes
-  pub exact : layout_length layout ≡ length bytes
-  pub even : HasEvenParity bytes
-  pub fits : All (λ byte. byte < 256) bytes
-
--- Bytes after two preamble bytes never become a body, as so many of them show, and fewer may still; or all of them may; or the first
--- of them are a whole one, and fewer may still become one.
-abbrev pub IsBodyCandidate : List ℕ → Candidate → Type 0
-IsBodyCandidate bytes (Never count) = (count ≤ length bytes) × NeverBecomeBody (take count bytes)
-    × ((fewer : ℕ) → fewer < count → IsTruncated (take fewer bytes))
-IsBodyCandidate bytes Open = IsTruncated bytes
-IsBodyCandidate bytes (Whole layout) = (layout_length layout ≤ length bytes) × IsWholeBody layout (take (layout_length layout) bytes)
-    × ((fewer : ℕ) → fewer < layout_length layout → IsTruncated (take fewer bytes))
 
 -- Characters begin with no frame if two preamble bytes and a body do not come first of them.
 abbrev pub BeginWithNone : List Character → Type 0
@@ -72,8 +45,8 @@ IsCandidate bytes (Never count) = (count ≤ length bytes) × NeverBegin (take c
 IsCandidate bytes Open = MayBegin bytes
 IsCandidate bytes (Whole layout) = IsWhole layout bytes × MayBeginBefore (2 + layout_length layout) bytes
 
--- Between so many and so many bytes show that no frame begins; open ones are fewer than the second number; no body has more than 267.
-abbrev pub IsShort : ℕ → ℕ → List ℕ → Candidate → Type 0
-IsShort least most bytes (Never count) = (least ≤ count) × (count ≤ most)
-IsShort least most bytes Open = length bytes < most
-IsShort least most bytes (Whole layout) = layout_length layout ≤ 267
+-- Two bytes or more show that no frame begins, 269 at most; open ones are fewer; no body has more than 267.
+abbrev pub IsShort : List ℕ → Candidate → Type 0
+IsShort bytes (Never count) = (2 ≤ count) × (count ≤ 269)
+IsShort bytes Open = length bytes < 269
+IsShort bytes (Whole layout) = layout_length layout ≤ 267

@@ -7,7 +7,8 @@ use Rattle.hart_frame.specs.wire.FrameParts.{FrameParts}
 use Rattle.hart_frame.specs.wire.Body.{IsBody}
 use Rattle.hart_frame.specs.private.Layout.{layout_length}
 use Rattle.hart_frame.specs.private.Buffer.{held_bytes, is_drained, scan_of}
-use Rattle.hart_frame.specs.private.Candidate.{BeginWithNone, IsWhole, IsWholeBody, MayBegin}
+use Rattle.hart_frame.specs.private.Candidate.{BeginWithNone, IsWhole, MayBegin}
+use Rattle.hart_frame.specs.private.Prefix.{IsWholeBody}
 use Rattle.hart_frame.specs.scan.Scanner.{Gives, MovesPast}
 use Rattle.hart_frame.specs.declared.wire.layout.Layout.{Layout}
 use Rattle.hart_frame.specs.declared.scan.buffer.Buffer.{Buffer}

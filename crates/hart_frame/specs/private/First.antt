@@ -2,7 +2,7 @@
 use Rattle.std.specs.Prelude.{◌+◌, ◌<◌, ◌≤◌, List, length}
 use Rattle.hart_frame.specs.heard.Character.{Character}
 use Rattle.hart_frame.specs.heard.Frames.{IsFirst}
-use Rattle.hart_frame.specs.private.Candidate.{IsWholeBody}
+use Rattle.hart_frame.specs.private.Prefix.{IsWholeBody}
 use Rattle.hart_frame.specs.private.Decision.{body_at}
 use Rattle.hart_frame.specs.wire.Body.{IsBody}
 use Rattle.hart_frame.specs.wire.FrameParts.{FrameParts}

@@ -1,11 +1,25 @@
--- Why what was heard ends early (own profile).
-use Rattle.std.specs.Prelude.{◌≡◌, ◌<◌, ◌+◌, ℕ, List, length, slice_get}
+-- Why no body begins where one may, by how the bytes there begin (own profile).
+use Rattle.std.specs.Prelude.{◌+◌, ◌-◌, ◌<◌, ℕ, List, Option, None, Some, take}
+use Rattle.std.specs.List.{All}
 use Rattle.hart_frame.specs.heard.Character.{Character, faultless_bytes}
-use Rattle.hart_frame.specs.heard.Miss.{faulty_or}
+use Rattle.hart_frame.specs.heard.Miss.{delimiter_miss}
+use Rattle.hart_frame.specs.wire.Layout.{body_length}
 use Rattle.hart_frame.specs.declared.heard.miss.Miss.{Miss}
+use Rattle.hart_frame.specs.declared.heard.miss.Miss.TheVariants as miss
+use Rattle.hart_frame.specs.declared.wire.prefix.Wrong.{Wrong}
+use Rattle.hart_frame.specs.declared.wire.prefix.Wrong.TheVariants.{BadCheck, BadDelimiter, ShortReply}
 
--- Fewer than `count` faultless characters come first. The miss names the character with fault bits after them, or the reason at the end of
--- the list.
-pub record EndsEarly (heard : List Character) (count start : ℕ) (at_end miss : Miss) : Type 0 where
-  pub few : length (faultless_bytes heard) < count
-  pub is : miss ≡ faulty_or (slice_get heard (length (faultless_bytes heard))) (start + length (faultless_bytes heard)) at_end
+-- The miss of a place from which bytes come that never become a body.
+abbrev pub wrong_miss : Wrong → ℕ → Miss
+wrong_miss (BadDelimiter byte) start = delimiter_miss byte
+wrong_miss (ShortReply len byte_count) start = miss.ShortReply byte_count
+wrong_miss (BadCheck len byte fits) start = miss.BadCheck (start + (len - 1)) byte fits
+
+-- The miss of bytes that may become a body, at an end.
+abbrev pub cut_miss : Option ℕ → Miss
+cut_miss None = miss.EndsBeforeByteCount
+cut_miss (Some missing) = miss.Missing missing
+
+-- As far as a body may reach from the front on, what was heard without faults are bytes.
+abbrev pub IsOfBytes : List Character → Type 0
+IsOfBytes heard = All (λ byte. byte < 256) (take (body_length (faultless_bytes heard)) (faultless_bytes heard))

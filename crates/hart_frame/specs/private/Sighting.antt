@@ -1,28 +1,26 @@
 -- What stands next in bytes, and what is passed before it (own profile).
-use Rattle.std.specs.Prelude.{◌≡◌, ◌≢◌, ◌<◌, ◌≤◌, ◌+◌, ◌-◌, ◌&&◌, ◌⊎◌, ◌↔◌, not, ℕ, Bool, IsTrue, true, false, List, [], ◌++◌, Option}
-use Rattle.std.specs.Prelude.{None, Some, drop, is_none, length, slice_index, take}
+use Rattle.std.specs.Prelude.{◌≡◌, ◌≢◌, ◌<◌, ◌≤◌, ◌+◌, ◌-◌, ◌&&◌, ◌⊎◌, not, ℕ, Bool, IsTrue, true, false, List, [], ◌++◌, Option}
+use Rattle.std.specs.Prelude.{None, Some, drop, is_none, length, slice_index}
 use Rattle.hart_frame.specs.heard.Character.{Character, faultless}
 use Rattle.hart_frame.specs.heard.Miss.{body_miss}
 use Rattle.hart_frame.specs.heard.Sighting.{two_begin_in_body}
-use Rattle.hart_frame.specs.private.Candidate.{IsWholeBody}
-use Rattle.hart_frame.specs.scan.View.{parts_of}
+use Rattle.hart_frame.specs.private.Prefix.{IsPrefix}
+use Rattle.hart_frame.specs.wire.View.{parts_of}
 use Rattle.hart_frame.specs.wire.Body.{IsBody}
 use Rattle.std.specs.List.{slice_range}
 use Rattle.hart_frame.specs.wire.Layout.{body_length}
-use Rattle.hart_frame.specs.private.Layout.{layout_length}
 use Rattle.hart_frame.specs.wire.Parity.{IsCheckByte}
 use Rattle.hart_frame.specs.wire.Refusal.{HasGoodByteCount, IsTruncated}
 use Rattle.hart_frame.specs.declared.heard.miss.Miss.{Miss}
-use Rattle.hart_frame.specs.declared.heard.miss.Miss.TheVariants.{Faulty, Missing, OnePreamble}
+use Rattle.hart_frame.specs.declared.heard.miss.Miss.TheVariants.{OnePreamble}
 use Rattle.hart_frame.specs.declared.scan.sighting.After.{After}
 use Rattle.hart_frame.specs.declared.scan.sighting.After.TheVariants.{Damaged, End, More}
-use Rattle.hart_frame.specs.declared.scan.sighting.BodyAt.{BodyAt}
-use Rattle.hart_frame.specs.declared.scan.sighting.BodyAt.TheVariants as at
 use Rattle.hart_frame.specs.declared.scan.sighting.Sighting.{Sighting}
 use Rattle.hart_frame.specs.declared.scan.sighting.Sighting.TheVariants as given
 use Rattle.hart_frame.specs.declared.scan.sighting.Standing.{Standing}
 use Rattle.hart_frame.specs.declared.scan.sighting.Standing.TheVariants as standing
 use Rattle.hart_frame.specs.declared.scan.sighting.Standing.TheVariants.{Nothing, Open}
+use Rattle.hart_frame.specs.declared.wire.prefix.Prefix.TheVariants.{Whole}
 use Rattle.hart_frame.specs.scan.Sighting.{NamesPlacesBelow, heard_with, is_end}
 
 -- A preamble byte stands right before a place that lies after another, and at it another byte, or a character with fault bits.
@@ -46,27 +44,6 @@ Whatever bytes after holds = (more : List Character) → (IsTrue (is_end after) 
 -- What begins at a place of some characters has this miss, or is a whole body.
 abbrev pub HasBodyMiss : ℕ → Option Miss → List Character → Type 0
 HasBodyMiss start miss chars = body_miss start (drop start chars) ≡ miss
-
--- The miss of bytes at an end is that one character is missing just if that is their check byte.
-abbrev pub SaysWhatLacks : List ℕ → Miss → Type 0
-SaysWhatLacks bytes at_end = (at_end ≡ Missing 1) ↔ (HasGoodByteCount bytes × (body_length bytes ≡ length bytes + 1))
-
--- What stands at a place: what may become a body, with the miss of it at an end; a body by a layout; or none for this reason.
-abbrev pub IsBodyAt : List ℕ → After → ℕ → BodyAt → Type 0
-IsBodyAt bytes after start (at.Open at_end) =
-    (after ≡ More) × IsTruncated (drop start bytes) × SaysWhatLacks (drop start bytes) at_end
-IsBodyAt bytes after start (at.Whole layout) =
-    Whatever bytes after (HasBodyMiss start None) × (layout_length layout ≤ length (drop start bytes))
-    × IsWholeBody layout (take (layout_length layout) (drop start bytes))
-IsBodyAt bytes after start (at.Wrong miss) =
-    Whatever bytes after (HasBodyMiss start (Some miss)) × NamesPlacesBelow (length (heard_with bytes after)) miss
-
--- Where bytes stop too early for a body, for want of more of them what begins there may become one; otherwise it is the character with
--- fault bits after them, or the reason at an end.
-abbrev pub ends_early : List ℕ → After → Miss → BodyAt
-ends_early bytes More at_end = at.Open at_end
-ends_early bytes (Damaged character) at_end = at.Wrong (Faulty (length bytes) character.faults)
-ends_early bytes End at_end = at.Wrong at_end
 
 -- A whole body stands at a place, and no two FF in a row begin in it.
 abbrev pub stands_alone : List Character → ℕ → Bool
@@ -101,8 +78,9 @@ IsAfterOne bytes after start (standing.Missed miss) =
 abbrev pub IsAfterTwo : List ℕ → After → ℕ → Standing → Type 0
 IsAfterTwo bytes after start Nothing = ⊥
 IsAfterTwo bytes after start (Open used) = (after ≡ More) × (used + 2 ≡ start) × IsTruncated (drop start bytes)
-IsAfterTwo bytes after start (standing.Message layout) = IsBodyAt bytes after start (at.Whole layout)
-IsAfterTwo bytes after start (standing.Missed miss) = IsBodyAt bytes after start (at.Wrong miss)
+IsAfterTwo bytes after start (standing.Message layout) = IsPrefix (drop start bytes) (Whole layout)
+IsAfterTwo bytes after start (standing.Missed miss) =
+    Whatever bytes after (HasBodyMiss start (Some miss)) × NamesPlacesBelow (length (heard_with bytes after)) miss
 
 -- Two preamble bytes stand right before a place, at or after another.
 abbrev pub FollowsTwo : List ℕ → ℕ → ℕ → Type 0

@@ -1,5 +1,4 @@
-ghost use Rattle.std.specs.Prelude.{◌≡◌, ◌↔◌, All, IsSome, IfSome, IsTrue, bit_xor, fold, length, take};
-ghost use Rattle.hart_frame.specs.private.Body.{bytes_of};
+ghost use Rattle.std.specs.Prelude.{◌≡◌, ◌↔◌, All, IsSome, IfSome, IsTrue, take};
 ghost use Rattle.hart_frame.specs.heard.Character.{faultless_bytes};
 
 use hart_values::ByteList;
@@ -71,45 +70,6 @@ pub fn are_faultless(chars: &[Char]) -> bool
     ensures { IsTrue result ↔ All (λ character. character.faults ≡ 0) chars.now }
 {
     chars.iter().all(|character| character.is_faultless())
-}
-
-/// How many faultless characters come before the first one with fault bits.
-pub(crate) fn faultless_len(chars: &[Char]) -> usize
-    ensures { result ≡ length (faultless_bytes chars.now) }
-{
-    chars
-        .iter()
-        .position(|character| !character.is_faultless())
-        .unwrap_or(chars.len())
-}
-
-/// What the bytes and the fault bits of some characters come to.
-#[derive(Clone, Copy)]
-pub(crate) struct Sum {
-    /// The exclusive or of the bytes.
-    pub(crate) check: u8,
-    /// The fault bits that any of them has.
-    pub(crate) faults: u8,
-}
-
-/// What the bytes and the fault bits of some characters come to, in one pass to the end of them. It is not inlined: several characters
-/// are folded at once in a function of its own alone.
-#[inline(never)]
-pub(crate) fn sum_of(chars: &[Char]) -> Sum
-    ensures check { result.check ≡ fold bit_xor 0 (bytes_of chars.now) }
-    ensures faults { (result.faults ≡ 0) ↔ All (λ character. character.faults ≡ 0) chars.now }
-{
-    let none = Sum {
-        check: 0,
-        faults: 0,
-    };
-    chars.iter().fold(
-        none,
-        |sum, character| Sum {
-            check: sum.check ^ character.byte,
-            faults: sum.faults | character.faults,
-        },
-    )
 }
 
 /// The bytes of the first characters, up to one with faults, or as many as fit.

@@ -1,27 +1,27 @@
 //! Why no frame stands at a place at which a message seems to start.
 ghost use Rattle.std.specs.Prelude.{◌≡◌, ◌≢◌, ◌+◌, ◌^◌, ◌<◌, ◌≤◌, ◌⊎◌, ◌↔◌, ℕ, List, [], ◌∷◌, ◌++◌, None, Some, length, drop, insert, set};
-ghost use Rattle.std.specs.Prelude.{All, IsSome, MatchOption, bit_xor, fold, slice_get};
-ghost use Rattle.hart_frame.specs.private.Body.{bytes_of};
+ghost use Rattle.std.specs.Prelude.{All, IsSome, MatchOption, slice_get};
 ghost use Rattle.hart_frame.specs.heard.Character.{Character, faultless, faultless_bytes};
 ghost use Rattle.hart_frame.specs.heard.InTheWay.{FollowsOnePreamble, HasBodyAt, IsInTheWay, IsMiss, bytes_from};
-ghost use Rattle.hart_frame.specs.private.Miss.{EndsEarly};
+ghost use Rattle.hart_frame.specs.private.Miss.{IsOfBytes, cut_miss, wrong_miss};
+ghost use Rattle.hart_frame.specs.private.Prefix.{shown_by};
 ghost use Rattle.hart_frame.specs.heard.Place.{HasFrameAt, HasFrameUpTo};
-ghost use Rattle.hart_frame.specs.heard.Miss.{body_miss, check_miss, delimiter_miss, faulty_or};
+ghost use Rattle.hart_frame.specs.heard.Miss.{body_miss, delimiter_miss, faulty_or};
 ghost use Rattle.hart_frame.specs.heard.InTheWay.{fault_of};
 ghost use Rattle.hart_frame.specs.heard.Miss.{follows_one_preamble, follows_preamble, miss_of};
 ghost use Rattle.hart_frame.specs.heard.Start.{IsStart};
-ghost use Rattle.hart_frame.specs.wire.Layout.{body_length};
 ghost use Rattle.hart_frame.specs.wire.Parity.{IsCheckByte};
-ghost use Rattle.hart_frame.specs.wire.Refusal.{HasGoodByteCount, IsRefusedWith};
+ghost use Rattle.hart_frame.specs.wire.Refusal.{IsRefusedWith};
 ghost use Rattle.hart_frame.specs.declared.wire.fault.FrameFault.{FrameFault};
 ghost use Rattle.hart_frame.specs.declared.heard.miss.Miss.{Miss};
 ghost use Rattle.hart_frame.specs.declared.heard.miss.Miss.TheVariants.{BadCheck, Faulty, Missing, OnePreamble};
 
-use crate::Char;
-use crate::heard::character::{faultless_len, sum_of};
+use crate::heard::character::faultless_front;
 use crate::heard::start::is_start;
-use crate::wire::delimiter::{is_burst_delimiter, read_delimiter};
+use crate::wire::delimiter::is_burst_delimiter;
 use crate::wire::message::PREAMBLE;
+use crate::wire::prefix::{Prefix, Wrong, prefix_of};
+use crate::{Body, Char};
 
 /// Why no frame stands at a place of what was heard. Places are counted from 0, at its front.
 #[derive(Clone, Copy, Debug, PartialEq, Eq)]
@@ -53,8 +53,7 @@ pub enum Miss {
 ///
 /// At most 267 characters are looked at from the place on, as many as the longest body has.
 pub fn why_none(chars: &[Char], start: usize) -> Option<Miss>
-    ensures miss { All (λ character. character.byte < 256) chars.now
-        → MatchOption result ((miss : Miss) → IsMiss chars.now start miss → ⊥) (IsMiss chars.now start) }
+    ensures miss { MatchOption result ((miss : Miss) → IsMiss chars.now start miss → ⊥) (IsMiss chars.now start) }
     ensures found { result ≡ miss_of chars.now start }
 {
     let heard = chars.get(start..)?;
@@ -70,54 +69,53 @@ pub fn why_none(chars: &[Char], start: usize) -> Option<Miss>
 /// Why the characters from a start on begin with no body, or `None` if they begin with one.
 fn body_miss(heard: &[Char], start: usize) -> Option<Miss>
     requires within { start + length heard.now < 2 ^ 64 }
-    ensures { result ≡ body_miss start heard.now }
+    ensures found { result ≡ body_miss start heard.now }
+    ensures fit { IsOfBytes heard.now }
 {
-    if let Some(miss) = early_end(heard, 1, start, Miss::EndsBeforeByteCount) {
-        return Some(miss);
+    let bytes: Body = faultless_front(heard);
+    let end = bytes.len();
+    match prefix_of(bytes.as_slice()) {
+        Prefix::Whole(_) => None,
+        Prefix::Wrong(wrong) => Some(wrong_miss(wrong, start)),
+        Prefix::Cut(missing) => Some(faulty_or(heard, end, start, cut_miss(missing))),
     }
-    let first = heard[0].byte();
-    let Some(delimiter) = read_delimiter(first) else {
-        return Some(delimiter_miss(first));
-    };
-    let count_place = delimiter.byte_count_place();
-    if let Some(miss) = early_end(heard, count_place + 1, start, Miss::EndsBeforeByteCount) {
-        return Some(miss);
-    }
-    let byte_count = heard[count_place].byte();
-    let Some(layout) = delimiter.layout(byte_count) else {
-        return Some(Miss::ShortReply { byte_count });
-    };
-    counted_miss(heard, layout.body_len(), start)
 }
 
-/// The same after a good byte count, by the length of the body that it gives.
-fn counted_miss(heard: &[Char], len: usize, start: usize) -> Option<Miss>
-    requires counted { HasGoodByteCount (faultless_bytes heard.now) }
-    requires len { len ≡ body_length (faultless_bytes heard.now) }
-    requires within { start + length heard.now < 2 ^ 64 }
-    ensures { result ≡ body_miss start heard.now }
+/// The miss at a place from which bytes come that never become a body.
+pub(crate) fn wrong_miss(wrong: Wrong, start: usize) -> Miss
+    requires some { 0 < shown_by wrong }
+    requires within { start + shown_by wrong < 2 ^ 64 }
+    ensures { result ≡ wrong_miss wrong start }
 {
-    if let Some(body) = heard.get(..len) {
-        let sum = sum_of(body);
-        if sum.faults == 0 {
-            return check_miss(body, sum.check, start);
-        }
+    match wrong {
+        Wrong::BadDelimiter { byte } => delimiter_miss(byte),
+        Wrong::ShortReply { byte_count, .. } => Miss::ShortReply { byte_count },
+        Wrong::BadCheck { len, byte, fits } => Miss::BadCheck {
+            place: start + (len - 1),
+            byte,
+            fits,
+        },
     }
-    let count = len.saturating_sub(heard.len());
-    early_end(heard, len, start, Miss::Missing { count })
 }
 
-/// Why fewer than so many faultless characters come first: the character with fault bits that comes before, or the reason at the end of
-/// the characters. `None` if as many come.
-fn early_end(heard: &[Char], count: usize, start: usize, at_end: Miss) -> Option<Miss>
-    requires within { start + length heard.now < 2 ^ 64 }
-    ensures { MatchOption result (count ≤ length (faultless_bytes heard.now)) (EndsEarly heard.now count start at_end) }
+/// Why this first byte is no delimiter of this profile.
+fn delimiter_miss(byte: u8) -> Miss
+    ensures { result ≡ delimiter_miss byte }
 {
-    let end = faultless_len(&heard[..count.min(heard.len())]);
-    if end == count {
-        return None;
+    if is_burst_delimiter(byte) {
+        return Miss::Burst;
     }
-    Some(faulty_or(heard, end, start, at_end))
+    Miss::BadDelimiter { byte }
+}
+
+/// The miss of bytes that may become a body, if nothing comes after them: so many of it are missing, or its byte count is.
+pub(crate) fn cut_miss(missing: Option<usize>) -> Miss
+    ensures { result ≡ cut_miss missing }
+{
+    match missing {
+        Some(count) => Miss::Missing { count },
+        None => Miss::EndsBeforeByteCount,
+    }
 }
 
 /// The character after so many, which has fault bits, or if there is none the reason at the end of the characters.
@@ -132,36 +130,6 @@ fn faulty_or(heard: &[Char], count: usize, start: usize, at_end: Miss) -> Miss
         },
         None => at_end,
     }
-}
-
-/// Why this first byte is no delimiter of this profile.
-pub(crate) fn delimiter_miss(byte: u8) -> Miss
-    ensures { result ≡ delimiter_miss byte }
-{
-    if is_burst_delimiter(byte) {
-        return Miss::Burst;
-    }
-    Miss::BadDelimiter { byte }
-}
-
-/// Why the check byte of characters that are as long as a body does not fit, or `None` if it does, by the exclusive or of their bytes.
-fn check_miss(body: &[Char], check: u8, start: usize) -> Option<Miss>
-    requires some { 0 < length body.now }
-    requires whole { body_length (bytes_of body.now) ≡ length body.now }
-    requires check { check ≡ fold bit_xor 0 (bytes_of body.now) }
-    requires within { start + length body.now < 2 ^ 64 }
-    ensures { result ≡ check_miss (bytes_of body.now) start }
-{
-    if check == 0 {
-        return None;
-    }
-    let last = body.len() - 1;
-    let byte = body[last].byte();
-    Some(Miss::BadCheck {
-        place: start + last,
-        byte,
-        fits: check ^ byte,
-    })
 }
 
 /// Whether one faultless preamble byte `FF` alone stands before this place.

@@ -1,17 +1,16 @@
 //! The characters that a scanner holds.
 ghost use Rattle.std.specs.Prelude.{◌≡◌, ◌<◌, ◌≤◌, ◌+◌, ◌-◌, ◌^◌, ◌∷◌, [], ◌++◌, ◌↔◌, None, IsTrue, drop, length, take};
 ghost use Rattle.hart_frame.specs.private.Buffer.{IsEnded, IsSound, IsStored, held_bytes, scan_of};
-ghost use Rattle.hart_frame.specs.private.Candidate.{IsWholeBody};
+ghost use Rattle.hart_frame.specs.private.Prefix.{IsWholeBody};
 ghost use Rattle.hart_frame.specs.private.Decision.{body_at};
 ghost use Rattle.hart_frame.specs.scan.Scanner.{GivesNothing, MovesPast, finishing, hearing, new_scan};
-ghost use Rattle.hart_frame.specs.scan.View.{parts_of};
+ghost use Rattle.hart_frame.specs.wire.View.{parts_of};
 ghost use Rattle.hart_frame.specs.wire.Body.{IsBody};
 ghost use Rattle.hart_frame.specs.private.Layout.{layout_length};
 ghost use Rattle.hart_frame.specs.declared.scan.buffer.State.TheVariants.{Busy, Drained};
 
-use crate::Char;
-use crate::scan::view::{FoundView, FrameView};
 use crate::wire::layout::Layout;
+use crate::{Char, FoundView, FrameView};
 use hart_values::ByteList;
 
 /// The most characters that are held: two preamble bytes and a body.

@@ -3,7 +3,7 @@ ghost use Rattle.std.specs.Prelude.{◌≡◌, ◌+◌, ◌<◌, ◌≤◌, List
 ghost use Rattle.hart_frame.specs.heard.Delivery.{IsLone, lone_of};
 ghost use Rattle.hart_frame.specs.heard.Frames.{AreFrames, HasNoFrame, IsFirst};
 ghost use Rattle.hart_frame.specs.private.Buffer.{IsSound, scan_of};
-ghost use Rattle.hart_frame.specs.private.Candidate.{IsWholeBody};
+ghost use Rattle.hart_frame.specs.private.Prefix.{IsWholeBody};
 ghost use Rattle.hart_frame.specs.private.Decision.{body_at};
 ghost use Rattle.hart_frame.specs.private.First.{HoldsFirst};
 ghost use Rattle.hart_frame.specs.scan.Scanner.{new_scan};

@@ -6,7 +6,7 @@ ghost use Rattle.hart_frame.specs.scan.Next.{AreNext, frames_of};
 ghost use Rattle.hart_frame.specs.declared.heard.found.Found.{Found};
 
 use crate::scan::search::search_to_end;
-use crate::scan::view::{FoundView, FrameView};
+use crate::{FoundView, FrameView};
 
 /// What stands next in bytes.
 #[derive(Drop)]

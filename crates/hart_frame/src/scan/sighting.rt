@@ -3,27 +3,25 @@ ghost use Rattle.std.specs.Prelude.{None, Some, ◌≡◌, ◌↔◌, ◌<◌, �
 ghost use Rattle.std.specs.Prelude.{IsTrue, drop, length, map, take};
 ghost use Rattle.hart_frame.specs.heard.Character.{Character, faultless};
 ghost use Rattle.hart_frame.specs.heard.Sighting.{AreSightings, IsUndecidedSighting, Seen, SeesOn, has_two_preambles, moved_seen};
-ghost use Rattle.hart_frame.specs.private.Candidate.{IsWholeBody};
+ghost use Rattle.hart_frame.specs.private.Prefix.{IsPrefix, IsWholeBody};
 ghost use Rattle.hart_frame.specs.scan.Sighting.{AfterIsValid, EndsAt};
-ghost use Rattle.hart_frame.specs.private.Sighting.{HasBodyMiss, IsAfterOne, IsAfterTwo, IsAsked, IsBodyAt, IsNextAsked};
+ghost use Rattle.hart_frame.specs.private.Sighting.{HasBodyMiss, IsAfterOne, IsAfterTwo, IsAsked, IsNextAsked};
 ghost use Rattle.hart_frame.specs.private.Sighting.{IsMessageAt, IsPassed, IsStandingAt, LacksOnePreamble, MayStandAlone};
-ghost use Rattle.hart_frame.specs.private.Sighting.{SaysWhatLacks, Whatever, ends_early};
+ghost use Rattle.hart_frame.specs.private.Sighting.{Whatever, stands_alone};
 ghost use Rattle.hart_frame.specs.scan.Sighting.{heard_with, is_end, sightings_of};
-ghost use Rattle.hart_frame.specs.private.Sighting.{stands_alone};
 ghost use Rattle.hart_frame.specs.wire.Layout.{body_length};
 ghost use Rattle.hart_frame.specs.private.Layout.{layout_length};
-ghost use Rattle.hart_frame.specs.wire.Refusal.{IsTruncated};
 ghost use Rattle.hart_frame.specs.declared.scan.sighting.After.TheVariants.{More};
 ghost use Rattle.hart_frame.specs.declared.scan.sighting.Sighting.TheVariants.{Missed};
+ghost use Rattle.hart_frame.specs.declared.wire.prefix.Prefix.TheVariants.{Cut};
 
-use crate::Char;
-use crate::heard::miss::{Miss, delimiter_miss};
+use crate::heard::miss::{cut_miss, wrong_miss};
 use crate::scan::search::{next_preamble, preamble_end};
-use crate::scan::view::{FoundView, FrameView};
-use crate::wire::delimiter::read_delimiter;
 use crate::wire::layout::Layout;
 use crate::wire::message::PREAMBLE;
 use crate::wire::parity::body_check;
+use crate::wire::prefix::{Prefix, prefix_of};
+use crate::{Char, FoundView, FrameView, Miss};
 
 /// What comes after bytes that were heard without faults.
 #[derive(Clone, Copy, Debug, PartialEq, Eq)]
@@ -166,10 +164,17 @@ fn after_two(bytes: &[u8], after: &After, start: usize) -> Standing
     requires places { length bytes.now < 2 ^ 64 - 1 }
     ensures { IsAfterTwo bytes.now after.now start result }
 {
-    match body_at(bytes, after, start) {
-        BodyAt::Open(_) => Standing::Open(start - 2),
-        BodyAt::Whole(layout) => Standing::Message(layout),
-        BodyAt::Wrong(miss) => Standing::Missed(miss),
+    match prefix_of(&bytes[start..]) {
+        Prefix::Whole(layout) => Standing::Message(layout),
+        Prefix::Wrong(wrong) => Standing::Missed(wrong_miss(wrong, start)),
+        Prefix::Cut(missing) => match after {
+            After::More => Standing::Open(start - 2),
+            After::Damaged(character) => Standing::Missed(Miss::Faulty {
+                place: bytes.len(),
+                faults: character.faults(),
+            }),
+            After::End => Standing::Missed(cut_miss(missing)),
+        },
     }
 }
 
@@ -182,16 +187,17 @@ fn after_one(bytes: &[u8], after: &After, start: usize) -> Standing
     requires places { length bytes.now < 2 ^ 64 - 1 }
     ensures { IsAfterOne bytes.now after.now start result }
 {
-    match body_at(bytes, after, start) {
-        BodyAt::Open(at_end) => {
-            if can_stand_alone(&bytes[start..], at_end) {
+    let heard = &bytes[start..];
+    match prefix_of(heard) {
+        Prefix::Whole(layout) => lone_body(bytes, after, start, start + layout.body_len()),
+        Prefix::Wrong(_) => Standing::Nothing,
+        Prefix::Cut(missing) => {
+            if *after == After::More && can_stand_alone(heard, missing) {
                 Standing::Open(start - 1)
             } else {
                 Standing::Nothing
             }
         }
-        BodyAt::Whole(layout) => lone_body(bytes, after, start, start + layout.body_len()),
-        BodyAt::Wrong(_) => Standing::Nothing,
     }
 }
 
@@ -217,24 +223,23 @@ fn lone_body(bytes: &[u8], after: &After, start: usize, stop: usize) -> Standing
     Standing::Missed(Miss::OnePreamble)
 }
 
-/// Whether bytes that may become a body, and have this miss at an end, may become one in which no two preamble bytes in a row begin.
-fn can_stand_alone(bytes: &[u8], at_end: Miss) -> bool
-    requires truncated { IsTruncated bytes.now }
-    requires lacks { SaysWhatLacks bytes.now at_end }
+/// Whether bytes that may become a body, of which so many are missing, may become one in which no two preamble bytes in a row begin.
+fn can_stand_alone(bytes: &[u8], missing: Option<usize>) -> bool
+    requires { IsPrefix bytes.now (Cut missing) }
     ensures may { IsTrue result → MayStandAlone bytes.now 0 }
     ensures never { result ≡ false → (more : List Character) → stands_alone (faultless bytes.now ++ more) 0 ≡ false }
 {
-    !has_two_preambles(bytes) && !lacks_one_preamble(bytes, at_end)
+    !has_two_preambles(bytes) && !lacks_one_preamble(bytes, missing)
 }
 
-/// Whether bytes that have this miss at an end end in a preamble byte, and lack their check byte alone, which is another.
-fn lacks_one_preamble(bytes: &[u8], at_end: Miss) -> bool
-    requires { SaysWhatLacks bytes.now at_end }
+/// Whether bytes that may become a body end in a preamble byte, and lack their check byte alone, which is another.
+fn lacks_one_preamble(bytes: &[u8], missing: Option<usize>) -> bool
+    requires { IsPrefix bytes.now (Cut missing) }
     ensures { IsTrue result ↔ LacksOnePreamble bytes.now }
 {
-    if at_end != (Miss::Missing { count: 1 }) {
+    let Some(1) = missing else {
         return false;
-    }
+    };
     bytes.last() == Some(&PREAMBLE) && body_check(bytes) == PREAMBLE
 }
 
@@ -288,71 +293,6 @@ fn next_asked(bytes: &[u8], after: &After, from: usize) -> Option<usize>
     let place = preamble_end(bytes, first);
     let stands = place < bytes.len() || matches!(after, After::Damaged(_));
     stands.then_some(place)
-}
-
-/// What stands where a body may begin.
-#[derive(Clone, Copy)]
-pub(crate) enum BodyAt {
-    /// What may become a body, and has this miss if the bytes end.
-    Open(Miss),
-    /// A body, by this layout.
-    Whole(Layout),
-    /// No body, for this reason.
-    Wrong(Miss),
-}
-
-/// Returns what stands at a place.
-fn body_at(bytes: &[u8], after: &After, start: usize) -> BodyAt
-    requires within { start ≤ length bytes.now }
-    requires valid { AfterIsValid after.now }
-    requires places { length bytes.now < 2 ^ 64 - 1 }
-    ensures { IsBodyAt bytes.now after.now start result }
-{
-    let heard = &bytes[start..];
-    let Some(first) = heard.first() else {
-        return ends_early(bytes, after, Miss::EndsBeforeByteCount);
-    };
-    let Some(delimiter) = read_delimiter(*first) else {
-        return BodyAt::Wrong(delimiter_miss(*first));
-    };
-    let Some(byte_count) = heard.get(delimiter.byte_count_place()) else {
-        return ends_early(bytes, after, Miss::EndsBeforeByteCount);
-    };
-    let Some(layout) = delimiter.layout(*byte_count) else {
-        return BodyAt::Wrong(Miss::ShortReply {
-            byte_count: *byte_count,
-        });
-    };
-    let len = layout.body_len();
-    if heard.len() < len {
-        let count = len - heard.len();
-        return ends_early(bytes, after, Miss::Missing { count });
-    }
-    let check = body_check(&heard[..len]);
-    if check == 0 {
-        return BodyAt::Whole(layout);
-    }
-    let last = heard[len - 1];
-    BodyAt::Wrong(Miss::BadCheck {
-        place: start + len - 1,
-        byte: last,
-        fits: check ^ last,
-    })
-}
-
-/// Returns what stands where the bytes stop too early for a body. If more may follow, they may become one; otherwise it is the character
-/// with fault bits after them, or the reason at an end.
-fn ends_early(bytes: &[u8], after: &After, at_end: Miss) -> BodyAt
-    ensures { result ≡ ends_early bytes.now after.now at_end }
-{
-    match after {
-        After::More => BodyAt::Open(at_end),
-        After::End => BodyAt::Wrong(at_end),
-        After::Damaged(character) => BodyAt::Wrong(Miss::Faulty {
-            place: bytes.len(),
-            faults: character.faults(),
-        }),
-    }
 }
 
 /// The rest of a list, from a place on, has exactly the sightings of the list from that place on, so many places later. So whoever keeps

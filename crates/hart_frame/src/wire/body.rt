@@ -1,13 +1,11 @@
-ghost use Rattle.std.specs.Prelude.{◌≡◌, ◌-◌, ℕ, length, take, Ok, IfOk, IfErr};
+ghost use Rattle.std.specs.Prelude.{◌≡◌, ℕ, Ok, IfOk, IfErr};
 ghost use Rattle.hart_frame.specs.wire.FrameParts.{FrameParts};
-ghost use Rattle.hart_frame.specs.wire.Body.{BeginsWithBody, IsCheckedPart};
-ghost use Rattle.hart_frame.specs.private.Layout.{Describes};
-ghost use Rattle.hart_frame.specs.wire.Layout.{body_length};
-ghost use Rattle.hart_frame.specs.wire.Refusal.{IsRefusedWith, HasCheckByte};
+ghost use Rattle.hart_frame.specs.wire.Body.{BeginsWithBody};
+ghost use Rattle.hart_frame.specs.wire.Refusal.{IsRefusedWith};
 
-use crate::wire::layout::Layout;
-use crate::{Expansion, Frame, FrameFault, Payload, check_byte};
-use hart_values::{Address, ByteList};
+use crate::wire::prefix::{Prefix, prefix_of};
+use crate::{Frame, FrameFault, FrameView};
+use hart_values::ByteList;
 
 /// A body of a frame: at most 267 bytes.
 pub type Body = ByteList<267>;
@@ -30,46 +28,13 @@ pub fn decode(bytes: &[u8]) -> Result<(Frame, usize), FrameFault>
     ensures only { (frame : FrameParts) (len : ℕ) → BeginsWithBody bytes.now frame len → result ≡ Ok (frame, len) }
     ensures refused { IfErr result (IsRefusedWith bytes.now) }
 {
-    read_body(bytes)
-}
-
-/// The frame whose body the bytes begin with, and the length of that body.
-fn read_body(bytes: &[u8]) -> Result<(Frame, usize), FrameFault>
-    ensures accepts { IfOk result (λ (frame, len). BeginsWithBody bytes.now frame len) }
-    ensures refused { IfErr result (IsRefusedWith bytes.now) }
-{
-    let layout = Layout::read(bytes)?;
-    let len = layout.body_len();
-    if bytes.len() < len {
-        return Err(FrameFault::Truncated);
+    match prefix_of(bytes) {
+        Prefix::Whole(layout) => {
+            let len = layout.body_len();
+            let view = FrameView::view_in(layout, &bytes[..len]);
+            Ok((view.to_frame(), len))
+        }
+        Prefix::Cut(_) => Err(FrameFault::Truncated),
+        Prefix::Wrong(wrong) => Err(wrong.fault()),
     }
-    if check_byte(&bytes[..len]) != 0 {
-        return Err(FrameFault::BadCheck);
-    }
-    Ok((frame_in(layout, bytes), len))
-}
-
-/// The frame that stands in the bytes by this layout.
-fn frame_in(layout: Layout, bytes: &[u8]) -> Frame
-    requires described { Describes layout bytes.now }
-    requires whole { HasCheckByte bytes.now }
-    ensures parts { IsCheckedPart result (take (body_length bytes.now - 1) bytes.now) }
-{
-    let address_end = usize::from(layout.address_end);
-    let command_place = usize::from(layout.command_place);
-    let payload_place = command_place + 2;
-    let payload_end = payload_place + usize::from(layout.byte_count);
-    let (master, burst, address) = Address::read(&bytes[1..address_end]).unwrap();
-    let expansion = Expansion::from_slice(&bytes[address_end..command_place]).unwrap();
-    let payload = Payload::from_slice(&bytes[payload_place..payload_end]).unwrap();
-    Frame::new(
-        layout.kind,
-        master,
-        burst,
-        address,
-        expansion,
-        bytes[command_place],
-        payload,
-    )
-    .unwrap()
 }

@@ -1,10 +1,9 @@
 //! Where the parts of a body stand.
-ghost use Rattle.std.specs.Prelude.{◌≡◌, ◌+◌, ◌<◌, ◌^◌, List, ℕ, IfOk, OnOk, IfErr};
-ghost use Rattle.hart_frame.specs.wire.Refusal.{IsRefusedWith, HasGoodByteCount};
+ghost use Rattle.std.specs.Prelude.{◌≡◌, ◌+◌, ◌<◌, ◌^◌, List, ℕ};
 ghost use Rattle.hart_frame.specs.wire.Layout.{body_length, byte_count_in, delimiter_in};
 
-use crate::wire::delimiter::{UNIQUE_COMMAND_PLACE, read_delimiter};
-use crate::{FrameFault, FrameKind};
+use crate::FrameKind;
+use crate::wire::delimiter::UNIQUE_COMMAND_PLACE;
 
 /// The parts of a body, as its delimiter and its byte count say.
 #[derive(Clone, Copy)]
@@ -17,34 +16,11 @@ pub(crate) struct Layout {
 }
 
 impl Layout {
-    ghost use Rattle.hart_frame.specs.private.Layout.{Describes, layout_length};
-
-    /// The layout of the body that these bytes may begin with.
-    ///
-    /// # Errors
-    ///
-    /// The first fault, in the order of [`decode`](crate::decode), that the bytes have up to their byte count.
-    pub(crate) fn read(bytes: &[u8]) -> Result<Self, FrameFault>
-        ensures known { OnOk result (HasGoodByteCount bytes.now) }
-        ensures described { IfOk result (λ layout. Describes layout bytes.now) }
-        ensures refused { IfErr result (IsRefusedWith bytes.now) }
-    {
-        let Some(first) = bytes.first() else {
-            return Err(FrameFault::Truncated);
-        };
-        let Some(delimiter) = read_delimiter(*first) else {
-            return Err(FrameFault::BadDelimiter);
-        };
-        let Some(byte_count) = bytes.get(delimiter.byte_count_place()) else {
-            return Err(FrameFault::Truncated);
-        };
-        delimiter.layout(*byte_count).ok_or(FrameFault::ShortReply)
-    }
+    ghost use Rattle.hart_frame.specs.private.Layout.{layout_length};
 
     /// The length of the body.
     pub(crate) fn body_len(self) -> usize
-        ensures len { result ≡ layout_length self }
-        ensures described { (bytes : List ℕ) → Describes self bytes → result ≡ body_length bytes }
+        ensures { result ≡ layout_length self }
     {
         body_len(usize::from(self.command_place), self.byte_count)
     }

@@ -1,15 +1,16 @@
 -- The bytes up to the first character with fault bits.
-use Rattle.std.proofs.Common.{◌≡◌, ◌≢◌, ℕ, zero, suc, not, ◌+◌, ◌<◌, ◌≤◌, List, [], ◌∷◌, ◌++◌, length, take, drop, get_or, min, Some}
+use Rattle.std.proofs.Common.{◌≡◌, ◌≢◌, ℕ, ◌+◌, ◌<◌, ◌≤◌, List, [], ◌∷◌, ◌++◌, length, take, drop, get_or, min, Some}
 use Rattle.std.proofs.Common.{refl, arith, append_assoc, length-append, ◌==◌}
 use Rattle.std.proofs.lemmas.Bool.Decides.{nat_tests}
 use Rattle.std.proofs.lemmas.Grind.{common_steps}
 use Rattle.std.proofs.lemmas.List.{get_or_append_left, get_or-map, append-nil, drop_more, drop_all, length-map, length-take}
 use Rattle.std.proofs.lemmas.List.{map-append, take_at, take_all, take_min, take-append-le, take-map}
-use Rattle.std.proofs.lemmas.List.Elements.{All-from_get_or, All-map, All-tail}
+use Rattle.std.proofs.lemmas.List.Elements.{All-drop, All-from_get_or, All-take}
 use Rattle.std.proofs.lemmas.List.Sums.{take_while-cons}
-use Rattle.std.specs.List.{All, position_or_len, slice_get}
-use Rattle.hart_frame.specs.private.Body.{bytes_of}
+use Rattle.std.specs.List.{All, slice_get}
 use Rattle.hart_frame.specs.heard.Character.{Character, faultless, faultless_bytes}
+use Rattle.hart_frame.specs.private.Miss.{IsOfBytes}
+use Rattle.hart_frame.specs.wire.Layout.{body_length}
 use Rattle.hart_frame.proofs.lemmas.heard.Place.{preamble}
 
 -- a faultless character gives its byte, and one with fault bits ends the bytes
@@ -77,6 +78,11 @@ faultless_fit heard fit =
     All-from_get_or (λ byte. byte < 256) (faultless_bytes heard) 0
     (λ i below. grind (arith, char_at heard i preamble below, fit i preamble, length-faultless_bytes heard))
 
+pub of_chars : (chars : List Character) (start : ℕ) → All (λ c. c.byte < 256) chars → IsOfBytes (drop start chars)
+of_chars chars start fit =
+    All-take (λ byte. byte < 256) (body_length (faultless_bytes (drop start chars))) (faultless_bytes (drop start chars))
+    (faultless_fit (drop start chars) (All-drop (λ (c : Character). c.byte < 256) start chars fit))
+
 -- faultless characters after others, and before a tail
 pub regrouped : (xs ys : List ℕ) (tail : List Character) → faultless (xs ++ ys) ++ tail ≡ faultless xs ++ (faultless ys ++ tail)
 regrouped xs ys tail = grind (arith, common_steps, map-append, append_assoc)
@@ -90,24 +96,3 @@ length-front heard most bytes is = grind (arith, length-take, length-faultless_b
 pub front_heard : (heard : List Character) (most : ℕ)
     → faultless (take most (faultless_bytes heard)) ≡ take (length (take most (faultless_bytes heard))) heard
 front_heard heard most = grind (arith, common_steps, length-take, take_min, take_heard)
-
--- the first character with fault bits stands after them
-pub faulty_place : (chars : List Character) → position_or_len (λ c. not (c.faults == 0)) chars ≡ length (faultless_bytes chars)
-faulty_place [] = refl
-faulty_place (c ∷ cs) = grind (arith, nat_tests, faultless_bytes-more, faultless_bytes-end, faulty_place cs)
-
--- those of the first so many characters
-pub faultless_bytes-take : (n : ℕ) (heard : List Character) → faultless_bytes (take n heard) ≡ take n (faultless_bytes heard)
-faultless_bytes-take zero heard = refl
-faultless_bytes-take (suc n) [] = refl
-faultless_bytes-take (suc n) (c ∷ cs) = grind (arith, faultless_bytes-more, faultless_bytes-end, faultless_bytes-take n cs)
-
--- they are all the bytes if no character has fault bits
-pub faultless_bytes-all : (heard : List Character) → All (λ c. c.faults ≡ 0) heard → faultless_bytes heard ≡ bytes_of heard
-faultless_bytes-all [] all = refl
-faultless_bytes-all (c ∷ cs) all =
-    grind (arith, faultless_bytes-more, all 0 c, faultless_bytes-all cs (All-tail (λ (x : Character). x.faults ≡ 0) c cs all))
-
--- they come from faultless characters
-pub faultless_all : (bytes : List ℕ) → All (λ c. c.faults ≡ 0) (faultless bytes)
-faultless_all bytes = search (arith, common_steps, All-map)

@@ -4,7 +4,7 @@ use Rattle.std.proofs.Common.{set, true, ap, inl, inr, sym, ◌∙◌, None, Opt
 use Rattle.std.proofs.lemmas.Bool.Decides.{nat_tests}
 use Rattle.std.proofs.lemmas.Grind.{common_steps}
 use Rattle.std.proofs.lemmas.List.{length-set, drop_all, length-drop, take_at, append-nil, drop_more, get_or-set_same, length-take-le}
-use Rattle.std.proofs.lemmas.List.{map-append, set_at, take-append-drop, take_more}
+use Rattle.std.proofs.lemmas.List.{map-append, set_at, take-append-drop, take-take, take_more}
 use Rattle.std.proofs.lemmas.List.Elements.{All-append, All-drop, All-take}
 use Rattle.std.proofs.lemmas.Option.{get_or_from_slice_get, slice_get_within}
 use Rattle.std.specs.List.{All, insert}
@@ -16,29 +16,32 @@ use Rattle.hart_frame.specs.heard.InTheWay.{bytes_from, FollowsOnePreamble, HasB
 use Rattle.hart_frame.specs.heard.Place.{HasFrameAt, HasFrameUpTo}
 use Rattle.hart_frame.specs.heard.Miss.{body_miss, check_byte_in, fitting_check_byte, miss_of}
 use Rattle.hart_frame.specs.heard.Start.{IsStart}
+use Rattle.hart_frame.specs.private.Miss.{IsOfBytes}
 use Rattle.hart_frame.specs.wire.Body.{IsBody, BeginsWithBody}
 use Rattle.hart_frame.specs.wire.FrameParts.{FrameParts}
 use Rattle.hart_frame.specs.wire.Layout.{body_length}
 use Rattle.hart_frame.specs.wire.Parity.{IsCheckByte}
 use Rattle.hart_frame.specs.wire.Refusal.{HasCheckByte}
 use Rattle.hart_frame.proofs.lemmas.heard.FramesFound.{body_at, body_frame, frame_up_to, starts}
-use Rattle.hart_frame.proofs.lemmas.heard.Front.{faultless_fit, length-faultless_bytes, heard_parts, take_heard}
-use Rattle.hart_frame.proofs.lemmas.heard.InTheWay.{in_the_way, way_of, fits-is}
-use Rattle.hart_frame.proofs.lemmas.heard.Missed.{miss_of-some, miss_of-start, good_prefix, one_preamble-is, one_preamble-yes, none_of}
+use Rattle.hart_frame.proofs.lemmas.heard.Front.{faultless_fit, heard_parts, length-faultless_bytes, of_chars, take_heard}
+use Rattle.hart_frame.proofs.lemmas.heard.InTheWay.{in_the_way, way_of}
+use Rattle.hart_frame.proofs.lemmas.heard.Missed.{miss_of-some, miss_of-start, one_preamble-is, one_preamble-yes, none_of}
 use Rattle.hart_frame.proofs.lemmas.heard.Place.{preamble}
-use Rattle.hart_frame.proofs.lemmas.wire.Parity.{IsCheckByte-fold, fits_at}
-use Rattle.hart_frame.proofs.lemmas.wire.Prefix.{HasGoodByteCount-more, length_more}
+use Rattle.hart_frame.proofs.lemmas.wire.Parity.{IsCheckByte-fold, fits-is, fits_at}
+use Rattle.hart_frame.proofs.lemmas.wire.Prefix.{HasGoodByteCount-more, good_prefix, length_more}
 use Rattle.hart_frame.proofs.lemmas.wire.Truncated.{fitted}
 
 -- bytes up to a check byte that fits are a body
-whole_body : (bytes : List ℕ) → All (λ byte. byte < 256) bytes → HasCheckByte bytes
+whole_body : (bytes : List ℕ) → All (λ byte. byte < 256) (take (body_length bytes) bytes) → HasCheckByte bytes
     → (frame : FrameParts) × IsBody frame (take (body_length bytes - 1) bytes ++ fitting_check_byte bytes ∷ [])
 whole_body bytes fit has =
     let n = body_length bytes - 1 in
     let good = good_prefix bytes n has (omega arith) (omega (arith, has.1)) in
-    fitted (take n bytes) (All-take (λ byte. byte < 256) n bytes fit) good.0 (grind (arith, good.1, length-take-le))
+    let front : take n (take (body_length bytes) bytes) ≡ take n bytes = grind (arith, take-take) in
+    let fits = rw front at (All-take (λ byte. byte < 256) n (take (body_length bytes) bytes) fit) in
+    fitted (take n bytes) fits good.0 (grind (arith, good.1, length-take-le))
 
-heard_body : (chars : List Character) (start : ℕ) → All (λ byte. byte < 256) (bytes_from chars start)
+heard_body : (chars : List Character) (start : ℕ) → IsOfBytes (drop start chars)
     → HasCheckByte (bytes_from chars start) → check_byte_in (bytes_from chars start) ≡ fitting_check_byte (bytes_from chars start)
     → HasBodyAt chars start
 heard_body chars start fits has same =
@@ -50,44 +53,57 @@ heard_body chars start fits has same =
     body_at chars start frame n begins
 
 -- at a place a body begins, or something of it is missed
-body_or_miss : (chars : List Character) (start : ℕ) → All (λ c. c.byte < 256) chars
+body_or_miss : (chars : List Character) (start : ℕ) → IsOfBytes (drop start chars)
     → HasBodyAt chars start ⊎ (is_some (body_miss start (drop start chars)) ≡ true)
-body_or_miss chars start fit =
-    let fits = faultless_fit (drop start chars) (All-drop (λ (c : Character). c.byte < 256) start chars fit) in
-    grind (arith, nat_tests, heard_body chars start fits)
+body_or_miss chars start fit = grind (arith, nat_tests, heard_body chars start fit)
 
 pub frame_or_miss : (place : ℕ) (chars : List Character) → All (λ c. c.byte < 256) chars → IsStart place chars
     → HasFrameAt chars place ⊎ IsSome (miss_of chars place)
 frame_or_miss place chars fit is =
-    grind (arith, body_or_miss chars place fit, body_frame chars place is, miss_of-start chars (drop place chars) place refl is)
+    grind (
+      arith,
+      body_or_miss chars place (of_chars chars place fit),
+      body_frame chars place is,
+      miss_of-start chars (drop place chars) place refl is,
+    )
 
 -- after one preamble byte alone a whole body stands
+one_stands : (start : ℕ) (chars : List Character) → IsOfBytes (drop start chars) → miss_of chars start ≡ Some OnePreamble
+    → FollowsOnePreamble chars start × HasBodyAt chars start
+one_stands start chars fit is =
+    grind (
+      arith,
+      miss_of-some chars start OnePreamble is,
+      in_the_way start chars OnePreamble fit,
+      body_or_miss chars start fit,
+      one_preamble-is chars start,
+    )
+
+one_told : (start : ℕ) (chars : List Character) → FollowsOnePreamble chars start → HasBodyAt chars start
+    → miss_of chars start ≡ Some OnePreamble
+one_told start chars one has = grind (arith, one_preamble-yes chars start one, none_of chars start has)
+
 pub one_alone : (start : ℕ) (chars : List Character) → All (λ c. c.byte < 256) chars
     → (miss_of chars start ≡ Some OnePreamble) ↔ (FollowsOnePreamble chars start × HasBodyAt chars start)
-one_alone start chars fit = (
-  λ is. grind (
-    arith,
-    miss_of-some chars start OnePreamble is,
-    in_the_way start chars OnePreamble fit,
-    body_or_miss chars start fit,
-    one_preamble-is chars start,
-  ),
-  λ both. grind (arith, one_preamble-yes chars start both.0, none_of chars start both.1),
-)
+one_alone start chars fit = (one_stands start chars (of_chars chars start fit), λ both. one_told start chars both.0 both.1)
 
--- the miss that is found is the one that the relation allows
+-- what is found is a miss of the place, and a miss of the place is found
+found_is : (start : ℕ) (chars : List Character) (miss : Miss) → IsOfBytes (drop start chars) → miss_of chars start ≡ Some miss
+    → IsMiss chars start miss
+found_is start chars miss fit told = elim (miss_of-some chars start miss told) [
+  | inl here ↦ inl (here.0, (in_the_way start chars miss fit here.0).0 told)
+  | inr lone ↦ let both = one_stands start chars fit (told ∙ ap Some lone.0) in inr (lone.0, both.0, both.1)
+]
+
+is_found : (start : ℕ) (chars : List Character) (miss : Miss) → (IsStart start chars → IsOfBytes (drop start chars))
+    → IsMiss chars start miss → miss_of chars start ≡ Some miss
+is_found start chars miss fit (inl way) = (in_the_way start chars miss (fit way.0) way.0).1 way.1
+is_found start chars miss fit (inr lone) = one_told start chars lone.1 lone.2 ∙ ap Some (sym lone.0)
+
 pub miss_is : (start : ℕ) (chars : List Character) (miss : Miss) → All (λ c. c.byte < 256) chars
     → (miss_of chars start ≡ Some miss) ↔ IsMiss chars start miss
-miss_is start chars miss fit = (
-  λ told. elim (miss_of-some chars start miss told) [
-    | inl here ↦ inl (here.0, (in_the_way start chars miss fit here.0).0 told)
-    | inr lone ↦ let both = (one_alone start chars fit).0 (told ∙ ap Some lone.0) in inr (lone.0, both.0, both.1)
-  ],
-  λ is. elim is [
-    | inl way ↦ (in_the_way start chars miss fit way.0).1 way.1
-    | inr lone ↦ (one_alone start chars fit).1 (lone.1, lone.2) ∙ ap Some (sym lone.0)
-  ],
-)
+miss_is start chars miss fit =
+    (found_is start chars miss (of_chars chars start fit), is_found start chars miss (λ here. of_chars chars start fit))
 
 -- so there is one at most
 pub one_miss : (start : ℕ) (chars : List Character) (miss other : Miss) → All (λ c. c.byte < 256) chars → IsMiss chars start miss
@@ -96,16 +112,18 @@ one_miss start chars miss other fit is again =
     let same = sym ((miss_is start chars miss fit).1 is) ∙ (miss_is start chars other fit).1 again in cc
 
 -- and if none is found there is none
-pub is_told : (chars : List Character) (start : ℕ) (found : Option Miss) → All (λ c. c.byte < 256) chars → found ≡ miss_of chars start
+pub is_told : (chars : List Character) (start : ℕ) (found : Option Miss)
+    → (IsStart start chars ⊎ IsSome found → IsOfBytes (drop start chars)) → found ≡ miss_of chars start
     → MatchOption found ((miss : Miss) → IsMiss chars start miss → ⊥) (IsMiss chars start)
-is_told chars start None fit same = λ miss is. let found = same ∙ (miss_is start chars miss fit).1 is in cc
-is_told chars start (Some miss) fit same = (miss_is start chars miss fit).0 (sym same)
+is_told chars start None fit same = λ miss is.
+    let found = same ∙ is_found start chars miss (λ here. fit (inl here)) is in cc
+is_told chars start (Some miss) fit same = found_is start chars miss (fit (inr (grind arith))) (sym same)
 
 -- with another preamble byte before the one a frame stands there
 pub one_preamble_fits : (start : ℕ) (chars : List Character) → All (λ c. c.byte < 256) chars → miss_of chars start ≡ Some OnePreamble
     → HasFrameAt (insert chars start preamble) (start + 1)
 one_preamble_fits start chars fit is =
-    let (one, has) = (one_alone start chars fit).0 is in
+    let (one, has) = one_stands start chars (of_chars chars start fit) is in
     let split : insert chars start preamble ≡ one.prefix ++ faultless (255 ∷ 255 ∷ has.body) ++ has.rest =
     grind (arith, common_steps, preamble, append_assoc, take_at) in
     let found = frame_up_to (insert chars start preamble) one.prefix has.rest has.body has.frame (start + 1) _ has.is_body split
@@ -118,7 +136,7 @@ pub bad_check_fits : (start place byte fits : ℕ) (chars : List Character) → 
     → HasFrameUpTo (set chars place (record { byte = fits; faults = 0 })) start (place + 1)
 bad_check_fits start place byte fits chars fit is =
     let (here, (has, at, there, check, differ)) =
-    way_of start chars (BadCheck place byte fits) (λ place byte fits same. fit) is (λ same. cc) in
+    way_of start chars (BadCheck place byte fits) (λ place byte fits same. of_chars chars start fit) is (λ same. cc) in
     let begins = starts chars start here in
     let c : Character = record { byte = fits; faults = 0 } in
     let heard = drop start chars in
@@ -132,7 +150,7 @@ bad_check_fits start place byte fits chars fit is =
     grind (arith, take-append-drop n heard, take_heard heard n, drop_more heard n preamble, length-faultless_bytes) in
     let front : List Character = begins.prefix ++ (preamble ∷ preamble ∷ faultless checked) in
     let split : chars ≡ front ++ get_or heard n preamble ∷ others = grind (arith, common_steps, preamble, append_assoc) in
-    let body = whole_body bytes bytes_fit has in
+    let body = whole_body bytes (All-take (λ byte. byte < 256) (body_length bytes) bytes bytes_fit) has in
     let fits_is = fits-is checked fits (All-take (λ byte. byte < 256) n bytes bytes_fit) check in
     let last = fitting_check_byte bytes in
     let changed : set chars place c ≡ begins.prefix ++ faultless (255 ∷ 255 ∷ (checked ++ last ∷ [])) ++ others =
@@ -155,7 +173,7 @@ pub missing_fits : (start count : ℕ) (chars : List Character) (bytes : List �
     → (last : ℕ) × IsCheckByte (bytes_from chars start ++ bytes) last
     × HasFrameUpTo (chars ++ faultless (bytes ++ last ∷ [])) start (length chars + count)
 missing_fits start count chars more fit more_fit is long =
-    let (here, (good, some, whole, end)) = way_of start chars (Missing count) (λ place byte fits same. fit) is (λ same. cc) in
+    let (here, (good, some, whole, end)) = way_of start chars (Missing count) (λ place byte fits same. absurd cc) is (λ same. cc) in
     let at = starts chars start here in
     let heard = drop start chars in
     let bytes = faultless_bytes heard in

@@ -1,10 +1,10 @@
 -- A miss where a body may start is what stands in the way there, and comes from the fault with which the bytes there are refused.
-use Rattle.std.proofs.Common.{◌≡◌, ◌≢◌, ℕ, ◌+◌, ◌-◌, ◌<◌, ◌≤◌, ◌⊎◌, List, length, take, ◌↔◌, drop, fold, get_or, bit_xor, None, Some, refl}
+use Rattle.std.proofs.Common.{◌≡◌, ◌≢◌, ℕ, ◌+◌, ◌-◌, ◌<◌, ◌≤◌, ◌⊎◌, List, length, take, ◌↔◌, drop, get_or, None, Some, refl}
 use Rattle.std.proofs.Common.{sym, arith, Option, ◌∙◌}
 use Rattle.std.proofs.lemmas.Bool.Decides.{nat_tests}
 use Rattle.std.proofs.lemmas.Grind.{common_steps}
-use Rattle.std.proofs.lemmas.List.{get_or-drop, length-append, length-drop}
-use Rattle.std.proofs.lemmas.List.Elements.{All-drop, All-take}
+use Rattle.std.proofs.lemmas.List.{get_or-drop, length-append, length-drop, take-take}
+use Rattle.std.proofs.lemmas.List.Elements.{All-take}
 use Rattle.std.proofs.lemmas.Option.{slice_get-get_or, slice_get_cases}
 use Rattle.std.specs.List.{All, slice_get}
 use Rattle.hart_frame.specs.declared.heard.miss.Miss.{Miss}
@@ -15,13 +15,14 @@ use Rattle.hart_frame.specs.heard.InTheWay.{ComeToTheEnd, HasFaultsAt, IsInTheWa
 use Rattle.hart_frame.specs.heard.InTheWay.{fault_of}
 use Rattle.hart_frame.specs.heard.Miss.{miss_in, body_miss, faulty_or, fitting_check_byte, miss_of}
 use Rattle.hart_frame.specs.heard.Start.{IsStart}
+use Rattle.hart_frame.specs.private.Miss.{IsOfBytes}
 use Rattle.hart_frame.specs.wire.Layout.{body_length}
 use Rattle.hart_frame.specs.wire.Parity.{IsCheckByte}
 use Rattle.hart_frame.specs.wire.Refusal.{IsRefusedWith}
-use Rattle.hart_frame.proofs.lemmas.heard.Front.{char_at, after_faultless, faultless_fit, length-faultless_bytes}
-use Rattle.hart_frame.proofs.lemmas.heard.Missed.{odd, miss_of-some, miss_of-start}
+use Rattle.hart_frame.proofs.lemmas.heard.Front.{char_at, after_faultless, length-faultless_bytes}
+use Rattle.hart_frame.proofs.lemmas.heard.Missed.{miss_of-some, miss_of-start}
 use Rattle.hart_frame.proofs.lemmas.heard.Place.{preamble}
-use Rattle.hart_frame.proofs.lemmas.wire.Parity.{HasEvenParity-push, IsCheckByte-fold, even-is, fits_at}
+use Rattle.hart_frame.proofs.lemmas.wire.Parity.{IsCheckByte-fold, fits-is, fits_at, odd}
 
 -- a character of the rest of a list
 rest_at : (chars : List Character) (start n : ℕ) → slice_get (drop start chars) n ≡ slice_get chars (start + n)
@@ -67,68 +68,66 @@ stops chars start at_end is =
       length-faultless_bytes heard,
     )
 
--- the check byte that fits
-pub fits-is : (bytes : List ℕ) (fits : ℕ) → All (λ byte. byte < 256) bytes → IsCheckByte bytes fits → fits ≡ fold bit_xor 0 bytes
-fits-is bytes fits fit is = even-is bytes fits (fits_at bytes fit) is.byte (HasEvenParity-push bytes fits is)
+-- the bytes that the check byte covers
+covered : (chars : List Character) (start : ℕ) → IsOfBytes (drop start chars)
+    → All (λ byte. byte < 256) (take (body_length (bytes_from chars start) - 1) (bytes_from chars start))
+covered chars start fit =
+    let bytes = bytes_from chars start in
+    let n = body_length bytes - 1 in
+    let front : take n (take (body_length bytes) bytes) ≡ take n bytes = grind (arith, take-take) in
+    rw front at (All-take (λ byte. byte < 256) n (take (body_length bytes) bytes) fit)
 
 -- what is said stands in the way
 said : (chars : List Character) (start : ℕ) (miss : Miss)
-    → ((place byte fits : ℕ) → miss ≡ BadCheck place byte fits → All (λ byte. byte < 256) (bytes_from chars start))
+    → ((place byte fits : ℕ) → miss ≡ BadCheck place byte fits → IsOfBytes (drop start chars))
     → IsStart start chars → body_miss start (drop start chars) ≡ Some miss → IsInTheWay chars start miss
 said chars start miss fit is told =
     let bytes = bytes_from chars start in
     let n = body_length bytes - 1 in
     let same : (place byte fits : ℕ) → miss ≡ BadCheck place byte fits → IsCheckByte (take n bytes) (fitting_check_byte bytes) =
     λ place byte fits is. IsCheckByte-fold (take n bytes) (fitting_check_byte bytes)
-    (fits_at (take n bytes) (All-take (λ byte. byte < 256) n bytes (fit place byte fits is))) refl in
+    (fits_at (take n bytes) (covered chars start (fit place byte fits is))) refl in
     let missing = stops chars start (Missing (body_length bytes - length bytes)) is in
     grind (arith, nat_tests, stops chars start EndsBeforeByteCount is, heard_at chars start n, same (start + n))
 
 -- what stands in the way is said
-only : (chars : List Character) (start : ℕ) (miss : Miss) → All (λ byte. byte < 256) (bytes_from chars start) → IsStart start chars
+only : (chars : List Character) (start : ℕ) (miss : Miss) → IsOfBytes (drop start chars) → IsStart start chars
     → IsInTheWay chars start miss → body_miss start (drop start chars) ≡ Some miss
 only chars start (BadCheck place byte fits) fit is way =
     let bytes = bytes_from chars start in
     let n = body_length bytes - 1 in
-    grind (arith, nat_tests, heard_at chars start n place, fits-is (take n bytes) fits, All-take (λ byte. byte < 256) n bytes fit)
+    grind (arith, nat_tests, heard_at chars start n place, fits-is (take n bytes) fits (covered chars start fit))
 only chars start miss fit is way =
     let bytes = bytes_from chars start in
     let missing = stops chars start (Missing (body_length bytes - length bytes)) is in
     grind (arith, nat_tests, stops chars start EndsBeforeByteCount is)
 
-pub in_the_way : (start : ℕ) (chars : List Character) (miss : Miss) → All (λ c. c.byte < 256) chars → IsStart start chars
+pub in_the_way : (start : ℕ) (chars : List Character) (miss : Miss) → IsOfBytes (drop start chars) → IsStart start chars
     → (miss_of chars start ≡ Some miss) ↔ IsInTheWay chars start miss
 in_the_way start chars miss fit is =
-    let heard = drop start chars in
-    let fits = faultless_fit heard (All-drop (λ (c : Character). c.byte < 256) start chars fit) in
-    rw (sym (miss_of-start chars heard start refl is))
-    (said chars start miss (λ place byte fit same. fits) is, only chars start miss fits is)
+    rw (sym (miss_of-start chars (drop start chars) start refl is))
+    (said chars start miss (λ place byte fits same. fit) is, only chars start miss fit is)
 
 -- a miss but that of one preamble byte is of a place where a body may start
 pub way_of : (start : ℕ) (chars : List Character) (miss : Miss)
-    → ((place byte fits : ℕ) → miss ≡ BadCheck place byte fits → All (λ c. c.byte < 256) chars) → miss_of chars start ≡ Some miss
+    → ((place byte fits : ℕ) → miss ≡ BadCheck place byte fits → IsOfBytes (drop start chars)) → miss_of chars start ≡ Some miss
     → miss ≢ OnePreamble → IsStart start chars × IsInTheWay chars start miss
-way_of start chars miss fit is two =
-    let fits : (place byte fits : ℕ) → miss ≡ BadCheck place byte fits → All (λ byte. byte < 256) (bytes_from chars start) =
-    λ place byte fits same.
-    faultless_fit (drop start chars) (All-drop (λ (c : Character). c.byte < 256) start chars (fit place byte fits same)) in
-    grind (arith, miss_of-some chars start miss is, said chars start miss fits)
+way_of start chars miss fit is two = grind (arith, miss_of-some chars start miss is, said chars start miss fit)
 
 -- a miss has the fault with which the bytes are refused, but that of one preamble byte has none
 has_fault : (miss : Miss) → miss ≢ OnePreamble → (fault : FrameFault) × (fault_of miss ≡ Some fault)
 has_fault miss two = grind arith
 
-refused_so : (bytes : List ℕ) (faulty : Option Character) (end start : ℕ) (miss : Miss) → All (λ byte. byte < 256) bytes
-    → miss_in bytes faulty end start ≡ Some miss → (fault : FrameFault) → fault_of miss ≡ Some fault → IsRefusedWith bytes fault
-refused_so bytes faulty end start miss fit told fault is =
-    grind (arith, nat_tests, odd bytes (All-take (λ byte. byte < 256) (body_length bytes) bytes fit))
+refused_so : (bytes : List ℕ) (faulty : Option Character) (end start : ℕ) (miss : Miss)
+    → All (λ byte. byte < 256) (take (body_length bytes) bytes) → miss_in bytes faulty end start ≡ Some miss → (fault : FrameFault)
+    → fault_of miss ≡ Some fault → IsRefusedWith bytes fault
+refused_so bytes faulty end start miss fit told fault is = grind (arith, nat_tests, odd bytes (body_length bytes) fit)
 
-pub miss_is_fault : (start : ℕ) (chars : List Character) (miss : Miss) → All (λ c. c.byte < 256) chars → IsStart start chars
+pub miss_is_fault : (start : ℕ) (chars : List Character) (miss : Miss) → IsOfBytes (drop start chars) → IsStart start chars
     → miss_of chars start ≡ Some miss
     → (fault : FrameFault) × (fault_of miss ≡ Some fault) × IsRefusedWith (faultless_bytes (drop start chars)) fault
 miss_is_fault start chars miss fit is miss_is =
     let heard = drop start chars in
-    let fits = faultless_fit heard (All-drop (λ (c : Character). c.byte < 256) start chars fit) in
     let way = (in_the_way start chars miss fit is).0 miss_is in
     let (fault, same) = has_fault miss (λ same. rw same at way) in
-    (fault, same, refused_so (faultless_bytes heard) _ _ start miss fits (miss_of-start chars heard start refl is ∙ miss_is) fault same)
+    (fault, same, refused_so (faultless_bytes heard) _ _ start miss fit (miss_of-start chars heard start refl is ∙ miss_is) fault same)

@@ -1,27 +1,24 @@
 -- The miss of a place by what stands before it, and that there is none where a frame stands.
-use Rattle.std.proofs.Common.{◌≤◌, refl, ◌≡◌, ◌≢◌, ℕ, zero, suc, ◌-◌, ◌<◌, ◌⊎◌, inl, inr, List, [], ◌∷◌, ◌++◌, length, take, drop, get_or}
+use Rattle.std.proofs.Common.{refl, ◌≡◌, ◌≢◌, ℕ, zero, suc, ◌<◌, ◌⊎◌, inl, inr, List, [], ◌∷◌, ◌++◌, length, take, drop}
 use Rattle.std.proofs.Common.{true, false, None, Some, arith, append_assoc, length-append}
 use Rattle.std.proofs.Math.Seq.{append_snoc, drop-cons, get_or-append_seam, take-append_seam, take-suc}
 use Rattle.std.proofs.lemmas.Bool.Decides.{nat_tests}
 use Rattle.std.proofs.lemmas.Grind.{common_steps}
-use Rattle.std.proofs.lemmas.List.{take_more, get_or_append_left, get_or_past, get_or_at, get_or-take, length-take-le, take-append-drop}
-use Rattle.std.specs.List.{All}
+use Rattle.std.proofs.lemmas.List.{get_or-take, length-take-le, take-append-drop}
 use Rattle.std.specs.Option.{is_some}
 use Rattle.hart_frame.specs.declared.heard.miss.Miss.{Miss}
 use Rattle.hart_frame.specs.declared.heard.miss.Miss.TheVariants.{OnePreamble}
 use Rattle.hart_frame.specs.heard.Character.{Character, faultless_bytes}
 use Rattle.hart_frame.specs.heard.InTheWay.{FollowsOnePreamble, HasBodyAt}
 use Rattle.hart_frame.specs.heard.Place.{HasFrameAt}
-use Rattle.hart_frame.specs.heard.Miss.{body_miss, check_byte_in, fitting_check_byte, miss_of, follows_one_preamble}
+use Rattle.hart_frame.specs.heard.Miss.{body_miss, miss_of, follows_one_preamble}
 use Rattle.hart_frame.specs.heard.Miss.{follows_preamble, is_start}
 use Rattle.hart_frame.specs.heard.Start.{IsStart}
-use Rattle.hart_frame.specs.wire.Layout.{body_length, byte_count_place}
-use Rattle.hart_frame.specs.wire.Parity.{HasEvenParity}
-use Rattle.hart_frame.specs.wire.Refusal.{HasCheckByte, HasGoodByteCount}
+use Rattle.hart_frame.specs.wire.Layout.{body_length}
 use Rattle.hart_frame.proofs.lemmas.heard.FramesFound.{begins_at, body_of, start_of}
 use Rattle.hart_frame.proofs.lemmas.heard.Place.{preamble}
 use Rattle.hart_frame.proofs.lemmas.heard.Start.{start_test, tested}
-use Rattle.hart_frame.proofs.lemmas.wire.Parity.{even-is, fits_at}
+use Rattle.hart_frame.proofs.lemmas.wire.Parity.{odd}
 use Rattle.hart_frame.proofs.lemmas.wire.Refusal.{has_check, says}
 
 -- what the miss of a place is where a body may start
@@ -65,18 +62,7 @@ one_preamble-yes chars place is =
     let at = tested chars (length is.prefix) in
     grind (arith, no_second chars is.prefix is.rest, length-append, preamble, append_assoc, get_or-append_seam)
 
--- a check byte that does not fit makes the parity odd
-pub odd : (bytes : List ℕ) → All (λ byte. byte < 256) (take (body_length bytes) bytes) → HasCheckByte bytes
-    → check_byte_in bytes ≢ fitting_check_byte bytes → HasEvenParity (take (body_length bytes) bytes) → ⊥
-odd bytes fit has differ even =
-    let n = body_length bytes - 1 in
-    let whole : take (body_length bytes) bytes ≡ take n bytes ++ get_or bytes n 0 ∷ [] = grind (arith, common_steps, take_more) in
-    let each = fits_at (take (body_length bytes) bytes) fit in
-    let small : (i : ℕ) → get_or (take n bytes) i 0 < 256 = grind (arith, each, get_or_append_left, get_or_past) in
-    let last : get_or bytes n 0 < 256 = grind (arith, each n, get_or_at, length-take-le) in
-    differ (even-is (take n bytes) (get_or bytes n 0) small last (rw whole at even))
-
--- so nothing is missed where a body stands
+-- nothing is missed where a body stands
 pub none_of : (chars : List Character) (start : ℕ) → HasBodyAt chars start → body_miss start (drop start chars) ≡ None
 none_of chars start has =
     let bytes = faultless_bytes (drop start chars) in
@@ -84,15 +70,10 @@ none_of chars start has =
     let whole = (says bytes has.frame (length has.body) begins).whole in
     let check = has_check bytes has.frame (length has.body) begins in
     let even = rw whole at begins.body.parity in
-    grind (arith, nat_tests, odd bytes (rw whole at begins.body.bytes_fit) check)
+    grind (arith, nat_tests, odd bytes (body_length bytes) (rw whole at begins.body.bytes_fit), check)
 
 -- where a frame stands there is no miss
 pub no_miss : (place : ℕ) (chars : List Character) → HasFrameAt chars place → miss_of chars place ≡ None
 no_miss place chars (found, stands, at) =
     let none = none_of chars found.start (body_of chars found 0 stands) in
     grind (arith, miss_of-start chars (drop found.start chars) found.start refl (start_of chars found 0 stands))
-
--- what is said up to the check byte is said by the bytes before it
-pub good_prefix : (bytes : List ℕ) (n : ℕ) → HasCheckByte bytes → byte_count_place bytes < n → n ≤ length bytes
-    → HasGoodByteCount (take n bytes) × (body_length (take n bytes) ≡ body_length bytes)
-good_prefix bytes n has after within = grind (arith, get_or-take, length-take-le)

@@ -5,7 +5,7 @@ use Rattle.std.proofs.Common.{◌∙◌, add-zero, ap, sym, arith, refl, length-
 use Rattle.std.proofs.lemmas.Bool.Decides.{nat_tests}
 use Rattle.std.proofs.lemmas.List.{append-nil, get_or_append_left, take_all, take-append-le}
 use Rattle.std.proofs.Math.Seq.{take-append-add}
-use Rattle.std.specs.Prelude.{IsTrue, is_none}
+use Rattle.std.specs.Prelude.{◌==◌, ◌&&◌, ◌||◌, IsTrue, is_none}
 use Rattle.hart_frame.specs.declared.scan.sighting.After.{After}
 use Rattle.hart_frame.specs.declared.scan.sighting.After.TheVariants.{Damaged, End, More}
 use Rattle.hart_frame.specs.heard.Character.{Character, faultless, faultless_bytes}
@@ -13,7 +13,7 @@ use Rattle.hart_frame.specs.heard.Miss.{body_miss, check_miss, miss_in}
 use Rattle.hart_frame.specs.heard.Sighting.{has_two_preambles, two_begin_in_body}
 use Rattle.hart_frame.specs.scan.Sighting.{AfterIsValid, heard_with, is_end}
 use Rattle.hart_frame.specs.private.Sighting.{HasBodyMiss, MayStandAlone, Whatever, stands_alone}
-use Rattle.hart_frame.specs.wire.Layout.{body_length, byte_count_place}
+use Rattle.hart_frame.specs.wire.Layout.{body_length}
 use Rattle.hart_frame.specs.wire.Refusal.{HasCheckByte, IsTruncated}
 use Rattle.hart_frame.proofs.lemmas.heard.Place.{preamble}
 use Rattle.hart_frame.proofs.lemmas.heard.Front.{faultless_bytes-end}
@@ -22,41 +22,50 @@ use Rattle.hart_frame.proofs.lemmas.heard.Sighting.{body_moved, is_none-map}
 use Rattle.hart_frame.proofs.lemmas.scan.BodyAt.{bytes_from-heard, drop-heard, following}
 use Rattle.hart_frame.proofs.lemmas.wire.Prefix.{length_more}
 
+-- no bytes hold two preamble bytes in a row, and others do by their first two, or without the first
+pub two_none : has_two_preambles [] ≡ false
+unfolding has_two_preambles
+two_none = refl
+
+pub two_step : (x : ℕ) (xs : List ℕ) → has_two_preambles (x ∷ xs) ≡ (((x == 255) && (get_or xs 0 0 == 255)) || has_two_preambles xs)
+unfolding has_two_preambles
+two_step x [] = grind (arith, nat_tests)
+two_step x (y ∷ xs) = refl
+
 -- two preamble bytes in a row stay whatever follows
 pub two_more : (xs ys : List ℕ) → has_two_preambles xs ≡ true → has_two_preambles (xs ++ ys) ≡ true
-two_more [] ys two = absurd (grind arith)
-two_more (x ∷ []) ys two = absurd (grind (arith, nat_tests))
-two_more (x ∷ y ∷ xs) ys two = grind (arith, nat_tests, two_more (y ∷ xs) ys)
+two_more [] ys two = absurd (grind (arith, two_none))
+two_more (x ∷ []) ys two = absurd (grind (arith, nat_tests, two_step, two_none))
+two_more (x ∷ y ∷ xs) ys two = grind (arith, nat_tests, two_step, two_more (y ∷ xs) ys)
 
 -- another one after a last one makes two
 pub two_last : (xs ys : List ℕ) → get_or xs (length xs - 1) 0 ≡ 255 → has_two_preambles (xs ++ 255 ∷ ys) ≡ true
 two_last [] ys last = absurd (grind arith)
-two_last (x ∷ []) ys last = grind (arith, nat_tests)
-two_last (x ∷ y ∷ xs) ys last = grind (arith, nat_tests, two_last (y ∷ xs) ys)
+two_last (x ∷ []) ys last = grind (arith, nat_tests, two_step)
+two_last (x ∷ y ∷ xs) ys last = grind (arith, nat_tests, two_step, two_last (y ∷ xs) ys)
 
 -- one more byte makes no two after another last one
 pub two_end : (xs ys : List ℕ) → get_or xs (length xs - 1) 0 ≢ 255 → length ys ≤ 1 → has_two_preambles (xs ++ ys) ≡ has_two_preambles xs
 two_end [] [] last few = refl
-two_end [] (y ∷ []) last few = grind (arith, nat_tests)
-two_end [] (y ∷ z ∷ ys) last few = absurd (omega (arith, few))
+two_end [] (y ∷ []) last few = grind (arith, nat_tests, two_step, two_none)
+two_end xs (y ∷ z ∷ ys) last few = absurd (omega (arith, few))
 two_end (x ∷ []) [] last few = refl
-two_end (x ∷ []) (y ∷ []) last few = grind (arith, nat_tests)
-two_end (x ∷ []) (y ∷ z ∷ ys) last few = absurd (omega (arith, few))
-two_end (x ∷ z ∷ xs) ys last few = grind (arith, nat_tests, two_end (z ∷ xs) ys)
+two_end (x ∷ []) (y ∷ []) last few = grind (arith, nat_tests, two_step, two_none)
+two_end (x ∷ z ∷ xs) ys last few = grind (arith, nat_tests, two_step, two_end (z ∷ xs) ys)
 
 -- nor does a byte that is none before it
 pub two_other : (xs ys : List ℕ) (y : ℕ) → y ≢ 255 → has_two_preambles xs ≡ false → has_two_preambles (y ∷ ys) ≡ false
     → has_two_preambles (xs ++ y ∷ ys) ≡ false
 two_other [] ys y other none rest = rest
-two_other (x ∷ []) ys y other none rest = grind (arith, nat_tests)
-two_other (x ∷ z ∷ xs) ys y other none rest = grind (arith, nat_tests, two_other (z ∷ xs) ys y)
+two_other (x ∷ []) ys y other none rest = grind (arith, nat_tests, two_step)
+two_other (x ∷ z ∷ xs) ys y other none rest = grind (arith, nat_tests, two_step, two_other (z ∷ xs) ys y)
 
 -- a last byte alone makes two only with the one before it
 pub two_push : (xs : List ℕ) (y : ℕ) → has_two_preambles xs ≡ false → (get_or xs (length xs - 1) 0 ≡ 255 → y ≢ 255)
     → has_two_preambles (xs ++ y ∷ []) ≡ false
-two_push [] y none other = grind (arith, nat_tests)
-two_push (x ∷ []) y none other = grind (arith, nat_tests)
-two_push (x ∷ z ∷ xs) y none other = grind (arith, nat_tests, two_push (z ∷ xs) y)
+two_push [] y none other = grind (arith, nat_tests, two_step, two_none)
+two_push (x ∷ []) y none other = grind (arith, nat_tests, two_step, two_none)
+two_push (x ∷ z ∷ xs) y none other = grind (arith, nat_tests, two_step, two_push (z ∷ xs) y)
 
 -- the bytes of what is heard from a place on, up to a body and one byte more
 pub two_in : (bytes : List ℕ) (after : After) (more : List Character) (start n : ℕ) → start ≤ length bytes
@@ -178,7 +187,3 @@ pub alone_moved : (bytes : List ℕ) (more : List Character) (start : ℕ) → s
     → stands_alone (faultless bytes ++ more) start ≡ stands_alone (faultless (drop start bytes) ++ more) 0
 alone_moved bytes more start within =
     rw (drop-heard bytes more start within, some_moved (faultless (drop start bytes) ++ more) start) refl
-
--- bytes that end too early are few
-pub truncated_few : (xs : List ℕ) → ((i : ℕ) → get_or xs i 0 < 256) → IsTruncated xs → length xs < 267
-truncated_few xs fits truncated = grind (arith, fits 0, fits (byte_count_place xs))

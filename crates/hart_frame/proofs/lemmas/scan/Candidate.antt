@@ -2,26 +2,26 @@
 use Rattle.std.proofs.Common.{◌≡◌, ◌≢◌, ℕ, zero, suc, ◌+◌, ◌<◌, ◌≤◌, inl, inr, List, [], ◌∷◌, ◌++◌, length, take, drop, get_or, refl, sym, ap, ◌∙◌}
 use Rattle.std.proofs.Common.{arith, append_assoc}
 use Rattle.std.proofs.Math.Seq.{take-append-add}
-use Rattle.std.proofs.lemmas.List.{take_rest, append-nil, map-append, get_or-take, length-take, length-take-le, take-append-drop, take_all}
-use Rattle.std.proofs.lemmas.List.Elements.{All-from_get_or}
+use Rattle.std.proofs.lemmas.List.{append-nil, length-drop, map-append, take_rest, take-append-drop}
 use Rattle.std.specs.List.{slice_range}
 use Rattle.hart_frame.specs.declared.scan.candidate.Candidate.TheVariants.{Never, Whole}
-use Rattle.hart_frame.specs.declared.wire.fault.FrameFault.TheVariants.{BadCheck, Truncated}
+use Rattle.hart_frame.specs.declared.wire.fault.FrameFault.TheVariants.{Truncated}
 use Rattle.hart_frame.specs.declared.wire.layout.Layout.{Layout}
+use Rattle.hart_frame.specs.declared.wire.prefix.Prefix.TheVariants as prefix
+use Rattle.hart_frame.specs.declared.wire.prefix.Wrong.{Wrong}
 use Rattle.hart_frame.specs.private.Body.{bytes_of}
 use Rattle.hart_frame.specs.heard.Character.{Character, faultless, faultless_bytes}
 use Rattle.hart_frame.specs.heard.Frames.{IsUndecided}
-use Rattle.hart_frame.specs.private.Candidate.{BeginWithNone, IsBodyCandidate, IsCandidate, IsWhole, MayBegin, MayBeginBefore}
-use Rattle.hart_frame.specs.private.Candidate.{NothingFollows, NeverBecomeBody, NeverBegin}
-use Rattle.hart_frame.specs.private.Layout.{Describes, layout_length}
-use Rattle.hart_frame.specs.wire.Layout.{body_length}
-use Rattle.hart_frame.specs.wire.Parity.{HasEvenParity, IsCheckByte}
-use Rattle.hart_frame.specs.wire.Refusal.{HasCheckByte, IsTruncated}
+use Rattle.hart_frame.specs.private.Candidate.{BeginWithNone, IsCandidate, IsWhole, MayBegin, MayBeginBefore}
+use Rattle.hart_frame.specs.private.Candidate.{NothingFollows, NeverBegin}
+use Rattle.hart_frame.specs.private.Layout.{layout_length}
+use Rattle.hart_frame.specs.private.Prefix.{IsPrefix, IsWrong, fault_in, shown_by}
+use Rattle.hart_frame.specs.wire.Refusal.{IsTruncated}
 use Rattle.hart_frame.proofs.lemmas.heard.Body.{bytes_of-faultless}
 use Rattle.hart_frame.proofs.lemmas.heard.Front.{faultless_bytes-append, faultless_bytes-end}
 use Rattle.hart_frame.proofs.lemmas.heard.Place.{StandsIn-at, StandsIn-within, preamble}
-use Rattle.hart_frame.proofs.lemmas.wire.Parity.{check-even, even-check}
-use Rattle.hart_frame.proofs.lemmas.wire.Prefix.{Describes-prefix, HasCheckByte-prefix, refused_more}
+use Rattle.hart_frame.proofs.lemmas.wire.Prefix.{refused_more}
+use Rattle.hart_frame.proofs.lemmas.wire.Reading.{whole_has, wrong_fewer, wrong_refused, wrong_shown, wrong_within}
 use Rattle.hart_frame.proofs.lemmas.wire.Refusal.{not_refused}
 use Rattle.hart_frame.proofs.lemmas.wire.Truncated.{truncated_check}
 use Rattle.hart_frame.proofs.lemmas.wire.UnambiguousBodies.{BeginsWithBody-append}
@@ -33,13 +33,16 @@ bytes_of_append xs tail = grind (arith, map-append, bytes_of-faultless)
 pub never_first : (x : ℕ) (xs : List ℕ) → x ≢ 255 → NeverBegin (x ∷ xs)
 never_first x xs other more f body rest is same = grind arith
 
--- nor do those that never become a body after two
-pub never_after : (x y : ℕ) (xs : List ℕ) → NeverBecomeBody xs → NeverBegin (x ∷ y ∷ xs)
-never_after x y xs never more f body rest is same =
+decided : (w : Wrong) → fault_in w ≢ Truncated
+decided w same = grind arith
+
+-- nor do those with which something is wrong after two
+pub never_after : (x y : ℕ) (xs : List ℕ) (w : Wrong) → IsWrong xs w → NeverBegin (x ∷ y ∷ xs)
+never_after x y xs w wrong more f body rest is same =
     let after : faultless xs ++ more ≡ faultless body ++ rest = grind arith in
     let bytes = sym (bytes_of_append xs more) ∙ ap bytes_of after ∙ bytes_of_append body rest in
-    not_refused (xs ++ bytes_of more) f (length body) never.fault (rw bytes (BeginsWithBody-append f body (bytes_of rest) is))
-    (refused_more xs (bytes_of more) never.fault never.decided never.refused)
+    not_refused (xs ++ bytes_of more) f (length body) (fault_in w) (rw bytes (BeginsWithBody-append f body (bytes_of rest) is))
+    (refused_more xs (bytes_of more) (fault_in w) (decided w) (wrong_refused xs w wrong))
 
 -- nor do those bytes and others after them
 pub never_more : (xs ys : List ℕ) → NeverBegin xs → NeverBegin (xs ++ ys)
@@ -76,54 +79,34 @@ may_begin_before count xs truncated zero below = inl refl
 may_begin_before count xs truncated (suc zero) below = inr (inl refl)
 may_begin_before count xs truncated (suc (suc fewer)) below = inr (inr (take fewer xs, refl, truncated fewer (omega (arith, below))))
 
--- the first bytes of a list that go up to its check byte
-pub record IsCut (layout : Layout) (xs : List ℕ) (len : ℕ) : Type 0 where
-  pub described : Describes layout (take len xs)
-  pub checked : HasCheckByte (take len xs)
-  pub exact : layout_length layout ≡ length (take len xs)
-  pub whole : body_length (take len xs) ≡ len
-  pub fewer : (n : ℕ) → n < len → IsTruncated (take n xs)
-
--- where a layout describes bytes that reach to their check byte
-module _ (layout : Layout) (xs : List ℕ) (len check : ℕ) (has : HasCheckByte xs) (is : Describes layout xs)
-    (same : len ≡ layout_length layout) (within : len ≤ length xs) (checks : IsCheckByte (take len xs) check) where
-  cut_off : IsCut layout xs len
-  cut_off = grind (arith, take-append-drop len xs, length-take-le, HasCheckByte-prefix, Describes-prefix, truncated_check)
-
-  -- they never become a body if their parity is odd
-  pub odd_cut : check ≢ 0 → IsBodyCandidate xs (Never len)
-  odd_cut odd =
-      let even : HasEvenParity (take (body_length (take len xs)) (take len xs)) → ⊥ =
-      grind (arith, cut_off, take_all, length-take, check-even (take len xs) check checks) in
-      (within, record { fault = BadCheck; refused = (cut_off.checked, even); decided = λ same. absurd cc }, cut_off.fewer)
-
-  -- and are a whole one if it is even
-  pub whole_cut : check ≡ 0 → ((i : ℕ) → get_or xs i 0 < 256) → IsBodyCandidate xs (Whole layout)
-  whole_cut even fits =
-      let fit : (i : ℕ) → i < length (take len xs) → get_or (take len xs) i 0 < 256 = grind (arith, get_or-take, length-take) in
-      let all = All-from_get_or (λ byte. byte < 256) (take len xs) 0 fit in
-      grind (arith, cut_off, even-check)
-
 -- how bytes begin of which the first two are preamble bytes
 module _ (xs : List ℕ) (long : 2 ≤ length xs) (first : get_or xs 0 0 ≡ 255) (second : get_or xs 1 0 ≡ 255) where
   two : xs ≡ 255 ∷ 255 ∷ drop 2 xs
   two = grind arith
 
-  pub after_never : (count : ℕ) → IsBodyCandidate (slice_range xs 2 (length xs)) (Never count) → IsCandidate xs (Never (2 + count))
-  after_never count is =
+  pub after_wrong : (w : Wrong) → IsWrong (slice_range xs 2 (length xs)) w → IsCandidate xs (Never (2 + shown_by w))
+  after_wrong w wrong =
       let ys = drop 2 xs in
-      let (within, never, fewer) = rw (take_rest xs 2) at is in
-      let parts : take (2 + count) (255 ∷ 255 ∷ ys) ≡ 255 ∷ 255 ∷ take count ys = take-append-add (255 ∷ 255 ∷ []) ys count in
-      rw two (omega (arith, within), rw parts (never_after 255 255 (take count ys) never), may_begin_before count ys fewer)
+      let is : IsWrong ys w = rw (take_rest xs 2) at wrong in
+      let n = shown_by w in
+      let parts : take (2 + n) (255 ∷ 255 ∷ ys) ≡ 255 ∷ 255 ∷ take n ys = take-append-add (255 ∷ 255 ∷ []) ys n in (
+        omega (arith, wrong_within ys w is, long, length-drop 2 xs),
+        rw (two, parts) (never_after 255 255 (take n ys) w (wrong_shown ys w is)),
+        rw two (may_begin_before n ys (wrong_fewer ys w is)),
+      )
 
-  pub after_whole : (layout : Layout) → IsBodyCandidate (slice_range xs 2 (length xs)) (Whole layout) → IsCandidate xs (Whole layout)
-  after_whole layout is =
+  pub after_whole : (layout : Layout) → IsPrefix (slice_range xs 2 (length xs)) (prefix.Whole layout) → IsCandidate xs (Whole layout)
+  after_whole layout whole =
       let n = layout_length layout in
       let ys = drop 2 xs in
-      let (within, whole, fewer) = rw (take_rest xs 2) at is in
+      let is : IsPrefix ys (prefix.Whole layout) = rw (take_rest xs 2) at whole in
+      let (has, same, few) = whole_has ys layout is in
       let body : IsWhole layout xs =
-      record { body = take n ys; rest = drop n ys; parts = grind (arith, two, take-append-drop); whole = whole } in
-      (body, rw two (may_begin_before n ys fewer))
+      record { body = take n ys; rest = drop n ys; parts = grind (arith, two, take-append-drop); whole = is.1 } in (
+        body,
+        rw two (may_begin_before n ys (λ fewer below.
+            truncated_check ys fewer has.0 (omega (arith, below, same)) (omega (arith, below, is.0)))),
+      )
 
 -- bytes of which the second is another
 pub second_never : (xs : List ℕ) → 2 ≤ length xs → get_or xs 0 0 ≡ 255 → get_or xs 1 0 ≢ 255 → IsCandidate xs (Never 2)

@@ -18,13 +18,12 @@ use Rattle.hart_frame.specs.wire.Layout.{body_length}
 use Rattle.hart_frame.specs.wire.Refusal.{HasCheckByte, IsTruncated}
 use Rattle.hart_frame.proofs.lemmas.heard.FramesFound.{begins_at}
 use Rattle.hart_frame.proofs.lemmas.heard.Front.{faultless_bytes-append}
-use Rattle.hart_frame.proofs.lemmas.heard.InTheWay.{fits-is}
-use Rattle.hart_frame.proofs.lemmas.heard.Missed.{good_prefix, none_of}
-use Rattle.hart_frame.proofs.lemmas.scan.Alone.{two_last, two_more, two_other, two_push, whole_has, whole_past}
+use Rattle.hart_frame.proofs.lemmas.heard.Missed.{none_of}
+use Rattle.hart_frame.proofs.lemmas.scan.Alone.{two_last, two_more, two_none, two_other, two_push, two_step, whole_has, whole_past}
 use Rattle.hart_frame.proofs.lemmas.scan.BodyAt.{miss_more}
 use Rattle.hart_frame.proofs.lemmas.scan.Sighted.{bool_cases}
-use Rattle.hart_frame.proofs.lemmas.wire.Parity.{IsCheckByte-fold, fits_at}
-use Rattle.hart_frame.proofs.lemmas.wire.Prefix.{length_more}
+use Rattle.hart_frame.proofs.lemmas.wire.Parity.{IsCheckByte-fold, fits-is, fits_at}
+use Rattle.hart_frame.proofs.lemmas.wire.Prefix.{good_prefix, length_more}
 use Rattle.hart_frame.proofs.lemmas.wire.Refusal.{says}
 use Rattle.hart_frame.proofs.lemmas.wire.Truncated.{filled, fitted}
 
@@ -96,9 +95,9 @@ never_lacks xs more fit lacks = elim (bool_cases (stands_alone (faultless xs ++ 
 
 -- bytes 2 and a check byte hold no two preamble bytes in a row
 twos : (k check : ℕ) → has_two_preambles (replicate k 2 ++ check ∷ []) ≡ false
-twos zero check = grind (arith, nat_tests)
-twos (suc zero) check = grind (arith, nat_tests)
-twos (suc (suc k)) check = grind (arith, nat_tests, twos (suc k) check)
+twos zero check = grind (arith, nat_tests, two_step, two_none)
+twos (suc zero) check = grind (arith, nat_tests, two_step, two_none)
+twos (suc (suc k)) check = grind (arith, nat_tests, two_step, twos (suc k) check)
 
 clear_rest : (xs : List ℕ) (k check : ℕ) → has_two_preambles xs ≡ false
     → (k ≡ 0 → get_or xs (length xs - 1) 0 ≡ 255 → check ≢ 255) → has_two_preambles (xs ++ (replicate k 2 ++ check ∷ [])) ≡ false

@@ -11,7 +11,8 @@ use Rattle.hart_frame.specs.heard.Character.{faultless}
 use Rattle.hart_frame.specs.heard.Place.{StandsIn}
 use Rattle.hart_frame.specs.wire.FrameParts.{FrameParts}
 use Rattle.hart_frame.specs.private.Buffer.{IsEnded, IsSound, IsWaiting, held_bytes, scan_of}
-use Rattle.hart_frame.specs.private.Candidate.{IsWhole, IsWholeBody}
+use Rattle.hart_frame.specs.private.Candidate.{IsWhole}
+use Rattle.hart_frame.specs.private.Prefix.{IsWholeBody}
 use Rattle.hart_frame.specs.scan.Chunk.{BeginsWithFrame}
 use Rattle.hart_frame.specs.private.Decision.{GivesSpan, HoldsWhole, IsHeldOpen, IsHeldSearched, NoneBeginHeld}
 use Rattle.hart_frame.specs.scan.Scanner.{Scan, MovesPast, GivesNothing}

@@ -18,14 +18,13 @@ use Rattle.hart_frame.specs.scan.Sighting.{AfterIsValid, EndsAt}
 use Rattle.hart_frame.specs.private.Sighting.{AreSilent, FollowsTwo, IsAsked, IsMessageAt, IsPassed, IsStandingAt}
 use Rattle.hart_frame.specs.scan.Sighting.{heard_with, is_end, sightings_of}
 use Rattle.hart_frame.specs.private.Sighting.{stands_alone}
-use Rattle.hart_frame.specs.scan.View.{parts_of}
+use Rattle.hart_frame.specs.wire.View.{parts_of}
 use Rattle.hart_frame.specs.declared.scan.sighting.Sighting.{Sighting}
 use Rattle.hart_frame.specs.declared.scan.sighting.Sighting.TheVariants as given
 use Rattle.hart_frame.specs.declared.scan.sighting.Standing.TheVariants as standing
 use Rattle.hart_frame.specs.declared.scan.sighting.Standing.TheVariants.{Nothing, Open}
 use Rattle.hart_frame.specs.declared.wire.layout.Layout.{Layout}
 use Rattle.hart_frame.specs.wire.Body.{IsBody}
-use Rattle.hart_frame.proofs.lemmas.scan.Alone.{truncated_few}
 use Rattle.hart_frame.specs.wire.FrameParts.{FrameParts}
 use Rattle.hart_frame.proofs.lemmas.heard.FramesFound.{starts}
 use Rattle.hart_frame.proofs.lemmas.heard.Front.{regrouped}
@@ -37,6 +36,7 @@ use Rattle.hart_frame.proofs.lemmas.scan.BodyAt.{following, heard_from}
 use Rattle.hart_frame.proofs.lemmas.scan.Sighted.{SilentBefore, bool_cases, follows_in, late, length-heard, none_seen, other_yes}
 use Rattle.hart_frame.proofs.lemmas.scan.Sighted.{preamble_no}
 use Rattle.hart_frame.proofs.lemmas.scan.Sighted.{preamble_yes, two_in, two_out}
+use Rattle.hart_frame.proofs.lemmas.wire.Truncated.{truncated_few}
 
 -- whatever comes, a list passes to a place
 pub sees : (bytes : List ℕ) (after : After) (from to : ℕ) (given : List Seen)

@@ -7,9 +7,10 @@ use Rattle.std.proofs.lemmas.Grind.{common_steps}
 use Rattle.std.proofs.lemmas.List.{drop-append-le, drop-take, drop_more, length-take-le, take_rest}
 use Rattle.std.specs.List.{slice_range}
 use Rattle.hart_frame.specs.declared.scan.candidate.Candidate.TheVariants.{Never, Whole}
-use Rattle.hart_frame.specs.declared.wire.fault.FrameFault.TheVariants.{BadDelimiter}
 use Rattle.hart_frame.specs.declared.wire.layout.Layout.{Layout}
-use Rattle.hart_frame.specs.private.Candidate.{IsCandidate, IsWhole, MayBegin, MayBeginBefore, NeverBecomeBody, NeverBegin}
+use Rattle.hart_frame.specs.declared.wire.prefix.Wrong.TheVariants.{BadDelimiter}
+use Rattle.hart_frame.specs.private.Candidate.{IsCandidate, IsWhole, MayBegin, MayBeginBefore, NeverBegin}
+use Rattle.hart_frame.specs.private.Prefix.{IsWrong}
 use Rattle.hart_frame.specs.private.Search.{HasThree, IsNextCandidate, IsOpenBefore, IsSearched, NoneBegin}
 use Rattle.hart_frame.specs.private.Layout.{layout_length}
 use Rattle.hart_frame.proofs.lemmas.scan.Candidate.{may_begin_before, never_after, never_first, never_more}
@@ -57,9 +58,9 @@ passed_never xs here within (inl other) = (1, grind (arith, drop_more xs here 0,
 passed_never xs here within (inr (inside, first, second, third)) =
     let parts : drop here xs ≡ 255 ∷ 255 ∷ 255 ∷ drop (here + 3) xs =
     grind (arith, drop_more xs here 0, drop_more xs (here + 1) 0, drop_more xs (here + 2) 0) in
-    let never : NeverBecomeBody (255 ∷ []) = record { fault = BadDelimiter; refused = grind arith; decided = λ same. absurd cc } in (
+    let never : IsWrong (255 ∷ []) (BadDelimiter 255) = grind arith in (
       3,
-      rw parts (omega arith, never_after 255 255 (255 ∷ []) never, may_begin_before 1 (255 ∷ drop (here + 3) xs) (grind arith)),
+      rw parts (omega arith, never_after 255 255 (255 ∷ []) (BadDelimiter 255) never, may_begin_before 1 (255 ∷ drop (here + 3) xs) (grind arith)),
       omega arith,
       omega arith,
     )

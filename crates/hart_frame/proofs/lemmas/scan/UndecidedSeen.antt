@@ -26,7 +26,9 @@ use Rattle.hart_frame.proofs.lemmas.heard.Open.{open_begins}
 use Rattle.hart_frame.proofs.lemmas.heard.Place.{StandsIn-within}
 use Rattle.hart_frame.proofs.lemmas.heard.Seen.{message_on, missed_none, passes_on}
 use Rattle.hart_frame.proofs.lemmas.heard.Sighting.{after_one-none, not_both, not_other, unasked}
-use Rattle.hart_frame.proofs.lemmas.scan.BodyAt.{early_check, early_count, miss_end}
+use Rattle.hart_frame.proofs.lemmas.heard.Told.{cut_told}
+use Rattle.hart_frame.proofs.lemmas.scan.BodyAt.{miss_end}
+use Rattle.hart_frame.proofs.lemmas.wire.Reading.{truncated_cut}
 use Rattle.hart_frame.proofs.lemmas.scan.NextSeen.{miss_one, miss_two}
 use Rattle.hart_frame.proofs.lemmas.scan.Sighted.{SilentBefore, late, none_seen, preamble_yes}
 use Rattle.hart_frame.proofs.lemmas.wire.Truncated.{CanBecomeBody-truncated}
@@ -39,9 +41,8 @@ seen_found chars from =
 
 -- bytes that end too early have a miss at the end
 truncated_miss : (xs : List ℕ) (fp start : ℕ) → IsTruncated xs → (miss : Miss) × (miss_in xs None fp start ≡ Some miss)
-truncated_miss xs fp start (inl none) = (_, early_count xs fp start (inl none))
-truncated_miss xs fp start (inr (inl (has, early))) = (_, early_count xs fp start (inr (has.0, has.1, early)))
-truncated_miss xs fp start (inr (inr (good, early))) = (_, early_check xs fp start good early)
+truncated_miss xs fp start truncated =
+    let (missing, is) = truncated_cut xs truncated in (_, cut_told xs missing None fp start is)
 
 -- after two preamble bytes, what may become a body
 module _ (rest : List ℕ) (fit : All (λ byte. byte < 256) rest) (truncated : IsTruncated rest) (some : 0 < length rest) where

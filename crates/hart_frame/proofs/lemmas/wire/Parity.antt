@@ -1,19 +1,23 @@
 -- The exclusive or of bytes has a bit if an odd number of them have it.
-use Rattle.std.proofs.Common.{◌≡◌, ℕ, ◌+◌, ◌%◌, ◌<◌, List, [], ◌∷◌, ◌++◌, arith, fold, bit_xor, get_or, suc}
+use Rattle.std.proofs.Common.{◌≡◌, ◌≢◌, ℕ, ◌+◌, ◌-◌, ◌%◌, ◌<◌, ◌≤◌, List, [], ◌∷◌, ◌++◌, arith, fold, bit_xor, drop, get_or, length, suc, take}
 use Rattle.std.proofs.lemmas.Bool.Decides.{nat_tests}
 use Rattle.std.proofs.lemmas.Grind.{common_steps}
-use Rattle.std.proofs.lemmas.List.{get_or_past}
+use Rattle.std.proofs.lemmas.List.{get_or-drop, get_or_append_left, get_or_at, get_or_past, length-take-le, take_all, take_more}
 use Rattle.std.proofs.lemmas.List.Elements.{All-get_or}
-use Rattle.std.proofs.lemmas.List.Sums.{sum_by_push}
+use Rattle.std.proofs.lemmas.List.Sums.{fold-append, sum_by_push}
 use Rattle.std.proofs.lemmas.Nat.{xor_of_8}
 use Rattle.std.proofs.lemmas.Nat.Bits.{bit_at_xor, bit_at-lt, bit_at-zero, same_from_bits_below}
 use Rattle.std.specs.Int.{bit_at}
+use Rattle.std.specs.Int.Bits.{xor_assoc, xor_self, xor_zero_r}
 use Rattle.std.specs.List.{All}
 use Rattle.hart_frame.specs.wire.Parity.{bit_count, IsCheckByte, HasEvenParity}
 
 -- every element of bytes is a byte, and so is 0 past their end
 pub fits_at : (bytes : List ℕ) → All (λ byte. byte < 256) bytes → (i : ℕ) → get_or bytes i 0 < 256
 fits_at bytes fit i = grind (arith, All-get_or, get_or_past)
+
+pub fits_drop : (bytes : List ℕ) (n : ℕ) → ((i : ℕ) → get_or bytes i 0 < 256) → (i : ℕ) → get_or (drop n bytes) i 0 < 256
+fits_drop bytes n fits i = grind (arith, get_or-drop, fits (n + i))
 
 -- a last byte counts after the others
 bit_count-push : (bit byte : ℕ) (bytes : List ℕ) → bit_count bit (bytes ++ byte ∷ []) ≡ bit_count bit bytes + bit_at byte bit
@@ -52,3 +56,27 @@ pub even-is : (bytes : List ℕ) (check : ℕ) → ((i : ℕ) → get_or bytes i
 even-is bytes check each small even =
     same_from_bits_below 8 check (fold bit_xor 0 bytes) small (xor_fits bytes 0 (omega arith) each)
     (λ bit below. grind (arith, bit_count-push, xor_parity, bit_at-zero, bit_at-lt check bit, even.even bit below))
+
+-- the check byte that fits
+pub fits-is : (bytes : List ℕ) (fits : ℕ) → All (λ byte. byte < 256) bytes → IsCheckByte bytes fits → fits ≡ fold bit_xor 0 bytes
+fits-is bytes fits fit is = even-is bytes fits (fits_at bytes fit) is.byte (HasEvenParity-push bytes fits is)
+
+-- by the last of some bytes the exclusive or of all gives that of those before it
+pub before_last : (bytes : List ℕ) (n : ℕ) → n + 1 ≡ length bytes
+    → bit_xor (fold bit_xor 0 bytes) (get_or bytes n 0) ≡ fold bit_xor 0 (take n bytes)
+before_last bytes n all = grind (arith, take_all, take_more bytes n 0, fold-append, xor_assoc, xor_self, xor_zero_r)
+
+-- an exclusive or with a number that is not 0 changes it
+pub changed : (c a : ℕ) → c ≢ 0 → a ≢ bit_xor c a
+changed c a some same = grind (arith, xor_assoc c a a, xor_self a, xor_zero_r c)
+
+-- a last byte that does not fit to those before it makes the parity odd
+pub odd : (bytes : List ℕ) (len : ℕ) → All (λ byte. byte < 256) (take len bytes) → 0 < len → len ≤ length bytes
+    → get_or bytes (len - 1) 0 ≢ fold bit_xor 0 (take (len - 1) bytes) → HasEvenParity (take len bytes) → ⊥
+odd bytes len fit some within differ even =
+    let n = len - 1 in
+    let whole : take len bytes ≡ take n bytes ++ get_or bytes n 0 ∷ [] = grind (arith, common_steps, take_more) in
+    let each = fits_at (take len bytes) fit in
+    let small : (i : ℕ) → get_or (take n bytes) i 0 < 256 = grind (arith, each, get_or_append_left, get_or_past) in
+    let last : get_or bytes n 0 < 256 = grind (arith, each n, get_or_at, length-take-le) in
+    differ (even-is (take n bytes) (get_or bytes n 0) small last (rw whole at even))

@@ -1,6 +1,6 @@
 -- What bytes say does not change when more bytes follow.
-use Rattle.std.proofs.Common.{◌≡◌, ◌≢◌, ℕ, ◌<◌, ◌≤◌, List, ◌++◌, length, arith, length-append}
-use Rattle.std.proofs.lemmas.List.{get_or_append_left, take-append-le}
+use Rattle.std.proofs.Common.{◌≡◌, ◌≢◌, ℕ, ◌<◌, ◌≤◌, List, ◌++◌, length, take, arith, length-append}
+use Rattle.std.proofs.lemmas.List.{get_or_append_left, get_or-take, length-take-le, take-append-le}
 use Rattle.hart_frame.specs.declared.wire.fault.FrameFault.{FrameFault}
 use Rattle.hart_frame.specs.declared.wire.fault.FrameFault.TheVariants.{Truncated}
 use Rattle.hart_frame.specs.declared.wire.layout.Layout.{Layout}
@@ -26,3 +26,8 @@ HasCheckByte-prefix xs ys has long = grind (arith, get_or_append_left)
 pub Describes-prefix : (layout : Layout) (xs ys : List ℕ) → Describes layout (xs ++ ys) → byte_count_place xs < length xs
     → Describes layout xs
 Describes-prefix layout xs ys is within = grind (arith, get_or_append_left)
+
+-- what is said up to the check byte is said by the bytes before it
+pub good_prefix : (bytes : List ℕ) (n : ℕ) → HasCheckByte bytes → byte_count_place bytes < n → n ≤ length bytes
+    → HasGoodByteCount (take n bytes) × (body_length (take n bytes) ≡ body_length bytes)
+good_prefix bytes n has after within = grind (arith, get_or-take, length-take-le)

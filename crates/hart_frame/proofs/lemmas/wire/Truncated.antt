@@ -1,6 +1,6 @@
 -- Bytes that end too early are those that can become a body.
 use Rattle.std.proofs.Common.{◌≡◌, ℕ, fold, bit_xor, ◌+◌, ◌-◌, ◌<◌, ◌≤◌, List, [], ◌∷◌, ◌++◌, length, take, drop}
-use Rattle.std.proofs.Common.{replicate, refl, arith, length-append}
+use Rattle.std.proofs.Common.{get_or, replicate, refl, arith, length-append}
 use Rattle.std.proofs.Math.Seq.{take-append_seam}
 use Rattle.std.proofs.lemmas.List.{get_or_append_left, get_or-append_right, get_or-replicate, get_or-take, length-replicate, length-take-le}
 use Rattle.std.proofs.lemmas.List.{take_all, take_at, take-append-drop, take-append-le, take-take}
@@ -72,3 +72,7 @@ IsTruncated-only bytes can none =
     let said = says (bytes ++ can.rest) can.frame can.count can.begins in
     let has = has_check (bytes ++ can.rest) can.frame can.count can.begins in
     grind (arith, length-append bytes can.rest, get_or_append_left, take-append-le can.count bytes can.rest, none can.frame can.count)
+
+-- bytes that end too early are few
+pub truncated_few : (xs : List ℕ) → ((i : ℕ) → get_or xs i 0 < 256) → IsTruncated xs → length xs < 267
+truncated_few xs fits truncated = grind (arith, fits 0, fits (byte_count_place xs))

@@ -1,16 +1,45 @@
-use Rattle.std.proofs.Common.{arith}
-use Rattle.std.proofs.lemmas.Bool.Decides.{nat_tests}
-use Rattle.hart_frame.proofs.lemmas.heard.Front.{char_at}
+use Rattle.std.proofs.Common.{arith, sym}
+use Rattle.hart_frame.proofs.lemmas.heard.Front.{length-front}
+use Rattle.hart_frame.proofs.lemmas.heard.Told.{front_cut, front_whole, front_wrong, of_bytes}
+use Rattle.hart_frame.proofs.lemmas.wire.Parity.{fits_at}
+use Rattle.hart_frame.proofs.lemmas.wire.Reading.{wrong_within}
 use Rattle.hart_frame.proofs.heard.miss.body_miss.Goals as goal
 
-pub returns-in_default-layout : goal.returns-in_default-layout
-returns-in_default-layout c = grind (arith, nat_tests, char_at)
+pub wrong_miss-requires-clause-some : goal.wrong_miss-requires-clause-some
+wrong_miss-requires-clause-some c = grind (arith, wrong_within c.as_slice.result.now c.in-Wrong.wrong)
 
-pub counted_miss-requires-clause-counted : goal.counted_miss-requires-clause-counted
-counted_miss-requires-clause-counted c = grind (arith, char_at)
+pub wrong_miss-requires-clause-within : goal.wrong_miss-requires-clause-within
+wrong_miss-requires-clause-within c = grind (arith, wrong_within c.as_slice.result.now c.in-Wrong.wrong, length-front c.args.heard.now 267)
 
-pub counted_miss-requires-clause-len : goal.counted_miss-requires-clause-len
-counted_miss-requires-clause-len c = grind (arith, char_at)
+pub returns-in-Whole-clause-found : goal.returns-in-Whole-clause-found
+returns-in-Whole-clause-found c =
+    sym (front_whole c.args.heard.now c.args.start 267 c.as_slice.result.now (grind arith) (omega arith)
+    (fits_at _ c.as_slice.ensures.bytes) c.in-Whole.field-0 c.in-Whole.ensures)
 
-pub returns-in-Some-early_end : goal.returns-in-Some-early_end
-returns-in-Some-early_end c = grind (arith, nat_tests, char_at)
+pub returns-in-Wrong-clause-found : goal.returns-in-Wrong-clause-found
+returns-in-Wrong-clause-found c =
+    grind (
+      arith,
+      front_wrong c.args.heard.now c.args.start 267 c.as_slice.result.now (grind arith) (omega arith)
+          (fits_at _ c.as_slice.ensures.bytes) c.in-Wrong.wrong c.in-Wrong.ensures,
+    )
+
+pub returns-in-Cut-clause-found : goal.returns-in-Cut-clause-found
+returns-in-Cut-clause-found c =
+    grind (
+      arith,
+      front_cut c.args.heard.now c.args.start 267 c.as_slice.result.now (grind arith) (omega arith)
+          (fits_at _ c.as_slice.ensures.bytes) c.in-Cut.missing c.in-Cut.ensures,
+    )
+
+pub returns-in-Whole-clause-fit : goal.returns-in-Whole-clause-fit
+returns-in-Whole-clause-fit c =
+    of_bytes c.args.heard.now c.args.start 267 c.as_slice.result.now (grind arith) (omega arith) (fits_at _ c.as_slice.ensures.bytes)
+
+pub returns-in-Wrong-clause-fit : goal.returns-in-Wrong-clause-fit
+returns-in-Wrong-clause-fit c =
+    of_bytes c.args.heard.now c.args.start 267 c.as_slice.result.now (grind arith) (omega arith) (fits_at _ c.as_slice.ensures.bytes)
+
+pub returns-in-Cut-clause-fit : goal.returns-in-Cut-clause-fit
+returns-in-Cut-clause-fit c =
+    of_bytes c.args.heard.now c.args.start 267 c.as_slice.result.now (grind arith) (omega arith) (fits_at _ c.as_slice.ensures.bytes)

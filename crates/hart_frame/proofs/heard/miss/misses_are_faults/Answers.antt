@@ -1,5 +1,6 @@
+use Rattle.hart_frame.proofs.lemmas.heard.Front.{of_chars}
 use Rattle.hart_frame.proofs.lemmas.heard.InTheWay.{miss_is_fault}
 use Rattle.hart_frame.proofs.heard.miss.misses_are_faults.Goals as goal
 
 pub returns : goal.returns
-returns c = miss_is_fault
+returns c start chars miss fit = miss_is_fault start chars miss (of_chars chars start fit)

@@ -1,18 +1,40 @@
-use Rattle.std.proofs.Common.{◌≤◌, inr, length, arith}
+use Rattle.std.proofs.Common.{◌≤◌, inr, length, arith, length-drop}
 use Rattle.std.proofs.lemmas.List.{take_rest}
-use Rattle.hart_frame.proofs.lemmas.scan.Candidate.{after_never, after_whole, second_never}
+use Rattle.hart_frame.proofs.lemmas.scan.Candidate.{after_whole, after_wrong, second_never}
+use Rattle.hart_frame.proofs.lemmas.wire.Parity.{fits_drop}
+use Rattle.hart_frame.proofs.lemmas.wire.Reading.{cut_truncated, whole_has, wrong_few, wrong_within}
+use Rattle.hart_frame.proofs.lemmas.wire.Truncated.{truncated_few}
 use Rattle.hart_frame.proofs.scan.candidate.candidate_in.Goals as goal
 
 pub returns-then-bytes-clause-candidate : goal.returns-then-bytes-clause-candidate
 returns-then-bytes-clause-candidate c = grind (arith, second_never)
 
-pub returns-in-Never-clause-candidate : goal.returns-in-Never-clause-candidate
-returns-in-Never-clause-candidate c =
-    let long : 2 ≤ length c.args.bytes.now = omega (arith, c.requires.some, c.if-bytes-eq1.false) in
-    after_never c.args.bytes.now long c.requires.preamble c.if-bytes.false c.in-Never.count c.in-Never.ensures.candidate
-
 pub returns-in-Whole-clause-candidate : goal.returns-in-Whole-clause-candidate
-returns-in-Whole-clause-candidate c = grind (arith, after_whole c.args.bytes.now)
+returns-in-Whole-clause-candidate c =
+    let long : 2 ≤ length c.args.bytes.now = omega (arith, c.requires.some, c.if-bytes-eq1.false) in
+    after_whole c.args.bytes.now long c.requires.preamble c.if-bytes.false c.in-Whole.layout c.in-Whole.ensures
 
-pub returns-in-Open-clause-candidate : goal.returns-in-Open-clause-candidate
-returns-in-Open-clause-candidate c = inr (inr (grind (arith, take_rest c.args.bytes.now 2)))
+pub returns-in-Whole-clause-few : goal.returns-in-Whole-clause-few
+returns-in-Whole-clause-few c = (whole_has _ c.in-Whole.layout c.in-Whole.ensures).2
+
+pub returns-in-Cut-clause-candidate : goal.returns-in-Cut-clause-candidate
+returns-in-Cut-clause-candidate c =
+    let truncated = rw (take_rest c.args.bytes.now 2) at (cut_truncated _ _ c.in-Cut.ensures) in inr (inr (grind arith))
+
+pub returns-in-Cut-clause-few : goal.returns-in-Cut-clause-few
+returns-in-Cut-clause-few c =
+    let truncated = rw (take_rest c.args.bytes.now 2) at (cut_truncated _ _ c.in-Cut.ensures) in
+    let few = truncated_few _ (fits_drop c.args.bytes.now 2 (λ i. omega (arith, c.type_inv.bytes i))) truncated in
+    omega (arith, few, length-drop 2 c.args.bytes.now)
+
+pub returns-in-Wrong-clause-candidate : goal.returns-in-Wrong-clause-candidate
+returns-in-Wrong-clause-candidate c =
+    let long : 2 ≤ length c.args.bytes.now = omega (arith, c.requires.some, c.if-bytes-eq1.false) in
+    rw c.shown_by.ensures
+    (after_wrong c.args.bytes.now long c.requires.preamble c.if-bytes.false c.in-Wrong.wrong c.in-Wrong.ensures)
+
+pub returns-in-Wrong-clause-few : goal.returns-in-Wrong-clause-few
+returns-in-Wrong-clause-few c =
+    let is = rw (take_rest c.args.bytes.now 2) at c.in-Wrong.ensures in
+    let few = wrong_few _ c.in-Wrong.wrong (fits_drop c.args.bytes.now 2 (λ i. omega (arith, c.type_inv.bytes i))) is in
+    omega (arith, few, wrong_within _ c.in-Wrong.wrong is)

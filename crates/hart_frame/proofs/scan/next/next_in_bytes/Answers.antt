@@ -1,7 +1,7 @@
 use Rattle.std.proofs.Common.{arith, drop}
 use Rattle.std.proofs.lemmas.List.{drop_all}
 use Rattle.hart_frame.specs.private.Candidate.{MayBegin}
-use Rattle.hart_frame.specs.scan.View.{parts_of}
+use Rattle.hart_frame.specs.wire.View.{parts_of}
 use Rattle.hart_frame.proofs.lemmas.scan.Candidate.{undecided_open}
 use Rattle.hart_frame.proofs.lemmas.scan.Next.{body_at_place, ends_within, next_past, next_to}
 use Rattle.hart_frame.proofs.scan.next.next_in_bytes.Goals as goal
@@ -23,7 +23,7 @@ view_in-requires c =
     let found = c.search_to_end-sighting in
     let whole = rw c.in-Some.is at found.ensures.stands in
     record {
-      body = rw (body_at_place c.args.bytes.now found.result.place c.body_len.result c.in-Some.layout whole c.body_len.ensures.len)
+      body = rw (body_at_place c.args.bytes.now found.result.place c.body_len.result c.in-Some.layout whole c.body_len.ensures)
           whole.whole;
     }
 
@@ -31,7 +31,7 @@ pub returns-clause-frames : goal.returns-clause-frames
 returns-clause-frames c =
     let found = c.search_to_end-sighting.ensures in
     next_past c.args.bytes.now c.args.ended c.args.from c.search_to_end-sighting.result.place c.body_len.result c.in-Some.layout
-    (parts_of c.view_in.result) found.after found.within found.none (rw c.in-Some.is at found.stands) c.body_len.ensures.len
+    (parts_of c.view_in.result) found.after found.within found.none (rw c.in-Some.is at found.stands) c.body_len.ensures
     c.view_in.ensures
 
 pub returns-clause-within : goal.returns-clause-within

@@ -2,19 +2,43 @@ use Rattle.std.proofs.Common.{◌≡◌, ◌∙◌, arith, drop, length-drop}
 use Rattle.std.proofs.lemmas.List.{take_rest, get_or-drop}
 use Rattle.hart_frame.specs.declared.scan.sighting.After.TheVariants.{More}
 use Rattle.hart_frame.specs.private.Sighting.{MayStandAlone}
-use Rattle.hart_frame.specs.wire.Refusal.{IsTruncated}
-use Rattle.hart_frame.proofs.lemmas.scan.Alone.{alone_moved, truncated_few}
+use Rattle.hart_frame.specs.declared.wire.prefix.Prefix.TheVariants.{Cut}
+use Rattle.hart_frame.specs.private.Prefix.{IsPrefix}
+use Rattle.hart_frame.proofs.lemmas.scan.Alone.{alone_moved}
+use Rattle.hart_frame.proofs.lemmas.scan.BodyAt.{cut_not_alone, whole_seen, wrong_not_alone}
+use Rattle.hart_frame.proofs.lemmas.wire.Reading.{cut_truncated, whole_has}
+use Rattle.hart_frame.proofs.lemmas.wire.Truncated.{truncated_few}
+use Rattle.hart_frame.proofs.scan.sighting.after_one.Goals.{else-eq-via-then-eq+else-can_stand_alone, else-eq-via-else-eq}
 use Rattle.hart_frame.proofs.scan.sighting.after_one.Goals as goal
+
+pub lone_body-requires-clause-whole : goal.lone_body-requires-clause-whole
+lone_body-requires-clause-whole c =
+    whole_seen c.args.bytes.now c.args.after.now c.args.start c.in-Whole.layout c.requires.within
+    (rw (take_rest c.args.bytes.now c.args.start) at c.in-Whole.ensures)
+
+pub lone_body-requires-clause-body : goal.lone_body-requires-clause-body
+lone_body-requires-clause-body c =
+    let has = whole_has _ c.in-Whole.layout (rw (take_rest c.args.bytes.now c.args.start) at c.in-Whole.ensures) in grind (arith, has)
+
+pub lone_body-requires-clause-long : goal.lone_body-requires-clause-long
+lone_body-requires-clause-long c =
+    let has = whole_has _ c.in-Whole.layout (rw (take_rest c.args.bytes.now c.args.start) at c.in-Whole.ensures) in grind (arith, has)
+
+pub returns-in-Wrong : goal.returns-in-Wrong
+returns-in-Wrong c =
+    wrong_not_alone c.args.bytes.now c.args.after.now c.args.start c.in-Wrong.field-0 c.requires.within
+    (rw (take_rest c.args.bytes.now c.args.start) at c.in-Wrong.ensures)
 
 pub returns-then-can_stand_alone : goal.returns-then-can_stand_alone
 returns-then-can_stand_alone c =
     let bytes = c.args.bytes.now in
     let start = c.args.start in
     let rest = take_rest bytes start in
-    let truncated : IsTruncated (drop start bytes) = c.in-Open.ensures.1 in
+    let is : IsPrefix (drop start bytes) (Cut c.in-Cut.missing) = grind (arith, rest) in
+    let truncated = cut_truncated (drop start bytes) c.in-Cut.missing is in
     let few = truncated_few (drop start bytes) (λ i. grind (arith, get_or-drop, c.type_inv.bytes)) truncated in
-    let may : MayStandAlone (drop start bytes) 0 = rw rest at (c.can_stand_alone.ensures.may c.if-can_stand_alone.true) in (
-      c.in-Open.ensures.0,
+    let may : MayStandAlone (drop start bytes) 0 = rw rest at (c.can_stand_alone.ensures.may (grind arith)) in (
+      grind arith,
       omega (arith, c.requires.one),
       omega (arith, few, length-drop start bytes, c.requires.within),
       record {
@@ -25,11 +49,17 @@ returns-then-can_stand_alone c =
       },
     )
 
-pub returns-else-can_stand_alone : goal.returns-else-can_stand_alone
-returns-else-can_stand_alone c = λ more closed.
+pub returns-else-eq : goal.returns-else-eq
+returns-else-eq c =
     let bytes = c.args.bytes.now in
     let start = c.args.start in
     let rest = take_rest bytes start in
-    let is : c.args.after.now ≡ More = c.in-Open.ensures.0 in
-    let never = rw rest at (c.can_stand_alone.ensures.never c.if-can_stand_alone.false more) in
-    rw is (alone_moved bytes more start c.requires.within ∙ never)
+    let is : IsPrefix (drop start bytes) (Cut c.in-Cut.missing) = grind (arith, rest) in
+    elim c.else-eq.branch [
+      | else-eq-via-then-eq+else-can_stand_alone w ↦ λ more closed.
+          let going : c.args.after.now ≡ More = grind arith in
+          let never = rw rest at (w.can_stand_alone.ensures.never w.if-can_stand_alone.false more) in
+          rw going (alone_moved bytes more start c.requires.within ∙ never)
+      | else-eq-via-else-eq w ↦
+          cut_not_alone bytes c.args.after.now start c.in-Cut.missing c.requires.within c.requires.valid (grind arith) is
+    ]

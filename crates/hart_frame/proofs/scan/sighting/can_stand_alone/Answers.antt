@@ -2,6 +2,7 @@ use Rattle.std.proofs.Common.{◌≡◌, ◌<◌, true, false, arith}
 use Rattle.std.proofs.lemmas.List.Elements.{All-from_get_or}
 use Rattle.hart_frame.specs.heard.Sighting.{has_two_preambles}
 use Rattle.hart_frame.proofs.lemmas.scan.Completed.{may, never_lacks, never_two}
+use Rattle.hart_frame.proofs.lemmas.wire.Reading.{cut_truncated}
 use Rattle.hart_frame.proofs.scan.sighting.can_stand_alone.Goals as goal
 
 pub returns-then-not-has_two_preambles-clause-may : goal.returns-then-not-has_two_preambles-clause-may
@@ -9,7 +10,7 @@ returns-then-not-has_two_preambles-clause-may c = λ good.
     let bytes = c.args.bytes.now in
     let fit = All-from_get_or (λ byte. byte < 256) bytes 0 (λ i below. omega (arith, c.type_inv.bytes i)) in
     let clear : has_two_preambles bytes ≡ false = grind arith in
-    may bytes 300 fit c.requires.truncated clear (λ lacks. let both = c.lacks_one_preamble.ensures.1 lacks in absurd (grind arith))
+    may bytes 300 fit (cut_truncated bytes c.args.missing c.requires) clear (λ lacks. let both = c.lacks_one_preamble.ensures.1 lacks in absurd (grind arith))
     (omega arith)
 
 pub returns-then-not-has_two_preambles-clause-never : goal.returns-then-not-has_two_preambles-clause-never
@@ -21,4 +22,5 @@ returns-then-not-has_two_preambles-clause-never c = λ not more.
 
 pub returns-else-not-has_two_preambles-clause-never : goal.returns-else-not-has_two_preambles-clause-never
 returns-else-not-has_two_preambles-clause-never c = λ not more.
-    let two : has_two_preambles c.args.bytes.now ≡ true = grind arith in never_two c.args.bytes.now more c.requires.truncated two
+    let two : has_two_preambles c.args.bytes.now ≡ true = grind arith in never_two c.args.bytes.now more
+    (cut_truncated c.args.bytes.now c.args.missing c.requires) two

@@ -1,5 +1,5 @@
 use Rattle.std.proofs.Common.{arith}
-use Rattle.hart_frame.specs.scan.View.{parts_of}
+use Rattle.hart_frame.specs.wire.View.{parts_of}
 use Rattle.hart_frame.proofs.scan.scanner.Scanner.take.Goals as goal
 
 pub returns : goal.returns

@@ -1,8 +1,8 @@
 -- Addresses by their numbers (HCF_SPEC-081).
 use Rattle.hart_values.specs.declared.address.Address.{Address}
 use Rattle.hart_values.specs.declared.address.Address.TheVariants.{Polling as PollingAddress, Unique as UniqueAddress}
-use Rattle.hart_frame.specs.declared.scan.plain_address.PlainAddress.{PlainAddress}
-use Rattle.hart_frame.specs.declared.scan.plain_address.PlainAddress.TheVariants.{Polling, Unique}
+use Rattle.hart_frame.specs.declared.wire.plain_address.PlainAddress.{PlainAddress}
+use Rattle.hart_frame.specs.declared.wire.plain_address.PlainAddress.TheVariants.{Polling, Unique}
 
 -- The address that has these numbers.
 abbrev pub address_of : PlainAddress → Address

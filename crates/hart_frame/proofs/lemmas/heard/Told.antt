@@ -1,0 +1,86 @@
+-- The miss of a place by how the bytes there begin.
+use Rattle.std.proofs.Common.{◌≡◌, ℕ, ◌+◌, ◌<◌, ◌≤◌, List, ◌++◌, Option, None, Some, drop, get_or, length, take, arith, length-append, ◌∙◌, sym}
+use Rattle.std.proofs.lemmas.Bool.Decides.{nat_tests}
+use Rattle.std.proofs.lemmas.List.{get_or-take, get_or_append_left, length-take, take_all, take-append-drop, take-append-le, take-take}
+use Rattle.std.proofs.lemmas.List.Elements.{All-from_get_or, All-take}
+use Rattle.std.specs.List.{slice_get}
+use Rattle.hart_frame.specs.declared.wire.layout.Layout.{Layout}
+use Rattle.hart_frame.specs.declared.wire.prefix.Prefix.TheVariants.{Cut, Whole}
+use Rattle.hart_frame.specs.declared.wire.prefix.Wrong.{Wrong}
+use Rattle.hart_frame.specs.declared.wire.prefix.Wrong.TheVariants.{BadCheck, BadDelimiter, ShortReply}
+use Rattle.hart_frame.specs.heard.Character.{Character, faultless_bytes}
+use Rattle.hart_frame.specs.heard.Miss.{body_miss, check_miss, faulty_or, miss_in}
+use Rattle.hart_frame.specs.private.Layout.{layout_length}
+use Rattle.hart_frame.specs.private.Miss.{IsOfBytes, cut_miss, wrong_miss}
+use Rattle.hart_frame.specs.private.Prefix.{IsPrefix, IsWrong}
+use Rattle.hart_frame.specs.wire.Layout.{body_length, byte_count_place}
+use Rattle.hart_frame.specs.wire.Refusal.{HasCheckByte}
+use Rattle.hart_frame.proofs.lemmas.wire.Parity.{odd}
+use Rattle.hart_frame.proofs.lemmas.wire.Reading.{cut_truncated, fold_fits, whole_has}
+use Rattle.hart_frame.proofs.lemmas.wire.Truncated.{truncated_few}
+
+-- the check byte is judged alike whatever follows it
+same_check : (xs ys : List ℕ) (start : ℕ) → HasCheckByte xs → check_miss (xs ++ ys) start ≡ check_miss xs start
+same_check xs ys start has = grind (arith, get_or_append_left, take-append-le)
+
+checked : (xs ys : List ℕ) (f : Option Character) (fp start : ℕ) → HasCheckByte xs → miss_in (xs ++ ys) f fp start ≡ check_miss xs start
+checked xs ys f fp start has = grind (arith, nat_tests, length-append, get_or_append_left, same_check)
+
+-- what is wrong is told, whatever follows
+pub wrong_told : (xs ys : List ℕ) (w : Wrong) (f : Option Character) (fp start : ℕ) → IsWrong xs w
+    → miss_in (xs ++ ys) f fp start ≡ Some (wrong_miss w start)
+wrong_told xs ys (BadDelimiter byte) f fp start is = grind (arith, nat_tests, length-append, get_or_append_left)
+wrong_told xs ys (ShortReply len count) f fp start is = grind (arith, nat_tests, length-append, get_or_append_left)
+wrong_told xs ys (BadCheck len byte fits) f fp start is =
+    checked xs ys f fp start is.checked ∙ grind (arith, nat_tests, fold_fits xs len byte fits is, is.whole, is.stands, is.differs)
+
+-- of a whole body nothing is
+pub whole_told : (xs ys : List ℕ) (layout : Layout) (f : Option Character) (fp start : ℕ) → IsPrefix xs (Whole layout)
+    → miss_in (xs ++ ys) f fp start ≡ None
+whole_told xs ys layout f fp start is =
+    let has = whole_has xs layout is in
+    checked xs ys f fp start has.0 ∙ grind (arith, nat_tests, has, is.1.even, odd xs (layout_length layout) is.1.fits)
+
+-- where bytes end too early, what comes after them is, or their end
+pub cut_told : (xs : List ℕ) (missing : Option ℕ) (f : Option Character) (fp start : ℕ) → IsPrefix xs (Cut missing)
+    → miss_in xs f fp start ≡ Some (faulty_or f fp (cut_miss missing))
+cut_told xs None None fp start is = grind (arith, nat_tests)
+cut_told xs None (Some c) fp start is = grind (arith, nat_tests)
+cut_told xs (Some count) None fp start is = grind (arith, nat_tests)
+cut_told xs (Some count) (Some c) fp start is = grind (arith, nat_tests)
+
+-- fewer of the first bytes than so many are all
+short_front : (xs : List ℕ) (n : ℕ) → length (take n xs) < n → take n xs ≡ xs
+short_front xs n few = take_all n xs (omega (arith, length-take n xs, few))
+
+-- so the miss of what was heard, by how as many of its bytes begin as a body may have
+module _ (heard : List Character) (start most : ℕ) (front : List ℕ) (is_front : front ≡ take most (faultless_bytes heard))
+    (enough : 267 ≤ most) (fits : (i : ℕ) → get_or front i 0 < 256) where
+  joined : front ++ drop most (faultless_bytes heard) ≡ faultless_bytes heard
+  joined = rw is_front (take-append-drop most (faultless_bytes heard))
+
+  pub front_wrong : (w : Wrong) → IsWrong front w → body_miss start heard ≡ Some (wrong_miss w start)
+  front_wrong w is = rw joined at (wrong_told front (drop most (faultless_bytes heard)) w
+      (slice_get heard (length (faultless_bytes heard))) (start + length (faultless_bytes heard)) start is)
+
+  pub front_whole : (layout : Layout) → IsPrefix front (Whole layout) → body_miss start heard ≡ None
+  front_whole layout is = rw joined at (whole_told front (drop most (faultless_bytes heard)) layout
+      (slice_get heard (length (faultless_bytes heard))) (start + length (faultless_bytes heard)) start is)
+
+  pub front_cut : (missing : Option ℕ) → IsPrefix front (Cut missing)
+      → body_miss start heard ≡ Some (faulty_or (slice_get heard (length front)) (start + length front) (cut_miss missing))
+  front_cut missing is =
+      let few : length front < most = omega (arith, truncated_few front fits (cut_truncated front missing is), enough) in
+      let same : faultless_bytes heard ≡ front = sym (is_front ∙ short_front (faultless_bytes heard) most (rw is_front at few)) in
+      rw same (cut_told front missing (slice_get heard (length front)) (start + length front) start is)
+
+  fits_within : (i : ℕ) → i < most → get_or (faultless_bytes heard) i 0 < 256
+  fits_within i below = let same = get_or-take most (faultless_bytes heard) i 0 below in rw same at (rw is_front at (fits i))
+
+  pub of_bytes : IsOfBytes heard
+  of_bytes =
+      let all = faultless_bytes heard in
+      let long : body_length all ≤ most = grind (arith, fits_within 0, fits_within (byte_count_place all)) in
+      let same : take (body_length all) front ≡ take (body_length all) all = grind (arith, take-take) in
+      rw same at (All-take (λ byte. byte < 256) (body_length all) front
+      (All-from_get_or (λ byte. byte < 256) front 0 (λ i below. fits i)))

@@ -1,0 +1,134 @@
+-- How bytes begin as a body, and what follows from it.
+use Rattle.std.proofs.Common.{◌≡◌, ◌≢◌, ℕ, ◌-◌, ◌<◌, ◌≤◌, inl, inr, List, Option, None, Some, fold, bit_xor, get_or, length, take}
+use Rattle.std.proofs.Common.{drop, refl, sym, ◌∙◌, arith}
+use Rattle.std.proofs.lemmas.List.{get_or-take, get_or_past, length-take, length-take-le, take-append-drop, take-take}
+use Rattle.std.proofs.lemmas.List.Elements.{All-from_get_or, All-take}
+use Rattle.std.specs.List.{All}
+use Rattle.hart_frame.specs.declared.wire.layout.Layout.{Layout}
+use Rattle.hart_frame.specs.declared.wire.prefix.Prefix.TheVariants.{Cut, Whole}
+use Rattle.hart_frame.specs.declared.wire.prefix.Wrong.{Wrong}
+use Rattle.hart_frame.specs.declared.wire.prefix.Wrong.TheVariants.{BadCheck, BadDelimiter, ShortReply}
+use Rattle.hart_frame.specs.private.Layout.{Describes, layout_length}
+use Rattle.hart_frame.specs.private.Prefix.{HasBadCheck, IsPrefix, IsWrong, fault_in, shown_by}
+use Rattle.hart_frame.specs.wire.Layout.{body_length, byte_count_place}
+use Rattle.hart_frame.specs.wire.Parity.{IsCheckByte}
+use Rattle.hart_frame.specs.wire.Refusal.{HasCheckByte, IsRefusedWith, IsTruncated}
+use Rattle.hart_frame.proofs.lemmas.wire.Parity.{IsCheckByte-fold, before_last, changed, even-check, fits-is, fits_at, odd}
+use Rattle.hart_frame.proofs.lemmas.wire.Prefix.{Describes-prefix, HasCheckByte-prefix, HasGoodByteCount-more, good_prefix, length_more}
+use Rattle.hart_frame.proofs.lemmas.wire.Truncated.{truncated_check, truncated_count}
+
+-- the first bytes of a list that go up to its check byte
+record IsCut (layout : Layout) (xs : List ℕ) (len : ℕ) : Type 0 where
+  pub described : Describes layout (take len xs)
+  pub checked : HasCheckByte (take len xs)
+  pub exact : layout_length layout ≡ length (take len xs)
+
+-- where a layout describes bytes that reach to their check byte
+module _ (layout : Layout) (xs : List ℕ) (len check : ℕ) (has : HasCheckByte xs) (is : Describes layout xs)
+    (same : len ≡ layout_length layout) (within : len ≤ length xs) (checks : IsCheckByte (take len xs) check)
+    (fits : (i : ℕ) → get_or xs i 0 < 256) where
+  cut_off : IsCut layout xs len
+  cut_off = grind (arith, take-append-drop len xs, length-take-le, HasCheckByte-prefix, Describes-prefix)
+
+  are_bytes : All (λ byte. byte < 256) (take len xs)
+  are_bytes = All-from_get_or (λ byte. byte < 256) (take len xs) 0 (λ i below. grind (arith, get_or-take, length-take, fits i))
+
+  -- they begin with a whole one if its parity is even
+  pub whole_prefix : check ≡ 0 → IsPrefix xs (Whole layout)
+  whole_prefix even = grind (arith, cut_off, are_bytes, even-check)
+
+  fitting : bit_xor check (get_or xs (len - 1) 0) ≡ fold bit_xor 0 (take (len - 1) xs)
+  fitting =
+      let all : check ≡ fold bit_xor 0 (take len xs) = fits-is (take len xs) check are_bytes checks in
+      let long : 0 < len = omega (arith, same) in
+      let last : get_or (take len xs) (len - 1) 0 ≡ get_or xs (len - 1) 0 = grind (arith, get_or-take) in
+      let before = before_last (take len xs) (len - 1) (omega (arith, length-take-le len xs within, long)) in
+      let front : take (len - 1) (take len xs) ≡ take (len - 1) xs = grind (arith, take-take) in
+      rw (← last, all, before, front) refl
+
+  -- and with one that is refused for its check byte if it is odd
+  pub odd_prefix : check ≢ 0 → HasBadCheck xs len (get_or xs (len - 1) 0) (bit_xor check (get_or xs (len - 1) 0))
+  odd_prefix other = record {
+    checked = has;
+    whole = omega (arith, same, is.command, is.count);
+    stands = refl;
+    fitting = IsCheckByte-fold (take (len - 1) xs) _ (λ i. grind (arith, get_or-take, get_or_past, length-take, fits i)) fitting;
+    differs = changed check (get_or xs (len - 1) 0) other;
+    are_bytes = are_bytes;
+  }
+
+-- what fits there
+pub fold_fits : (xs : List ℕ) (len byte fits : ℕ) → HasBadCheck xs len byte fits → fits ≡ fold bit_xor 0 (take (len - 1) xs)
+fold_fits xs len byte fits is =
+    let front : take (len - 1) (take len xs) ≡ take (len - 1) xs = grind (arith, take-take) in
+    fits-is (take (len - 1) xs) fits (rw front at (All-take (λ byte. byte < 256) (len - 1) (take len xs) is.are_bytes)) is.fitting
+
+-- some of the bytes show what is wrong
+pub wrong_within : (xs : List ℕ) (w : Wrong) → IsWrong xs w → (0 < shown_by w) × (shown_by w ≤ length xs)
+wrong_within xs (BadDelimiter byte) is = grind arith
+wrong_within xs (ShortReply len count) is = grind arith
+wrong_within xs (BadCheck len byte fits) is = grind (arith, is.whole, is.checked)
+
+-- no more than a body has
+pub wrong_few : (xs : List ℕ) (w : Wrong) → ((i : ℕ) → get_or xs i 0 < 256) → IsWrong xs w → shown_by w ≤ 267
+wrong_few xs (BadDelimiter byte) fits is = omega arith
+wrong_few xs (ShortReply len count) fits is = grind (arith, fits 0)
+wrong_few xs (BadCheck len byte fit) fits is = grind (arith, fits 0, fits (byte_count_place xs), is.whole)
+
+-- they alone do
+pub wrong_shown : (xs : List ℕ) (w : Wrong) → IsWrong xs w → IsWrong (take (shown_by w) xs) w
+wrong_shown xs (BadDelimiter byte) is = grind (arith, length-take-le, get_or-take)
+wrong_shown xs (ShortReply len count) is = grind (arith, length-take-le, get_or-take)
+wrong_shown xs (BadCheck len byte fits) is =
+    let inside : len ≤ length xs = omega (arith, is.whole, is.checked.1) in
+    let good = good_prefix xs len is.checked (omega (arith, is.whole)) inside in
+    let front : take (len - 1) (take len xs) ≡ take (len - 1) xs = grind (arith, take-take) in
+    let all : take len (take len xs) ≡ take len xs = grind (arith, take-take) in
+    record {
+      checked = (good.0, omega (arith, good.1, is.whole, length-take-le len xs inside));
+      whole = is.whole ∙ sym good.1;
+      stands = grind (arith, get_or-take, is.whole, is.stands);
+      fitting = rw front is.fitting;
+      differs = is.differs;
+      are_bytes = rw all is.are_bytes;
+    }
+
+-- and fewer may still become a body
+pub wrong_fewer : (xs : List ℕ) (w : Wrong) → IsWrong xs w → (fewer : ℕ) → fewer < shown_by w → IsTruncated (take fewer xs)
+wrong_fewer xs (BadDelimiter byte) is fewer below = inl (grind (arith, length-take))
+wrong_fewer xs (ShortReply len count) is fewer below =
+    truncated_count xs fewer is.0.0.0 (omega (arith, below, is.1)) (omega (arith, below, is.1, is.0.0.1))
+wrong_fewer xs (BadCheck len byte fits) is fewer below =
+    truncated_check xs fewer is.checked.0 (omega (arith, below, is.whole)) (omega (arith, below, is.whole, is.checked.1))
+
+-- they are refused for it
+pub wrong_refused : (xs : List ℕ) (w : Wrong) → IsWrong xs w → IsRefusedWith xs (fault_in w)
+wrong_refused xs (BadDelimiter byte) is = is.0
+wrong_refused xs (ShortReply len count) is = is.0
+wrong_refused xs (BadCheck len byte fits) is =
+    let differs : get_or xs (len - 1) 0 ≢ fold bit_xor 0 (take (len - 1) xs) =
+    λ same. is.differs (sym is.stands ∙ same ∙ sym (fold_fits xs len byte fits is)) in
+    let odd = odd xs len is.are_bytes (omega (arith, is.whole)) (omega (arith, is.whole, is.checked.1)) differs in
+    (is.checked, rw is.whole at odd)
+
+-- what ends too early, and that all that does is one of the two
+pub cut_truncated : (xs : List ℕ) (missing : Option ℕ) → IsPrefix xs (Cut missing) → IsTruncated xs
+cut_truncated xs None is = is.0
+cut_truncated xs (Some count) is = inr (inr (is.0, omega (arith, is.1, is.2)))
+
+pub truncated_cut : (xs : List ℕ) → IsTruncated xs → (missing : Option ℕ) × IsPrefix xs (Cut missing)
+truncated_cut xs (inl none) = (None, (inl none, λ has. absurd (omega (arith, none, has.1))))
+truncated_cut xs (inr (inl (has, early))) = (None, (inr (inl (has, early)), λ count. absurd (omega (arith, early, count.1))))
+truncated_cut xs (inr (inr (good, early))) =
+    (Some (body_length xs - length xs), (good, omega (arith, early), omega (arith, early)))
+
+-- bytes that begin with a whole body go on to its check byte
+pub whole_has : (xs : List ℕ) (layout : Layout) → IsPrefix xs (Whole layout)
+    → HasCheckByte xs × (body_length xs ≡ layout_length layout) × (layout_length layout ≤ 267)
+whole_has xs layout (within, is) =
+    let n = layout_length layout in
+    let few = fits_at (take n xs) is.fits in
+    let more = take-append-drop n xs in
+    let long = length_more (take n xs) (drop n xs) is.checked.0.0.1 in
+    let good = HasGoodByteCount-more (take n xs) (drop n xs) is.checked.0 in
+    grind (arith, length-take-le n xs within, few 0, few (byte_count_place (take n xs)))

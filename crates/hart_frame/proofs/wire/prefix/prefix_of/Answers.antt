@@ -1,0 +1,21 @@
+use Rattle.std.proofs.Common.{arith}
+use Rattle.hart_frame.specs.private.Layout.{Describes}
+use Rattle.hart_frame.specs.wire.Refusal.{HasCheckByte}
+use Rattle.hart_frame.proofs.lemmas.wire.Reading.{odd_prefix, whole_prefix}
+use Rattle.hart_frame.proofs.wire.prefix.prefix_of.Goals as goal
+
+pub returns-then-check-eq0 : goal.returns-then-check-eq0
+returns-then-check-eq0 c =
+    let bytes = c.args.bytes.now in
+    let has : HasCheckByte bytes = grind arith in
+    let is : Describes c.in-Some-layout.layout bytes = grind arith in
+    whole_prefix c.in-Some-layout.layout bytes c.body_len-len.result c.body_check-check.result has is c.body_len-len.ensures
+    c.if-bytes-len.false c.body_check-check.ensures (λ i. omega (arith, c.type_inv.bytes i)) c.if-check-eq0.true
+
+pub returns : goal.returns
+returns c =
+    let bytes = c.args.bytes.now in
+    let has : HasCheckByte bytes = grind arith in
+    let is : Describes c.in-Some-layout.layout bytes = grind arith in
+    odd_prefix c.in-Some-layout.layout bytes c.body_len-len.result c.body_check-check.result has is c.body_len-len.ensures
+    c.if-bytes-len.false c.body_check-check.ensures (λ i. omega (arith, c.type_inv.bytes i)) c.if-check-eq0.false

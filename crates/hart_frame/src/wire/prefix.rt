@@ -1,0 +1,87 @@
+//! How bytes begin as a body: the one place that reads it.
+ghost use Rattle.std.specs.Prelude.{◌≡◌};
+ghost use Rattle.hart_frame.specs.private.Prefix.{IsPrefix, fault_in, shown_by};
+
+use crate::FrameFault;
+use crate::wire::delimiter::read_delimiter;
+use crate::wire::layout::Layout;
+use crate::wire::parity::body_check;
+
+/// How bytes begin.
+#[derive(Clone, Copy)]
+pub(crate) enum Prefix {
+    /// With a whole body, by this layout.
+    Whole(Layout),
+    /// With what may become one: so many bytes are missing, if they go on to the byte count.
+    Cut(Option<usize>),
+    /// With what never becomes one.
+    Wrong(Wrong),
+}
+
+/// What is wrong with bytes that never become a body.
+#[derive(Clone, Copy)]
+pub(crate) enum Wrong {
+    /// The first byte is no delimiter of this profile.
+    BadDelimiter { byte: u8 },
+    /// The last of the first `len` bytes is the byte count of a reply, below 2.
+    ShortReply { len: usize, byte_count: u8 },
+    /// The last of the first `len` bytes stands in the place of the check byte, and `fits` would fit there.
+    BadCheck { len: usize, byte: u8, fits: u8 },
+}
+
+impl Wrong {
+    /// How many of the bytes show it.
+    pub(crate) fn shown_by(self) -> usize
+        ensures { result ≡ shown_by self }
+    {
+        match self {
+            Wrong::BadDelimiter { .. } => 1,
+            Wrong::ShortReply { len, .. } => len,
+            Wrong::BadCheck { len, .. } => len,
+        }
+    }
+
+    /// The fault of bytes that begin so.
+    pub(crate) fn fault(self) -> FrameFault
+        ensures { result ≡ fault_in self }
+    {
+        match self {
+            Wrong::BadDelimiter { .. } => FrameFault::BadDelimiter,
+            Wrong::ShortReply { .. } => FrameFault::ShortReply,
+            Wrong::BadCheck { .. } => FrameFault::BadCheck,
+        }
+    }
+}
+
+/// Reads how the bytes begin.
+pub(crate) fn prefix_of(bytes: &[u8]) -> Prefix
+    ensures { IsPrefix bytes.now result }
+{
+    let Some(first) = bytes.first() else {
+        return Prefix::Cut(None);
+    };
+    let byte = *first;
+    let Some(delimiter) = read_delimiter(byte) else {
+        return Prefix::Wrong(Wrong::BadDelimiter { byte });
+    };
+    let count_place = delimiter.byte_count_place();
+    let Some(byte_count) = bytes.get(count_place) else {
+        return Prefix::Cut(None);
+    };
+    let byte_count = *byte_count;
+    let Some(layout) = delimiter.layout(byte_count) else {
+        let len = count_place + 1;
+        return Prefix::Wrong(Wrong::ShortReply { len, byte_count });
+    };
+    let len = layout.body_len();
+    if bytes.len() < len {
+        return Prefix::Cut(Some(len - bytes.len()));
+    }
+    let check = body_check(&bytes[..len]);
+    if check == 0 {
+        return Prefix::Whole(layout);
+    }
+    let byte = bytes[len - 1];
+    let fits = check ^ byte;
+    Prefix::Wrong(Wrong::BadCheck { len, byte, fits })
+}
