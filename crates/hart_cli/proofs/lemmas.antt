@@ -1,6 +1,8 @@
 -- Lemmas, in the rooms of the code and the definitions.
 pub mod Kept
+pub mod Writes
 pub mod dump
 pub mod explain
+pub mod input
 pub mod serve
 pub mod text

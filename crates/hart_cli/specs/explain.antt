@@ -1,5 +1,4 @@
 -- `hart explain`.
-pub mod Heard
 pub mod Words
 pub mod Codes
 pub mod Values
@@ -12,4 +11,4 @@ pub mod Explanation
 pub mod Explain
 pub mod Gaps
 pub mod Dumped
-pub mod Told
+pub mod Telling

@@ -1,3 +1,5 @@
 -- Reading an input.
 pub mod Input
 pub mod WholeInput
+pub mod LiveInput
+pub mod Ahead

@@ -8,6 +8,8 @@ use crate::stream::Source;
 use hart_line::{Filling, NoRoom};
 use std::alloc::Global;
 
+pub mod ahead;
+
 /// The most bytes that an input may have.
 pub const INPUT_LIMIT: usize = 1_048_576;
 

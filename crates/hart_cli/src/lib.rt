@@ -36,8 +36,8 @@ pub use calls::answer::{answer, one_answer};
 pub use calls::dump::{dump, one_dump};
 pub use calls::encode::{encode_text, one_encoding};
 pub use calls::explain::laws::{
-    every_start_outside_messages_has_one_line, explanations_name_the_messages_of_dump,
-    hints_of_explanations_are_right,
+    every_start_outside_messages_has_one_line, explanations_grow,
+    explanations_name_the_messages_of_dump, hints_of_explanations_are_right,
 };
 pub use calls::explain::{explain, one_explanation};
 pub use calls::program::command_line::{one_call, words_are_calls};

@@ -6,7 +6,7 @@ use Rattle.std.specs.Result.{IsErrAnd}
 use Rattle.hart_cli.specs.declared.stream.Failed.{Failed}
 use Rattle.hart_cli.specs.stream.Kept.{AddsText, Tells}
 use Rattle.hart_cli.specs.stream.Stream.{FailsToWrite, Stream, Writes}
-use Rattle.hart_cli.proofs.lemmas.dump.Writes.{FailsToWrite-longer, FailsToWrite-on, WritesAll-on}
+use Rattle.hart_cli.proofs.lemmas.Writes.{FailsToWrite-longer, FailsToWrite-on, WritesAll-on}
 
 -- a text is kept, or nothing is added
 pub adds_kept : (s : Stream) (before after text : List ℕ) → after ≡ before ++ text → AddsText s s before after text

@@ -1,4 +1,3 @@
 -- `hart dump`.
 pub mod FrameLines
 pub mod ScanInput
-pub mod Writes

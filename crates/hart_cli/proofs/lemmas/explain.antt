@@ -2,3 +2,6 @@
 pub mod Heard
 pub mod Fields
 pub mod Gaps
+pub mod Sightings
+pub mod Telling
+pub mod TellInput

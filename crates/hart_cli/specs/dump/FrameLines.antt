@@ -1,23 +1,19 @@
 -- For private calls alone: what is given and kept while characters are scanned (own profile).
-use Rattle.std.specs.Prelude.{◌≡◌, ◌≢◌, ◌⊎◌, ◌+◌, ◌*◌, ◌≤◌, ℕ, List, [], ◌++◌, false, IsTrue, length, Option, None, Some, Result, Ok, Err}
+use Rattle.std.specs.Prelude.{◌≡◌, ◌+◌, ◌*◌, ◌≤◌, ℕ, List, [], ◌++◌, false, IsTrue, length, Option, Result, Ok, Err}
 use Rattle.hart_frame.specs.heard.Character.{Character}
 use Rattle.hart_frame.specs.heard.Frames.{IsUndecided}
 use Rattle.hart_frame.specs.scan.Scanner.{GivesNothing, MovesPast, Scan, hearing, new_scan}
 use Rattle.hart_frame.specs.declared.heard.found.Found.{Found}
 use Rattle.hart_cli.specs.declared.calls.dump.frame_lines.FrameLines.{FrameLines}
-use Rattle.hart_cli.specs.declared.stream.Failed.{Failed}
-use Rattle.hart_cli.specs.dump.Text.{dump_text}
-use Rattle.hart_cli.specs.dump.Dump.{AreScanned, StopsSoon, StopsWriting, WroteInTime, ended_text}
-use Rattle.hart_cli.specs.input.Input.{Ending, ReadsPortion, ReadsTo, ending_of, most_at_once}
-use Rattle.hart_cli.specs.text.InputChars.{HasChars}
-use Rattle.hart_cli.specs.text.Items.{MayBegin, ReadsUpTo}
 use Rattle.hart_cli.specs.declared.fault.CliFault.{CliFault}
-use Rattle.hart_cli.specs.declared.calls.dump.NextStep.{NextStep}
-use Rattle.hart_cli.specs.declared.calls.dump.NextStep.TheVariants.{ReadOn, Stop}
-use Rattle.hart_cli.specs.declared.fault.CliFault.TheVariants as faults
-use Rattle.hart_cli.specs.declared.input.InputEnd.{InputEnd}
-use Rattle.hart_cli.specs.declared.input.InputEnd.TheVariants as ends
+use Rattle.hart_cli.specs.declared.stream.Failed.{Failed}
+use Rattle.hart_cli.specs.dump.Dump.{AreDecidedLines, AreFrameLines}
+use Rattle.hart_cli.specs.dump.Text.{dump_text}
+use Rattle.hart_cli.specs.input.Ahead.{DecodesAll}
+use Rattle.hart_cli.specs.input.Input.{input_limit}
+use Rattle.hart_cli.specs.input.LiveInput.{IsDecidedText, StopsWriting, WroteInTime}
 use Rattle.hart_cli.specs.stream.Stream.{Stream, WritesAll}
+use Rattle.hart_cli.specs.text.Items.{ReadsUpTo}
 
 -- A scanner waits for more if it is drained and not finished, and nothing is decided in what it holds, at most 269 characters.
 pub record IsWaiting (scan : Scan) : Type 0 where
@@ -51,47 +47,22 @@ pub record ScansText (old new : FrameLines) (text rest : List ℕ) : Type 0 wher
   pub reads : ReadsUpTo text chars rest
   pub scans : KeepsLines (hearing old.scanner chars) new.scanner old.lines new.lines
 
--- One read gave bytes that were added to those ahead, with a space after them if the input ended there.
-pub record ReadsAhead (old new : Stream) (before after : List ℕ) (room : ℕ) (end : Option InputEnd) : Type 0 where
-  pub bytes : List ℕ
-  pub reads : ReadsPortion old new bytes room end
-  pub few : length bytes ≤ most_at_once
-  pub added : after ≡ before ++ ended_text bytes (ending_of end)
-
--- The next step depends on what is left of an input after its pieces. If the input ended, it has no fault if nothing is left, and
--- otherwise bad hex. If it may go on, or went past the limit, there is bad hex unless a piece may begin in what is left; and if one may,
--- the input is read on, or the limit is its fault. A failed read is its fault whatever is left.
-abbrev pub IsNextStep : Option InputEnd → List ℕ → ℕ → NextStep → Type 0
-IsNextStep None rest place ReadOn = MayBegin rest
-IsNextStep None rest place (Stop fault) = (MayBegin rest → ⊥) × (fault ≡ Some (faults.BadHex place))
-IsNextStep (Some ends.Ended) rest place ReadOn = ⊥
-IsNextStep (Some ends.Ended) rest place (Stop None) = rest ≡ []
-IsNextStep (Some ends.Ended) rest place (Stop (Some fault)) = (rest ≢ []) × (fault ≡ faults.BadHex place)
-IsNextStep (Some ends.ReadFailed) rest place ReadOn = ⊥
-IsNextStep (Some ends.ReadFailed) rest place (Stop fault) = fault ≡ Some faults.Read
-IsNextStep (Some ends.TooLong) rest place ReadOn = ⊥
-IsNextStep (Some ends.TooLong) rest place (Stop fault) =
-    (MayBegin rest × (fault ≡ Some faults.TooLong)) ⊎ ((MayBegin rest → ⊥) × (fault ≡ Some (faults.BadHex place)))
-
 -- An input was read and scanned to its end or up to its first fault. A text was written of all lines of the frames that its characters
 -- decide so far, in which are those that were due before the last read.
 pub record ScansAll (reader reader_after writer writer_after : Stream) (frames : FrameLines) (fault : Option CliFault) : Type 0 where
   pub input : List ℕ
-  pub ending : Ending
   pub chars : List Character
   pub text : List ℕ
-  pub reads : ReadsTo reader reader_after input ending
-  pub has_chars : HasChars input ending chars fault
-  pub scanned : AreScanned input ending chars
-  pub soon : StopsSoon input fault
+  pub decodes : DecodesAll input_limit reader reader_after fault input chars
   pub scans : KeepsLines (hearing new_scan chars) frames.scanner [] text
   pub waiting : IsWaiting frames.scanner
   pub none_kept : frames.lines ≡ []
   pub wrote : WritesAll writer writer_after text
-  pub in_time : WroteInTime input writer writer_after
+  pub in_time : WroteInTime (IsDecidedText AreDecidedLines) input writer writer_after
 
 -- An input was scanned up to its first fault or its end, or until a write failed.
 abbrev pub ScansInput : Stream → Stream → Stream → Stream → FrameLines → Result (Option CliFault) Failed → Type 0
 ScansInput reader reader_after writer writer_after frames (Ok fault) =
     ScansAll reader reader_after writer writer_after frames fault
-ScansInput reader reader_after writer writer_after frames (Err failed) = StopsWriting reader reader_after writer writer_after
+ScansInput reader reader_after writer writer_after frames (Err failed) =
+    StopsWriting input_limit AreFrameLines AreDecidedLines reader reader_after writer writer_after

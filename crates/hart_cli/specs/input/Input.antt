@@ -1,5 +1,5 @@
 -- What is read of an input, and how it comes to its end (own profile).
-use Rattle.std.specs.Prelude.{◌≡◌, ◌≢◌, ◌⊎◌, ℕ, ◌+◌, ◌≤◌, List, [], ◌∷◌, ◌++◌, length, Option, None, Some}
+use Rattle.std.specs.Prelude.{◌≡◌, ◌≢◌, ◌⊎◌, ℕ, ◌+◌, ◌-◌, ◌^◌, ◌≤◌, List, [], ◌∷◌, ◌++◌, length, Option, None, Some}
 use Rattle.std.specs.Io.KnownBytes.{Consumes, IsAtEnd}
 use Rattle.hart_line.specs.declared.memory.NoRoom.{NoRoom}
 use Rattle.hart_cli.specs.stream.Stream.{Stream, count_after_failure}
@@ -11,6 +11,10 @@ use Rattle.hart_cli.specs.declared.input.InputEnd.TheVariants.{Ended, ReadFailed
 -- An input has at most 1,048,576 bytes.
 abbrev pub input_limit : ℕ
 input_limit = 1048576
+
+-- An input of which no more is kept than a portion has at most 2^64 - 1 bytes.
+abbrev pub stream_limit : ℕ
+stream_limit = 2 ^ 64 - 1
 
 -- One read gives at most so many bytes.
 abbrev pub most_at_once : ℕ
@@ -53,10 +57,6 @@ pub data Ending : Type 0 where
 abbrev pub ReadsToWithin : ℕ → Stream → Stream → List ℕ → Ending → Type 0
 ReadsToWithin limit old new text Left = (ReadsWell old new text × (length text ≤ limit)) ⊎ ReadsPast limit old new text
 ReadsToWithin limit old new text (CameTo end) = ReadsWithin limit old new text end
-
--- An input of at most 1,048,576 bytes gave this text before it came to its end or was left.
-abbrev pub ReadsTo : Stream → Stream → List ℕ → Ending → Type 0
-ReadsTo old new text ending = ReadsToWithin input_limit old new text ending
 
 -- An input has room for as many bytes as it may have, and for one that makes its last item whole.
 abbrev pub input_room : ℕ

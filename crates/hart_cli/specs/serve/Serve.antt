@@ -1,13 +1,13 @@
 -- What `hart serve` writes for the lines that it reads (own profile).
-use Rattle.std.specs.Prelude.{◌≡◌, ◌⊎◌, ℕ, ◌-◌, ◌^◌, ◌/◌, ◌+◌, ◌≤◌, List, [], ◌∷◌, ◌++◌, length, Option, Ok, Err}
-use Rattle.std.specs.Io.KnownBytes.{Appends}
+use Rattle.std.specs.Prelude.{◌≡◌, ◌⊎◌, ℕ, ◌/◌, ◌+◌, List, [], ◌∷◌, ◌++◌, Option, Ok, Err}
 use Rattle.hart_device.specs.Device.{DeviceState}
 use Rattle.hart_line.specs.script.Lines.{lines_of}
 use Rattle.hart_line.specs.declared.memory.NoRoom.{NoRoom}
 use Rattle.hart_cli.specs.declared.fault.CliFault.TheVariants as faults
 use Rattle.hart_cli.specs.declared.input.InputEnd.TheVariants.{Ended, ReadFailed, TooLong}
 use Rattle.hart_cli.specs.ImageWord.{OutcomeWith, OutcomeRelation}
-use Rattle.hart_cli.specs.input.Input.{CameTo, Ending, Left, ReadsToWithin, input_limit, most_at_once}
+use Rattle.hart_cli.specs.input.Input.{CameTo, Ending, Left, ReadsToWithin, input_limit, stream_limit}
+use Rattle.hart_cli.specs.input.LiveInput.{WroteInTime}
 use Rattle.hart_cli.specs.serve.Line.{ServesLine}
 use Rattle.hart_cli.specs.stream.Stream.{FailsToWrite, Stream, WritesAll}
 
@@ -36,36 +36,24 @@ pub record IsServed (device : DeviceState) (input : List ℕ) (ending : Ending) 
   pub after : DeviceState
   pub serves : Serves device lines after text
 
--- An input of `serve` has at most 2^64 - 1 bytes.
-abbrev pub serve_limit : ℕ
-serve_limit = 2 ^ 64 - 1
-
 -- An input was read up to its end, and all that the device says to its lines was written.
 pub record ServesTo (device : DeviceState) (ending : Ending) (reader reader_after writer writer_after : Stream) : Type 0 where
   pub input : List ℕ
-  pub reads : ReadsToWithin serve_limit reader reader_after input ending
+  pub reads : ReadsToWithin stream_limit reader reader_after input ending
   pub text : List ℕ
   pub is_served : IsServed device input ending text
   pub wrote : WritesAll writer writer_after text
 
--- What the device says to all whole lines before some last part of the input was written. That part has at most 16,384 bytes, the most that
--- one read gives.
-pub record SaidInTime (device : DeviceState) (input : List ℕ) (writer writer_after : Stream) : Type 0 where
-  pub before : List ℕ
-  pub last : List ℕ
-  pub split : input ≡ before ++ last
-  pub few : length last ≤ most_at_once
-  pub text : List ℕ
-  pub is_served : IsServed device before Left text
-  pub more : List ℕ
-  pub written : Appends writer.bytes writer_after.bytes (text ++ more)
+-- A text is what a device says to the whole lines of an input that may go on.
+abbrev pub IsServedSoFar : DeviceState → List ℕ → List ℕ → Type 0
+IsServedSoFar device input text = IsServed device input Left text
 
 -- A write failed after a prefix of what the device says to the first lines of what was read by then, short of its end. No line was
 -- late: those that were due before the last bytes had been written.
 pub record StopsSaying (device : DeviceState) (reader reader_after writer writer_after : Stream) : Type 0 where
   pub input : List ℕ
   pub ending : Ending
-  pub reads : ReadsToWithin serve_limit reader reader_after input ending
+  pub reads : ReadsToWithin stream_limit reader reader_after input ending
   pub first : List (List ℕ)
   pub later : List (List ℕ)
   pub has_lines : HasLines input ending (first ++ later)
@@ -73,7 +61,7 @@ pub record StopsSaying (device : DeviceState) (reader reader_after writer writer
   pub text : List ℕ
   pub serves : Serves device first after text
   pub fails : FailsToWrite writer writer_after text
-  pub in_time : SaidInTime device input writer writer_after
+  pub in_time : WroteInTime (IsServedSoFar device) input writer writer_after
 
 -- Room for a line: the most bytes that it may have, one more that shows that it is longer, a carriage return, and the byte after which
 -- its last item is whole.

@@ -10,9 +10,9 @@ use Rattle.hart_cli.specs.declared.fault.CliFault.TheVariants.{BadHex}
 use Rattle.hart_cli.specs.declared.input.InputEnd.{InputEnd}
 use Rattle.hart_cli.specs.declared.input.InputEnd.TheVariants.{Ended}
 use Rattle.hart_cli.specs.declared.stream.Failed.{Failed}
-use Rattle.hart_cli.specs.input.Input.{CameTo, ReadsWithin, input_limit}
+use Rattle.hart_cli.specs.input.Input.{CameTo, ReadsWithin, input_limit, stream_limit}
 use Rattle.hart_cli.specs.serve.Line.{Hears, ServesLine, bad_line}
-use Rattle.hart_cli.specs.serve.Serve.{Serves, StopsSaying, chars_room, last_lines, line_room, serve_limit}
+use Rattle.hart_cli.specs.serve.Serve.{Serves, StopsSaying, chars_room, last_lines, line_room}
 use Rattle.hart_cli.specs.stream.Kept.{AddsText}
 use Rattle.hart_cli.specs.stream.Stream.{FailsToWrite, Stream, Writes, WritesAll}
 use Rattle.hart_cli.specs.text.Items.{HasBadHex, ReadsUpTo}
@@ -100,7 +100,7 @@ pub record ServesLast {T : Type 0} (device : DeviceState) (line : List ℕ) (wri
 pub record ServesAll (device : DeviceState) (server : Server) (end : InputEnd) (reader reader_after writer writer_after : Stream)
     : Type 0 where
   pub input : List ℕ
-  pub reads : ReadsWithin serve_limit reader reader_after input end
+  pub reads : ReadsWithin stream_limit reader reader_after input end
   pub parts : List (List ℕ)
   pub rest : List ℕ
   pub cut : IsCut input parts rest

@@ -1,35 +1,22 @@
 //! `hart dump`: the frames of what was heard, a line each.
-ghost use Rattle.std.specs.Prelude.{◌≡◌, ◌<◌, ◌≤◌, [], ℕ, List, Option, length};
+ghost use Rattle.std.specs.Prelude.{◌≡◌, [], ℕ, List, Option};
 ghost use Rattle.hart_frame.specs.scan.Scanner.{new_scan};
 ghost use Rattle.hart_cli.specs.dump.Dump.{DumpOutcome, IsDump};
-ghost use Rattle.hart_cli.specs.dump.FrameLines.{IsNextStep, ReadsAhead, ScansInput};
-ghost use Rattle.hart_cli.specs.text.Items.{NoPieceBegins};
-ghost use Rattle.hart_cli.specs.declared.calls.dump.NextStep.TheVariants.{ReadOn};
-ghost use Rattle.hart_cli.specs.input.Input.{Ending, most_at_once};
+ghost use Rattle.hart_cli.specs.dump.FrameLines.{ScansInput};
+ghost use Rattle.hart_cli.specs.input.Input.{Ending};
 ghost use Rattle.hart_cli.specs.declared.fault.CliFault.{CliFault};
 
 use crate::calls::dump::frame_lines::FrameLines;
 use crate::fault::CliFault;
-use crate::input::{INPUT_LIMIT, InputEnd, PORTION_LEN, read_portion};
+use crate::input::ahead::{Ahead, NextStep, Open, next_step, read_ahead};
+use crate::input::{INPUT_LIMIT, PORTION_LEN};
 use crate::output::write_all;
 use crate::stream::{Failed, Sink, Source};
-use crate::text::items::may_begin;
 use hart_line::Digits;
-use hart_values::ByteList;
 use std::alloc::Global;
 
 mod frame_lines;
 mod text;
-
-/// The beginning of an item, after which no piece begins yet: at most five bytes.
-type Open = ByteList<OPEN_LEN>;
-
-const OPEN_LEN: usize = 5;
-
-/// What is read and not yet scanned: the beginning of an item, and then what one read gives, or the space that an end stands for.
-type Ahead = ByteList<AHEAD_LEN>;
-
-const AHEAD_LEN: usize = OPEN_LEN + PORTION_LEN;
 
 /// Reads what was heard on a line as hex items, and writes a line for each frame in it, as soon as it is decided.
 ///
@@ -88,15 +75,14 @@ fn scan_input<R: Source, W: Sink>(
     let digits = Digits::new();
     let mut buffer = [0; PORTION_LEN];
     let mut ahead = Ahead::new();
-    let mut place = 0;
+    let mut read = 0;
     loop {
-        let room = INPUT_LIMIT - place - ahead.len();
-        let end = read_ahead(reader, &mut buffer, &mut ahead, room);
+        let portion = read_ahead(reader, &mut buffer, &mut ahead, INPUT_LIMIT - read);
+        read += portion.len;
         let rest = frames.scan_text(&digits, ahead.as_slice());
         write_all(writer, frames.lines.as_slice())?;
         frames.lines.clear();
-        place += ahead.len() - rest.len();
-        match next_step(end, rest, place) {
+        match next_step(portion.end, rest, read) {
             NextStep::Stop(fault) => return Ok(fault),
             NextStep::ReadOn => {
                 let open = Open::from_slice(rest).unwrap();
@@ -105,59 +91,4 @@ fn scan_input<R: Source, W: Sink>(
             }
         }
     }
-}
-
-/// What is done after what was read is scanned.
-#[derive(Clone, Copy)]
-enum NextStep {
-    /// More is read.
-    ReadOn,
-    /// No more is read, because the input came to its end, or to this fault.
-    Stop(Option<CliFault>),
-}
-
-/// The step after the characters before a place were scanned, with this rest read, and with the input at this end, if it came to
-/// one.
-fn next_step(end: Option<InputEnd>, rest: &[u8], place: usize) -> NextStep
-    requires { NoPieceBegins rest.now }
-    ensures step { IsNextStep end rest.now place result }
-    ensures short { result ≡ ReadOn → length rest.now ≤ 5 }
-{
-    let bad_hex = NextStep::Stop(Some(CliFault::BadHex { place }));
-    match end {
-        None if may_begin(rest) => NextStep::ReadOn,
-        None => bad_hex,
-        Some(InputEnd::Ended) if rest.is_empty() => NextStep::Stop(None),
-        Some(InputEnd::Ended) => bad_hex,
-        // Nothing was read, so that a piece may begin as it might before.
-        Some(InputEnd::ReadFailed) => NextStep::Stop(Some(CliFault::Read)),
-        Some(InputEnd::TooLong) if may_begin(rest) => NextStep::Stop(Some(CliFault::TooLong)),
-        Some(InputEnd::TooLong) => bad_hex,
-    }
-}
-
-/// Reads once, and adds to what is read ahead what is within the room that is left of the input's limit. Gives how the input came to
-/// its end with it, if it did.
-fn read_ahead<R: Source>(
-    reader: &mut R,
-    buffer: &mut [u8],
-    ahead: &mut Ahead,
-    room: usize,
-) -> Option<InputEnd>
-    requires short { length ahead.old ≤ 5 }
-    requires some { 0 < length buffer.old }
-    requires fits { length buffer.old ≤ most_at_once }
-    ensures reads { ReadsAhead
-        (R.stream reader.old) (R.stream reader.new)
-        ahead.old ahead.new room result }
-    ensures kept { length buffer.new ≡ length buffer.old }
-{
-    let portion = read_portion(reader, buffer, room);
-    if portion.end == Some(InputEnd::Ended) {
-        // An end gives no bytes, and makes the last item whole, as a space does.
-        ahead.push(b' ');
-    } else {
-        ahead.extend_from_slice(&buffer[..portion.len]);
-    }
-    portion.end
 }

@@ -9,8 +9,8 @@ use crate::text::plain_items::{ITEMS_AT_ONCE, dense_items, spaced_items};
 use hart_line::Digits;
 use hart_values::ByteList;
 
-/// The most faultless characters that are scanned at once.
-const CHUNK_LEN: usize = 8192;
+/// The most faultless characters that are looked at at once.
+pub const CHUNK_LEN: usize = 8192;
 
 /// The bytes of faultless characters.
 pub type Chunk = ByteList<CHUNK_LEN>;

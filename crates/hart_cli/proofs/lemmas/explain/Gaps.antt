@@ -2,7 +2,7 @@
 use Rattle.std.proofs.Common.{◌≡◌, ◌≢◌, ◌≤◌, ◌<◌, ◌+◌, ◌-◌, ℕ, zero, suc, Bool, true, false, List, [], ◌∷◌, ◌++◌, length, get_or, drop}
 use Rattle.std.proofs.Common.{take, Option, None, Some, refl, append_assoc, arith, length-append, length-drop}
 use Rattle.std.proofs.lemmas.Bool.Decides.{nat_tests}
-use Rattle.std.proofs.lemmas.Grind.{common_steps, flat_map-append}
+use Rattle.std.proofs.lemmas.Grind.{common_steps}
 use Rattle.std.proofs.lemmas.List.{take-append-drop}
 use Rattle.std.proofs.lemmas.List.Elements.{Contains-append_cases, Contains-append_left, Contains-append_right, Contains-get_or}
 use Rattle.std.proofs.lemmas.List.Folds.{list_all-append, list_all_at}
@@ -11,63 +11,66 @@ use Rattle.std.proofs.lemmas.List.Sums.{AllPass-from_list_all}
 use Rattle.std.specs.Fmt.{digit_glyph, digits, digits_onto}
 use Rattle.std.specs.List.{flat_map, list_all, range_with_len}
 use Rattle.std.specs.Option.{option_map_or}
-use Rattle.std.specs.Prelude.{◌/◌, ◌%◌, ◌==◌, All, AllPairs, Contains, decimal, not}
+use Rattle.std.specs.Prelude.{◌/◌, ◌%◌, ◌==◌, All, AllPairs, Contains, decimal, not, option_map}
 use Rattle.hex.specs.Hex.{encode_with, upper_digits}
 use Rattle.hart_frame.specs.declared.heard.found.Found.{Found}
 use Rattle.hart_frame.specs.declared.heard.miss.Miss.{Miss}
-use Rattle.hart_frame.specs.declared.heard.miss.Miss.TheVariants.{Burst}
+use Rattle.hart_frame.specs.declared.heard.miss.Miss.TheVariants.{Burst, OnePreamble}
 use Rattle.hart_frame.specs.heard.Character.{Character, faultless}
 use Rattle.hart_frame.specs.heard.Frames.{AreFrames, first, moved, none}
 use Rattle.hart_frame.specs.heard.Place.{HasFrameAt}
-use Rattle.hart_frame.specs.heard.Miss.{miss_of}
+use Rattle.hart_frame.specs.heard.Miss.{follows_one_preamble, is_start, miss_of}
 use Rattle.hart_frame.specs.heard.Place.{StandsIn}
-use Rattle.hart_cli.specs.explain.Gaps.{IsGap, missed, missed_at, MissedPlace}
-use Rattle.hart_cli.specs.explain.Misses.{miss_line, miss_words, place_text}
+use Rattle.hart_frame.specs.heard.Start.{IsStart}
+use Rattle.hart_frame.proofs.lemmas.heard.Start.{start_test}
+use Rattle.hart_frame.specs.heard.Sighting.{Missed, Seen, miss_in_whole, missed, seen_miss}
+use Rattle.hart_cli.specs.explain.Gaps.{IsGap, seen_place}
+use Rattle.hart_cli.specs.explain.Misses.{miss_words}
 use Rattle.hart_cli.specs.explain.Words.{hex_value}
 
--- places that have something, each with it
-abbrev pub told_at : (ℕ → Option Miss) → ℕ → List MissedPlace
-told_at f place = option_map_or (λ miss. record { place = place; miss = miss } ∷ []) (f place) []
+-- places that have a miss, each with what is told of it
+abbrev pub told_at : (Miss → Miss) → (ℕ → Option Miss) → ℕ → List Seen
+told_at told f place = option_map_or (λ miss. Missed place (told miss) ∷ []) (f place) []
 
-abbrev pub told_from : (ℕ → Option Miss) → ℕ → ℕ → List MissedPlace
-told_from f a n = flat_map (λ place. told_at f place) (range_with_len a n)
-
--- what is said of places is the lines of their misses
-said_of : (from place : ℕ) (found : Option Miss) → miss_line from place found
-    ≡ flat_map (λ (told : MissedPlace). miss_line from told.place (Some told.miss))
-    (option_map_or (λ miss. record { place = place; miss = miss } ∷ []) found [])
-said_of from place found = grind (arith, common_steps)
-
-pub said_of_places : (chars : List Character) (from : ℕ) (places : List ℕ)
-    → flat_map (λ place. place_text chars from place) places
-    ≡ flat_map (λ told. miss_line from told.place (Some told.miss)) (flat_map (λ place. missed_at chars from place) places)
-unfolding place_text
-said_of_places chars from [] = refl
-said_of_places chars from (place ∷ places) = simp (flat_map-append, ← said_of, said_of_places chars from places)
+abbrev pub told_from : (Miss → Miss) → (ℕ → Option Miss) → ℕ → ℕ → List Seen
+told_from told f a n = flat_map (λ place. told_at told f place) (range_with_len a n)
 
 -- what stands among places
-told_is : (f : ℕ → Option Miss) (a n : ℕ) (x : MissedPlace) → Contains (told_from f a n) x
-    → (a ≤ x.place) × (x.place < a + n) × (f x.place ≡ Some x.miss)
-told_is f a zero x has = grind arith
-told_is f a (suc n) x has = grind (arith, common_steps, Contains-append_cases, told_is f (a + 1) n x)
+pub told_is : (told : Miss → Miss) (f : ℕ → Option Miss) (a n place : ℕ) (miss : Miss) → Contains (told_from told f a n) (Missed place miss)
+    → (a ≤ place) × (place < a + n) × (option_map told (f place) ≡ Some miss)
+told_is told f a zero place miss has = grind arith
+told_is told f a (suc n) place miss has =
+    grind (arith, common_steps, Contains-append_cases, told_is told f (a + 1) n place miss)
+
+-- none stands before the first of them
+told_after : (told : Miss → Miss) (f : ℕ → Option Miss) (a n : ℕ) (x : Seen) → Contains (told_from told f a n) x → a ≤ seen_place x
+told_after told f a zero x has = grind arith
+told_after told f a (suc n) x has = grind (arith, common_steps, Contains-append_cases, told_after told f (a + 1) n x)
 
 -- every place that has something is among them
-pub told_has : (f : ℕ → Option Miss) (a n : ℕ) (x : MissedPlace) → a ≤ x.place → x.place < a + n → f x.place ≡ Some x.miss
-    → Contains (told_from f a n) x
-told_has f a zero x from below has = absurd (omega arith)
-told_has f a (suc n) x from below has =
-    grind (arith, Contains-append_right, Contains-append_left, Contains-get_or (told_at f a) 0 x, told_has f (a + 1) n x)
+pub told_has : (told : Miss → Miss) (f : ℕ → Option Miss) (a n place : ℕ) (miss : Miss) → a ≤ place → place < a + n
+    → option_map told (f place) ≡ Some miss → Contains (told_from told f a n) (Missed place miss)
+told_has told f a zero place miss from below has = absurd (omega arith)
+told_has told f a (suc n) place miss from below has =
+    grind (
+      arith,
+      Contains-append_right,
+      Contains-append_left,
+      Contains-get_or (told_at told f a) 0 (Missed place miss),
+      told_has told f (a + 1) n place miss,
+    )
 
 -- they stand in the order of their places
-pub told_in_order : (f : ℕ → Option Miss) (a n : ℕ) → AllPairs (λ told later. told.place < later.place) (told_from f a n)
-told_in_order f a zero = λ i j d before within. absurd (omega arith)
-told_in_order f a (suc n) = elim (f a) as (λ miss. AllPairs (λ told later. told.place < later.place)
-    (option_map_or (λ m. record { place = a; miss = m } ∷ []) miss [] ++ told_from f (a + 1) n)) [
-      | None ↦ told_in_order f (a + 1) n
+pub told_in_order : (told : Miss → Miss) (f : ℕ → Option Miss) (a n : ℕ)
+    → AllPairs (λ one later. seen_place one < seen_place later) (told_from told f a n)
+told_in_order told f a zero = λ i j d before within. absurd (omega arith)
+told_in_order told f a (suc n) = elim (f a) as (λ miss. AllPairs (λ one later. seen_place one < seen_place later)
+    (option_map_or (λ m. Missed a (told m) ∷ []) miss [] ++ told_from told f (a + 1) n)) [
+      | None ↦ told_in_order told f (a + 1) n
       | Some m ↦
-          AllPairs-cons (λ told later. told.place < later.place) (record { place = a; miss = m }) (told_from f (a + 1) n)
-          (λ k d within. omega (arith, told_is f (a + 1) n _ (Contains-get_or (told_from f (a + 1) n) k d within)))
-          (told_in_order f (a + 1) n)
+          AllPairs-cons (λ one later. seen_place one < seen_place later) (Missed a (told m)) (told_from told f (a + 1) n)
+          (λ k d within. omega (arith, told_after told f (a + 1) n _ (Contains-get_or (told_from told f (a + 1) n) k d within)))
+          (told_in_order told f (a + 1) n)
     ]
 
 -- the code of a line feed is none of a text
@@ -91,10 +94,10 @@ unbroken-digit : (k : ℕ) → no_line_feed (get_or upper_digits k 0) ≡ true
 unbroken-digit k = grind (arith, common_steps, list_all_at no_line_feed upper_digits)
 
 -- the words of a miss have none
-pub unbroken-miss_words : (from : ℕ) (miss : Miss) → list_all no_line_feed (miss_words from miss) ≡ true
+pub unbroken-miss_words : (miss : Miss) → list_all no_line_feed (miss_words miss) ≡ true
 unfolding encode_with hex_value
-unbroken-miss_words from Burst = refl
-unbroken-miss_words from _ = grind (arith, list_all-append, unbroken-decimal, unbroken-digit)
+unbroken-miss_words Burst = refl
+unbroken-miss_words _ = grind (arith, list_all-append, unbroken-decimal, unbroken-digit)
 
 -- a frame in some characters is one of those with others before them
 stands_after : (before chars : List Character) (found : Found) (at : ℕ) → at ≤ length before → StandsIn found chars 0
@@ -118,9 +121,29 @@ no_frame_in_gap chars _ _ (none at without) from stop place gap after below has 
 no_frame_in_gap chars _ _ (first at found later is are) from stop place gap after below has =
     grind (arith, stands_in_rest chars from at has.0, no_frame_in_gap chars found.stop later are from stop place)
 
+-- the miss of a place that is told as another
+own_miss : (told : Miss → Miss) (found : Option Miss) (miss : Miss) → option_map told found ≡ Some miss
+    → (own : Miss) × (found ≡ Some own) × (miss ≡ told own)
+own_miss told None miss is = absurd cc
+own_miss told (Some own) miss is = (own, refl, grind arith)
+
+-- the miss that is seen at a place is that of the place
+pub seen_is_miss : (chars : List Character) (place : ℕ) (miss : Miss) → seen_miss chars place ≡ Some miss → miss_of chars place ≡ Some miss
+seen_is_miss chars place miss is = grind arith
+
 -- the places of a gap that have a miss
-pub missed_are : (chars : List Character) (from stop place : ℕ) (miss : Miss)
-    → Contains (missed chars from stop) (record { place = place; miss = miss })
-    → (from ≤ place) × (place < stop) × (miss_of (drop from chars) (place - from) ≡ Some miss)
+pub missed_are : (chars : List Character) (from stop place : ℕ) (miss : Miss) → Contains (missed chars from stop) (Missed place miss)
+    → (from ≤ place) × (own : Miss) × (seen_miss (drop from chars) (place - from) ≡ Some own) × (miss ≡ miss_in_whole from own)
 missed_are chars from stop place miss has =
-    grind (arith, told_is (λ at. miss_of (drop from chars) (at - from)) from (stop - from) (record { place = place; miss = miss }) has)
+    let is = told_is (miss_in_whole from) (λ at. seen_miss (drop from chars) (at - from)) from (stop - from) place miss has in
+    let own = own_miss (miss_in_whole from) (seen_miss (drop from chars) (place - from)) miss is.2 in (is.0, own.0, own.1, own.2)
+
+-- one preamble byte alone is told as such
+pub whole_one : (from : ℕ) (own miss : Miss) → miss ≡ miss_in_whole from own → own ≡ OnePreamble → miss ≡ OnePreamble
+whole_one from own miss told one = rw (told, one) refl
+
+-- where a body may start the miss that is seen is that of the place
+pub start_is_seen : (chars : List Character) (place : ℕ) → IsStart place chars → seen_miss chars place ≡ miss_of chars place
+start_is_seen chars place start =
+    let is : is_start chars place ≡ true = (start_test chars place).1 start in
+    let two : follows_one_preamble chars place ≡ false = grind (arith, nat_tests) in grind (arith, two)

@@ -1,23 +1,14 @@
--- What was heard of an input: its fault, and that it is heard in one way.
-use Rattle.std.proofs.Common.{◌≡◌, ℕ, ◌+◌, List, [], ◌∷◌, ◌++◌, length, Option, arith, length-append}
+-- The characters of an input that was left, and of one of which more is read.
+use Rattle.std.proofs.Common.{◌≡◌, ℕ, List, [], ◌∷◌, ◌++◌, length, Option, append_assoc, arith, length-append}
 use Rattle.std.proofs.lemmas.Grind.{common_steps}
 use Rattle.hart_frame.specs.heard.Character.{Character}
 use Rattle.hart_cli.specs.declared.fault.CliFault.{CliFault}
 use Rattle.hart_cli.specs.declared.input.InputEnd.{InputEnd}
-use Rattle.hart_cli.specs.dump.Dump.{ended_text}
-use Rattle.hart_cli.specs.explain.Heard.{IsFaultAt, IsHeard}
-use Rattle.hart_cli.specs.input.Input.{CameTo, Left}
+use Rattle.hart_cli.specs.input.Input.{CameTo, Ending, Left}
 use Rattle.hart_cli.specs.text.InputChars.{all, bad_hex, decided_bad_hex, failure, HasChars, limit}
 use Rattle.hart_cli.specs.text.Items.{BeginsWith, closed, IsDecidedBadHexAt, NoPieceBegins, Piece, ReadsSoFarAs, ReadsUpTo}
-use Rattle.hart_cli.proofs.lemmas.text.InputChars.{as_it_stands, decided_rest, not_both, one_input, one_place}
-use Rattle.hart_cli.proofs.lemmas.text.Items.{goes_on, one_reading, ReadsUpTo-few, ReadsUpTo-more, spelling-length}
-
--- the characters up to a rest at which no piece begins are heard, with the fault at that place
-pub is_heard : (input : List ℕ) (end : InputEnd) (chars : List Character) (rest : List ℕ) (place : ℕ) (fault : Option CliFault)
-    → ReadsUpTo (ended_text input (CameTo end)) chars rest → place + length rest ≡ length (ended_text input (CameTo end))
-    → NoPieceBegins rest → IsFaultAt end rest place fault → IsHeard input end chars fault
-is_heard input end chars rest place fault reads placed stop is =
-    grind (arith, common_steps, decided_rest, all, bad_hex, decided_bad_hex, failure, limit)
+use Rattle.hart_cli.proofs.lemmas.text.InputChars.{as_it_stands, not_both, one_input, one_place}
+use Rattle.hart_cli.proofs.lemmas.text.Items.{NoPieceBegins-nil, goes_on, one_reading, ReadsUpTo-few, ReadsUpTo-more, spelling-length}
 
 -- a reading that leaves as much as there was has read nothing
 reads_nothing : (text : List ℕ) (chars : List Character) (rest : List ℕ) → ReadsUpTo text chars rest → length rest ≡ length text
@@ -41,7 +32,31 @@ one_heard text _ _ _ _ _ (bad_hex xs p h) (decided_bad_hex ys q k) = grind (arit
 one_heard text _ _ _ _ _ (failure xs h) (decided_bad_hex ys q k) = absurd (not_decided text xs ys q h k)
 one_heard text _ _ _ _ _ (limit xs h) (decided_bad_hex ys q k) = absurd (not_decided text xs ys q h k)
 
--- an input is heard in one way
-pub IsHeard-one : (text : List ℕ) (end : InputEnd) (xs ys : List Character) (f g : Option CliFault)
-    → IsHeard text end xs f → IsHeard text end ys g → (xs ≡ ys) × (f ≡ g)
-IsHeard-one text end xs ys f g h k = grind (arith, one_input, one_heard)
+-- nor is any input
+pub one_left : (text : List ℕ) (ending : Ending) (xs ys : List Character) (f g : Option CliFault)
+    → HasChars text ending xs f → HasChars text Left ys g → (xs ≡ ys) × (f ≡ g)
+one_left text Left xs ys f g h k = one_input text Left xs ys f g h k
+one_left text (CameTo end) xs ys f g h k = one_heard text end xs ys f g h k
+
+-- bad hex that is decided stays, whatever comes
+pub left_more : (input more : List ℕ) (chars : List Character) (fault : Option CliFault) → HasChars input Left chars fault
+    → HasChars (input ++ more) Left chars fault
+left_more input more chars fault has = grind (arith, common_steps, append_assoc, decided_bad_hex)
+
+-- what an input reads as stays, whatever comes
+pub chars_grow : (input more : List ℕ) (ending : Ending) (xs ys : List Character) (fault : Option CliFault) (rest : List ℕ)
+    → ReadsUpTo input xs rest → HasChars (input ++ more) ending ys fault → (between : List Character) × (ys ≡ xs ++ between)
+chars_grow input more _ xs _ _ rest reads (all ys h) =
+    let first = ReadsUpTo-more _ xs _ (32 ∷ []) (ReadsUpTo-more input xs rest more reads) in
+    let on = goes_on (closed (input ++ more)) xs _ ys [] first h NoPieceBegins-nil in (on.between, on.chars)
+chars_grow input more _ xs _ _ rest reads (bad_hex ys place h) =
+    let first = ReadsUpTo-more _ xs _ (32 ∷ []) (ReadsUpTo-more input xs rest more reads) in
+    let on = goes_on (closed (input ++ more)) xs _ ys h.rest first h.reads h.no_piece in (on.between, on.chars)
+chars_grow input more _ xs _ _ rest reads (decided_bad_hex ys place h) =
+    let now = as_it_stands (input ++ more) ys place h in
+    let on = goes_on (input ++ more) xs _ ys now.rest (ReadsUpTo-more input xs rest more reads) now.reads now.no_piece in
+    (on.between, on.chars)
+chars_grow input more _ xs _ _ rest reads (failure ys h) =
+    let on = goes_on (input ++ more) xs _ ys h.rest (ReadsUpTo-more input xs rest more reads) h.reads h.no_piece in (on.between, on.chars)
+chars_grow input more _ xs _ _ rest reads (limit ys h) =
+    let on = goes_on (input ++ more) xs _ ys h.rest (ReadsUpTo-more input xs rest more reads) h.reads h.no_piece in (on.between, on.chars)

@@ -1,6 +1,6 @@
 -- An input that is served while it is read.
-use Rattle.std.proofs.Common.{◌≡◌, ◌≤◌, ◌+◌, ◌-◌, ℕ, List, [], ◌++◌, length, map, Option, None, Some, MatchOption, refl, inl, append_assoc, append-nil, arith}
-use Rattle.std.proofs.KnownBytes.{Appends-trans, Consumes-trans}
+use Rattle.std.proofs.Common.{◌≡◌, ◌≤◌, ◌+◌, ◌-◌, ℕ, List, [], ◌++◌, length, map, Option, None, Some, refl, append_assoc, append-nil, arith}
+use Rattle.std.proofs.KnownBytes.{Appends-trans}
 use Rattle.std.proofs.lemmas.Grind.{common_steps}
 use Rattle.std.proofs.lemmas.List.{map-append}
 use Rattle.std.specs.Io.KnownBytes.{Appends}
@@ -9,27 +9,22 @@ use Rattle.hart_device.specs.Device.{DeviceState}
 use Rattle.hart_cli.specs.declared.calls.serve.server.Server.{Server}
 use Rattle.hart_cli.specs.declared.input.InputEnd.{InputEnd}
 use Rattle.hart_cli.specs.declared.input.InputEnd.TheVariants.{Ended}
-use Rattle.hart_cli.specs.input.Input.{CameTo, Left, ReadsPortion, ReadsToWithin, ReadsWell, ReadsWithin, ending_of, most_at_once}
-use Rattle.hart_cli.specs.serve.Serve.{SaidInTime, Serves, ServesTo, StopsSaying, last_lines, serve_limit}
+use Rattle.hart_cli.specs.input.Input.{CameTo, Left, ReadsPortion, ReadsWell, ending_of, most_at_once, stream_limit}
+use Rattle.hart_cli.specs.input.LiveInput.{WroteInTime}
+use Rattle.hart_cli.specs.serve.Serve.{IsServedSoFar, Serves, ServesTo, StopsSaying, last_lines}
 use Rattle.hart_cli.specs.serve.Server.{FailsInParts, IsCut, Keeps, ServesAll, ServesParts, ServesWhole}
 use Rattle.hart_cli.specs.stream.Stream.{FailsToWrite, Stream, WritesAll}
-use Rattle.hart_cli.proofs.lemmas.dump.Writes.{FailsToWrite-on, WritesAll-on}
+use Rattle.hart_cli.proofs.lemmas.Writes.{FailsToWrite-on, WritesAll-on}
+use Rattle.hart_cli.proofs.lemmas.input.Decoded.{read_more, read_to}
 use Rattle.hart_cli.proofs.lemmas.serve.Cuts.{cut_has_lines, cut_on}
 use Rattle.hart_cli.proofs.lemmas.serve.Served.{Serves-on}
 use Rattle.hart_cli.proofs.lemmas.serve.Server.{parts_on}
-
--- one read more
-read_more : (a b c : Stream) (text bytes : List ℕ) (room limit : ℕ) (end : Option InputEnd) → ReadsWell a b text
-    → length text + room ≡ limit → ReadsPortion b c bytes room end
-    → MatchOption end (ReadsWell a c (text ++ bytes) × (length (text ++ bytes) ≤ limit))
-    (λ came. ReadsWithin limit a c (text ++ bytes) came)
-read_more a b c text bytes room limit end h k e = grind (arith, common_steps, Consumes-trans)
 
 -- an input was read so far, and all that a device says to its whole lines was written
 pub record ServedUpTo (device : DeviceState) (server : Server) (room : ℕ) (old new writer writer_after : Stream) : Type 0 where
   pub input : List ℕ
   pub read : ReadsWell old new input
-  pub left : length input + room ≡ serve_limit
+  pub left : length input + room ≡ stream_limit
   pub parts : List (List ℕ)
   pub rest : List ℕ
   pub cut : IsCut input parts rest
@@ -46,7 +41,7 @@ served_end device now next room r r1 r2 w w1 w2 bytes end h more was quiet k =
     let same : k.adds.written ≡ k.said = grind (arith, append-nil) in
     record {
       input = h.input ++ bytes;
-      reads = read_more r r1 r2 h.input bytes room serve_limit (Some end) h.read h.left more;
+      reads = read_more r r1 r2 h.input bytes room stream_limit (Some end) h.read h.left more;
       parts = h.parts ++ k.parts;
       rest = k.rest;
       cut = cut_on h.input bytes h.parts h.rest k.parts k.rest h.cut k.cut;
@@ -65,7 +60,7 @@ served_on device now next room r r1 r2 w w1 w2 bytes h more was quiet k =
     let same : k.adds.written ≡ k.said = grind (arith, append-nil) in
     record {
       input = h.input ++ bytes;
-      read = (read_more r r1 r2 h.input bytes room serve_limit None h.read h.left more).0;
+      read = (read_more r r1 r2 h.input bytes room stream_limit None h.read h.left more).0;
       left = grind (arith, common_steps);
       parts = h.parts ++ k.parts;
       rest = k.rest;
@@ -79,14 +74,14 @@ served_on device now next room r r1 r2 w w1 w2 bytes h more was quiet k =
 -- the whole lines before the last bytes of an input were said in time
 said_in_time : (device after : DeviceState) (input bytes : List ℕ) (parts : List (List ℕ)) (rest said : List ℕ) (w w1 w2 : Stream)
     → IsCut input parts rest → ServesParts device parts after said → WritesAll w w1 said → length bytes ≤ most_at_once
-    → (more : List ℕ) → Appends w1.bytes w2.bytes more → SaidInTime device (input ++ bytes) w w2
+    → (more : List ℕ) → Appends w1.bytes w2.bytes more → WroteInTime (IsServedSoFar device) (input ++ bytes) w w2
 said_in_time device after input bytes parts rest said w w1 w2 cut serves wrote few more written = record {
   before = input;
   last = bytes;
   split = refl;
   few = few;
   text = said;
-  is_served = record {
+  decided = record {
     lines = map strip_carriage_return parts ++ [];
     has_lines = cut_has_lines input Left parts rest cut;
     after = after;
@@ -95,13 +90,6 @@ said_in_time device after input bytes parts rest said w w1 w2 cut serves wrote f
   more = more;
   written = Appends-trans _ _ _ said more wrote.0 written;
 }
-
--- how far an input was read, if it came to its end or not
-read_to : (old new : Stream) (input : List ℕ) (limit : ℕ) (end : Option InputEnd)
-    → MatchOption end (ReadsWell old new input × (length input ≤ limit)) (λ came. ReadsWithin limit old new input came)
-    → ReadsToWithin limit old new input (ending_of end)
-read_to old new input limit None h = inl h
-read_to old new input limit (Some end) h = h
 
 -- a write failed in what is said to the lines that one read made whole
 pub stops_saying : (device : DeviceState) (now : Server) (room : ℕ) (r r1 r2 w w1 w2 : Stream) (bytes : List ℕ) (end : Option InputEnd)
@@ -117,7 +105,7 @@ stops_saying device now room r r1 r2 w w1 w2 bytes end h more few was k =
     record {
       input = h.input ++ bytes;
       ending = ending_of end;
-      reads = read_to r r2 (h.input ++ bytes) serve_limit end (read_more r r1 r2 h.input bytes room serve_limit end h.read h.left more);
+      reads = read_to r r2 (h.input ++ bytes) stream_limit end (read_more r r1 r2 h.input bytes room stream_limit end h.read h.left more);
       first = map strip (h.parts ++ k.parts);
       later = map strip k.later ++ ends;
       has_lines = rw order at (cut_has_lines (h.input ++ bytes) (ending_of end) (h.parts ++ (k.parts ++ k.later)) k.rest cut);

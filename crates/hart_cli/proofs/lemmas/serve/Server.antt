@@ -13,7 +13,7 @@ use Rattle.hart_cli.specs.serve.Server.{BeginsWithPart, FailsInParts, HasNoFeed,
 use Rattle.hart_cli.specs.stream.Kept.{AddsText}
 use Rattle.hart_cli.specs.stream.Stream.{FailsToWrite, Stream, WritesAll}
 use Rattle.hart_cli.proofs.lemmas.Kept.{adds_kept, adds_then, fails_then}
-use Rattle.hart_cli.proofs.lemmas.dump.Writes.{FailsToWrite-on, WritesAll-on}
+use Rattle.hart_cli.proofs.lemmas.Writes.{FailsToWrite-on, WritesAll-on}
 use Rattle.hart_cli.proofs.lemmas.serve.Cuts.{cut_on, cut_part, cut_rest, every_cut}
 use Rattle.hart_cli.proofs.lemmas.serve.Lines.{serves_kept}
 use Rattle.hart_cli.proofs.lemmas.serve.Served.{Serves-on}

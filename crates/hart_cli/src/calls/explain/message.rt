@@ -1,6 +1,8 @@
 //! What is said of a message.
-ghost use Rattle.std.specs.Prelude.{◌≡◌, ◌++◌, ◌+◌, ◌≤◌, length};
+ghost use Rattle.std.specs.Prelude.{◌≡◌, ◌++◌, ◌+◌, ◌<◌, ◌≤◌, ◌^◌, length};
 ghost use Rattle.hart_frame.specs.declared.wire.kind.FrameKind.TheVariants.{Ack};
+ghost use Rattle.hart_frame.specs.heard.Frames.{moved};
+ghost use Rattle.hart_frame.specs.scan.View.{found_of, parts_of};
 ghost use Rattle.hart_cli.specs.explain.Message.{burst_line, command_words, message_line, paragraph, payload_lines};
 
 use crate::calls::explain::data::{push_reply_data, push_request_data};
@@ -10,25 +12,27 @@ use crate::kept::Kept;
 use crate::text::pairs::Pairs;
 use crate::text::words::push_text;
 use hart_commands::command_name;
-use hart_frame::{Found, Frame, FrameKind};
+use hart_frame::{FoundView, FrameKind, FrameView};
 use itoa::Buffer;
 
-/// Adds the paragraph of a message.
+/// Appends the paragraph of a message, whose places are counted from this first place on.
 #[tactic(auto, unfolding(crate::specs::explain::Message::paragraph))]
-pub fn push_paragraph(text: &mut Kept, pairs: &Pairs, found: &Found)
-    requires { length text.old + 8192 ≤ 32768 }
-    ensures { text.new ≡ text.old ++ paragraph found.now }
+pub fn push_paragraph(text: &mut Kept, pairs: &Pairs, first: u64, found: &FoundView<'_>)
+    requires room { length text.old + 8192 ≤ 32768 }
+    requires start { first + found.now.start < 2 ^ 64 }
+    requires stop { first + found.now.stop < 2 ^ 64 }
+    ensures { text.new ≡ text.old ++ paragraph (moved first (found_of found.now)) }
 {
-    push_message_line(text, pairs, found);
+    push_message_line(text, pairs, first, found);
     push_burst_line(text, found.frame.burst());
     push_bytes_line(text, pairs, "expansion bytes", found.frame.expansion());
     push_payload(text, pairs, &found.frame);
 }
 
 /// Adds what the payload of a message says.
-fn push_payload(text: &mut Kept, pairs: &Pairs, frame: &Frame)
+fn push_payload(text: &mut Kept, pairs: &Pairs, frame: &FrameView<'_>)
     requires { length text.old + 6000 ≤ 32768 }
-    ensures { text.new ≡ text.old ++ payload_lines frame.now.kind frame.now.command frame.now.payload }
+    ensures { text.new ≡ text.old ++ payload_lines (parts_of frame.now).kind (parts_of frame.now).command (parts_of frame.now).payload }
 {
     match frame.kind() {
         FrameKind::Stx => push_request_data(text, pairs, frame.command(), frame.payload()),
@@ -49,16 +53,18 @@ fn push_reply(text: &mut Kept, pairs: &Pairs, command: u8, payload: &[u8])
     push_reply_data(text, pairs, command, payload);
 }
 
-/// Adds the line of a message.
-fn push_message_line(text: &mut Kept, pairs: &Pairs, found: &Found)
-    requires { length text.old + 220 ≤ 32768 }
-    ensures line { text.new ≡ text.old ++ message_line found.now }
+/// Appends the line of a message, whose places are counted from this first place on.
+fn push_message_line(text: &mut Kept, pairs: &Pairs, first: u64, found: &FoundView<'_>)
+    requires room { length text.old + 220 ≤ 32768 }
+    requires start { first + found.now.start < 2 ^ 64 }
+    requires stop { first + found.now.stop < 2 ^ 64 }
+    ensures line { text.new ≡ text.old ++ message_line (moved first (found_of found.now)) }
     ensures few { length text.new ≤ length text.old + 220 }
 {
     let frame = &found.frame;
-    push_text(text, Buffer::new().format(found.start));
+    push_text(text, Buffer::new().format(first + found.start));
     push_text(text, "-");
-    push_text(text, Buffer::new().format(found.stop));
+    push_text(text, Buffer::new().format(first + found.stop));
     push_text(text, ": ");
     push_who(text, pairs, frame.kind(), frame.master(), frame.address());
     push_text(text, ", ");

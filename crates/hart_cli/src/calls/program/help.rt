@@ -129,7 +129,8 @@ pub(super) const EXPLAIN: Page = Page {
 Say in words what was heard on a line, and why a message is missing.
 
 Input (stdin): the bytes that were heard, noise among them, as hart dump reads
-them (see hart dump --help). It is read whole before anything is written.
+them (see hart dump --help), but of any length. What is decided is written
+before more is read, also while a line is being heard.
 
 Output (stdout): for each message that hart dump lists, a line with its two
 places, who speaks to whom, and the command; and under it, after four spaces, a
@@ -151,13 +152,13 @@ Bytes in hex begin with 0x, as 0x41C80000, but for the ten digits that name a
 device. All other numbers are decimal.
 For each place at which a message seems to start and none stands, a line with
 that place and why. A message seems to start after two preamble bytes FF that
-came whole; of a whole message after one FF alone it says so.
+came whole; of a whole message after one FF alone it says so, if that ends
+before two FF in a row begin.
 All stand in the order of their places, which are counted from 0.
 
-If the input holds anything else, is longer than 1048576 bytes of text, or
-fails, what comes before is explained, and standard error says why: bad hex at
-N, a place in the text of the input, counted from 0; input too long; read
-fault.",
+If the input holds anything else, or fails, what comes before is explained, and
+standard error says why: bad hex at N, a place in the text of the input, counted
+from 0; read fault.",
     example: "\
 Examples:
   echo \"FF FF 86 B7 42 0A 1B 2C 13 05 00 40 01 23 45 7F\" | hart explain

@@ -1,32 +1,24 @@
-use Rattle.std.proofs.Common.{arith, ℕ, List, Option, Err, [], Some}
+use Rattle.std.proofs.Common.{arith, ℕ, List, Option, []}
 use Rattle.std.proofs.lemmas.Result.{err_from_is_err_and}
-use Rattle.hart_frame.specs.heard.Character.{Character}
 use Rattle.hart_frame.specs.scan.Scanner.{Scan, finishing}
 use Rattle.hart_cli.specs.declared.calls.dump.frame_lines.FrameLines.{FrameLines}
 use Rattle.hart_cli.specs.declared.fault.CliFault.{CliFault}
-use Rattle.hart_cli.specs.dump.Dump.{DumpOutcome, HasDump}
+use Rattle.hart_cli.specs.dump.Dump.{AreDecidedLines, AreFrameLines}
 use Rattle.hart_cli.specs.dump.FrameLines.{GivesAll, ScansAll}
-use Rattle.hart_cli.specs.input.Input.{Ending}
+use Rattle.hart_cli.specs.input.Input.{input_limit}
+use Rattle.hart_cli.specs.input.LiveInput.{ReadsText}
 use Rattle.hart_cli.specs.stream.Stream.{Stream, WritesAll}
-use Rattle.hart_cli.specs.text.InputChars.{HasChars}
+use Rattle.hart_cli.proofs.lemmas.Writes.{FailsToWrite-on, WritesAll-on}
 use Rattle.hart_cli.proofs.lemmas.dump.FrameLines.{all_lines}
-use Rattle.hart_cli.proofs.lemmas.dump.ScanInput.{stops_in}
-use Rattle.hart_cli.proofs.lemmas.dump.Writes.{FailsToWrite-on, WritesAll-on}
+use Rattle.hart_cli.proofs.lemmas.input.Decoded.{ends_with, stops_in}
 use Rattle.hart_cli.proofs.calls.dump.dump.Goals as goal
 
 -- an input was dumped up to its end or its first fault
 has_dump : {r r' w w1 : Stream} {frames : FrameLines} {fault : Option CliFault} {new : Scan} {lines : List ℕ} (w' : Stream)
     → ScansAll r r' w w1 frames fault → GivesAll (finishing frames.scanner) new [] lines → WritesAll w1 w' lines
-    → (all : List ℕ) × HasDump r r' fault all × WritesAll w w' all
+    → (all : List ℕ) × ReadsText input_limit AreFrameLines r r' fault all × WritesAll w w' all
 has_dump w' all gives wrote =
     (_, grind (arith, all_lines all.chars _ _ all.text _ all.scans gives), WritesAll-on _ _ w' all.text _ all.wrote wrote)
-
--- only these faults end an input
-ends_with : (r r' w w' : Stream) (input : List ℕ) (ending : Ending) (chars : List Character) (fault : CliFault)
-    → HasChars input ending chars (Some fault) → (lines : List ℕ) × HasDump r r' (Some fault) lines × WritesAll w w' lines
-    → DumpOutcome r r' w w' (Err fault)
-ends_with r r' w w' input _ _ _ (HasChars.bad_hex _ place bad) dump = dump
-ends_with r r' w w' input _ _ _ _ dump = dump
 
 pub returns-in_err-write_all : goal.returns-in_err-write_all
 returns-in_err-write_all g c =
@@ -34,14 +26,15 @@ returns-in_err-write_all g c =
     let fails = rw c.as_slice.ensures.value at c.in_err-write_all.ensures in
     let stop = err_from_is_err_and c.from_residual-in_err-write_all.result c.from_residual-in_err-write_all.ensures.1 in
     rw (stop.1, stop.2)
-    (stops_in _ all.input all.ending all.chars _ _ all.reads all.scanned (all_lines all.chars _ _ all.text _ all.scans c.finish.ensures)
-    all.in_time (FailsToWrite-on _ _ _ all.text _ all.wrote fails) fails)
+    (stops_in input_limit AreFrameLines AreDecidedLines _ _ _ _ _ all.input all.decodes.ending all.chars _ _ all.decodes.reads
+    all.decodes.decoded (all_lines all.chars _ _ all.text _ all.scans c.finish.ensures) all.in_time
+    (FailsToWrite-on _ _ _ all.text _ all.wrote fails) fails)
 
 pub returns-in-Some : goal.returns-in-Some
 returns-in-Some g c =
     let all = rw c.in-Some.is at c.in_ok-fault.ensures in
-    let dump = has_dump _ all c.finish.ensures (rw c.as_slice.ensures.value at c.in_ok-write_all.ensures) in
-    ends_with _ _ _ _ _ _ _ c.in-Some.fault all.has_chars dump
+    let (lines, dump, wrote) = has_dump _ all c.finish.ensures (rw c.as_slice.ensures.value at c.in_ok-write_all.ensures) in
+    ends_with input_limit AreFrameLines AreDecidedLines _ _ _ _ c.in-Some.fault lines dump wrote
 
 pub returns-in-None : goal.returns-in-None
 returns-in-None g c =

@@ -1,21 +1,25 @@
-use Rattle.std.proofs.Common.{ℕ, List, inl, inr, Some, Err, arith}
-use Rattle.std.proofs.lemmas.Grind.{common_steps}
-use Rattle.hart_frame.specs.heard.Character.{Character}
-use Rattle.hart_cli.specs.declared.fault.CliFault.{CliFault}
-use Rattle.hart_cli.specs.declared.input.InputEnd.{InputEnd}
-use Rattle.hart_cli.specs.explain.Explain.{ExplainOutcome, HasExplanation}
-use Rattle.hart_cli.specs.explain.Heard.{IsHeard}
-use Rattle.hart_cli.specs.stream.Stream.{Stream, WritesAll}
-use Rattle.hart_cli.specs.text.InputChars.{HasChars}
+use Rattle.std.proofs.lemmas.Result.{err_from_is_err_and}
+use Rattle.hart_cli.specs.explain.Explanation.{IsDecidedExplanation, IsExplanationOf}
+use Rattle.hart_cli.specs.input.Input.{stream_limit}
+use Rattle.hart_cli.proofs.lemmas.explain.TellInput.{all_fits, explains_all, stops_at_rest}
+use Rattle.hart_cli.proofs.lemmas.input.Decoded.{ends_with}
 use Rattle.hart_cli.proofs.calls.explain.explain.Goals as goal
 
--- only these faults end an input
-ends_with : (r r' w w' : Stream) (input : List ℕ) (end : InputEnd) (chars : List Character) (fault : CliFault)
-    → IsHeard input end chars (Some fault) → (text : List ℕ) × HasExplanation r r' (Some fault) text × WritesAll w w' text
-    → ExplainOutcome r r' w w' (Err fault)
-ends_with r r' w w' input _ _ _ (inl (HasChars.bad_hex _ place bad)) text = inl text
-ends_with r r' w w' input _ _ _ (inr (HasChars.decided_bad_hex _ place bad)) text = inl text
-ends_with r r' w w' input _ _ _ _ text = inl text
+pub finish-requires-clause-places : goal.finish-requires-clause-places
+finish-requires-clause-places g c = all_fits _ _ _ _ c.new-telling.result _ _ c.new-telling.ensures c.in_ok-fault.ensures
+
+pub returns-in_err-finish : goal.returns-in_err-finish
+returns-in_err-finish g c =
+    let stop = err_from_is_err_and c.from_residual-in_err-finish.result c.from_residual-in_err-finish.ensures.1 in
+    rw (stop.1, stop.2)
+    (stops_at_rest _ _ _ _ _ c.new-telling.result _ _ c.new-telling.ensures c.in_ok-fault.ensures c.in_err-finish.ensures)
 
 pub returns-in-Some : goal.returns-in-Some
-returns-in-Some g c = grind (arith, common_steps, ends_with)
+returns-in-Some g c =
+    let all = rw c.in-Some.is at c.in_ok-fault.ensures in
+    let (text, reads, wrote) = explains_all _ _ _ _ _ c.new-telling.result _ _ c.new-telling.ensures all c.in_ok-finish.ensures in
+    ends_with stream_limit IsExplanationOf IsDecidedExplanation _ _ _ _ c.in-Some.fault text reads wrote
+
+pub returns-in-None : goal.returns-in-None
+returns-in-None g c =
+    explains_all _ _ _ _ _ c.new-telling.result _ _ c.new-telling.ensures (rw c.in-None.is at c.in_ok-fault.ensures) c.in_ok-finish.ensures

@@ -1,31 +1,41 @@
-use Rattle.std.proofs.Common.{◌-◌, ◌++◌, ◌<◌, drop, inl, inr, refl, codes, decimal, arith}
+use Rattle.std.proofs.Common.{◌-◌, ◌++◌, ◌∷◌, ◌<◌, ◌∙◌, append_assoc, drop, inl, inr, refl, sym, codes, decimal, arith}
+use Rattle.std.proofs.lemmas.Grind.{flat_map-append}
 use Rattle.std.proofs.lemmas.List.Elements.{All-drop}
 use Rattle.std.proofs.lemmas.List.Folds.{list_all-append}
-use Rattle.std.specs.List.{range_with_len}
 use Rattle.hart_frame.specs.heard.Character.{Character}
-use Rattle.hart_frame.specs.heard.Miss.{miss_of}
+use Rattle.hart_frame.specs.heard.Sighting.{Message, miss_in_whole, missed, seen_miss, sightings}
+use Rattle.hart_cli.specs.explain.Explanation.{explanation, seen_text}
+use Rattle.hart_cli.specs.explain.Message.{paragraph}
 use Rattle.hart_cli.specs.explain.Misses.{miss_words}
-use Rattle.hart_cli.proofs.lemmas.explain.Gaps.{missed_are, no_frame_in_gap, said_of_places, told_has, told_in_order, unbroken-all}
-use Rattle.hart_cli.proofs.lemmas.explain.Gaps.{unbroken-decimal, unbroken-miss_words}
+use Rattle.hart_cli.proofs.lemmas.explain.Gaps.{missed_are, no_frame_in_gap, seen_is_miss, start_is_seen, told_has, told_in_order, told_is}
+use Rattle.hart_cli.proofs.lemmas.explain.Gaps.{unbroken-all, unbroken-decimal, unbroken-miss_words, whole_one}
 use Rattle.hart_cli.proofs.calls.explain.laws.every_start_outside_messages_has_one_line.Goals as goal
 
-pub returns-clause-lines : goal.returns-clause-lines
-returns-clause-lines c chars from stop = said_of_places chars from (range_with_len from (stop - from))
+pub returns-clause-by_message : goal.returns-clause-by_message
+returns-clause-by_message c chars from found later =
+    let after = sightings chars found.stop later in
+    flat_map-append seen_text (missed chars from found.start) (Message found ∷ after)
+    ∙ sym (append_assoc (explanation (missed chars from found.start)) (paragraph found) (explanation after))
 
 pub returns-clause-one_line : goal.returns-clause-one_line
-returns-clause-one_line c from place miss = record {
-  words = decimal place ++ codes ": no message: " ++ miss_words from miss;
+returns-clause-one_line c place miss = record {
+  words = decimal place ++ codes ": no message: " ++ miss_words miss;
   ended = refl;
   unbroken = unbroken-all _ (simp (list_all-append, unbroken-decimal, unbroken-miss_words));
 }
 
 pub returns-clause-in_order : goal.returns-clause-in_order
-returns-clause-in_order c chars from stop = told_in_order (λ place. miss_of (drop from chars) (place - from)) from (stop - from)
+returns-clause-in_order c chars from stop =
+    told_in_order (miss_in_whole from) (λ place. seen_miss (drop from chars) (place - from)) from (stop - from)
 
 pub returns-clause-exactly : goal.returns-clause-exactly
 returns-clause-exactly c chars from stop place miss = (
-  missed_are chars from stop place miss,
-  λ is. told_has (λ at. miss_of (drop from chars) (at - from)) from (stop - from) _ is.0 (omega (arith, is.0, is.1)) is.2,
+  λ has.
+      let is = told_is (miss_in_whole from) (λ at. seen_miss (drop from chars) (at - from)) from (stop - from) place miss has in
+      (is.0, omega (arith, is.0, is.1), is.2),
+  λ is.
+      told_has (miss_in_whole from) (λ at. seen_miss (drop from chars) (at - from)) from (stop - from) place miss is.0
+      (omega (arith, is.0, is.1)) is.2,
 )
 
 pub returns-clause-every_start : goal.returns-clause-every_start
@@ -33,10 +43,14 @@ returns-clause-every_start c chars frames from stop place bytes are gap after be
     let rest = All-drop (λ (character : Character). character.byte < 256) from chars bytes in
     elim (c.every_start_has_a_frame_or_a_miss.ensures.one (place - from) (drop from chars) rest start) [
       | inl has ↦ absurd (no_frame_in_gap chars 0 frames are from stop place gap after below has)
-      | inr some ↦ some
+      | inr some ↦ rw (start_is_seen (drop from chars) (place - from) start) some
     ]
 
 pub returns-clause-only_there : goal.returns-clause-only_there
 returns-clause-only_there c chars from stop place miss has =
-    c.every_start_has_a_frame_or_a_miss.ensures.only_there (place - from) (drop from chars) miss
-    (missed_are chars from stop place miss has).2
+    let (after, own, seen, told) = missed_are chars from stop place miss has in
+    let is = seen_is_miss (drop from chars) (place - from) own seen in
+    elim (c.every_start_has_a_frame_or_a_miss.ensures.only_there (place - from) (drop from chars) own is) [
+      | inl start ↦ inl start
+      | inr one ↦ inr (whole_one from own miss told one)
+    ]

@@ -1,25 +1,51 @@
-use Rattle.std.proofs.Common.{arith, ◌++◌, ℕ, List, Option, append_assoc, inl, inr}
-use Rattle.std.proofs.lemmas.Grind.{common_steps}
+use Rattle.std.proofs.Common.{◌≡◌, ◌++◌, ◌∙◌, ℕ, List, Option, ap, sym}
 use Rattle.hart_frame.specs.heard.Character.{Character}
 use Rattle.hart_frame.proofs.lemmas.Laws.{frames_are_unambiguous-one_list}
 use Rattle.hart_cli.specs.declared.fault.CliFault.{CliFault}
-use Rattle.hart_cli.specs.input.Input.{Left}
-use Rattle.hart_cli.specs.text.InputChars.{HasChars, decided_bad_hex}
-use Rattle.hart_cli.proofs.lemmas.explain.Heard.{IsHeard-one}
+use Rattle.hart_cli.specs.dump.Dump.{AreFrameLines}
+use Rattle.hart_cli.specs.dump.Text.{dump_text}
+use Rattle.hart_cli.specs.explain.Dumped.{AreOfOneHearing}
+use Rattle.hart_cli.specs.explain.Explanation.{IsExplanationOf, explanation}
+use Rattle.hart_cli.specs.input.Input.{Ending}
+use Rattle.hart_cli.specs.text.InputChars.{HasChars}
+use Rattle.hart_cli.proofs.lemmas.explain.Heard.{left_more, one_left}
+use Rattle.hart_cli.proofs.lemmas.text.InputChars.{one_input}
 use Rattle.hart_cli.proofs.calls.explain.laws.explanations_name_the_messages_of_dump.Goals as goal
 
--- bad hex that is decided stays, whatever comes
-left_more : (input more : List ℕ) (chars : List Character) (fault : Option CliFault) → HasChars input Left chars fault
-    → HasChars (input ++ more) Left chars fault
-left_more input more chars fault has = grind (arith, common_steps, append_assoc, decided_bad_hex)
+-- the same characters have the same frames
+of_one_hearing : (input : List ℕ) (ending : Ending) (xs ys : List Character) (fault : Option CliFault) (lines text : List ℕ) → xs ≡ ys
+    → AreFrameLines xs lines → IsExplanationOf ys text → HasChars input ending ys fault → AreOfOneHearing input ending fault lines text
+of_one_hearing input ending xs ys fault lines text same dump said has =
+    let seen = said.are_sightings in
+    let frames : dump.frames ≡ seen.frames =
+    frames_are_unambiguous-one_list ys 0 dump.frames seen.frames (rw same at dump.are_frames) seen.are_frames in
+    record {
+      chars = ys;
+      has_chars = has;
+      frames = seen.frames;
+      are_frames = seen.are_frames;
+      dumped = dump.text ∙ ap dump_text frames;
+      explained = said.text_is ∙ ap explanation seen.seen_is;
+    }
 
 pub returns-clause-whole : goal.returns-clause-whole
-returns-clause-whole c input end f g lines text dump said =
-    let same = IsHeard-one input end dump.chars said.chars f g (inl dump.has_chars) said.heard in
-    grind (arith, common_steps, frames_are_unambiguous-one_list)
+returns-clause-whole c input ending f g lines text dump said =
+    let same = one_input input ending dump.chars said.chars f g dump.has_chars said.has_chars in
+    (same.1, of_one_hearing input ending dump.chars said.chars g lines text same.0 dump.is_text said.is_text said.has_chars)
 
-pub returns-clause-left : goal.returns-clause-left
-returns-clause-left c input more end f g lines text dump said =
-    let heard = left_more input more dump.chars f dump.has_chars in
-    let same = IsHeard-one (input ++ more) end dump.chars said.chars f g (inr heard) said.heard in
-    grind (arith, common_steps, frames_are_unambiguous-one_list)
+pub returns-clause-dump_left : goal.returns-clause-dump_left
+returns-clause-dump_left c input more ending f g lines text dump said =
+    let left = left_more input more dump.chars f dump.has_chars in
+    let same = one_left (input ++ more) ending said.chars dump.chars g f said.has_chars left in (
+      sym same.1,
+      of_one_hearing (input ++ more) ending dump.chars said.chars g lines text (sym same.0) dump.is_text said.is_text said.has_chars,
+    )
+
+pub returns-clause-explain_left : goal.returns-clause-explain_left
+returns-clause-explain_left c input more ending f g lines text dump said =
+    let left = left_more input more said.chars g said.has_chars in
+    let same = one_left (input ++ more) ending dump.chars said.chars f g dump.has_chars left in (
+      same.1,
+      of_one_hearing (input ++ more) ending dump.chars said.chars f lines text same.0 dump.is_text said.is_text
+          (rw same.0 at dump.has_chars),
+    )

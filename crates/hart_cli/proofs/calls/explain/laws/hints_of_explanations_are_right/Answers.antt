@@ -1,5 +1,5 @@
-use Rattle.std.proofs.Common.{◌≡◌, ◌+◌, ◌-◌, ◌<◌, ◌≤◌, ℕ, All, ◌⊎◌, ◌≢◌, List, length, drop, Some, arith}
-use Rattle.std.proofs.Common.{length-drop}
+use Rattle.std.proofs.Common.{◌≡◌, ◌+◌, ◌-◌, ◌<◌, ◌≤◌, ℕ, false, All, ◌⊎◌, ◌≢◌, List, length, drop, Some, arith, refl}
+use Rattle.std.proofs.Common.{◌++◌, ◌∷◌, [], length-drop}
 use Rattle.std.proofs.lemmas.Grind.{common_steps}
 use Rattle.std.proofs.lemmas.List.{drop-append-le, drop-drop, drop-set-add}
 use Rattle.std.proofs.lemmas.List.Elements.{All-drop}
@@ -7,14 +7,15 @@ use Rattle.std.proofs.lemmas.Option.{slice_get_cases, slice_get_within}
 use Rattle.std.specs.List.{Contains, slice_get}
 use Rattle.hart_frame.specs.declared.heard.miss.Miss.{Miss}
 use Rattle.hart_frame.specs.declared.heard.miss.Miss.TheVariants.{BadCheck, Faulty, Missing, OnePreamble}
-use Rattle.hart_frame.specs.heard.Character.{Character}
-use Rattle.hart_frame.specs.heard.InTheWay.{HasBodyAt, IsInTheWay, bytes_from}
+use Rattle.hart_frame.specs.heard.Character.{Character, faultless}
+use Rattle.hart_frame.specs.wire.Parity.{IsCheckByte}
+use Rattle.hart_frame.specs.heard.InTheWay.{FollowsOnePreamble, HasBodyAt, IsInTheWay, bytes_from}
 use Rattle.hart_frame.specs.heard.Place.{HasFrameUpTo}
 use Rattle.hart_frame.specs.heard.Miss.{miss_of}
 use Rattle.hart_frame.specs.heard.Start.{IsStart}
-use Rattle.hart_cli.specs.explain.Gaps.{missed}
-use Rattle.hart_cli.specs.explain.Misses.{miss_in_whole}
-use Rattle.hart_cli.proofs.lemmas.explain.Gaps.{missed_are, stands_in_rest}
+use Rattle.hart_frame.specs.heard.Sighting.{Missed, miss_in_whole, missed, seen_miss, two_begin_in_body}
+use Rattle.hart_frame.proofs.lemmas.heard.Missed.{one_preamble-yes}
+use Rattle.hart_cli.proofs.lemmas.explain.Gaps.{missed_are, seen_is_miss, stands_in_rest}
 use Rattle.hart_cli.proofs.calls.explain.laws.hints_of_explanations_are_right.Goals as goal
 
 -- a frame in the rest of characters is one of the characters
@@ -43,17 +44,71 @@ rest_is : (chars : List Character) (from start : ℕ) → IsStart start (drop fr
 rest_is chars from start is = grind (arith, common_steps, length-drop from chars)
 
 -- what is known of a place with a miss, in the rest of characters
+pub record Known (chars : List Character) (from place : ℕ) (miss : Miss) : Type 0 where
+  pub small : All (λ character. character.byte < 256) (drop from chars)
+  pub placed : place ≡ from + (place - from)
+  pub own : Miss
+  pub seen : seen_miss (drop from chars) (place - from) ≡ Some own
+  pub is : miss_of (drop from chars) (place - from) ≡ Some own
+  pub told : miss ≡ miss_in_whole from own
+
 known : (chars : List Character) (from stop place : ℕ) (miss : Miss) → All (λ character. character.byte < 256) chars
-    → Contains (missed chars from stop) (record { place = place; miss = miss }) → All (λ character. character.byte < 256) (drop from chars)
-    × (place ≡ from + (place - from)) × (miss_of (drop from chars) (place - from) ≡ Some miss)
+    → Contains (missed chars from stop) (Missed place miss) → Known chars from place miss
 known chars from stop place miss small has =
-    let is = missed_are chars from stop place miss has in
-    (All-drop (λ (character : Character). character.byte < 256) from chars small, omega (arith, is.0), is.2)
+    let (after, own, seen, told) = missed_are chars from stop place miss has in record {
+      small = All-drop (λ (character : Character). character.byte < 256) from chars small;
+      placed = omega (arith, after);
+      own = own;
+      seen = seen;
+      is = seen_is_miss (drop from chars) (place - from) own seen;
+      told = told;
+    }
+
+-- which miss is told as a bad check byte
+own_check : (from at byte fits : ℕ) (own : Miss) → BadCheck at byte fits ≡ miss_in_whole from own
+    → (start : ℕ) × (own ≡ BadCheck start byte fits) × (at ≡ from + start)
+own_check from at byte fits (BadCheck start b f) is = (start, grind arith, grind arith)
+own_check from at byte fits _ is = absurd cc
+
+-- as a character with fault bits
+own_fault : (from at faults : ℕ) (own : Miss) → Faulty at faults ≡ miss_in_whole from own
+    → (start : ℕ) × (own ≡ Faulty start faults) × (at ≡ from + start)
+own_fault from at faults (Faulty start f) is = (start, grind arith, grind arith)
+own_fault from at faults _ is = absurd cc
+
+-- as missing characters
+own_missing : (from count : ℕ) (own : Miss) → Missing count ≡ miss_in_whole from own → own ≡ Missing count
+own_missing from count (Missing n) is = grind arith
+own_missing from count _ is = absurd cc
+
+-- as one preamble byte alone
+own_one : (from : ℕ) (own : Miss) → OnePreamble ≡ miss_in_whole from own → own ≡ OnePreamble
+own_one from OnePreamble is = refl
+own_one from _ is = absurd cc
+
+-- a body that is seen after one preamble byte alone ends before two begin
+alone_is : (chars : List Character) (place : ℕ) → seen_miss chars place ≡ Some OnePreamble → FollowsOnePreamble chars place
+    → two_begin_in_body chars place ≡ false
+alone_is chars place seen follows = let one = one_preamble-yes chars place follows in grind (arith, one)
 
 -- another miss than that one preamble byte stands alone is told where a body may start
 started : (start : ℕ) (chars : List Character) (miss : Miss) → IsStart start chars ⊎ (miss ≡ OnePreamble) → miss ≢ OnePreamble
     → IsStart start chars
 started start chars miss either other = grind arith
+
+-- a frame that is whole with more bytes after the rest of characters is one after the characters
+missing_in_rest : (chars : List Character) (from place count : ℕ) (bytes : List ℕ) → place ≡ from + (place - from)
+    → from ≤ length chars
+    → (last : ℕ) × IsCheckByte (bytes_from (drop from chars) (place - from) ++ bytes) last
+    × HasFrameUpTo (drop from chars ++ faultless (bytes ++ last ∷ [])) (place - from) (length (drop from chars) + count)
+    → (last : ℕ) × IsCheckByte (bytes_from chars place ++ bytes) last
+    × HasFrameUpTo (chars ++ faultless (bytes ++ last ∷ [])) place (length chars + count)
+missing_in_rest chars from place count bytes placed within (last, check, stands) = (
+  last,
+  rw (bytes_in_rest chars from (place - from) place placed) at check,
+  frame_up_to _ from (place - from) (length (drop from chars) + count) place _ (rw drop-append-le stands) placed
+      (omega (arith, length-drop from chars)),
+)
 
 -- a body in the rest of characters is one in the characters
 body_in_rest : (chars : List Character) (from start place : ℕ) → place ≡ from + start → HasBodyAt (drop from chars) start
@@ -62,38 +117,41 @@ body_in_rest chars from start place is has = grind (arith, common_steps, drop-dr
 
 pub returns-clause-in_the_way : goal.returns-clause-in_the_way
 returns-clause-in_the_way c chars from stop place miss small has start =
-    let (bytes, placed, is) = known chars from stop place miss small has in
-    way_in_rest chars from (place - from) place miss placed (rest_is chars from (place - from) start)
-    ((c.misses_are_in_the_way.ensures.in_the_way (place - from) (drop from chars) miss bytes start).0 is)
+    let k = known chars from stop place miss small has in
+    rw k.told (way_in_rest chars from (place - from) place k.own k.placed (rest_is chars from (place - from) start)
+    ((c.misses_are_in_the_way.ensures.in_the_way (place - from) (drop from chars) k.own k.small start).0 k.is))
 
 pub returns-clause-fits : goal.returns-clause-fits
 returns-clause-fits c chars from stop place at byte fits small has =
-    let (bytes, placed, is) = known chars from stop place (BadCheck at byte fits) small has in
-    let stands = c.misses_say_what_is_wrong.ensures.bad_check (place - from) at byte fits (drop from chars) bytes is in
-    frame_up_to _ from (place - from) (at + 1) place (from + at + 1) (rw drop-set-add stands) placed (omega arith)
+    let k = known chars from stop place (BadCheck at byte fits) small has in
+    let (start, own, at_is) = own_check from at byte fits k.own k.told in
+    let stands = c.misses_say_what_is_wrong.ensures.bad_check (place - from) start byte fits (drop from chars) k.small (rw own at k.is) in
+    rw at_is (frame_up_to _ from (place - from) (start + 1) place (from + start + 1) (rw drop-set-add stands) k.placed (omega arith))
 
 pub returns-clause-faulty : goal.returns-clause-faulty
 returns-clause-faulty c chars from stop place at faults small has =
-    let (bytes, placed, is) = known chars from stop place (Faulty at faults) small has in
-    let either = c.every_start_has_a_frame_or_a_miss.ensures.only_there (place - from) (drop from chars) (Faulty at faults) is in
-    let start = started (place - from) (drop from chars) (Faulty at faults) either (λ same. absurd cc) in
+    let k = known chars from stop place (Faulty at faults) small has in
+    let (first, own, at_is) = own_fault from at faults k.own k.told in
+    let is = rw own at k.is in
+    let either = c.every_start_has_a_frame_or_a_miss.ensures.only_there (place - from) (drop from chars) (Faulty first faults) is in
+    let start = started (place - from) (drop from chars) (Faulty first faults) either (λ same. absurd cc) in
     (returns-clause-in_the_way c chars from stop place (Faulty at faults) small has start).2
 
 pub returns-clause-missing : goal.returns-clause-missing
 returns-clause-missing c chars from stop place count bytes small fit has long =
-    let (heard, placed, is) = known chars from stop place (Missing count) small has in
+    let k = known chars from stop place (Missing count) small has in
+    let is = rw (own_missing from count k.own k.told) at k.is in
     let either = c.every_start_has_a_frame_or_a_miss.ensures.only_there (place - from) (drop from chars) (Missing count) is in
     let within = rest_is chars from (place - from) (started (place - from) (drop from chars) (Missing count) either (λ same. absurd cc)) in
-    let (last, check, stands) =
-    c.misses_say_what_is_wrong.ensures.missing (place - from) count (drop from chars) bytes heard fit is long in (
-      last,
-      rw (bytes_in_rest chars from (place - from) place placed) at check,
-      frame_up_to _ from (place - from) (length (drop from chars) + count) place _ (rw drop-append-le stands) placed
-          (omega (arith, length-drop from chars)),
-    )
+    missing_in_rest chars from place count bytes k.placed within
+    (c.misses_say_what_is_wrong.ensures.missing (place - from) count (drop from chars) bytes k.small fit is long)
 
 pub returns-clause-alone : goal.returns-clause-alone
 returns-clause-alone c chars from stop place small has =
-    let (bytes, placed, is) = known chars from stop place OnePreamble small has in
-    let (alone, body) = (c.misses_are_in_the_way.ensures.one_alone (place - from) (drop from chars) bytes).0 is in
-    (alone, body_in_rest chars from (place - from) place placed body)
+    let k = known chars from stop place OnePreamble small has in
+    let one = own_one from k.own k.told in
+    let (alone, body) = (c.misses_are_in_the_way.ensures.one_alone (place - from) (drop from chars) k.small).0 (rw one at k.is) in (
+      alone,
+      body_in_rest chars from (place - from) place k.placed body,
+      alone_is (drop from chars) (place - from) (rw one at k.seen) alone,
+    )

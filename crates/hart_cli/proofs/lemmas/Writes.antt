@@ -1,9 +1,9 @@
--- Texts that are written one after another, and lines that were written in time.
+-- Texts that are written one after another, and in time.
 use Rattle.std.proofs.Common.{length-append, arith, length-append, ℕ, List, ◌++◌, append_assoc}
 use Rattle.std.proofs.KnownBytes.{Appends-trans}
 use Rattle.std.proofs.lemmas.Grind.{common_steps}
 use Rattle.std.specs.Io.KnownBytes.{Appends}
-use Rattle.hart_cli.specs.dump.Dump.{WroteInTime}
+use Rattle.hart_cli.specs.input.LiveInput.{WroteInTime}
 use Rattle.hart_cli.specs.stream.Stream.{FailsToWrite, Stream, WritesAll}
 
 -- one text after another was written
@@ -20,6 +20,7 @@ FailsToWrite-longer old new text more fails =
     let after = length-append fails.0.rest more in grind (arith, common_steps)
 
 -- what is written later takes nothing back
-pub in_time_on : (input : List ℕ) (w now later : Stream) (text : List ℕ) → WroteInTime input w now
-    → Appends now.bytes later.bytes text → WroteInTime input w later
-in_time_on input w now later text before on = grind (arith, rw append_assoc at (Appends-trans _ _ _ _ text before.written on))
+pub in_time_on : (IsDecided : List ℕ → List ℕ → Type 0) (input : List ℕ) (w now later : Stream) (text : List ℕ)
+    → WroteInTime IsDecided input w now → Appends now.bytes later.bytes text → WroteInTime IsDecided input w later
+in_time_on IsDecided input w now later text before on =
+    grind (arith, rw append_assoc at (Appends-trans _ _ _ _ text before.written on))

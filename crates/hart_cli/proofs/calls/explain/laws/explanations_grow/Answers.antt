@@ -1,0 +1,21 @@
+use Rattle.std.proofs.Common.{◌≡◌, ◌++◌, ◌∙◌, ap, sym}
+use Rattle.std.proofs.lemmas.Grind.{flat_map-append}
+use Rattle.hart_frame.proofs.lemmas.scan.SightingLaws.{one as one_list, some as some_list}
+use Rattle.hart_cli.specs.explain.Explanation.{explanation, seen_text}
+use Rattle.hart_cli.proofs.lemmas.explain.Heard.{chars_grow}
+use Rattle.hart_cli.proofs.calls.explain.laws.explanations_grow.Goals as goal
+
+pub returns-clause-heard : goal.returns-clause-heard
+returns-clause-heard c chars more told whole decided is =
+    let (later, stands) = some_list (chars ++ more) decided.place in
+    let all = decided.first more later (λ never. absurd cc) stands in
+    let same : is.seen ≡ decided.seen ++ later =
+    one_list (chars ++ more) 0 is.seen (decided.seen ++ later) is.are_sightings all in
+    let begins : explanation (decided.seen ++ later) ≡ told ++ explanation later =
+    flat_map-append seen_text decided.seen later ∙ ap (λ xs. xs ++ explanation later) (sym decided.text_is) in
+    (explanation later, is.text_is ∙ (ap explanation same ∙ begins))
+
+pub returns-clause-read : goal.returns-clause-read
+returns-clause-read c input more ending fault told whole decided is =
+    let (between, grown) = chars_grow input more ending decided.chars is.chars fault decided.reads.rest decided.reads.reads is.has_chars in
+    returns-clause-heard c decided.chars between told whole decided.decided (rw grown at is.is_text)

@@ -1,0 +1,310 @@
+-- What is heard and told, part by part.
+use Rattle.std.proofs.Common.{◌≡◌, ◌≤◌, ◌<◌, ◌+◌, ◌-◌, ◌^◌, ℕ, Bool, false, true, List, [], ◌∷◌, ◌++◌, length, map, drop, zero, suc, refl, sym, ap, ◌∙◌, arith}
+use Rattle.std.proofs.Common.{Err, MatchResult, Ok, Result, append_assoc, append-nil, length-append, length-drop}
+use Rattle.std.proofs.lemmas.Grind.{common_steps}
+use Rattle.std.proofs.lemmas.List.{drop-append-le, drop-drop, drop_all, length-map, map-append}
+use Rattle.hart_frame.specs.declared.heard.miss.Miss.{Miss}
+use Rattle.hart_frame.specs.declared.scan.sighting.After.{After}
+use Rattle.hart_frame.specs.declared.scan.sighting.After.TheVariants.{Damaged, End, More}
+use Rattle.hart_frame.specs.declared.scan.sighting.Sighting.{Sighting}
+use Rattle.hart_frame.specs.declared.scan.sighting.Sighting.TheVariants as given
+use Rattle.hart_frame.specs.heard.Character.{Character, faultless}
+use Rattle.hart_frame.specs.heard.Sighting.{IsUndecidedSighting, Seen, SeesOn, moved_seen}
+use Rattle.hart_frame.specs.scan.Sighting.{EndsAt, NamesPlacesBelow, heard_with, is_end}
+use Rattle.hart_frame.proofs.lemmas.scan.SightingLaws.{grown, onward}
+use Rattle.hart_cli.specs.declared.calls.explain.telling.Telling.{Telling}
+use Rattle.hart_cli.specs.declared.stream.Failed.{Failed}
+use Rattle.hart_cli.specs.explain.Explanation.{seen_text}
+use Rattle.hart_cli.specs.explain.Telling.{FailsToHear, FailsToTell, FitsFrom, Hears, IsWaiting, TellsDecided, TellsRest, chars_after}
+use Rattle.hart_cli.specs.explain.Telling.{text_from}
+use Rattle.hart_cli.specs.stream.Kept.{AddsText}
+use Rattle.hart_cli.specs.stream.Stream.{FailsToWrite, Stream, Writes, WritesAll}
+use Rattle.hart_cli.proofs.lemmas.Kept.{adds_kept, adds_then, fails_then}
+use Rattle.hart_cli.proofs.lemmas.Writes.{FailsToWrite-on, WritesAll-on}
+use Rattle.hart_cli.proofs.lemmas.explain.Sightings.{sees_later, text_on, undecided_nothing}
+
+-- there are as many characters as bytes
+long_is : (bytes : List ℕ) → length (faultless bytes) ≡ length bytes
+long_is bytes = length-map bytes _
+
+-- nothing more was heard
+pub hears_nothing : (t : Telling) (w : Stream) → Hears t t [] false w w
+hears_nothing t w = record {
+  seen = [];
+  used = 0;
+  sees = λ more later closed are. are;
+  within = omega arith;
+  first = omega arith;
+  held = sym (append-nil (faultless t.held));
+  adds = adds_kept w t.kept t.kept [] (sym (append-nil t.kept));
+}
+
+-- what is held after characters were heard, and where it begins
+pub hears_long : (a b : Telling) (xs : List Character) (ended : Bool) (w w1 : Stream) → Hears a b xs ended w w1
+    → b.first + length b.held ≡ a.first + length a.held + length xs
+hears_long a b xs ended w w1 h =
+    let held : length (faultless b.held) ≡ length (drop h.used (faultless a.held ++ xs)) = ap length h.held in
+    omega (arith, h.within, h.first, held, long_is a.held, long_is b.held, length-drop h.used (faultless a.held ++ xs), length-append (faultless a.held) xs)
+
+-- bytes were heard with what was held before them
+same_held : (old mid : Telling) (bytes : List ℕ) → mid.held ≡ old.held ++ bytes
+    → faultless mid.held ++ [] ≡ faultless old.held ++ faultless bytes
+same_held old mid bytes held = rw (held, append-nil, map-append) refl
+
+pub hears_more : (old mid new : Telling) (bytes : List ℕ) (ended : Bool) (w w1 : Stream) → mid.held ≡ old.held ++ bytes
+    → mid.first ≡ old.first → mid.kept ≡ old.kept → Hears mid new [] ended w w1 → Hears old new (faultless bytes) ended w w1
+hears_more old mid new bytes ended w w1 held first kept h =
+    let same = same_held old mid bytes held in
+    record {
+      seen = h.seen;
+      used = h.used;
+      sees = rw same at h.sees;
+      within = rw same at h.within;
+      first = rw first at h.first;
+      held = rw same at h.held;
+      adds = rw (first, kept) at h.adds;
+    }
+
+pub fails_more : (old mid : Telling) (bytes : List ℕ) (ended : Bool) (w w1 : Stream) → mid.held ≡ old.held ++ bytes
+    → mid.first ≡ old.first → mid.kept ≡ old.kept → FailsToHear mid [] ended w w1 → FailsToHear old (faultless bytes) ended w w1
+fails_more old mid bytes ended w w1 held first kept k = record {
+  seen = k.seen;
+  used = k.used;
+  sees = rw (same_held old mid bytes held) at k.sees;
+  fails = rw (first, kept) at k.fails;
+}
+
+-- what is kept was written
+pub hears_written : (old mid new : Telling) (xs : List Character) (ended : Bool) (w w1 w2 : Stream) → Hears old mid xs ended w w1
+    → WritesAll w1 w2 mid.kept → new.first ≡ mid.first → new.held ≡ mid.held → new.kept ≡ [] → Hears old new xs ended w w2
+hears_written old mid new xs ended w w1 w2 h wrote first held quiet = record {
+  seen = h.seen;
+  used = h.used;
+  sees = h.sees;
+  within = h.within;
+  first = first ∙ h.first;
+  held = rw held h.held;
+  adds = record {
+    written = h.adds.written ++ mid.kept;
+    wrote = WritesAll-on w w1 w2 h.adds.written mid.kept h.adds.wrote wrote;
+    whole = rw (quiet, append-nil) h.adds.whole;
+  };
+}
+
+-- a write failed in it
+pub fails_written : (old mid : Telling) (xs : List Character) (ended : Bool) (w w1 w2 : Stream) → Hears old mid xs ended w w1
+    → FailsToWrite w1 w2 mid.kept → FailsToHear old xs ended w w2
+fails_written old mid xs ended w w1 w2 h fails = record {
+  seen = h.seen;
+  used = h.used;
+  sees = h.sees;
+  fails = rw h.adds.whole at (FailsToWrite-on w w1 w2 h.adds.written mid.kept h.adds.wrote fails);
+}
+
+-- all that was held is told, and was written
+pub rest_told : (old mid : Telling) (w w1 w2 : Stream) → Hears old mid [] true w w1 → mid.held ≡ [] → old.kept ≡ []
+    → WritesAll w1 w2 mid.kept → TellsRest old w w2
+rest_told old mid w w1 w2 h none quiet wrote =
+    let same : faultless old.held ++ [] ≡ faultless old.held = append-nil (faultless old.held) in
+    let long = long_is old.held in
+    let none_held : length (faultless mid.held) ≡ 0 = rw none refl in
+    let held : length (faultless mid.held) ≡ length (drop h.used (faultless old.held)) = ap length (rw same at h.held) in
+    let used : h.used ≡ length old.held =
+    omega (arith, rw same at h.within, long, none_held, held, length-drop h.used (faultless old.held)) in
+    let sees = rw same at h.sees in
+    record {
+      seen = h.seen;
+      sees = rw used at sees;
+      wrote = rw (h.adds.whole, quiet) at (WritesAll-on w w1 w2 h.adds.written mid.kept h.adds.wrote wrote);
+    }
+
+-- the rest is told and written, or a write fails
+pub finishes : {T : Type 0} (old mid : Telling) (w w1 w2 : Stream) (result : Result T Failed) → Hears old mid [] true w w1
+    → mid.held ≡ [] → old.kept ≡ [] → Writes w1 w2 mid.kept result
+    → MatchResult result (λ _. TellsRest old w w2) (λ _. FailsToHear old [] true w w2)
+finishes old mid w w1 w2 (Ok done) h none quiet wrote = rest_told old mid w w1 w2 h none quiet wrote
+finishes old mid w w1 w2 (Err failed) h none quiet fails = fails_written old mid [] true w w1 w2 h fails
+
+-- what is held, and more after it
+held_on : (a b : Telling) (xs ys : List Character) (w w1 : Stream) → (h : Hears a b xs false w w1)
+    → faultless b.held ++ ys ≡ drop h.used ((faultless a.held ++ xs) ++ ys)
+held_on a b xs ys w w1 h =
+    ap (λ chars. chars ++ ys) h.held ∙ sym (drop-append-le h.used (faultless a.held ++ xs) ys h.within)
+
+-- sightings of characters and then of more
+sees_on : (a b : Telling) (xs ys : List Character) (ended : Bool) (given : List Seen) (used : ℕ) (w w1 : Stream)
+    → (h : Hears a b xs false w w1) → SeesOn (faultless b.held ++ ys) ended 0 given used
+    → SeesOn (faultless a.held ++ (xs ++ ys)) ended 0 (h.seen ++ map (moved_seen h.used) given) (h.used + used)
+sees_on a b xs ys ended given used w w1 h on =
+    let old = faultless a.held ++ xs in
+    rw (← append_assoc)
+    (sees_later (old ++ ys) ended h.used used h.seen given (omega (arith, h.within, length-append old ys))
+    (grown old ys ended 0 h.used h.seen h.sees) (rw (held_on a b xs ys w w1 h) at on))
+
+-- what is said of them
+said_on : (a b : Telling) (xs : List Character) (given : List Seen) (w w1 : Stream) → (h : Hears a b xs false w w1)
+    → text_from a.first h.seen ++ text_from b.first given ≡ text_from a.first (h.seen ++ map (moved_seen h.used) given)
+said_on a b xs given w w1 h = rw h.first (text_on a.first h.used h.seen given)
+
+-- characters were heard, and then more
+pub hears_then : (a b c : Telling) (xs ys : List Character) (ended : Bool) (w w1 w2 : Stream) → Hears a b xs false w w1
+    → Hears b c ys ended w1 w2 → Hears a c (xs ++ ys) ended w w2
+hears_then a b c xs ys ended w w1 w2 h k =
+    let whole = (faultless a.held ++ xs) ++ ys in
+    let now = held_on a b xs ys w w1 h in
+    let long = length-append (faultless a.held ++ xs) ys in
+    record {
+      seen = h.seen ++ map (moved_seen h.used) k.seen;
+      used = h.used + k.used;
+      sees = sees_on a b xs ys ended k.seen k.used w w1 h k.sees;
+      within = rw (← append_assoc) (omega (arith, h.within, rw now at k.within, length-drop h.used whole, long));
+      first = omega (arith, h.first, k.first);
+      held = rw (← append_assoc) (k.held ∙ (ap (drop k.used) now ∙ drop-drop k.used h.used whole));
+      adds = rw (said_on a b xs k.seen w w1 h) at (adds_then w w1 w2 a.kept b.kept c.kept _ _ h.adds k.adds);
+    }
+
+-- a write failed in what is said of the later ones
+pub fails_later : (a b : Telling) (xs ys : List Character) (ended : Bool) (w w1 w2 : Stream) → Hears a b xs false w w1
+    → FailsToHear b ys ended w1 w2 → FailsToHear a (xs ++ ys) ended w w2
+fails_later a b xs ys ended w w1 w2 h k = record {
+  seen = h.seen ++ map (moved_seen h.used) k.seen;
+  used = h.used + k.used;
+  sees = sees_on a b xs ys ended k.seen k.used w w1 h k.sees;
+  fails = rw (said_on a b xs k.seen w w1 h) at (fails_then w w1 w2 a.kept b.kept _ _ h.adds k.fails);
+}
+
+-- what comes after bytes that are held
+heard_is : (held : List ℕ) (after : After) → heard_with held after ≡ faultless held ++ chars_after after
+heard_is held More = sym (append-nil (faultless held))
+heard_is held (Damaged character) = refl
+heard_is held End = sym (append-nil (faultless held))
+
+-- the rest of bytes
+rest_is : (held : List ℕ) (used : ℕ) → faultless (drop used held) ≡ drop used (faultless held)
+rest_is held zero = refl
+rest_is [] (suc n) = refl
+rest_is (byte ∷ held) (suc n) = rest_is held n
+
+-- what stays of bytes once the sightings are told that are decided
+stays_held : (held : List ℕ) (after : After) (used : ℕ) → ((after ≡ More → ⊥) → used ≡ length (heard_with held after))
+    → faultless (drop used held) ≡ drop used (faultless held ++ chars_after after)
+stays_held held More used all = rw (append-nil (faultless held)) (rest_is held used)
+stays_held held (Damaged character) used all =
+    let end : used ≡ length (faultless held ++ character ∷ []) = all (λ same. absurd cc) in
+    let long = length-append (faultless held) (character ∷ []) in
+    rw (
+      drop_all used held (omega (arith, end, long, long_is held)),
+      drop_all used (faultless held ++ character ∷ []) (omega (arith, end)),
+    ) refl
+stays_held held End used all = rw (append-nil (faultless held)) (rest_is held used)
+
+-- nothing is decided of it
+waits_held : (held : List ℕ) (after : After) (used : ℕ) → ((after ≡ More → ⊥) → used ≡ length (heard_with held after))
+    → (after ≡ More → IsUndecidedSighting (faultless (drop used held))) → IsUndecidedSighting (faultless (drop used held))
+waits_held held More used all undecided = undecided refl
+waits_held held (Damaged character) used all undecided =
+    let end : used ≡ length (faultless held ++ character ∷ []) = all (λ same. absurd cc) in
+    let long = length-append (faultless held) (character ∷ []) in
+    rw (drop_all used held (omega (arith, end, long, long_is held))) undecided_nothing
+waits_held held End used all undecided =
+    let end : used ≡ length (faultless held) = all (λ same. absurd cc) in
+    rw (drop_all used held (omega (arith, end, long_is held))) undecided_nothing
+
+-- it is short
+pub few_stay : (held : List ℕ) (after : After) (used : ℕ) → length (heard_with held after) < used + 269 → length (drop used held) ≤ 268
+few_stay held after used few =
+    let long = length-append (faultless held) (chars_after after) in
+    let same = long_is held in
+    omega (arith, rw (heard_is held after) at few, long, same, length-drop used held)
+
+-- the sightings that are decided of what is held were told, and the rest is held
+pub told_held : (old new : Telling) (after : After) (used : ℕ) (w w1 : Stream)
+    → TellsDecided old.first old.held after used old.kept new.kept w w1 → new.first ≡ old.first + used → new.held ≡ drop used old.held
+    → Hears old new (chars_after after) (is_end after) w w1 × IsWaiting new
+told_held old new after used w w1 told first held = (
+  record {
+    seen = told.seen;
+    used = used;
+    sees = rw (heard_is old.held after) at told.sees;
+    within = rw (heard_is old.held after) at told.within;
+    first = first;
+    held = rw held (stays_held old.held after used told.all);
+    adds = told.adds;
+  },
+  record {
+    undecided = rw held (waits_held old.held after used told.all told.undecided);
+    few = rw held (few_stay old.held after used told.few);
+  },
+)
+
+-- a write failed in what is said of them
+pub fails_held : (old : Telling) (after : After) (w w1 : Stream)
+    → FailsToTell old.first (heard_with old.held after) (is_end after) old.kept w w1
+    → FailsToHear old (chars_after after) (is_end after) w w1
+fails_held old after w w1 fails = rw (heard_is old.held after) at fails
+
+-- the sightings that were told so far, of bytes with what comes after them
+pub record ToldSoFar (first : ℕ) (held : List ℕ) (after : After) (used : ℕ) (kept kept_after : List ℕ) (writer writer_after : Stream)
+    : Type 0 where
+  pub seen : List Seen
+  pub sees : SeesOn (heard_with held after) (is_end after) 0 seen used
+  pub within : used ≤ length (heard_with held after)
+  pub adds : AddsText writer writer_after kept kept_after (text_from first seen)
+
+-- what is said of one sighting more
+one_more : (first : ℕ) (seen : List Seen) (next : Seen) → text_from first (seen ++ next ∷ []) ≡ text_from first seen ++ seen_text (moved_seen first next)
+one_more first seen next = grind (arith, common_steps, map-append)
+
+-- one sighting more was told
+pub told_next : (first : ℕ) (held : List ℕ) (after : After) (used to : ℕ) (a b c d : List ℕ) (next : Seen) (w w1 w2 : Stream)
+    → ToldSoFar first held after used a b w w1 → SeesOn (heard_with held after) (is_end after) used (next ∷ []) to
+    → to ≤ length (heard_with held after) → AddsText w1 w2 b c [] → d ≡ c ++ seen_text (moved_seen first next)
+    → ToldSoFar first held after to a d w w2
+told_next first held after used to a b c d next w w1 w2 h sees within room added =
+    let text = seen_text (moved_seen first next) in
+    let one : AddsText w1 w2 b d ([] ++ text) = adds_then w1 w2 w2 b c d [] text room (adds_kept w2 c d text added) in
+    record {
+      seen = h.seen ++ next ∷ [];
+      sees = onward (heard_with held after) (is_end after) 0 used to h.seen (next ∷ []) h.sees sees;
+      within = within;
+      adds = rw (one_more first h.seen next) (adds_then w w1 w2 a b d (text_from first h.seen) text h.adds one);
+    }
+
+-- none is left
+pub told_decided : (first : ℕ) (held : List ℕ) (after : After) (used to : ℕ) (a b : List ℕ) (w w1 : Stream)
+    → ToldSoFar first held after used a b w w1 → SeesOn (heard_with held after) (is_end after) used [] to
+    → to ≤ length (heard_with held after) → length (heard_with held after) < to + 269
+    → ((after ≡ More → ⊥) → to ≡ length (heard_with held after))
+    → (after ≡ More → IsUndecidedSighting (heard_with (drop to held) More)) → TellsDecided first held after to a b w w1
+told_decided first held after used to a b w w1 h sees within few all undecided = record {
+  seen = h.seen;
+  sees = rw append-nil at (onward (heard_with held after) (is_end after) 0 used to h.seen [] h.sees sees);
+  within = within;
+  adds = h.adds;
+  few = few;
+  all = all;
+  undecided = undecided;
+}
+
+-- a write failed before one sighting more was told
+pub fails_next : (first : ℕ) (held : List ℕ) (after : After) (used : ℕ) (a b : List ℕ) (w w1 w2 : Stream)
+    → ToldSoFar first held after used a b w w1 → FailsToWrite w1 w2 (b ++ [])
+    → FailsToTell first (heard_with held after) (is_end after) a w w2
+fails_next first held after used a b w w1 w2 h fails = record {
+  seen = h.seen;
+  used = used;
+  sees = h.sees;
+  fails = rw append-nil at (fails_then w w1 w2 a b (text_from first h.seen) [] h.adds fails);
+}
+
+-- the places of a miss are numbers of 64 bits
+names_below : (count most : ℕ) (miss : Miss) → count ≤ most → NamesPlacesBelow count miss → NamesPlacesBelow most miss
+names_below count most miss few below = grind (arith, common_steps)
+
+-- and so are those of a sighting
+pub fits_from : (first count used : ℕ) (sighting : Sighting) → first + count < 2 ^ 64 → used ≤ count → EndsAt count used sighting
+    → FitsFrom first sighting
+fits_from first count used (given.Message view) few within ends =
+    (omega (arith, few, within, ends.0, ends.1), omega (arith, few, within, ends.1))
+fits_from first count used (given.Missed place miss) few within ends =
+    (omega (arith, few, within, ends.0), names_below count (2 ^ 64 - first) miss (omega (arith, few)) ends.1)

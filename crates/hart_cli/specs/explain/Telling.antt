@@ -1,0 +1,143 @@
+-- For private calls alone: what is heard, and what is told of it (own profile).
+use Rattle.std.specs.Prelude.{◌≡◌, ◌≤◌, ◌<◌, ◌+◌, ◌-◌, ◌^◌, ℕ, Bool, false, true, List, [], ◌∷◌, ◌++◌, Option, None, Result, Ok, Err, MatchResult}
+use Rattle.std.specs.Prelude.{IfSome, drop, length, map}
+use Rattle.hart_frame.specs.declared.scan.sighting.After.{After}
+use Rattle.hart_frame.specs.declared.scan.sighting.After.TheVariants.{Damaged, End, More}
+use Rattle.hart_frame.specs.declared.scan.sighting.NextSighting.{NextSighting}
+use Rattle.hart_frame.specs.declared.scan.sighting.Sighting.{Sighting}
+use Rattle.hart_frame.specs.declared.scan.sighting.Sighting.TheVariants as given
+use Rattle.hart_frame.specs.heard.Character.{Character, faultless}
+use Rattle.hart_frame.specs.heard.Sighting.{IsUndecidedSighting, Seen, SeesOn, moved_seen}
+use Rattle.hart_frame.specs.scan.Sighting.{EndsAt, NamesPlacesBelow, heard_with, is_end, sightings_of}
+use Rattle.hart_cli.specs.declared.calls.explain.telling.Telling.{Telling}
+use Rattle.hart_cli.specs.declared.fault.CliFault.{CliFault}
+use Rattle.hart_cli.specs.declared.stream.Failed.{Failed}
+use Rattle.hart_cli.specs.explain.Explanation.{IsDecidedExplanation, IsExplanationOf, explanation}
+use Rattle.hart_cli.specs.input.Ahead.{DecodesAll}
+use Rattle.hart_cli.specs.input.Input.{stream_limit}
+use Rattle.hart_cli.specs.input.LiveInput.{IsDecidedText, StopsWriting, WroteInTime}
+use Rattle.hart_cli.specs.stream.Kept.{AddsText}
+use Rattle.hart_cli.specs.stream.Stream.{FailsToWrite, Stream, WritesAll}
+use Rattle.hart_cli.specs.text.Items.{ReadsUpTo}
+
+-- The places of a sighting, and those that its miss names, are numbers of 64 bits when they are counted from a first place on.
+abbrev pub FitsFrom : ℕ → Sighting → Type 0
+FitsFrom first (given.Message view) = (first + view.start < 2 ^ 64) × (first + view.stop < 2 ^ 64)
+FitsFrom first (given.Missed place miss) = (first + place < 2 ^ 64) × NamesPlacesBelow (2 ^ 64 - first) miss
+
+-- The next sighting in bytes, with what comes after them, is what is seen of them from a place on, up to another place, which is
+-- further on if there is a sighting. Without one all is used that decides nothing any more.
+pub record IsNextSighting (held : List ℕ) (after : After) (from : ℕ) (next : NextSighting) : Type 0 where
+  pub sees : SeesOn (heard_with held after) (is_end after) from (sightings_of next.sighting) next.used
+  pub within : next.used ≤ length (heard_with held after)
+  pub further : IfSome next.sighting (λ sighting. from < next.used)
+  pub places : IfSome next.sighting (EndsAt (length (heard_with held after)) next.used)
+  pub few : next.sighting ≡ None → length (heard_with held after) < next.used + 269
+  pub all : next.sighting ≡ None → (after ≡ More → ⊥) → next.used ≡ length (heard_with held after)
+  pub undecided : next.sighting ≡ None → after ≡ More → IsUndecidedSighting (faultless (drop next.used held))
+
+-- The character that is known to come after others, if one is.
+abbrev pub chars_after : After → List Character
+chars_after More = []
+chars_after (Damaged character) = character ∷ []
+chars_after End = []
+
+-- What is said of sightings whose places are counted from a first place on.
+abbrev pub text_from : ℕ → List Seen → List ℕ
+text_from first seen = explanation (map (moved_seen first) seen)
+
+-- What is held waits for more if no sighting in it is decided. It is at most 268 characters.
+pub record IsWaiting (telling : Telling) : Type 0 where
+  pub undecided : IsUndecidedSighting (faultless telling.held)
+  pub few : length telling.held ≤ 268
+
+-- All sightings were told that are decided of bytes, with what comes after them, up to a place.
+pub record TellsDecided (first : ℕ) (held : List ℕ) (after : After) (used : ℕ) (kept kept_after : List ℕ) (writer writer_after : Stream)
+    : Type 0 where
+  pub seen : List Seen
+  pub sees : SeesOn (heard_with held after) (is_end after) 0 seen used
+  pub within : used ≤ length (heard_with held after)
+  pub adds : AddsText writer writer_after kept kept_after (text_from first seen)
+  pub few : length (heard_with held after) < used + 269
+  pub all : (after ≡ More → ⊥) → used ≡ length (heard_with held after)
+  pub undecided : after ≡ More → IsUndecidedSighting (faultless (drop used held))
+
+-- A write failed in what is said of the first sightings of characters.
+pub record FailsToTell (first : ℕ) (chars : List Character) (ended : Bool) (kept : List ℕ) (writer writer_after : Stream) : Type 0 where
+  pub seen : List Seen
+  pub used : ℕ
+  pub sees : SeesOn chars ended 0 seen used
+  pub fails : FailsToWrite writer writer_after (kept ++ text_from first seen)
+
+-- Characters were heard after those that were held. Sightings of them all were told, up to a place, and the rest is held. If they
+-- ended, nothing comes after them.
+pub record Hears (old new : Telling) (chars : List Character) (ended : Bool) (writer writer_after : Stream) : Type 0 where
+  pub seen : List Seen
+  pub used : ℕ
+  pub sees : SeesOn (faultless old.held ++ chars) ended 0 seen used
+  pub within : used ≤ length (faultless old.held ++ chars)
+  pub first : new.first ≡ old.first + used
+  pub held : faultless new.held ≡ drop used (faultless old.held ++ chars)
+  pub adds : AddsText writer writer_after old.kept new.kept (text_from old.first seen)
+
+-- A write failed in what is said of the characters that were held and of more.
+abbrev pub FailsToHear : Telling → List Character → Bool → Stream → Stream → Type 0
+FailsToHear old chars ended writer writer_after =
+    FailsToTell old.first (faultless old.held ++ chars) ended old.kept writer writer_after
+
+-- Characters were heard, or a write failed.
+abbrev pub HearsOrFails : {T : Type 0} → Telling → Telling → List Character → Bool → Stream → Stream → Result T Failed → Type 0
+HearsOrFails old new chars ended writer writer_after result =
+    MatchResult result
+    (λ _. Hears old new chars ended writer writer_after)
+    (λ _. FailsToHear old chars ended writer writer_after)
+
+-- The characters of a text were heard, up to a place in it.
+pub record HearsText (old new : Telling) (text : List ℕ) (place : ℕ) (writer writer_after : Stream) : Type 0 where
+  pub within : place ≤ length text
+  pub chars : List Character
+  pub reads : ReadsUpTo text chars (drop place text)
+  pub hears : Hears old new chars false writer writer_after
+
+-- A write failed in what is said of the first characters of a text.
+pub record FailsInText (old : Telling) (text : List ℕ) (writer writer_after : Stream) : Type 0 where
+  pub chars : List Character
+  pub rest : List ℕ
+  pub reads : ReadsUpTo text chars rest
+  pub fails : FailsToHear old chars false writer writer_after
+
+-- The characters of a text were heard up to the place that is given, or a write failed.
+abbrev pub HearsTextOrFails : Telling → Telling → List ℕ → Stream → Stream → Result ℕ Failed → Type 0
+HearsTextOrFails old new text writer writer_after result =
+    MatchResult result
+    (λ place. HearsText old new text place writer writer_after)
+    (λ _. FailsInText old text writer writer_after)
+
+-- Nothing was heard yet, and no text is kept.
+pub record IsNew (telling : Telling) : Type 0 where
+  pub first : telling.first ≡ 0
+  pub held : telling.held ≡ []
+  pub quiet : telling.kept ≡ []
+
+-- An input was read and told of up to its end or its first fault.
+pub record TellsAll (reader reader_after writer writer_after : Stream) (old new : Telling) (fault : Option CliFault) : Type 0 where
+  pub input : List ℕ
+  pub chars : List Character
+  pub decodes : DecodesAll stream_limit reader reader_after fault input chars
+  pub hears : Hears old new chars false writer writer_after
+  pub waiting : IsWaiting new
+  pub quiet : new.kept ≡ []
+  pub in_time : WroteInTime (IsDecidedText IsDecidedExplanation) input writer writer_after
+
+-- An input was read and told of, or a write failed.
+abbrev pub TellsInput : Stream → Stream → Stream → Stream → Telling → Telling → Result (Option CliFault) Failed → Type 0
+TellsInput reader reader_after writer writer_after old new (Ok fault) =
+    TellsAll reader reader_after writer writer_after old new fault
+TellsInput reader reader_after writer writer_after old new (Err failed) =
+    StopsWriting stream_limit IsExplanationOf IsDecidedExplanation reader reader_after writer writer_after
+
+-- The sightings of what was held were told to their end.
+pub record TellsRest (old : Telling) (writer writer_after : Stream) : Type 0 where
+  pub seen : List Seen
+  pub sees : SeesOn (faultless old.held) true 0 seen (length old.held)
+  pub wrote : WritesAll writer writer_after (text_from old.first seen)

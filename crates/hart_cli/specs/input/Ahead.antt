@@ -1,0 +1,52 @@
+-- For private calls alone: what is read of an input and not yet decoded (own profile).
+use Rattle.std.specs.Prelude.{◌≡◌, ◌≢◌, ◌⊎◌, ◌+◌, ◌≤◌, ℕ, List, [], ◌++◌, length, Option, None, Some}
+use Rattle.hart_frame.specs.heard.Character.{Character}
+use Rattle.hart_cli.specs.declared.fault.CliFault.{CliFault}
+use Rattle.hart_cli.specs.declared.fault.CliFault.TheVariants as faults
+use Rattle.hart_cli.specs.declared.input.InputEnd.{InputEnd}
+use Rattle.hart_cli.specs.declared.input.InputEnd.TheVariants as ends
+use Rattle.hart_cli.specs.declared.input.Portion.{Portion}
+use Rattle.hart_cli.specs.declared.input.ahead.NextStep.{NextStep}
+use Rattle.hart_cli.specs.declared.input.ahead.NextStep.TheVariants.{ReadOn, Stop}
+use Rattle.hart_cli.specs.input.Input.{Ending, ReadsPortion, ReadsToWithin, ending_of, most_at_once}
+use Rattle.hart_cli.specs.input.LiveInput.{AreDecoded, StopsSoon, ended_text}
+use Rattle.hart_cli.specs.stream.Stream.{Stream}
+use Rattle.hart_cli.specs.text.InputChars.{HasChars}
+use Rattle.hart_cli.specs.text.Items.{MayBegin}
+
+-- One read gave bytes that were added to those ahead, with a space after them if the input ended there.
+pub record ReadsAhead (old new : Stream) (before after : List ℕ) (room : ℕ) (portion : Portion) : Type 0 where
+  pub bytes : List ℕ
+  pub reads : ReadsPortion old new bytes room portion.end
+  pub count : portion.len ≡ length bytes
+  pub few : length bytes ≤ most_at_once
+  pub added : after ≡ before ++ ended_text bytes (ending_of portion.end)
+
+-- The number of bytes of an input with the space that its end stands for, if it came to its end.
+abbrev pub ended_length : Option InputEnd → ℕ → ℕ
+ended_length (Some ends.Ended) read = read + 1
+ended_length end read = read
+
+-- The next step depends on what is left of an input after its pieces. If the input ended, it has no fault if nothing is left, and
+-- otherwise bad hex. If it may go on, or went past the limit, there is bad hex unless a piece may begin in what is left; and if one may,
+-- the input is read on, or the limit is its fault. A failed read is its fault whatever is left.
+abbrev pub IsNextStep : Option InputEnd → List ℕ → ℕ → NextStep → Type 0
+IsNextStep None rest place ReadOn = MayBegin rest
+IsNextStep None rest place (Stop fault) = (MayBegin rest → ⊥) × (fault ≡ Some (faults.BadHex place))
+IsNextStep (Some ends.Ended) rest place ReadOn = ⊥
+IsNextStep (Some ends.Ended) rest place (Stop None) = rest ≡ []
+IsNextStep (Some ends.Ended) rest place (Stop (Some fault)) = (rest ≢ []) × (fault ≡ faults.BadHex place)
+IsNextStep (Some ends.ReadFailed) rest place ReadOn = ⊥
+IsNextStep (Some ends.ReadFailed) rest place (Stop fault) = fault ≡ Some faults.Read
+IsNextStep (Some ends.TooLong) rest place ReadOn = ⊥
+IsNextStep (Some ends.TooLong) rest place (Stop fault) =
+    (MayBegin rest × (fault ≡ Some faults.TooLong)) ⊎ ((MayBegin rest → ⊥) × (fault ≡ Some (faults.BadHex place)))
+
+-- An input with a limit was read and decoded to its end or up to its first fault.
+pub record DecodesAll (limit : ℕ) (reader reader_after : Stream) (fault : Option CliFault) (input : List ℕ) (chars : List Character)
+    : Type 0 where
+  pub ending : Ending
+  pub reads : ReadsToWithin limit reader reader_after input ending
+  pub has_chars : HasChars input ending chars fault
+  pub decoded : AreDecoded input ending chars
+  pub soon : StopsSoon input fault

@@ -1,0 +1,272 @@
+//! What is heard and not yet told, and what is said of it until that is written.
+ghost use Rattle.std.specs.Prelude.{◌≡◌, ◌++◌, ◌+◌, ◌-◌, ◌<◌, ◌≤◌, ◌^◌, [], false, true, IfOk, OnOk, MatchResult, drop, length};
+ghost use Rattle.std.specs.Option.{option_to_list};
+ghost use Rattle.hart_frame.specs.declared.scan.sighting.After.TheVariants.{End};
+ghost use Rattle.hart_frame.specs.heard.Character.{faultless};
+ghost use Rattle.hart_frame.specs.heard.Sighting.{moved_seen};
+ghost use Rattle.hart_frame.specs.scan.Sighting.{AfterIsValid, heard_with, is_end, seen_of};
+ghost use Rattle.hart_cli.specs.explain.Explanation.{seen_text};
+ghost use Rattle.hart_cli.specs.explain.Telling.{FailsToHear, FailsToTell, FitsFrom, HearsOrFails, HearsTextOrFails, IsNextSighting};
+ghost use Rattle.hart_cli.specs.explain.Telling.{IsNew, IsWaiting, TellsDecided, TellsRest, chars_after};
+ghost use Rattle.hart_cli.specs.input.LiveInput.{most_ahead};
+ghost use Rattle.hart_cli.specs.text.Items.{NoPieceBegins};
+
+use crate::calls::explain::message::push_paragraph;
+use crate::calls::explain::misses::push_miss_line;
+use crate::kept::{Kept, make_room};
+use crate::output::write_all;
+use crate::stream::{Failed, Sink};
+use crate::text::chunk::{CHUNK_LEN, Chunk, read_chunk};
+use crate::text::items::next_piece;
+use crate::text::pairs::Pairs;
+use hart_frame::{After, Char, NextSighting, Sighting, next_sighting};
+use hart_line::Digits;
+use hart_values::ByteList;
+
+/// The most characters that are kept while they decide nothing: two preamble bytes, and all of the longest body but its check byte.
+const MOST_OPEN: usize = 268;
+
+/// Characters that decide nothing yet.
+type Open = ByteList<MOST_OPEN>;
+
+/// The most characters that are looked at together: those that decide nothing yet, and a chunk of what is read.
+const HELD_LEN: usize = MOST_OPEN + CHUNK_LEN;
+
+/// Faultless characters that were heard, of which not all is told, and text that is not yet written.
+#[derive(Drop)]
+pub struct Telling {
+    /// The characters of which not all is told.
+    pub held: ByteList<HELD_LEN>,
+    /// The place of the first of them in all that was heard.
+    pub first: u64,
+    /// The text that is not yet written.
+    pub kept: Kept,
+    /// The digits of what it says in hex.
+    pub pairs: Pairs,
+}
+
+impl Telling {
+    /// Nothing was heard, and no text is kept.
+    pub fn new() -> Telling
+        ensures { IsNew result }
+    {
+        Telling {
+            held: ByteList::new(),
+            first: 0,
+            kept: Kept::new(),
+            pairs: Pairs::new(),
+        }
+    }
+
+    /// Hears the characters of the items that a text begins with, and writes what is decided of them. Returns the place of the rest of the
+    /// text, at whose beginning no piece stands.
+    ///
+    /// # Errors
+    ///
+    /// `Failed` at the first write that fails.
+    pub fn tell_text<W: Sink>(
+        &mut self,
+        writer: &mut W,
+        digits: &Digits,
+        text: &[u8],
+    ) -> Result<usize, Failed>
+        requires waiting { IsWaiting self.old }
+        requires quiet { self.old.kept ≡ [] }
+        requires few { length text.now ≤ most_ahead }
+        requires places { self.old.first + length self.old.held + length text.now < 2 ^ 64 - 1 }
+        ensures hears { HearsTextOrFails self.old self.new text.now (W.stream writer.old) (W.stream writer.new) result }
+        ensures stops { IfOk result (λ place. NoPieceBegins (drop place text.now)) }
+        ensures waiting { OnOk result (IsWaiting self.new) }
+        ensures quiet { OnOk result (self.new.kept ≡ []) }
+    {
+        let place = self.hear_text(writer, digits, text)?;
+        write_all(writer, self.kept.as_slice())?;
+        self.kept.clear();
+        Ok(place)
+    }
+
+    /// Hears the characters of the items that a text begins with. Returns the place of the rest of the text, at whose beginning no piece
+    /// stands.
+    ///
+    /// # Errors
+    ///
+    /// `Failed` at the first write that fails.
+    fn hear_text<W: Sink>(
+        &mut self,
+        writer: &mut W,
+        digits: &Digits,
+        text: &[u8],
+    ) -> Result<usize, Failed>
+        requires waiting { IsWaiting self.old }
+        requires few { length text.now ≤ most_ahead }
+        requires places { self.old.first + length self.old.held + length text.now < 2 ^ 64 - 1 }
+        ensures hears { HearsTextOrFails self.old self.new text.now (W.stream writer.old) (W.stream writer.new) result }
+        ensures stops { IfOk result (λ place. NoPieceBegins (drop place text.now)) }
+        ensures waiting { OnOk result (IsWaiting self.new) }
+    {
+        let mut chunk = Chunk::new();
+        let mut place = 0;
+        loop {
+            chunk.clear();
+            place += read_chunk(digits, &text[place..], &mut chunk);
+            self.hear_bytes(writer, chunk.as_slice())?;
+            let Some(lead) = next_piece(digits, &text[place..]) else {
+                return Ok(place);
+            };
+            self.hear_char(writer, lead.char)?;
+            place += lead.len;
+        }
+    }
+
+    /// Hears bytes without faults.
+    ///
+    /// # Errors
+    ///
+    /// `Failed` at the first write that fails.
+    fn hear_bytes<W: Sink>(&mut self, writer: &mut W, bytes: &[u8]) -> Result<(), Failed>
+        requires waiting { IsWaiting self.old }
+        requires few { length bytes.now ≤ 8192 }
+        requires places { self.old.first + length self.old.held + length bytes.now < 2 ^ 64 - 1 }
+        ensures hears { HearsOrFails self.old self.new (faultless bytes.now) false (W.stream writer.old) (W.stream writer.new) result }
+        ensures waiting { OnOk result (IsWaiting self.new) }
+    {
+        self.held.extend_from_slice(bytes);
+        self.tell_held(writer, After::More)
+    }
+
+    /// Hears the character of a piece, if the piece means one.
+    ///
+    /// # Errors
+    ///
+    /// `Failed` at the first write that fails.
+    fn hear_char<W: Sink>(&mut self, writer: &mut W, char: Option<Char>) -> Result<(), Failed>
+        requires waiting { IsWaiting self.old }
+        requires places { self.old.first + length self.old.held + 1 < 2 ^ 64 - 1 }
+        ensures hears { HearsOrFails self.old self.new (option_to_list char) false (W.stream writer.old) (W.stream writer.new) result }
+        ensures waiting { OnOk result (IsWaiting self.new) }
+    {
+        match char {
+            None => Ok(()),
+            Some(char) if char.is_faultless() => self.hear_bytes(writer, &[char.byte()]),
+            Some(char) => self.tell_held(writer, After::Damaged(char)),
+        }
+    }
+
+    /// Tells all that is decided of what is held and of what comes after it, and holds the rest.
+    ///
+    /// # Errors
+    ///
+    /// `Failed` at the first write that fails.
+    fn tell_held<W: Sink>(&mut self, writer: &mut W, after: After) -> Result<(), Failed>
+        requires valid { AfterIsValid after }
+        requires places { self.old.first + length self.old.held < 2 ^ 64 - 1 }
+        ensures hears { HearsOrFails
+            self.old self.new
+            (chars_after after) (is_end after)
+            (W.stream writer.old) (W.stream writer.new) result }
+        ensures waiting { OnOk result (IsWaiting self.new) }
+        ensures ended { OnOk result (after ≡ End → self.new.held ≡ []) }
+    {
+        let held = self.held.as_slice();
+        let used = tell_decided(
+            writer,
+            &mut self.kept,
+            &self.pairs,
+            self.first,
+            held,
+            &after,
+        )?;
+        self.let_go(used);
+        Ok(())
+    }
+
+    /// Lets characters that are told go: this number of what is held and of what came after it. At most 268 stay.
+    fn let_go(&mut self, used: usize)
+        requires places { self.old.first + used < 2 ^ 64 }
+        requires few { length (drop used self.old.held) ≤ 268 }
+        ensures { self.new ≡ record self.old { held = drop used self.old.held; first = self.old.first + used } }
+    {
+        let held = self.held.as_slice();
+        let open = Open::from_slice(&held[used.min(held.len())..]).unwrap();
+        self.held.clear();
+        self.held.extend_from_slice(open.as_slice());
+        self.first += used as u64;
+    }
+
+    /// Tells the rest of what was heard, after which nothing comes, and writes it.
+    ///
+    /// # Errors
+    ///
+    /// `Failed` at the first write that fails.
+    pub fn finish<W: Sink>(&mut self, writer: &mut W) -> Result<(), Failed>
+        requires quiet { self.old.kept ≡ [] }
+        requires places { self.old.first + length self.old.held < 2 ^ 64 - 1 }
+        ensures { MatchResult result
+            (λ _. TellsRest self.old (W.stream writer.old) (W.stream writer.new))
+            (λ _. FailsToHear self.old [] true (W.stream writer.old) (W.stream writer.new)) }
+    {
+        self.tell_held(writer, After::End)?;
+        write_all(writer, self.kept.as_slice())
+    }
+}
+
+/// Tells all sightings that are decided of bytes, whose first has this place in all that was heard, and of what comes after them. Returns
+/// how many characters are told by then.
+///
+/// # Errors
+///
+/// `Failed` at the first write that fails.
+fn tell_decided<W: Sink>(
+    writer: &mut W,
+    kept: &mut Kept,
+    pairs: &Pairs,
+    first: u64,
+    held: &[u8],
+    after: &After,
+) -> Result<usize, Failed>
+    requires valid { AfterIsValid after.now }
+    requires places { first + length held.now < 2 ^ 64 - 1 }
+    ensures { MatchResult result
+        (λ used. TellsDecided first held.now after.now used kept.old kept.new (W.stream writer.old) (W.stream writer.new))
+        (λ _. FailsToTell
+        first (heard_with held.now after.now) (is_end after.now)
+        kept.old
+        (W.stream writer.old) (W.stream writer.new)) }
+{
+    let mut used = 0;
+    loop {
+        let next = next_after(held, after, used);
+        used = next.used;
+        let Some(sighting) = next.sighting else {
+            return Ok(used);
+        };
+        make_room(writer, kept)?;
+        push_sighting(kept, pairs, first, &sighting);
+    }
+}
+
+/// Returns the next sighting in bytes, with what comes after them, from a place on.
+fn next_after<'a>(held: &'a [u8], after: &After, from: usize) -> NextSighting<'a>
+    requires within { from ≤ length (heard_with held.now after.now) }
+    requires valid { AfterIsValid after.now }
+    requires places { length held.now < 2 ^ 64 - 1 }
+    ensures { IsNextSighting held.now after.now from result }
+{
+    match after {
+        After::More => next_sighting(held, After::More, from),
+        After::Damaged(char) => next_sighting(held, After::Damaged(*char), from),
+        After::End => next_sighting(held, After::End, from),
+    }
+}
+
+/// Appends what is said of a sighting, whose places are counted from this first place on.
+fn push_sighting(text: &mut Kept, pairs: &Pairs, first: u64, sighting: &Sighting<'_>)
+    requires room { length text.old + 8192 ≤ 32768 }
+    requires places { FitsFrom first sighting.now }
+    ensures { text.new ≡ text.old ++ seen_text (moved_seen first (seen_of sighting.now)) }
+{
+    match sighting {
+        Sighting::Message(found) => push_paragraph(text, pairs, first, found),
+        Sighting::Missed { place, miss } => push_miss_line(text, pairs, first, *place, *miss),
+    }
+}

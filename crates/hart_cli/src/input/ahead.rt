@@ -1,0 +1,86 @@
+//! What is read of an input and not yet decoded.
+ghost use Rattle.std.specs.Prelude.{◌≡◌, ◌<◌, ◌≤◌, ◌-◌, Some, length};
+ghost use Rattle.hart_cli.specs.declared.fault.CliFault.TheVariants.{BadHex};
+ghost use Rattle.hart_cli.specs.declared.input.ahead.NextStep.TheVariants.{ReadOn, Stop};
+ghost use Rattle.hart_cli.specs.input.Ahead.{IsNextStep, ReadsAhead, ended_length};
+ghost use Rattle.hart_cli.specs.input.Input.{most_at_once};
+ghost use Rattle.hart_cli.specs.text.Items.{NoPieceBegins};
+
+use crate::fault::CliFault;
+use crate::input::{InputEnd, PORTION_LEN, Portion, read_portion};
+use crate::stream::Source;
+use crate::text::items::may_begin;
+use hart_values::ByteList;
+
+/// The beginning of an item, after which no piece begins yet: at most five bytes.
+pub type Open = ByteList<OPEN_LEN>;
+
+const OPEN_LEN: usize = 5;
+
+/// What is read and not yet decoded: the beginning of an item, and then what one read gives, or the space that an end stands for.
+pub type Ahead = ByteList<AHEAD_LEN>;
+
+const AHEAD_LEN: usize = OPEN_LEN + PORTION_LEN;
+
+/// What is done after what was read is decoded.
+#[derive(Clone, Copy)]
+pub enum NextStep {
+    /// More is read.
+    ReadOn,
+    /// No more is read, because the input came to its end, or to this fault.
+    Stop(Option<CliFault>),
+}
+
+/// Reads once, and adds to what is read ahead what is within the room that is left of the input's limit. Returns how much that is, and
+/// how the input came to its end with it, if it did.
+pub fn read_ahead<R: Source>(
+    reader: &mut R,
+    buffer: &mut [u8],
+    ahead: &mut Ahead,
+    room: usize,
+) -> Portion
+    requires short { length ahead.old ≤ 5 }
+    requires some { 0 < length buffer.old }
+    requires fits { length buffer.old ≤ most_at_once }
+    ensures reads { ReadsAhead
+        (R.stream reader.old) (R.stream reader.new)
+        ahead.old ahead.new room result }
+    ensures kept { length buffer.new ≡ length buffer.old }
+{
+    let portion = read_portion(reader, buffer, room);
+    if portion.end == Some(InputEnd::Ended) {
+        // An end gives no bytes, and makes the last item whole, as a space does.
+        ahead.push(b' ');
+    } else {
+        ahead.extend_from_slice(&buffer[..portion.len]);
+    }
+    portion
+}
+
+/// Returns the next step after `read` bytes of an input, of which this rest is left after its pieces, and which is at this end, if it
+/// came to one.
+pub fn next_step(end: Option<InputEnd>, rest: &[u8], read: usize) -> NextStep
+    requires stops { NoPieceBegins rest.now }
+    requires within { length rest.now ≤ ended_length end read }
+    ensures step { IsNextStep end rest.now (ended_length end read - length rest.now) result }
+    ensures short { result ≡ ReadOn → length rest.now ≤ 5 }
+{
+    match end {
+        None if may_begin(rest) => NextStep::ReadOn,
+        None => bad_hex(read - rest.len()),
+        Some(InputEnd::Ended) if rest.is_empty() => NextStep::Stop(None),
+        // The last byte of the rest is the space that the end stands for.
+        Some(InputEnd::Ended) => bad_hex(read - (rest.len() - 1)),
+        // Nothing was read, so that a piece may begin as it might before.
+        Some(InputEnd::ReadFailed) => NextStep::Stop(Some(CliFault::Read)),
+        Some(InputEnd::TooLong) if may_begin(rest) => NextStep::Stop(Some(CliFault::TooLong)),
+        Some(InputEnd::TooLong) => bad_hex(read - rest.len()),
+    }
+}
+
+/// Returns the step at bad hex.
+fn bad_hex(place: usize) -> NextStep
+    ensures { result ≡ Stop (Some (BadHex place)) }
+{
+    NextStep::Stop(Some(CliFault::BadHex { place }))
+}
