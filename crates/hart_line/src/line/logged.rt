@@ -84,8 +84,8 @@ pub fn carry_out<S: RegisterStore + Drop, L: Log>(
     processes_are_well_made(process);
     let mut line = Line::new(outcomes, device, primary, secondary);
     for (index, event) in events.iter().enumerate() {
-        if let Err(damage) = line.step(event, process) {
-            return Err(damage.at(index));
+        if let Err(leg) = line.step(event, process) {
+            return Err(LineFault::Undetected { event: index, leg });
         }
         line.tell(log)?;
     }

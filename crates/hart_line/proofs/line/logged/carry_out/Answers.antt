@@ -32,16 +32,15 @@ returns-in-Err-clause-stopped g c =
     let start = start_from c.args.device c.args.process.now c.args.primary c.args.secondary in
     let (noted, has, reached) = c.loop-index.invariant.told in
     let here = slice_get-get_or c.args.events.now c.loop-index.index _ c.loop-index-test.true in
-    let fault : IsFault start c.args.events.now (Undetected c.loop-index.index c.in-Err.damage.leg) = (
+    let fault : IsFault start c.args.events.now (Undetected c.loop-index.index c.in-Err.leg) = (
       reached.world,
       _,
       reached.is_last,
       here,
       rw c.index-events-index.is at (c.in-Err.ensures.stopped start reached.world refl reached.stands),
-    ) in
-    rw c.at.ensures (
+    ) in (
       (fault, noted, reached.spoken_are, has),
-      scripts_keep_their_promises-detected start c.args.events.now (Undetected c.loop-index.index c.in-Err.damage.leg) enough fault,
+      scripts_keep_their_promises-detected start c.args.events.now (Undetected c.loop-index.index c.in-Err.leg) enough fault,
     )
 
 -- An event more is carried out, whose spoken frames are to be noted.
