@@ -21,6 +21,7 @@ pub struct Undetected;
 /// # Errors
 ///
 /// [`Undetected`], if the damage is.
+#[tactic(auto, using(crate::proofs::lemmas::line::Leg::message_arrives, crate::proofs::lemmas::line::Leg::nothing_arrives))]
 pub fn arrived_in<'a>(
     heard: &Heard,
     sent: Option<&'a Frame>,
@@ -61,6 +62,7 @@ pub fn arrived_among<'a>(
 /// # Errors
 ///
 /// [`Undetected`], if the damage is.
+#[tactic(auto, using(crate::proofs::lemmas::line::Leg::nothing_reaches))]
 pub fn answer_in<S: RegisterStore>(
     device: &mut Device<S>,
     up: &Heard,
