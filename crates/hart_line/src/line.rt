@@ -15,7 +15,6 @@ use crate::line::leg::{answer_among, answer_in, arrived_in};
 use crate::line::log::Log;
 use crate::line::masters::{Masters, Submitter};
 use crate::line::report::Ending;
-use crate::line::undetected::Undetected;
 use crate::{Filling, Heard, Leg, LineEvent, NoRoom, Outcome, Outcomes, Party};
 use hart_commands::Request;
 use hart_device::{Device, Process, RegisterStore};
@@ -32,7 +31,6 @@ pub mod masters;
 pub mod report;
 pub mod room;
 pub mod run;
-pub mod undetected;
 
 /// The number of preamble bytes that a master puts before a request.
 const MASTER_PREAMBLES: u8 = 20;
@@ -141,10 +139,10 @@ impl<S: RegisterStore> Line<S> {
     /// # Errors
     ///
     /// The leg whose damage is undetected, if there is one.
-    pub fn step(&mut self, event: &LineEvent, process: &Process) -> Result<(), Undetected>
+    pub fn step(&mut self, event: &LineEvent, process: &Process) -> Result<(), Leg>
         requires room { HasRoomFor (event.now ∷ []) self.old }
         ensures stepped { OnOk result (StepsOn process.now event.now self.old self.new) }
-        ensures stopped { IfErr result (λ damage. StopsAt process.now event.now self.old damage.leg) }
+        ensures stopped { IfErr result (StopsAt process.now event.now self.old) }
         ensures well_made { OnOk result (AreWellMade (event.now ∷ [])) }
         ensures room { OnOk result (LeavesRoom event.now self.old self.new) }
     {
@@ -182,34 +180,40 @@ impl<S: RegisterStore> Line<S> {
         up: &Heard,
         down: &Heard,
         process: &Process,
-    ) -> Result<(), Undetected>
+    ) -> Result<(), Leg>
         requires room { HasRoomFor (Turn who up.now down.now ∷ []) self.old }
         ensures stepped { OnOk result (StepsOn process.now (Turn who up.now down.now) self.old self.new) }
-        ensures stopped { IfErr result (λ damage. StopsAt process.now (Turn who up.now down.now) self.old damage.leg) }
+        ensures stopped { IfErr result (StopsAt process.now (Turn who up.now down.now) self.old) }
         ensures room { OnOk result (LeavesRoom (Turn who up.now down.now) self.old self.new) }
     {
         let is_sent = self.masters.send(who, &mut self.request);
         let sent = frame_if(is_sent, &self.request);
         self.spoken.speak(party_of(who), MASTER_PREAMBLES, sent);
-        let is_answered = answer_in(&mut self.device, up, sent, process, &mut self.reply)?;
+        let Ok(is_answered) = answer_in(&mut self.device, up, sent, process, &mut self.reply) else {
+            return Err(Leg::Up);
+        };
         let sent_back = frame_if(is_answered, &self.reply);
         let preambles = self.response_preambles;
         self.spoken.speak(Party::Device, preambles, sent_back);
-        let returned = arrived_in(Leg::Down, down, sent_back)?;
+        let Ok(returned) = arrived_in(down, sent_back) else {
+            return Err(Leg::Down);
+        };
         self.masters
             .end_turn(who, is_sent, returned, &mut self.outcomes);
         Ok(())
     }
 
     /// Noise, which the device and both masters hear; they hear the device's answer to it without damage.
-    fn hear_noise(&mut self, chars: &[Char], process: &Process) -> Result<(), Undetected>
+    fn hear_noise(&mut self, chars: &[Char], process: &Process) -> Result<(), Leg>
         requires room { HasRoomFor (Noise chars.now ∷ []) self.old }
         ensures stepped { OnOk result (StepsOn process.now (Noise chars.now) self.old self.new) }
-        ensures stopped { IfErr result (λ damage. StopsAt process.now (Noise chars.now) self.old damage.leg) }
+        ensures stopped { IfErr result (StopsAt process.now (Noise chars.now) self.old) }
         ensures room { OnOk result (LeavesRoom (Noise chars.now) self.old self.new) }
     {
         let reply = &mut self.reply;
-        let is_answered = answer_among(&mut self.device, Leg::Noise, chars, None, process, reply)?;
+        let Ok(is_answered) = answer_among(&mut self.device, chars, None, process, reply) else {
+            return Err(Leg::Noise);
+        };
         let answer = frame_if(is_answered, &self.reply);
         let preambles = self.response_preambles;
         self.spoken.speak(Party::Device, preambles, answer);

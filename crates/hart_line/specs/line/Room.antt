@@ -1,15 +1,8 @@
 -- The room on the line, for private calls alone (own profile).
 use Rattle.std.specs.Prelude.{◌≡◌, ◌≤◌, ◌+◌, List, [], ◌∷◌, count_by, length}
-use Rattle.hart_line.specs.Filling.{Filled}
 use Rattle.hart_line.specs.line.Line.{LineState}
 use Rattle.hart_line.specs.world.Needs.{is_submission}
 use Rattle.hart_line.specs.declared.event.LineEvent.{LineEvent}
-use Rattle.hart_line.specs.declared.line.report.Outcome.{Outcome}
-
--- There is room for an outcome of each submission, and none in it yet.
-pub record IsRoomFor (events : List LineEvent) (outcomes : Filled Outcome) : Type 0 where
-  pub empty : outcomes.items ≡ []
-  pub room : count_by is_submission events ≤ outcomes.room
 
 -- A line that keeps nothing of what was spoken has room for the outcomes of these events.
 pub record HasRoomFor (events : List LineEvent) (line : LineState) : Type 0 where

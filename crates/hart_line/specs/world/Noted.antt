@@ -1,9 +1,6 @@
 -- Scripts whose spoken frames are noted in a log while they are carried out (own profile).
 use Rattle.std.specs.Prelude.{◌⊎◌, ◌<◌, ℕ, Any, List, [], take}
-use Rattle.hart_device.specs.Device.{DeviceState}
 use Rattle.hart_line.specs.world.Faults.{IsFault}
-use Rattle.hart_line.specs.world.Kept.{KeepsPromises}
-use Rattle.hart_line.specs.world.Led.{Led}
 use Rattle.hart_line.specs.world.Needs.{IsNeededForOutcomes}
 use Rattle.hart_line.specs.world.Spoken.{AreSpoken}
 use Rattle.hart_line.specs.world.Step.{IsLast}
@@ -11,7 +8,6 @@ use Rattle.hart_line.specs.world.World.{Start, World}
 use Rattle.hart_line.specs.declared.event.LineEvent.{LineEvent}
 use Rattle.hart_line.specs.declared.fault.LineFault.{LineFault}
 use Rattle.hart_line.specs.declared.fault.LineFault.TheVariants.{BadLine, Memory, Undetected}
-use Rattle.hart_line.specs.declared.line.report.Outcome.{Outcome}
 use Rattle.hart_line.specs.declared.line.report.Spoken.{Spoken}
 
 -- Some first events of a script lead to a world, and noting a frame that was spoken in them needs room for this number of items, 1 at
@@ -32,15 +28,6 @@ IsNotingFault Needs AreNoted start events (Undetected number leg) = (undetected 
     × (spoken : List Spoken) × AreSpoken undetected.0.spoken spoken × AreNoted spoken
 IsNotingFault Needs AreNoted start events (Memory room) = IsNeededByNoting Needs start events room.items
 IsNotingFault Needs AreNoted start events (BadLine line) = ⊥
-
--- Events were carried out with a log: they led to this device and these outcomes, every frame that was spoken has been noted, and what is
--- promised of scripts holds.
-pub record AreCarriedOut (AreNoted : List Spoken → Type 0) (start : Start) (events : List LineEvent) (device : DeviceState)
-    (outcomes : List Outcome) : Type 0 where
-  pub spoken : List Spoken
-  pub led : Led start events device outcomes spoken
-  pub noted : AreNoted spoken
-  pub promises : KeepsPromises start events device outcomes
 
 -- The fault of a script with a log: one of its events; or refused memory, which its outcomes need, and nothing has been noted.
 abbrev pub IsLoggedFault : (Needs : Spoken → ℕ → Type 0) → (AreNoted : List Spoken → Type 0) → Start → List LineEvent → LineFault → Type 0

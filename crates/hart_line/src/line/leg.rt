@@ -5,12 +5,14 @@ ghost use Rattle.hart_device.specs.answer.Answer.{answer_of, state_after};
 ghost use Rattle.hart_line.specs.world.Damage.{Arrives, ArrivesAmong, IsUndetected, IsUndetectedAmong, Reaches, ReachesAmong};
 ghost use Rattle.hart_line.specs.line.Leg.{AnswersTo, IsSent};
 ghost use Rattle.hart_line.specs.world.Spoken.{SpokenFrame, frame_if};
-ghost use Rattle.hart_line.specs.declared.fault.Leg.TheVariants.{Up};
 
-use crate::line::undetected::Undetected;
-use crate::{Heard, Leg};
+use crate::Heard;
 use hart_device::{Device, Process, RegisterStore};
 use hart_frame::{Char, Frame, LoneFrame, lone_frame};
+
+/// The damage of what was heard is undetected.
+#[derive(Clone, Copy)]
+pub struct Undetected;
 
 /// The frame that arrives in a leg, if any does: the one that was sent.
 ///
@@ -18,9 +20,9 @@ use hart_frame::{Char, Frame, LoneFrame, lone_frame};
 ///
 /// # Errors
 ///
-/// The leg, if its damage is undetected.
+/// [`Undetected`], if the damage is.
+#[tactic(auto, using(crate::proofs::lemmas::line::Leg::message_arrives, crate::proofs::lemmas::line::Leg::nothing_arrives))]
 pub fn arrived_in<'a>(
-    leg: Leg,
     heard: &Heard,
     sent: Option<&'a Frame>,
 ) -> Result<Option<&'a Frame>, Undetected>
@@ -28,12 +30,11 @@ pub fn arrived_in<'a>(
         → Arrives heard.now said (option_copied arrived)) }
     ensures undetected { IfErr result (λ damage. (said : Option SpokenFrame) → IsSent (option_copied sent.entry) said
         → IsUndetected heard.now said) }
-    ensures leg { IfErr result (λ damage. damage.leg ≡ leg) }
 {
     match heard {
         Heard::Clean => Ok(sent),
         Heard::Lost => Ok(None),
-        Heard::Chars(chars) => arrived_among(leg, chars.as_slice(), sent),
+        Heard::Chars(chars) => arrived_among(chars.as_slice(), sent),
     }
 }
 
@@ -41,20 +42,18 @@ pub fn arrived_in<'a>(
 ///
 /// # Errors
 ///
-/// The leg, if its damage is undetected.
+/// [`Undetected`], if the damage is.
 pub fn arrived_among<'a>(
-    leg: Leg,
     chars: &[Char],
     sent: Option<&'a Frame>,
 ) -> Result<Option<&'a Frame>, Undetected>
     ensures arrives { IfOk result (λ arrived. ArrivesAmong chars.now (option_copied sent.entry) (option_copied arrived)) }
     ensures undetected { IfErr result (λ damage. IsUndetectedAmong chars.now (option_copied sent.entry)) }
-    ensures leg { IfErr result (λ damage. damage.leg ≡ leg) }
 {
     match lone_frame(chars) {
         LoneFrame::NoFrame => Ok(None),
         LoneFrame::Alone(found) if is_frame(sent, &found.frame) => Ok(sent),
-        LoneFrame::Alone(_) | LoneFrame::Several => Err(Undetected { leg }),
+        LoneFrame::Alone(_) | LoneFrame::Several => Err(Undetected),
     }
 }
 
@@ -62,7 +61,8 @@ pub fn arrived_among<'a>(
 ///
 /// # Errors
 ///
-/// The leg, if its damage is undetected.
+/// [`Undetected`], if the damage is.
+#[tactic(auto, using(crate::proofs::lemmas::line::Leg::nothing_reaches))]
 pub fn answer_in<S: RegisterStore>(
     device: &mut Device<S>,
     up: &Heard,
@@ -74,7 +74,6 @@ pub fn answer_in<S: RegisterStore>(
         (Reaches device.old.identity up.now said) device.old process.now (frame_if is_answered reply.new) device.new) }
     ensures undetected { IfErr result (λ damage. (said : Option SpokenFrame) → IsSent (option_copied sent.entry) said
         → IsUndetected up.now said) }
-    ensures leg { IfErr result (λ damage. damage.leg ≡ Up) }
 {
     match up {
         Heard::Clean => match sent {
@@ -82,9 +81,7 @@ pub fn answer_in<S: RegisterStore>(
             None => Ok(false),
         },
         Heard::Lost => Ok(false),
-        Heard::Chars(chars) => {
-            answer_among(device, Leg::Up, chars.as_slice(), sent, process, reply)
-        }
+        Heard::Chars(chars) => answer_among(device, chars.as_slice(), sent, process, reply),
     }
 }
 
@@ -92,10 +89,9 @@ pub fn answer_in<S: RegisterStore>(
 ///
 /// # Errors
 ///
-/// The leg, if its damage is undetected.
+/// [`Undetected`], if the damage is.
 pub fn answer_among<S: RegisterStore>(
     device: &mut Device<S>,
-    leg: Leg,
     chars: &[Char],
     sent: Option<&Frame>,
     process: &Process,
@@ -104,9 +100,8 @@ pub fn answer_among<S: RegisterStore>(
     ensures answers { IfOk result (λ is_answered. AnswersTo (ReachesAmong device.old.identity chars.now (option_copied sent.entry))
         device.old process.now (frame_if is_answered reply.new) device.new) }
     ensures undetected { IfErr result (λ damage. IsUndetectedAmong chars.now (option_copied sent.entry)) }
-    ensures leg { IfErr result (λ damage. damage.leg ≡ leg) }
 {
-    if let Some(frame) = arrived_among(leg, chars, sent)? {
+    if let Some(frame) = arrived_among(chars, sent)? {
         return Ok(answer(device, frame, process, reply));
     }
     let Some(answer) = device.reply_to_garbled(chars) else {

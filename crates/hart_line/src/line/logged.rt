@@ -1,12 +1,12 @@
 //! Scripts are carried out, and what is spoken is noted while they are.
-ghost use Rattle.std.specs.Prelude.{◌≡◌, List, IfErr, IfOk};
+ghost use Rattle.std.specs.Prelude.{◌≡◌, ◌≤◌, [], List, IfErr, IfOk, count_by};
 ghost use Rattle.hart_values.specs.declared.master_id.MasterId.TheVariants.{Primary, Secondary};
 ghost use Rattle.hart_master.specs.declared.hand.Hand.TheVariants.{Empty};
-ghost use Rattle.hart_line.specs.line.Room.{IsRoomFor};
 ghost use Rattle.hart_line.specs.world.Faults.{IsNotDetectable};
 ghost use Rattle.hart_line.specs.world.Kept.{KeepsPromises};
 ghost use Rattle.hart_line.specs.world.Led.{Led};
-ghost use Rattle.hart_line.specs.world.Noted.{AreCarriedOut, IsLoggedFault, IsNotingFault};
+ghost use Rattle.hart_line.specs.world.Needs.{is_submission};
+ghost use Rattle.hart_line.specs.world.Noted.{IsLoggedFault, IsNotingFault};
 ghost use Rattle.hart_line.specs.world.Promises.{start_from};
 ghost use Rattle.hart_line.specs.declared.line.report.Spoken.{Spoken};
 
@@ -69,11 +69,14 @@ pub fn carry_out<S: RegisterStore + Drop, L: Log>(
     process: &Process,
     log: &mut L,
 ) -> Result<Ending<S>, LineFault>
-    requires room { IsRoomFor events.now outcomes }
+    requires empty { outcomes.items ≡ [] }
+    requires room { count_by is_submission events.now ≤ outcomes.room }
     requires primary { (primary.id ≡ Primary) × (primary.hand ≡ Empty) }
     requires secondary { (secondary.id ≡ Secondary) × (secondary.hand ≡ Empty) }
-    ensures carried_out { IfOk result (λ ending. AreCarriedOut (λ spoken. L.notes log.old spoken log.new)
-        (start_from device process.now primary secondary) events.now ending.device ending.outcomes) }
+    ensures led { let start = start_from device process.now primary secondary in IfOk result (λ ending.
+        (spoken : List Spoken) × Led start events.now ending.device ending.outcomes spoken × L.notes log.old spoken log.new) }
+    ensures promises { IfOk result (λ ending.
+        KeepsPromises (start_from device process.now primary secondary) events.now ending.device ending.outcomes) }
     ensures stopped { let start = start_from device process.now primary secondary in IfErr result (λ fault.
         IsNotingFault L.needs (λ spoken. L.notes log.old spoken log.new) start events.now fault × IsNotDetectable start events.now fault) }
 {
@@ -81,8 +84,8 @@ pub fn carry_out<S: RegisterStore + Drop, L: Log>(
     processes_are_well_made(process);
     let mut line = Line::new(outcomes, device, primary, secondary);
     for (index, event) in events.iter().enumerate() {
-        if let Err(damage) = line.step(event, process) {
-            return Err(damage.at(index));
+        if let Err(leg) = line.step(event, process) {
+            return Err(LineFault::Undetected { event: index, leg });
         }
         line.tell(log)?;
     }

@@ -22,6 +22,7 @@ pub struct LeadingItem {
 /// The item that begins a text, or `None` if none does.
 ///
 /// A `!` directly after two digits belongs to them, so that no item begins if no fault bits follow it.
+#[tactic(auto, using(crate::proofs::lemmas::script::Items::begins_as_plain))]
 pub fn leading_item(text: &[u8]) -> Option<LeadingItem>
     ensures { MatchOption result (NoItemBegins text.now) (λ lead. BeginsAsItem text.now lead.char lead.len) }
 {
@@ -57,6 +58,7 @@ fn next_item(digits: &Digits, text: &[u8]) -> Option<LeadingItem>
 
 /// The item without fault bits that begins a text, if one does and its digits are known.
 #[inline(always)]
+#[tactic(auto, using(crate::proofs::lemmas::script::Items::begins_as_plain))]
 fn plain_item(digits: &Digits, text: &[u8]) -> Option<LeadingItem>
     ensures { IfSome result (λ lead. BeginsAsItem text.now lead.char lead.len) }
 {

@@ -1,6 +1,6 @@
 -- Every text is a script or has a first bad line: what its lines say is decided word by word.
 use Rattle.hart_line.proofs.Common.{◌≡◌, ◌<◌, ◌≤◌, ◌⊎◌, ℕ, ◌+◌, suc, List, [], ◌∷◌, length, take, Option, None, Some, Bool, true, false}
-use Rattle.hart_line.proofs.Common.{inl, inr, refl, arith, codes, slice_get, AreFaultBits, Chars, Clean, Lost}
+use Rattle.hart_line.proofs.Common.{inl, inr, refl, arith, codes, slice_get, AreFaultBits, Heard, Chars, Clean, Lost}
 use Rattle.hart_line.proofs.Common.{LineEvent, Noise, Protect, Restart, Submit, Turn, Request, Address, MasterId}
 use Rattle.std.proofs.Common.{zero}
 use Rattle.std.proofs.lemmas.Bool.{cases_eq, cases_lt}
@@ -13,7 +13,7 @@ use Rattle.hart_line.specs.script.Items.{AreDigits, AreItems, BeginsWithItem, Fa
 use Rattle.hart_line.specs.script.Rows.{AreEvents, HasFirstBadLine, IsBadLine, IsLegWord, IsScript, Says, is_skipped, lines_in_words, request_of}
 use Rattle.hart_line.specs.script.Words.{HasNoValue, IsAddressWord, IsWho, address_of, who_of}
 use Rattle.hart_line.proofs.lemmas.script.Items.{after_item, before_items, items_begin}
-use Rattle.hart_line.proofs.lemmas.script.Rows.{no_leg, no_noise, no_turn, says_none}
+use Rattle.hart_line.proofs.lemmas.script.Rows.{no_leg, no_noise, says_none}
 
 -- A statement is proved or refuted.
 abbrev Decided : Type 0 → Type 0
@@ -112,7 +112,16 @@ leg_or_none word =
       | inr none ↦ inr (no_leg word (ok, lost) none)
     ]))
 
--- What the words of a submission and of a turn are, if they say one.
+-- A row of three parts is decided if they are.
+three_or_none : {A B C : Type 0} {IsA : A → Type 0} {IsB : B → Type 0} {IsC : C → Type 0} (IsSaid : LineEvent → Type 0)
+    → OneOrNone IsA → OneOrNone IsB → OneOrNone IsC
+    → ((a : A) (b : B) (c : C) → IsA a → IsB b → IsC c → (event : LineEvent) × IsSaid event)
+    → ((event : LineEvent) → IsSaid event → ((a : A) × IsA a) × ((b : B) × IsB b) × ((c : C) × IsC c)) → OneOrNone IsSaid
+three_or_none IsSaid (inl a) (inl b) (inl c) made parts = inl (made a.0 b.0 c.0 a.1 b.1 c.1)
+three_or_none IsSaid a b (inr none) made parts = inr (λ event said. let has = (parts event said).2 in none has.0 has.1)
+three_or_none IsSaid a (inr none) c made parts = inr (λ event said. let has = (parts event said).1 in none has.0 has.1)
+three_or_none IsSaid (inr none) b c made parts = inr (λ event said. let has = (parts event said).0 in none has.0 has.1)
+
 submission_parts : (master to command : List ℕ) (payload : List (List ℕ)) (event : LineEvent)
     → Says (codes "submit" ∷ master ∷ to ∷ command ∷ payload) event → ((who : MasterId) × IsWho master who)
     × ((address : Address) × IsAddressWord to address) × ((request : Request) × (request_of command payload ≡ Some request))
@@ -120,36 +129,23 @@ submission_parts master to command payload (Submit who address request) said =
     let are = said.4 in ((who, cc), (address, cc), (request, cc))
 submission_parts master to command payload event said = absurd (grind arith)
 
-turn_master : (master first second : List ℕ) (event : LineEvent) → Says (codes "turn" ∷ master ∷ first ∷ second ∷ []) event
-    → (who : MasterId) × IsWho master who
-turn_master master first second (Turn who up down) said = let are = said.3 in (who, cc)
-turn_master master first second event said = absurd (grind arith)
-
 submission_or_none : (words : List (List ℕ)) → OneOrNone (Says (codes "submit" ∷ words))
-submission_or_none (master ∷ to ∷ command ∷ payload) =
-    said (found_or_none (who_of master)) (found_or_none (address_of to)) (found_or_none (request_of command payload))
-  where
-    said : OneOrNone (IsWho master) → OneOrNone (IsAddressWord to) → OneOrNone (λ request. request_of command payload ≡ Some request)
-        → OneOrNone (Says (codes "submit" ∷ master ∷ to ∷ command ∷ payload))
-    said (inl who) (inl address) (inl request) =
-        inl (Submit who.0 address.0 request.0, (master, to, command, payload, refl, who.1, address.1, request.1))
-    said who address (inr none) =
-        inr (λ event is. let parts = submission_parts master to command payload event is in none parts.2.0 parts.2.1)
-    said who (inr none) request =
-        inr (λ event is. let parts = submission_parts master to command payload event is in none parts.1.0 parts.1.1)
-    said (inr none) address request =
-        inr (λ event is. let parts = submission_parts master to command payload event is in none parts.0.0 parts.0.1)
+submission_or_none (master ∷ to ∷ command ∷ payload) = three_or_none _
+    (found_or_none (who_of master)) (found_or_none (address_of to)) (found_or_none (request_of command payload))
+    (λ who address request a b c. (Submit who address request, (master, to, command, payload, refl, a, b, c)))
+    (submission_parts master to command payload)
 submission_or_none words = inr (λ event said. grind arith)
 
+turn_parts : (master first second : List ℕ) (event : LineEvent) → Says (codes "turn" ∷ master ∷ first ∷ second ∷ []) event
+    → ((who : MasterId) × IsWho master who) × ((up : Heard) × IsLegWord first up) × ((down : Heard) × IsLegWord second down)
+turn_parts master first second (Turn who up down) said =
+    let one : said.1 ≡ first = grind arith in let other : said.2 ≡ second = grind arith in
+    let are = said.3 in ((who, cc), (up, rw one at said.5), (down, rw other at said.6))
+turn_parts master first second event said = absurd (grind arith)
+
 turn_or_none : (words : List (List ℕ)) → OneOrNone (Says (codes "turn" ∷ words))
-turn_or_none (master ∷ first ∷ second ∷ []) = said (found_or_none (who_of master)) (leg_or_none first) (leg_or_none second)
-  where
-    said : OneOrNone (IsWho master) → OneOrNone (IsLegWord first) → OneOrNone (IsLegWord second)
-        → OneOrNone (Says (codes "turn" ∷ master ∷ first ∷ second ∷ []))
-    said (inl who) (inl up) (inl down) = inl (Turn who.0 up.0 down.0, (master, first, second, refl, who.1, up.1, down.1))
-    said who up (inr none) = inr (no_turn master first second second (inr refl) none)
-    said who (inr none) down = inr (no_turn master first second first (inl refl) none)
-    said (inr none) up down = inr (λ event is. let named = turn_master master first second event is in none named.0 named.1)
+turn_or_none (master ∷ first ∷ second ∷ []) = three_or_none _ (found_or_none (who_of master)) (leg_or_none first) (leg_or_none second)
+    (λ who up down a b c. (Turn who up down, (master, first, second, refl, a, b, c))) (turn_parts master first second)
 turn_or_none words = inr (λ event said. grind arith)
 
 switch_or_none : (words : List (List ℕ)) → OneOrNone (Says (codes "protect" ∷ words))

@@ -1,18 +1,16 @@
-use Rattle.hart_line.proofs.Common.{arith, None, refl, err_from_is_err_and, option_to_list, Chars}
+use Rattle.hart_line.proofs.Common.{arith, None, refl, option_to_list, Chars}
 use Rattle.hart_line.specs.world.Step.{replied, sent_back}
 use Rattle.hart_line.proofs.lemmas.line.Leg.{noise_answers}
 use Rattle.hart_line.proofs.lemmas.line.Turn.{answered, replied_stands}
 use Rattle.hart_line.proofs.line.Line.hear_noise.Goals as goal
 
-pub returns-in_err-is_answered-clause-stopped : goal.returns-in_err-is_answered-clause-stopped
-returns-in_err-is_answered-clause-stopped g c =
-    let stop = err_from_is_err_and c.from_residual.result c.from_residual.ensures.1 in
-    rw (stop.1, stop.2, c.in_err-is_answered.ensures.leg) (λ start world process stands. (
-      Chars c.args.chars.now,
-      None,
-      (refl, refl),
-      record { chars = c.args.chars.now; are_heard = refl; among = c.in_err-is_answered.ensures.undetected },
-    ))
+pub returns-in_default-clause-stopped : goal.returns-in_default-clause-stopped
+returns-in_default-clause-stopped g c = λ start world process stands. (
+  Chars c.args.chars.now,
+  None,
+  (refl, refl),
+  record { chars = c.args.chars.now; are_heard = refl; among = c.in_default.ensures.undetected },
+)
 
 pub returns-clause-stepped : goal.returns-clause-stepped
 returns-clause-stepped g c = λ start world process within stands.
@@ -23,7 +21,7 @@ returns-clause-stepped g c = λ start world process within stands.
     let held = c.overhear.ensures start.retries world.hands (c.hear_noise.ensures start.retries world.hands s.masters_are) in
     record {
       next = replied start world a.brought;
-      step = record { brought = a.brought; arrives = a.arrives; next_is = refl };
+      step = record { brought = a.brought; arrives = a.arrives; next_is = refl {a = replied start world a.brought} };
       stands = replied_stands start world (Chars c.args.chars.now) _ _ a held s.outcomes_are s.preambles_are;
       said = option_to_list (sent_back start world a.brought);
       said_is = refl;

@@ -1,5 +1,5 @@
-use Rattle.hart_line.proofs.Common.{arith, OneFrame}
-use Rattle.hart_line.proofs.lemmas.line.Leg.{clean_reaches, nothing_reaches}
+use Rattle.hart_line.proofs.Common.{OneFrame}
+use Rattle.hart_line.proofs.lemmas.line.Leg.{clean_reaches}
 use Rattle.hart_line.proofs.line.leg.answer_in.Goals as goal
 
 pub returns-in-Some-clause-answers : goal.returns-in-Some-clause-answers
@@ -9,9 +9,3 @@ returns-in-Some-clause-answers g c = λ said is. rw c.in-Clean.is (record {
   answer_is = c.answer.ensures.answer;
   after_is = c.answer.ensures.state;
 })
-
-pub returns-in-None-clause-answers : goal.returns-in-None-clause-answers
-returns-in-None-clause-answers g c = grind (arith, nothing_reaches)
-
-pub returns-in-Lost-clause-answers : goal.returns-in-Lost-clause-answers
-returns-in-Lost-clause-answers g c = grind (arith, nothing_reaches)

@@ -10,14 +10,14 @@ use Rattle.hart_line.proofs.line.logged.carry_out.Goals as goal
 
 pub loop-index-init : goal.loop-index-init
 loop-index-init g c =
-    rw (c.new-line.ensures.line, c.requires.room.empty) (record {
+    rw (c.new-line.ensures.line, c.requires.empty) (record {
       told = (
         [],
         g.met.L.Log.none _,
         reached_first c.args.device c.args.process.now c.args.primary c.args.secondary _ c.new-line.ensures.device
             c.requires.primary c.requires.secondary refl refl refl refl refl,
       );
-      room = record { outcomes = omega (arith, c.requires.room.room); nothing_spoken = refl };
+      room = record { outcomes = omega (arith, c.requires.room); nothing_spoken = refl };
     })
 
 pub step-requires : goal.step-requires
@@ -32,16 +32,15 @@ returns-in-Err-clause-stopped g c =
     let start = start_from c.args.device c.args.process.now c.args.primary c.args.secondary in
     let (noted, has, reached) = c.loop-index.invariant.told in
     let here = slice_get-get_or c.args.events.now c.loop-index.index _ c.loop-index-test.true in
-    let fault : IsFault start c.args.events.now (Undetected c.loop-index.index c.in-Err.damage.leg) = (
+    let fault : IsFault start c.args.events.now (Undetected c.loop-index.index c.in-Err.leg) = (
       reached.world,
       _,
       reached.is_last,
       here,
       rw c.index-events-index.is at (c.in-Err.ensures.stopped start reached.world refl reached.stands),
-    ) in
-    rw c.at.ensures (
+    ) in (
       (fault, noted, reached.spoken_are, has),
-      scripts_keep_their_promises-detected start c.args.events.now (Undetected c.loop-index.index c.in-Err.damage.leg) enough fault,
+      scripts_keep_their_promises-detected start c.args.events.now (Undetected c.loop-index.index c.in-Err.leg) enough fault,
     )
 
 -- An event more is carried out, whose spoken frames are to be noted.
@@ -90,14 +89,8 @@ returns g c =
     let reached = rw (take_all c.loop-index.index c.args.events.now (omega (arith, c.loop-index-test.false))) at told in
     let led = reached_led _ _ reached c.into_ending.ensures.device c.into_ending.ensures.outcomes in
     record {
-      carried_out = record {
-        spoken = noted;
-        led = led;
-        noted = has;
-        promises = led_keeps start c.args.events.now _ _ noted (record {
-          device = c.new-line.ensures.device;
-          process = c.processes_are_well_made.ensures;
-        }) reached.well_made led;
-      };
+      led = (noted, led, has);
+      promises = led_keeps start c.args.events.now _ _ noted
+          (record { device = c.new-line.ensures.device; process = c.processes_are_well_made.ensures }) reached.well_made led;
       stopped = tt;
     }

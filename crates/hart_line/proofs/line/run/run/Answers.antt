@@ -7,9 +7,9 @@ use Rattle.hart_line.proofs.line.run.run.Goals as goal
 
 pub returns-clause-led : goal.returns-clause-led
 returns-clause-led g c =
-    let ended = c.in_ok-ending.ensures.carried_out in let led = ended.led in let spoken = ended.spoken in
+    let (spoken, led, notes) = c.in_ok-ending.ensures.led in
     let within = spoken_within (start_from c.args.device c.args.process.now c.args.primary c.args.secondary) c.args.events.now
     led.world led.last in
     let long = AllZip-long IsSpoken led.world.spoken spoken led.spoken_are in
     let room = c.in_ok-frames.ensures.empty in
-    rw (c.new.ensures, c.finish.ensures, ended.noted.items (rw room (omega arith)), room) led
+    rw (c.new.ensures, c.finish.ensures, notes.items (rw room (omega arith)), room) led

@@ -1,6 +1,5 @@
 use Rattle.hart_line.proofs.Common.{◌≡◌, ◌≢◌, ◌≤◌, ℕ, List, length, ◌∷◌, get_or, refl, ◌∙◌, subst, arith, AreFaultBits, Character}
 use Rattle.hart_line.specs.script.Items.{AreDigits, BeginsAsItem, byte_of, Faulty}
-use Rattle.hart_line.proofs.lemmas.script.Items.{begins_as_plain}
 use Rattle.hart_line.proofs.script.items.leading_item.Goals as goal
 
 -- an item with fault bits begins a text
@@ -16,9 +15,6 @@ begins_as_faulty (x ∷ y ∷ m ∷ v ∷ w ∷ text) char byte faults some d b 
   means = cc;
 }
 begins_as_faulty text char byte faults some d b n f g z a e = absurd (omega arith)
-
-pub returns-then-not-gives_faults : goal.returns-then-not-gives_faults
-returns-then-not-gives_faults c = grind (arith, begins_as_plain)
 
 pub returns : goal.returns
 returns c = grind (arith, begins_as_faulty)
