@@ -117,8 +117,7 @@ cat >"$work/wanted" <<'TEXT'
 10-22: request of the primary master to device 37420A1B2C, Command 19, write final assembly number
     final assembly number: 0x012345
 TEXT
-# Its own are of the input and of its characters.
-refuse_each 2 explain
+refuse_each 0 explain
 
 # So many messages that they are read in 52 portions, and their lines written in more.
 messages=40000
@@ -212,12 +211,11 @@ while refuse_by_name "$number"; do
     number=$((number + 1))
 done
 
-# How many growths each call has, and what it answers and how many bytes it has written if one of them is refused. `dump` and `encode_text`
-# have none.
+# How many growths each call has, and what it answers and how many bytes it has written if one of them is refused. `dump`, `explain` and
+# `encode_text` have none.
 cat >"$work/growths" <<'GROWTHS'
 2 answer 7 0
 3 answer with an image 7 0
-2 explain 7 0
 4 read_script 2
 2 run 2
 2 serve 7 0

@@ -46,8 +46,6 @@ WITHOUT_END = (
     ("answer", IDENTIFY + " ", ""),
     ("dump", "", ""),
     ("dump", IDENTIFY + " ", dump.FIRST_LINE),
-    ("explain", "", ""),
-    ("explain", IDENTIFY + " ", explain.IDENTIFY),
     ("sim", "", ""),
     ("sim", "turn P ok ok\n", ""),
 )
@@ -193,6 +191,10 @@ def inputs_up_to_the_largest_are_taken(runner):
         runner.serves(["sim"], noise, sim.AS_IT_WAS)
 
 
+def an_explanation_has_no_such_limit(runner):
+    runner.serves(["explain"], " " * (2 * INPUT_LIMIT) + IDENTIFY, explain.IDENTIFY)
+
+
 def words_give_a_message_or_the_first_bad_one(runner):
     rows = [*encode.ROWS]
     rows += [(["encode", "--", *four], line, "") for four, line in encode.REQUESTS]
@@ -287,17 +289,19 @@ def a_failed_write_of_errors_leaves_the_status(runner):
 
 
 def lines_are_written_before_more_is_read(runner):
-    for text, most_read, most_written, write, reads, wanted in dump.FAILED_WRITES:
-        run = runner.run(["dump"], text, most_read=most_read, most_written=most_written, failed_output=write)
-        is_named = run.gave(FAULT, wanted, "write fault\n") and (run.reads, run.writes) == (reads, write + 1)
-        runner.hold(is_named, ["dump"], f"at write {write} on {text}: {run}")
+    for word, rows in (("dump", dump.FAILED_WRITES), ("explain", explain.FAILED_WRITES)):
+        for text, most_read, most_written, write, reads, wanted in rows:
+            run = runner.run([word], text, most_read=most_read, most_written=most_written, failed_output=write)
+            is_named = run.gave(FAULT, wanted, "write fault\n") and (run.reads, run.writes) == (reads, write + 1)
+            runner.hold(is_named, [word], f"at write {write} on {text}: {run}")
 
 
 def nothing_is_read_after_the_end(runner):
-    for text, after, most_read, fault, reads, writes, wanted in dump.READS:
-        run = runner.run(["dump"], text, most_read=most_read, after=after)
-        is_no_more = run.gave(FAULT if fault else DONE, wanted, fault) and (run.reads, run.writes) == (reads, writes)
-        runner.hold(is_no_more, ["dump"], f"on {text}, {most_read} a read: {run}")
+    for word, rows in (("dump", dump.READS), ("explain", explain.READS)):
+        for text, after, most_read, fault, reads, writes, wanted in rows:
+            run = runner.run([word], text, most_read=most_read, after=after)
+            is_no_more = run.gave(FAULT if fault else DONE, wanted, fault) and (run.reads, run.writes) == (reads, writes)
+            runner.hold(is_no_more, [word], f"on {text}, {most_read} a read: {run}")
 
 
 def inputs_are_read_up_to_the_limit(runner):
@@ -326,6 +330,7 @@ CHECKS = (
     lines_up_to_the_longest_are_served,
     long_scripts_have_long_texts,
     inputs_up_to_the_largest_are_taken,
+    an_explanation_has_no_such_limit,
     words_give_a_message_or_the_first_bad_one,
     a_device_goes_on_from_its_image,
     a_bad_image_is_named_before_anything_is_read,

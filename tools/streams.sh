@@ -69,36 +69,58 @@ shows() {
     echo "hart $*: showed $wanted"
 }
 
-# Gives a text to the `hart dump` that runs on a pipe: it has to write this line, though it could read on.
-dumps_at_once() {
+# Runs hart with this word on a pipe that stays open.
+begins() {
+    word=$1
+    timeout 60 "$program" "$word" <"$work/heard" >"$work/lines" 2>"$work/errors" &
+    running=$!
+    exec 3>"$work/heard" 4<"$work/lines"
+}
+
+# Gives a text to the hart that runs: it has to write this line, though it could read on.
+says_at_once() {
     printf '%s' "$1" >&3
     line=$(timeout 60 head -n 1 <&4) || true
     if [ "$line" != "$2" ]; then
-        echo "hart dump: '$line' at '$1' on an open pipe, but '$2' is wanted" >&2
+        echo "hart $word: '$line' at '$1' on an open pipe, but '$2' is wanted" >&2
         exit 1
     fi
-    echo "hart dump: wrote '$line' on an open pipe"
+    echo "hart $word: wrote '$line' on an open pipe"
+}
+
+# The hart that runs has to end at this place of bad hex, though it could read on.
+ends_at_bad_hex() {
+    printf 'FG' >&3
+    status=0
+    wait "$running" || status=$?
+    exec 3>&- 4<&-
+    if [ "$status" -ne 1 ] || [ "$(cat "$work/errors")" != "bad hex at $1" ]; then
+        echo "hart $word: status $status and '$(cat "$work/errors")' on an open pipe, but 'bad hex at $1' is wanted" >&2
+        exit 1
+    fi
+    echo "hart $word: ended with $status on an open pipe, and gave '$(cat "$work/errors")'"
 }
 
 mkfifo "$work/heard" "$work/lines"
-timeout 60 "$program" dump <"$work/heard" >"$work/lines" 2>"$work/errors" &
-dump=$!
-exec 3>"$work/heard" 4<"$work/lines"
-dumps_at_once 'FF FF 02 80 00 00 82 ' '2 7 STX P 0 @0 - 0 -'
+begins dump
+says_at_once 'FF FF 02 80 00 00 82 ' '2 7 STX P 0 @0 - 0 -'
 printf 'FFFF020000000' >&3
-dumps_at_once '2 ' '9 14 STX S 0 @0 - 0 -'
+says_at_once '2 ' '9 14 STX S 0 @0 - 0 -'
 # The message that begins first says that 255 payload bytes follow. A character with a fault shows that they do not.
 printf 'FFFF82B7420A1B2C13FFFFFFFFFFFF0280000082' >&3
-dumps_at_once '00!40 ' '29 34 STX P 0 @0 - 0 -'
-printf 'FG' >&3
-status=0
-wait "$dump" || status=$?
-exec 3>&- 4<&-
-if [ "$status" -ne 1 ] || [ "$(cat "$work/errors")" != 'bad hex at 82' ]; then
-    echo "hart dump: status $status and '$(cat "$work/errors")' on an open pipe, but 'bad hex at 82' is wanted" >&2
-    exit 1
-fi
-echo "hart dump: ended with $status on an open pipe, and gave '$(cat "$work/errors")'"
+says_at_once '00!40 ' '29 34 STX P 0 @0 - 0 -'
+ends_at_bad_hex 82
+
+identify='request of the primary master to the device at polling address 0, Command 0, read unique identifier'
+begins explain
+says_at_once 'FF FF 02 80 00 00 82 ' "2-7: $identify"
+printf 'FF02000000' >&3
+says_at_once '02 ' '8: no message: only one 0xFF stands before it'
+printf 'FF82B7420A1B2C13FFFFFF02800000' >&3
+says_at_once '82 ' "24-29: $identify"
+printf 'FFFF82B7420A1B2C13' >&3
+says_at_once '00!40 ' '31: no message: the character at 38 has the fault bits 0x40'
+ends_at_bad_hex 91
 
 # A device that serves says a line for each line, though it could read on, and is the same one all the time.
 mkfifo "$work/asked" "$work/said"
@@ -175,12 +197,13 @@ cp "$work/full" "$work/longer"
 printf ' ' >>"$work/longer"
 heard=$work/full
 writes '' dump
-writes '' explain
 writes '' answer
 writes "$(printf 'counter 1\nimage %s' "$image")" sim --image "$image"
-for word in dump explain answer sim; do
+for word in dump answer sim; do
     ends_with 1 'input too long' "$work/output" "$word" <"$work/longer"
 done
+heard=$work/longer
+writes '' explain
 
 # However many preamble bytes are heard, they are no frame, and the frame after them is found.
 head -c 100000 /dev/zero | tr '\0' '\377' | od -An -v -tx1 >"$work/preamble"

@@ -9,7 +9,7 @@ from .device import COMMUNICATION_FAULTS
 from .fields import bytes_text, said_of_fields
 from .frames import BROADCAST, Polling, frames_of
 from .misses import missed
-from .texts import told
+from .texts import NO_LIMIT, told
 
 PAGE = pathlib.Path(__file__).parents[2] / "docs" / "PROTOCOL.md"
 SECTION = PAGE.read_text(encoding="utf-8").split("\n## Explanations")[1]
@@ -164,4 +164,4 @@ def explained(heard):
 
 def explain(given):
     """What `hart explain` does with an input."""
-    return told(given, explained)
+    return told(given, explained, NO_LIMIT)

@@ -73,6 +73,16 @@ def wrong_from(heard, place):
     return None
 
 
+def stands_alone(heard, place):
+    """Whether a whole body stands at a place that ends before two `FF` in a row begin: none in it, nor with its last character."""
+    walk = Walk(heard, place)
+    try:
+        walk_body(walk)
+    except Wrong:
+        return False
+    return [PREAMBLE, PREAMBLE] not in (heard[first:first + 2] for first in range(place, walk.place))
+
+
 def missed(heard, begin, end):
     """The lines of the misses from the stop of a message to a place; what stands before that stop is not looked at."""
     for place in range(begin + 1, end):
@@ -80,6 +90,6 @@ def missed(heard, begin, end):
             continue
         reason = wrong_from(heard, place)
         if place - 2 < begin or heard[place - 2] != PREAMBLE:
-            reason = "only one 0xFF stands before it" if reason is None else None
+            reason = "only one 0xFF stands before it" if stands_alone(heard, place) else None
         if reason is not None:
             yield f"{place}: no message: {reason}"

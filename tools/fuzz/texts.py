@@ -7,6 +7,8 @@ from .device import RESPONSE_PREAMBLES, Device, bytes_fault, new_device
 from .frames import BROADCAST, Char, Frame, Polling, Unique, body_of, frames_of
 
 INPUT_LIMIT = 1_048_576
+# What `hart explain` reads has no other limit than that of 64 bits, which no input here comes near to.
+NO_LIMIT = 2 ** 64 - 1
 LONGEST_ITEM = 5
 MOST_DATA = 255
 LEAST_PREAMBLES, MOST_PREAMBLES = 5, 20
@@ -117,27 +119,27 @@ def dumped(heard):
     return "".join(lines).encode()
 
 
-def up_to_fault(text):
+def up_to_fault(text, limit):
     """The characters of an input before its first fault in the order of its bytes, and this fault, None without one."""
     if text is None:
         return [], READ_FAULT
-    too_long = len(text) > INPUT_LIMIT
+    too_long = len(text) > limit
     try:
-        return read_items(text[:INPUT_LIMIT], cut_short=too_long), TOO_LONG if too_long else None
+        return read_items(text[:limit], cut_short=too_long), TOO_LONG if too_long else None
     except BadHex as bad:
         return bad.before, bad.fault()
 
 
-def told(given, text_of):
+def told(given, text_of, limit):
     """What a call does that tells of its input: it writes the text of the characters before the first fault, and gives that fault."""
-    heard, fault = up_to_fault(given.text)
+    heard, fault = up_to_fault(given.text, limit)
     written = text_of(heard)
     return done(written) if fault is None else failed(fault, written)
 
 
 def dump(given):
     """What `hart dump` does with an input."""
-    return told(given, dumped)
+    return told(given, dumped, INPUT_LIMIT)
 
 
 def message_text(frame, preambles):

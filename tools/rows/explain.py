@@ -74,6 +74,12 @@ ROWS = (
         "8: no message: only one 0xFF stands before it\n",
         "",
     ),
+    # The message lies in what would be a whole body after one preamble byte.
+    (
+        "FF 82 B7 42 0A 1B 2C 13 09 FF FF 02 80 00 00 82 00 00 50",
+        "11-16: request of the primary master to the device at polling address 0, Command 0, read unique identifier\n",
+        "",
+    ),
     ("FF FF 02 80 00 00 83", "2: no message: the check byte is 0x83 at 6, and 0x82 would fit\n", ""),
     (
         "55 FF FF 82 B7 42 0A 1B 2C 13 FF FF FF FF FF FF 02 80 00 00 82",
@@ -100,4 +106,36 @@ FAILED_READS = (
     ("FF FF 02 80 00 00 82", "2: no message: it lacks 1 character, its check byte\n", "read fault\n"),
     ("FF FF 02 80 00 00 82 G", IDENTIFY, "bad hex at 21\n"),
     ("FF FF 02 80 00 00 82 8", IDENTIFY, "read fault\n"),
+)
+
+ONE_PREAMBLE = "8: no message: only one 0xFF stands before it\n"
+
+# Two messages, the second with one preamble byte alone. What follows the last digits of an item makes it whole.
+MESSAGES = "FF FF 02 80 00 00 82 FF 02 80 00 00 82 "
+
+# A message whose first three preamble bytes are data of a body that may come after one preamble byte.
+IN_OPEN_BODY = "FF 82 B7 42 0A 1B 2C 13 FF FF FF 02 80 00 00 82 "
+
+# An input, the most bytes of a read and of a write, and the number of the write that fails; then the number of reads, all of which
+# came before that write, and what was written before it. None is no limit.
+FAILED_WRITES = (
+    (MESSAGES, 1, None, 0, 21, ""),
+    (MESSAGES, 1, None, 1, 39, IDENTIFY),
+    (MESSAGES, 2, None, 0, 11, ""),
+    (MESSAGES, 1, 1, 20, 21, IDENTIFY[:20]),
+    (MESSAGES, None, None, 0, 1, ""),
+    ("FF FF 02 80 00!40 ", 1, None, 0, 18, ""),
+    ("FF FF 02 80 00 00 83 ", 1, None, 0, 21, ""),
+    (IN_OPEN_BODY, 1, None, 0, 48, ""),
+)
+
+# An input, what comes after it, and the most bytes of a read; then the line of the fault, the numbers of reads and writes, and what is
+# written.
+READS = (
+    (MESSAGES, "end", 1, "", 40, 2, IDENTIFY + ONE_PREAMBLE),
+    (MESSAGES, "end", None, "", 2, 1, IDENTIFY + ONE_PREAMBLE),
+    # The end decides what is open.
+    ("FF FF 02 80 00 00 ", "end", 1, "", 19, 1, "2: no message: it lacks 1 character, its check byte\n"),
+    ("FF FF 02 80 00 00 82 8G FF FF 02 00 00 00 02 ", "end", 1, "bad hex at 21\n", 23, 1, IDENTIFY),
+    ("FF 82!08 FF", "end", 1, "bad hex at 3\n", 8, 0, ""),
 )

@@ -167,6 +167,24 @@ const EXPLAINED: &[Row] = &[
         Command 0, read unique identifier\n9: no message: it ends before its byte count\n",
         (4, "bad hex at 33"),
     ),
+    (
+        "FF 02 80 00 00 82",
+        "1: no message: only one 0xFF stands before it\n",
+        NONE,
+    ),
+    // The message lies in what would be a whole body after one preamble byte.
+    (
+        "FF 82 B7 42 0A 1B 2C 13 09 FF FF 02 80 00 00 82 00 00 50",
+        "11-16: request of the primary master to the device at polling address 0, \
+        Command 0, read unique identifier\n",
+        NONE,
+    ),
+    (
+        "FF FF 02 80!40 00 FF FF 02 80 00 00 82",
+        "2: no message: the character at 3 has the fault bits 0x40\n7-12: request of the primary master \
+        to the device at polling address 0, Command 0, read unique identifier\n",
+        NONE,
+    ),
 ];
 
 #[test]

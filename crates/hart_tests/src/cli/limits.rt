@@ -16,7 +16,6 @@ type Spaced<'a> = (Call<'a>, usize, &'a str, After, Fault<'a>, &'a str);
 /// Inputs that are as long as they may be.
 const LONGEST: &[Spaced] = &[
     (Call::Dump, INPUT_LIMIT, "", After::End, NONE, ""),
-    (Call::Explain, INPUT_LIMIT, "", After::End, NONE, ""),
     (Call::Answer(None), INPUT_LIMIT, "", After::End, NONE, ""),
     (
         Call::Simulate(None),
@@ -34,12 +33,21 @@ const LONGEST: &[Spaced] = &[
         NONE,
         IDENTIFY_LINE,
     ),
+    // That of `explain` may be longer.
+    (Call::Explain, INPUT_LIMIT + 1, "", After::End, NONE, ""),
+    (
+        Call::Explain,
+        INPUT_LIMIT,
+        IDENTIFY,
+        After::End,
+        NONE,
+        IDENTIFY_SAID,
+    ),
 ];
 
 /// Inputs with a byte more. An item that ends with the longest input is whole only if a byte follows that is read within it.
 const LONGER: &[Spaced] = &[
     (Call::Dump, INPUT_LIMIT + 1, "", After::End, TOO_LONG, ""),
-    (Call::Explain, INPUT_LIMIT + 1, "", After::End, TOO_LONG, ""),
     (
         Call::Answer(None),
         INPUT_LIMIT + 1,
@@ -118,7 +126,6 @@ const READS_TO_THE_LIMIT: usize = 16_385;
 const WITHOUT_END: &[Written] = &[
     (Call::Dump, "", ""),
     (Call::Dump, IDENTIFY_WHOLE, IDENTIFY_LINE),
-    (Call::Explain, IDENTIFY_WHOLE, IDENTIFY_SAID),
     (Call::Answer(None), IDENTIFY_WHOLE, ""),
     (Call::Simulate(None), IDENTIFY_WHOLE, ""),
     (Call::Simulate(None), "turn P ok ok\n", ""),

@@ -179,9 +179,13 @@ fn each_failed_write_is_named(rt: HostRuntime) {
 /// Bytes that hold a whole message, and a message that begins around it and is no frame.
 const HELD_BACK: &str = "FF FF 02 80 00 08 FF FF 02 80 00 00 82 00 00 00 ";
 
-/// An input of `dump` and what comes after it, the most bytes of a read and the write that fails; then the fault, the numbers of reads
+/// Bytes that hold a whole message, and before it one preamble byte alone, after which a longer body may begin.
+const OPEN_AFTER_ONE: &str = "FF 82 B7 42 0A 1B 2C 13 FF FF FF 02 80 00 00 82 ";
+
+/// A call, its input and what comes after that, the most bytes of a read and the write that fails; then the fault, the numbers of reads
 /// and writes, and what is written.
 type Order<'a> = (
+    Call<'a>,
     &'a str,
     After,
     usize,
@@ -194,10 +198,41 @@ type Order<'a> = (
 
 /// A line is written as soon as it is decided, and nothing is read after a fault or the end.
 const ORDERS: &[Order] = &[
-    (IDENTIFY, After::End, 1, None, NONE, 21, 1, IDENTIFY_LINE),
-    (IDENTIFY_WHOLE, After::End, 1, Some(0), WRITE, 21, 1, ""),
-    (HELD_BACK, After::End, 1, Some(0), WRITE, 45, 1, ""),
     (
+        Call::Dump,
+        IDENTIFY,
+        After::End,
+        1,
+        None,
+        NONE,
+        21,
+        1,
+        IDENTIFY_LINE,
+    ),
+    (
+        Call::Dump,
+        IDENTIFY_WHOLE,
+        After::End,
+        1,
+        Some(0),
+        WRITE,
+        21,
+        1,
+        "",
+    ),
+    (
+        Call::Dump,
+        HELD_BACK,
+        After::End,
+        1,
+        Some(0),
+        WRITE,
+        45,
+        1,
+        "",
+    ),
+    (
+        Call::Dump,
         HELD_BACK,
         After::End,
         1,
@@ -208,6 +243,7 @@ const ORDERS: &[Order] = &[
         "8 13 STX P 0 @0 - 0 -\n",
     ),
     (
+        Call::Dump,
         "FF 82!80 FF",
         After::End,
         1,
@@ -218,6 +254,7 @@ const ORDERS: &[Order] = &[
         "",
     ),
     (
+        Call::Dump,
         "FF 82!08 FF",
         After::End,
         1,
@@ -228,6 +265,7 @@ const ORDERS: &[Order] = &[
         "",
     ),
     (
+        Call::Dump,
         TWO_MESSAGES,
         After::Failure,
         ALL,
@@ -237,11 +275,88 @@ const ORDERS: &[Order] = &[
         1,
         IDENTIFY_LINE,
     ),
+    (
+        Call::Explain,
+        IDENTIFY,
+        After::End,
+        1,
+        None,
+        NONE,
+        21,
+        1,
+        IDENTIFY_SAID,
+    ),
+    (
+        Call::Explain,
+        IDENTIFY_WHOLE,
+        After::End,
+        1,
+        Some(0),
+        WRITE,
+        21,
+        1,
+        "",
+    ),
+    (
+        Call::Explain,
+        "FF FF 02 80 00 00 82 FF 02 80 00 00 82 ",
+        After::End,
+        1,
+        Some(1),
+        WRITE,
+        39,
+        2,
+        IDENTIFY_SAID,
+    ),
+    (
+        Call::Explain,
+        "FF FF 02 80!40 ",
+        After::End,
+        1,
+        Some(0),
+        WRITE,
+        15,
+        1,
+        "",
+    ),
+    (
+        Call::Explain,
+        OPEN_AFTER_ONE,
+        After::End,
+        1,
+        Some(0),
+        WRITE,
+        48,
+        1,
+        "",
+    ),
+    (
+        Call::Explain,
+        "FF 82!08 FF",
+        After::End,
+        1,
+        None,
+        (4, "bad hex at 3"),
+        8,
+        0,
+        "",
+    ),
+    (
+        Call::Explain,
+        IDENTIFY_WHOLE,
+        After::Failure,
+        ALL,
+        None,
+        READ,
+        2,
+        1,
+        IDENTIFY_SAID,
+    ),
 ];
 
-/// Whether `dump` reads and writes in this order.
+/// Whether a call reads and writes in this order.
 fn is_in_order(rt: &impl Eprint, alloc: Global, order: &Order) -> Result<bool, Fail> {
-    let (input, after, most_read, fails_at, fault, reads, writes, text) = *order;
+    let (call, input, after, most_read, fails_at, fault, reads, writes, text) = *order;
     let given = Given {
         input,
         after,
@@ -255,7 +370,7 @@ fn is_in_order(rt: &impl Eprint, alloc: Global, order: &Order) -> Result<bool, F
         reads: Some(reads),
         writes: Some(writes),
     };
-    does(rt, alloc, Call::Dump, &given, &wanted)
+    does(rt, alloc, call, &given, &wanted)
 }
 
 #[test]

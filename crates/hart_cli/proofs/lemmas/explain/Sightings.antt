@@ -1,5 +1,6 @@
 -- Sightings that are found one after another, and what is said of them.
-use Rattle.std.proofs.Common.{◌≡◌, ◌≤◌, ◌+◌, ℕ, Bool, false, List, [], ◌∷◌, ◌++◌, length, map, drop, refl, sym, append_assoc, append-nil, arith}
+use Rattle.std.proofs.Common.{◌≡◌, ◌≤◌, ◌+◌, ℕ, Bool, false, List, [], ◌∷◌, ◌++◌, length, map, drop, refl, sym, append_assoc, append-nil}
+use Rattle.std.proofs.Common.{arith}
 use Rattle.std.proofs.lemmas.Grind.{common_steps, flat_map-append}
 use Rattle.std.proofs.lemmas.List.{drop-append-le, drop-drop, map-append}
 use Rattle.hart_frame.specs.heard.Character.{Character}

@@ -1,5 +1,6 @@
 -- An input that is read and told of, step by step.
-use Rattle.std.proofs.Common.{◌≡◌, ◌≤◌, ◌<◌, ◌+◌, ◌-◌, ◌*◌, ◌^◌, ℕ, Bool, false, true, List, [], ◌++◌, length, map, drop, Option, None, refl, sym, ap, ◌∙◌, arith}
+use Rattle.std.proofs.Common.{◌≡◌, ◌≤◌, ◌<◌, ◌+◌, ◌-◌, ◌*◌, ◌^◌, ℕ, Bool, false, true, List, [], ◌++◌, length, map, drop, Option, None}
+use Rattle.std.proofs.Common.{refl, sym, ap, ◌∙◌, arith}
 use Rattle.std.proofs.Common.{◌∷◌, append-nil, inl, inr, length-append, length-drop}
 use Rattle.std.proofs.KnownBytes.{Consumes-nil}
 use Rattle.std.proofs.lemmas.Grind.{common_steps}
@@ -155,8 +156,8 @@ told_is_decided start telling chars w w1 new h waiting quiet =
     )
 
 -- a read and what it gave is told of, and what was decided before it was written in time
-pub told_step : (r r1 r2 w w1 w2 : Stream) (start old new : Telling) (ahead after : List ℕ) (read place : ℕ) (portion : Portion) → IsNew start
-    → ToldUpTo r r1 start old None ahead read w w1 → MayBegin ahead → ReadsAhead r1 r2 ahead after (stream_limit - read) portion
+pub told_step : (r r1 r2 w w1 w2 : Stream) (start old new : Telling) (ahead after : List ℕ) (read place : ℕ) (portion : Portion)
+    → IsNew start → ToldUpTo r r1 start old None ahead read w w1 → MayBegin ahead → ReadsAhead r1 r2 ahead after (stream_limit - read) portion
     → length after ≤ most_ahead → NoPieceBegins (drop place after) → HearsText old new after place w1 w2 → IsWaiting new → new.kept ≡ []
     → (now : ToldUpTo r r2 start new portion.end (drop place after) (read + portion.len) w w2)
     × WroteInTime (IsDecidedText IsDecidedExplanation) now.input w w1
@@ -185,8 +186,8 @@ stops_explaining r r2 w w1 w2 start input ending chars ended last new reads deco
     let text : start.kept ++ text_from start.first k.seen ≡ explanation k.seen =
     rw (new.quiet, new.first) (from_none k.seen) in
     let fails = FailsToWrite-longer w w2 (explanation k.seen) more (rw text at k.fails) in
-    stops_in stream_limit IsExplanationOf IsDecidedExplanation r r2 w w1 w2 input ending chars (explanation k.seen ++ more) last reads decoded
-    is in_time fails last_fails
+    stops_in stream_limit IsExplanationOf IsDecidedExplanation r r2 w w1 w2 input ending chars (explanation k.seen ++ more) last reads
+    decoded is in_time fails last_fails
 
 -- in a part of what one read gave
 pub stopped_telling : (r r1 r2 w w1 w2 : Stream) (start old : Telling) (ahead after : List ℕ) (read : ℕ) (portion : Portion) → IsNew start
@@ -199,7 +200,8 @@ stopped_telling r r1 r2 w w1 w2 start old ahead after read portion new due may o
     one.bytes due.decoded may one.few decided.0 decided.1.0 in
     let part = decoded_part stream_limit r r1 r2 ahead after k.rest read portion due.input due.chars k.chars due.decoded one few k.reads in
     let fails = fails_later start old due.chars k.chars false w w1 w2 due.hears k.fails in
-    stops_explaining r r2 w w1 w2 start (due.input ++ one.bytes) _ (due.chars ++ k.chars) false _ new part.0 part.1 in_time fails k.fails.fails
+    stops_explaining r r2 w w1 w2 start (due.input ++ one.bytes) _ (due.chars ++ k.chars) false _ new part.0 part.1 in_time fails
+    k.fails.fails
 
 -- the last step says the fault of an input that is read no further
 pub tells_all : (r r2 w w1 w2 : Stream) (start telling : Telling) (end : Option InputEnd) (rest : List ℕ) (read : ℕ)

@@ -1,5 +1,6 @@
 -- What is heard and told, part by part.
-use Rattle.std.proofs.Common.{◌≡◌, ◌≤◌, ◌<◌, ◌+◌, ◌-◌, ◌^◌, ℕ, Bool, false, true, List, [], ◌∷◌, ◌++◌, length, map, drop, zero, suc, refl, sym, ap, ◌∙◌, arith}
+use Rattle.std.proofs.Common.{◌≡◌, ◌≤◌, ◌<◌, ◌+◌, ◌-◌, ◌^◌, ℕ, Bool, false, true, List, [], ◌∷◌, ◌++◌, length, map, drop, zero, suc, refl}
+use Rattle.std.proofs.Common.{sym, ap, ◌∙◌, arith}
 use Rattle.std.proofs.Common.{Err, MatchResult, Ok, Result, append_assoc, append-nil, length-append, length-drop}
 use Rattle.std.proofs.lemmas.Grind.{common_steps}
 use Rattle.std.proofs.lemmas.List.{drop-append-le, drop-drop, drop_all, length-map, map-append}
@@ -44,7 +45,8 @@ pub hears_long : (a b : Telling) (xs : List Character) (ended : Bool) (w w1 : St
     → b.first + length b.held ≡ a.first + length a.held + length xs
 hears_long a b xs ended w w1 h =
     let held : length (faultless b.held) ≡ length (drop h.used (faultless a.held ++ xs)) = ap length h.held in
-    omega (arith, h.within, h.first, held, long_is a.held, long_is b.held, length-drop h.used (faultless a.held ++ xs), length-append (faultless a.held) xs)
+    let all = length-append (faultless a.held) xs in
+    omega (arith, h.within, h.first, held, long_is a.held, long_is b.held, length-drop h.used (faultless a.held ++ xs), all)
 
 -- bytes were heard with what was held before them
 same_held : (old mid : Telling) (bytes : List ℕ) → mid.held ≡ old.held ++ bytes
@@ -252,7 +254,8 @@ pub record ToldSoFar (first : ℕ) (held : List ℕ) (after : After) (used : ℕ
   pub adds : AddsText writer writer_after kept kept_after (text_from first seen)
 
 -- what is said of one sighting more
-one_more : (first : ℕ) (seen : List Seen) (next : Seen) → text_from first (seen ++ next ∷ []) ≡ text_from first seen ++ seen_text (moved_seen first next)
+one_more : (first : ℕ) (seen : List Seen) (next : Seen)
+    → text_from first (seen ++ next ∷ []) ≡ text_from first seen ++ seen_text (moved_seen first next)
 one_more first seen next = grind (arith, common_steps, map-append)
 
 -- one sighting more was told

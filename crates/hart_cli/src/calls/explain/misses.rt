@@ -18,7 +18,8 @@ pub fn push_miss_line(text: &mut Kept, pairs: &Pairs, first: u64, place: usize, 
     requires fits { NamesPlacesBelow (2 ^ 64 - first) miss }
     ensures { text.new ≡ text.old ++ miss_line (first + place) (miss_in_whole first miss) }
 {
-    push_text(text, Buffer::new().format(first + place as u64));
+    let start = first + place as u64;
+    push_text(text, Buffer::new().format(start));
     push_text(text, ": no message: ");
     push_miss(text, pairs, first, miss);
     text.push(b'\n');
