@@ -114,19 +114,20 @@ uint8_t hart_check_byte(const uint8_t *bytes, size_t bytes_len);
 
 /* How the bytes of a field are meant, and how many there are. Numbers and floats have the most significant byte first. */
 enum {
-    HART_BYTES = 0,       /* as they are, at least one: an id, flags, a status, codes of device variables, a long tag, a time stamp */
+    HART_BYTES = 0,       /* as they are, at least one: an id, flags, a status, codes of device variables, a time stamp */
     HART_NUMBER = 1,      /* a number or a code of one or two bytes */
     HART_PACKED_TEXT = 2, /* packed text in 6, 12 or 24 bytes, four characters in three bytes */
     HART_DATE = 3,        /* a date in three bytes: the day, the month, the year after 1900 */
     HART_FLOAT = 4,       /* a floating point number of IEEE 754 in four bytes */
-    HART_VARIABLES = 5    /* one to eight device variables of eight bytes each: code, classification, unit, value in four bytes, status */
+    HART_VARIABLES = 5,   /* one to eight device variables of eight bytes each: code, classification, unit, value in four bytes, status */
+    HART_LATIN_TEXT = 6   /* text in ISO Latin-1 in 32 bytes, a character in each: a long tag */
 };
 
 /* A field of data: where it stands in what was passed, and how its bytes are meant. */
 typedef struct hart_field {
     uint8_t start; /* the place of its first byte, from 0 */
     uint8_t len;   /* how many bytes it has */
-    uint8_t kind;  /* HART_BYTES to HART_VARIABLES */
+    uint8_t kind;  /* HART_BYTES to HART_LATIN_TEXT */
 } hart_field;
 
 /* What was read of the data of a message. */

@@ -68,6 +68,12 @@ def packed_text(data):
     return f'"{unpacked(data).decode()}"'
 
 
+def latin_text(data):
+    """The characters of a text in Latin-1 in quotes, if all of them can be printed, and otherwise its bytes."""
+    text = data.decode("latin-1")
+    return f'"{text}"' if all(" " <= character <= "~" or "\xa0" <= character for character in text) else bytes_text(data)
+
+
 def date_text(data):
     """A date by its year, month and day."""
     if data == bytes(3):
@@ -89,8 +95,8 @@ def variables_text(data):
     return "; ".join(variable_text(data[place:place + VARIABLE_BYTES]) for place in range(0, len(data), VARIABLE_BYTES))
 
 
-VALUES = {"bytes": bytes_text, "float": bytes_text, "number": number_text, "packed text": packed_text, "date": date_text,
-          "variables": variables_text}
+VALUES = {"bytes": bytes_text, "float": bytes_text, "number": number_text, "packed text": packed_text,
+          "Latin-1 text": latin_text, "date": date_text, "variables": variables_text}
 
 
 def said_of_fields(kind, command, data):

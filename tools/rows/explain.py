@@ -26,6 +26,20 @@ ROWS = (
         "",
     ),
     (
+        "FF FF 82 B7 42 0A 1B 2C 16 20 50 6F 6D 70 65 20 E0 20 76 69 64 65 20 6E "
+        "B0 20 33 20 20 20 20 20 20 20 20 20 20 20 20 20 20 20 08",
+        "2-43: request of the primary master to device 37420A1B2C, Command 22, write long tag\n"
+        "    long tag: \"Pompe à vide n° 3               \"\n",
+        "",
+    ),
+    (
+        "FF FF 82 B7 42 0A 1B 2C 16 20 7F 20 20 20 20 20 20 20 20 20 20 20 20 20 "
+        "20 20 20 20 20 20 20 20 20 20 20 20 20 20 20 20 20 20 23",
+        "2-43: request of the primary master to device 37420A1B2C, Command 22, write long tag\n"
+        "    long tag: 0x7F20202020202020202020202020202020202020202020202020202020202020\n",
+        "",
+    ),
+    (
         "FF FF 82 B7 42 0A 1B 2C 06 03 40 02 55 58",
         "2-14: request of the primary master to device 37420A1B2C, Command 6, write polling address\n"
         "    polling address: 64\n"

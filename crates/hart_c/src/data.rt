@@ -26,6 +26,9 @@ pub const HART_FLOAT: u8 = 4;
 /// One to eight device variables of eight bytes each: code, classification, unit, value in four bytes, status.
 pub const HART_VARIABLES: u8 = 5;
 
+/// Text in ISO Latin-1 in 32 bytes, a character in each.
+pub const HART_LATIN_TEXT: u8 = 6;
+
 /// Where a field stands in what was passed, and how its bytes are meant.
 #[repr(C)]
 #[derive(Clone, Copy)]
@@ -34,7 +37,7 @@ pub struct HartField {
     pub start: u8,
     /// How many bytes it has.
     pub len: u8,
-    /// How they are meant, as one of [`HART_BYTES`] to [`HART_VARIABLES`].
+    /// How they are meant, as one of [`HART_BYTES`] to [`HART_LATIN_TEXT`].
     pub kind: u8,
 }
 
@@ -178,6 +181,7 @@ fn kind_number(kind: FieldKind) -> u8
         FieldKind::Bytes => HART_BYTES,
         FieldKind::Number => HART_NUMBER,
         FieldKind::PackedText => HART_PACKED_TEXT,
+        FieldKind::LatinText => HART_LATIN_TEXT,
         FieldKind::Date => HART_DATE,
         FieldKind::Float => HART_FLOAT,
         FieldKind::Variables => HART_VARIABLES,

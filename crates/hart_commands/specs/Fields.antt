@@ -4,7 +4,7 @@ use Rattle.std.specs.Prelude.{ℕ, ◌+◌, ◌-◌, nat_lt, if◌then◌else◌
 use Rattle.std.specs.List.{flat_map}
 use Rattle.std.specs.Option.{option_map, option_map_or}
 use Rattle.hart_commands.specs.declared.fields.FieldKind.{FieldKind}
-use Rattle.hart_commands.specs.declared.fields.FieldKind.TheVariants.{Bytes, Number, PackedText, Date, Float, Variables}
+use Rattle.hart_commands.specs.declared.fields.FieldKind.TheVariants.{Bytes, Number, PackedText, LatinText, Date, Float, Variables}
 use Rattle.hart_commands.specs.declared.fields.FieldRow.{FieldRow}
 use Rattle.hart_commands.specs.declared.fields.FieldSize.{FieldSize}
 use Rattle.hart_commands.specs.declared.fields.FieldSize.TheVariants.{Exactly, AllBut}
@@ -148,7 +148,7 @@ assembly = field "final assembly number" (Exactly 3) Bytes ∷ []
 
 -- The long tag (Commands 20, 21 and 22).
 abbrev pub long_tag : List Row
-long_tag = field "long tag" (Exactly 32) Bytes ∷ []
+long_tag = field "long tag" (Exactly 32) LatinText ∷ []
 
 -- The configuration change counter (Command 38).
 abbrev pub counter : List Row

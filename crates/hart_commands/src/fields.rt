@@ -5,12 +5,14 @@ ghost use Rattle.hart_commands.specs.Fields.{split};
 /// How the bytes of a field are meant.
 #[derive(Clone, Copy, Debug, PartialEq, Eq)]
 pub enum FieldKind {
-    /// Bytes that stand for themselves: an id, flags, a status, codes of device variables, a long tag, a time stamp.
+    /// Bytes that stand for themselves: an id, flags, a status, codes of device variables, a time stamp.
     Bytes,
     /// A number or a code of one or two bytes, the most significant byte first.
     Number,
     /// Packed text, four characters in three bytes.
     PackedText,
+    /// Text in ISO Latin-1, a character in each byte: a long tag.
+    LatinText,
     /// A date in three bytes.
     Date,
     /// A floating point number of IEEE 754 in four bytes.

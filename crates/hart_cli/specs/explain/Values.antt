@@ -1,11 +1,11 @@
 -- The words of the value of a field, by how its bytes are meant (own profile).
-use Rattle.std.specs.Prelude.{◌+◌, ◌*◌, ◌/◌, ◌%◌, ◌==◌, ◌&&◌, ◌||◌, nat_lt, if◌then◌else◌, ◌++◌, [], ◌∷◌, ℕ, Bool, true, List, codes}
-use Rattle.std.specs.Prelude.{decimal, length, slice_index, slice_range}
-use Rattle.std.specs.List.{fold, join_by}
+use Rattle.std.specs.Prelude.{◌+◌, ◌*◌, ◌/◌, ◌%◌, ◌==◌, ◌&&◌, ◌||◌, nat_le, nat_lt, if◌then◌else◌, ◌++◌, [], ◌∷◌, ℕ, Bool, true, List, codes}
+use Rattle.std.specs.Prelude.{decimal, encode_utf8_all, length, slice_index, slice_range}
+use Rattle.std.specs.List.{fold, join_by, list_all}
 use Rattle.std.specs.Simd.{first_chunks}
 use Rattle.hart_values.specs.hart_date.Calendar.{is_date}
 use Rattle.hart_commands.specs.declared.fields.FieldKind.{FieldKind}
-use Rattle.hart_commands.specs.declared.fields.FieldKind.TheVariants.{Bytes, Number, PackedText, Date, Float, Variables}
+use Rattle.hart_commands.specs.declared.fields.FieldKind.TheVariants.{Bytes, Number, PackedText, LatinText, Date, Float, Variables}
 use Rattle.hart_cli.specs.explain.Words.{hex_value}
 
 -- Bytes are one number, of which the first is the most significant byte.
@@ -25,6 +25,16 @@ characters_of a b c =
 abbrev pub unpacked : List ℕ → List ℕ
 unpacked (a ∷ b ∷ c ∷ rest) = characters_of a b c ++ unpacked rest
 unpacked _ = []
+
+-- A character of ISO Latin-1 can be printed if it is no control character.
+abbrev pub is_printable : ℕ → Bool
+is_printable code = (nat_le 32 code && nat_le code 126) || nat_le 160 code
+
+-- The text of bytes in ISO Latin-1, whose codes are those of the characters, is written in UTF-8, in double quotes. Bytes of which not all
+-- can be printed are shown in hex.
+unfoldable pub latin_words : List ℕ → List ℕ
+latin_words bytes =
+    if list_all is_printable bytes then codes "\"" ++ encode_utf8_all bytes ++ codes "\"" else hex_value bytes
 
 -- A number below a hundred as two digits.
 abbrev pub two_digits : ℕ → List ℕ
@@ -65,6 +75,7 @@ value_words Bytes bytes = hex_value bytes
 value_words Float bytes = hex_value bytes
 value_words Number bytes = decimal (number_in bytes)
 value_words PackedText bytes = codes "\"" ++ unpacked bytes ++ codes "\""
+value_words LatinText bytes = latin_words bytes
 value_words Date bytes = date_words bytes
 value_words Variables bytes = variables_words bytes
 

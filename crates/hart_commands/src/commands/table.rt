@@ -131,7 +131,7 @@ const OUTPUT: &[FieldRow] = fields! {
 const ASSEMBLY: &[FieldRow] = fields! { "final assembly number", Exactly(3), Bytes; };
 
 /// The long tag (Commands 20, 21 and 22).
-const LONG_TAG: &[FieldRow] = fields! { "long tag", Exactly(32), Bytes; };
+const LONG_TAG: &[FieldRow] = fields! { "long tag", Exactly(32), LatinText; };
 
 /// The configuration change counter (Command 38).
 const COUNTER: &[FieldRow] = fields! { "configuration change counter", Exactly(2), Number; };

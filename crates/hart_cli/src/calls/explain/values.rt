@@ -1,8 +1,8 @@
 //! The values of fields in words.
-ghost use Rattle.std.specs.Prelude.{◌≡◌, ◌++◌, ◌+◌, ◌*◌, ◌≤◌, decimal, length, true};
+ghost use Rattle.std.specs.Prelude.{◌≡◌, ◌++◌, ◌+◌, ◌*◌, ◌≤◌, decimal, encode_utf8_all, length, true};
 ghost use Rattle.hart_values.specs.packed_text.Packing.{IsPackedSize};
-ghost use Rattle.hart_cli.specs.explain.Values.{day_words, no_date_words, suits, two_digits, unpacked, value_words, variable_words};
-ghost use Rattle.hart_cli.specs.explain.Values.{variables_words};
+ghost use Rattle.hart_cli.specs.explain.Values.{day_words, is_printable, latin_words, no_date_words, suits, two_digits, unpacked};
+ghost use Rattle.hart_cli.specs.explain.Values.{value_words, variable_words, variables_words};
 
 use crate::calls::explain::words::push_hex_value;
 use crate::kept::Kept;
@@ -29,6 +29,7 @@ pub fn push_value(text: &mut Kept, pairs: &Pairs, kind: FieldKind, bytes: &[u8])
         FieldKind::Bytes | FieldKind::Float => push_hex_value(text, pairs, bytes),
         FieldKind::Number => push_number(text, bytes),
         FieldKind::PackedText => push_packed_text(text, bytes),
+        FieldKind::LatinText => push_latin_text(text, pairs, bytes),
         FieldKind::Date => push_date(text, pairs, bytes),
         FieldKind::Variables => push_variables(text, pairs, bytes),
     }
@@ -78,6 +79,41 @@ fn push_characters<const N: usize>(text: &mut Kept, bytes: &[u8])
     let characters = &mut characters[..4 * N / 3];
     packed.write_text(characters).unwrap();
     text.extend_from_slice(characters);
+}
+
+/// Adds a text in ISO Latin-1, or its bytes if not all of them can be printed.
+#[tactic(auto, unfolding(crate::specs::explain::Values::latin_words))]
+fn push_latin_text(text: &mut Kept, pairs: &Pairs, bytes: &[u8])
+    requires { length text.old + 2 * length bytes.now + 2 ≤ 32768 }
+    ensures words { text.new ≡ text.old ++ latin_words bytes.now }
+    ensures few { length text.new ≤ length text.old + 2 * length bytes.now + 2 }
+{
+    if !bytes.iter().all(|byte| is_printable(*byte)) {
+        push_hex_value(text, pairs, bytes);
+        return;
+    }
+    text.push(b'"');
+    push_in_utf8(text, bytes);
+    text.push(b'"');
+}
+
+/// Whether a character of ISO Latin-1 can be printed.
+fn is_printable(code: u8) -> bool
+    ensures { result ≡ is_printable code }
+{
+    matches!(code, b' '..=b'~' | 0xA0..)
+}
+
+/// Adds characters of ISO Latin-1 in UTF-8.
+fn push_in_utf8(text: &mut Kept, characters: &[u8])
+    requires { length text.old + 2 * length characters.now ≤ 32768 }
+    ensures characters { text.new ≡ text.old ++ encode_utf8_all characters.now }
+    ensures few { length text.new ≤ length text.old + 2 * length characters.now }
+{
+    for code in characters {
+        let mut room = [0; 4];
+        push_text(text, char::from(*code).encode_utf8(&mut room));
+    }
 }
 
 /// Adds a date.
