@@ -2,7 +2,8 @@
 ghost use Rattle.std.specs.Prelude.{◌≡◌, ◌++◌, ◌+◌, ◌<◌, ◌≤◌, ◌^◌, length};
 ghost use Rattle.hart_frame.specs.declared.wire.kind.FrameKind.TheVariants.{Ack};
 ghost use Rattle.hart_frame.specs.heard.Frames.{moved};
-ghost use Rattle.hart_frame.specs.scan.View.{found_of, parts_of};
+ghost use Rattle.hart_frame.specs.scan.View.{found_of};
+ghost use Rattle.hart_frame.specs.wire.View.{parts_of};
 ghost use Rattle.hart_cli.specs.explain.Message.{burst_line, command_words, message_line, paragraph, payload_lines};
 
 use crate::calls::explain::data::{push_reply_data, push_request_data};
