@@ -1,10 +1,10 @@
 #!/bin/sh
-# Runs each call of the built program again and again, and refuses one allocation each time: the first, the second, and so
-# on. A run ends with `out of memory` and a prefix of whole lines written: with status 2 if the growth was for the words, of which
-# clap has most, and with 1 if it was one of the call. Of its own a call has as many as its reservations, of which a script has one
-# more for each word of characters, and those by which its events and its text grow; `hart dump` and `hart encode` have none. Only
-# before clap has the words a run may do without a growth. That it succeeds with ample memory is the last run, in which none is
-# left to refuse.
+# Runs each call of the built program again and again, and refuses one allocation each time: the first, the second, and so on. A
+# run ends with `out of memory` and a prefix of whole lines written: with status 2 if the growth was for the words, of which clap
+# has most, and with 1 if it was one of the call. Of its own a call has as many as its reservations, of which a script has one
+# more for each word of characters, and those by which its events and its text grow; `hart dump`, `hart explain` and `hart encode`
+# have none. Only before clap has the words a run may do without a growth. That it succeeds with ample memory is the last run, in
+# which none is left to refuse.
 #
 # The program does not call `run`, and tells a refusal by `read_script` as its own. So a test of hart_tests makes each call once by its
 # name and tells what it answered, and each growth of that test is refused in the same way.

@@ -21,7 +21,7 @@ pub enum CliFault {
     Read,
     /// The writer failed.
     Write,
-    /// The input has more bytes than [`INPUT_LIMIT`](crate::INPUT_LIMIT).
+    /// The input has more bytes than [`INPUT_LIMIT`](crate::INPUT_LIMIT); that of `explain` or `serve`, than 2^64 - 1.
     TooLong,
     /// At this byte of the input, counted from 0, begins the first thing that is neither a separator nor an item. Of the word of an image
     /// it is the first byte that is no hex digit, or its length if this is odd.

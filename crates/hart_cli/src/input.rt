@@ -1,11 +1,11 @@
 //! Reading an input, portion by portion or whole.
 ghost use Rattle.std.specs.Prelude.{◌≡◌, ◌<◌, ◌≤◌, [], IfErr, IfOk, length, take};
-ghost use Rattle.hart_cli.specs.input.Input.{IsReadingFault, LacksInputRoom, Reads, ReadsPortion, input_room, most_at_once};
+ghost use Rattle.hart_cli.specs.input.Input.{IsReadingFault, Reads, ReadsPortion, input_room, most_at_once};
 ghost use Rattle.hart_cli.specs.declared.input.InputEnd.TheVariants.{Ended};
 
 use crate::fault::CliFault;
 use crate::stream::Source;
-use hart_line::{Filling, NoRoom};
+use hart_line::Filling;
 use std::alloc::Global;
 
 pub mod ahead;
@@ -26,7 +26,7 @@ pub enum InputEnd {
     Ended,
     /// A read failed.
     ReadFailed,
-    /// A further byte was there after the last one within the limit, which is [`INPUT_LIMIT`] but for `serve`.
+    /// A further byte was there after the last one within the limit, which is [`INPUT_LIMIT`] but for `explain` and `serve`.
     TooLong,
 }
 
@@ -37,15 +37,6 @@ pub struct Portion {
     pub len: usize,
     /// Why there are no more of them, or `None` if there may be.
     pub end: Option<InputEnd>,
-}
-
-/// An input as it was read.
-#[derive(Drop)]
-pub struct ReadInput {
-    /// The bytes within [`INPUT_LIMIT`], with room for one more.
-    pub text: Filling<u8>,
-    /// Why there are no more of them.
-    pub end: InputEnd,
 }
 
 /// Reads a whole input.
@@ -61,29 +52,12 @@ pub fn read_whole<R: Source>(alloc: Global, reader: &mut R) -> Result<Filling<u8
     ensures spare { IfOk result (λ text. length text.items < text.room) }
     ensures fault { IfErr result (IsReadingFault (R.stream reader.old) (R.stream reader.new)) }
 {
-    let ReadInput { text, end } = read_to_end(alloc, reader)?;
-    match end {
+    let mut text = Filling::with_room(alloc, INPUT_ROOM)?;
+    match read_into(reader, &mut text) {
         InputEnd::Ended => Ok(text),
         InputEnd::ReadFailed => Err(CliFault::Read),
         InputEnd::TooLong => Err(CliFault::TooLong),
     }
-}
-
-/// Reads an input until it comes to its end, whatever that is.
-///
-/// # Errors
-///
-/// [`NoRoom`] for an input, and nothing is read then.
-pub fn read_to_end<R: Source>(alloc: Global, reader: &mut R) -> Result<ReadInput, NoRoom>
-    ensures reads { IfOk result (λ input. Reads
-        (R.stream reader.old) (R.stream reader.new)
-        input.text.items input.end) }
-    ensures spare { IfOk result (λ input. length input.text.items < input.text.room) }
-    ensures refused { IfErr result (LacksInputRoom (R.stream reader.old) (R.stream reader.new)) }
-{
-    let mut text = Filling::with_room(alloc, INPUT_ROOM)?;
-    let end = read_into(reader, &mut text);
-    Ok(ReadInput { text, end })
 }
 
 /// Reads an input into room for it.

@@ -28,7 +28,9 @@ use hart_frame::laws::{
 };
 
 /// What was told is told for good: whatever is heard next, or read next, what was decided by then is a prefix of the whole explanation.
+/// What is decided of some characters is one text.
 pub fn explanations_grow()
+    ensures one { (chars : List Character) (xs ys : List ℕ) → IsDecidedExplanation chars xs → IsDecidedExplanation chars ys → xs ≡ ys }
     ensures heard { (chars more : List Character) (told whole : List ℕ) → IsDecidedExplanation chars told
         → IsExplanationOf (chars ++ more) whole → (rest : List ℕ) × (whole ≡ told ++ rest) }
     ensures read { (input more : List ℕ) (ending : Ending) (fault : Option CliFault) (told whole : List ℕ)

@@ -245,7 +245,8 @@ fn tell_decided<W: Sink>(
     }
 }
 
-/// Returns the next sighting in bytes, with what comes after them, from a place on.
+/// Returns the next sighting in bytes, with what comes after them, from a place on. Each arm makes that value anew, since the prover
+/// follows no copy of an enum that holds a character.
 fn next_after<'a>(held: &'a [u8], after: &After, from: usize) -> NextSighting<'a>
     requires within { from ≤ length (heard_with held.now after.now) }
     requires valid { AfterIsValid after.now }

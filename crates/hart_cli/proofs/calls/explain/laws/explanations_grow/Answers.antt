@@ -1,9 +1,24 @@
-use Rattle.std.proofs.Common.{◌≡◌, ◌++◌, ◌∙◌, ap, sym}
+use Rattle.std.proofs.Common.{◌≡◌, ◌++◌, ◌∙◌, [], ap, inl, inr, sym}
 use Rattle.std.proofs.lemmas.Grind.{flat_map-append}
 use Rattle.hart_frame.proofs.lemmas.scan.SightingLaws.{one as one_list, some as some_list}
 use Rattle.hart_cli.specs.explain.Explanation.{explanation, seen_text}
 use Rattle.hart_cli.proofs.lemmas.explain.Heard.{chars_grow}
+use Rattle.hart_cli.proofs.lemmas.explain.Decided.{compare, not_longer}
 use Rattle.hart_cli.proofs.calls.explain.laws.explanations_grow.Goals as goal
+
+pub returns-clause-one : goal.returns-clause-one
+returns-clause-one c chars xs ys a b =
+    let (later, stands) = some_list (chars ++ []) a.place in
+    let (after, ends) = some_list (chars ++ []) b.place in
+    let same = one_list (chars ++ []) 0 (a.seen ++ later) (b.seen ++ after) (a.first [] later (λ never. absurd cc) stands)
+    (b.first [] after (λ never. absurd cc) ends) in
+    elim (compare a.seen b.seen later after same) [
+      | inl is ↦ a.text_is ∙ (ap explanation is ∙ sym b.text_is)
+      | inr (inl (s, rest, longer)) ↦
+          absurd (not_longer chars a.seen b.seen a.place b.place s rest a.within a.first b.first a.undecided longer)
+      | inr (inr (s, rest, longer)) ↦
+          absurd (not_longer chars b.seen a.seen b.place a.place s rest b.within b.first a.first b.undecided longer)
+    ]
 
 pub returns-clause-heard : goal.returns-clause-heard
 returns-clause-heard c chars more told whole decided is =
