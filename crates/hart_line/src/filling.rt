@@ -90,6 +90,7 @@ impl<T> Filling<T> {
         requires small { AreSmall T.row }
         ensures items { self.new.items ≡ self.old.items }
         ensures room { OnOk result (length self.new.items + more ≤ self.new.room) }
+        ensures kept { self.old.room ≤ self.new.room }
         ensures refused { OnErr result (self.new ≡ self.old) }
         ensures number { IfErr result (λ none. none.items ≡ more) }
         ensures nothing { more ≡ 0 → IsOk result }
