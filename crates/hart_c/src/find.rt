@@ -1,5 +1,5 @@
 //! The frames of what was heard, some at a time.
-ghost use Rattle.std.specs.Prelude.{◌≡◌, ◌<◌, ◌≤◌, ℕ, false, true, List, IsTrue, All, drop, length, take};
+ghost use Rattle.std.specs.Prelude.{◌≡◌, ◌<◌, ◌≤◌, ℕ, false, true, List, IsTrue, All, drop, length, map, min, take};
 ghost use Rattle.hart_frame.specs.heard.Character.{AreFaultBits, Character, faultless};
 ghost use Rattle.hart_frame.specs.heard.Frames.{IsUndecided};
 ghost use Rattle.hart_frame.specs.scan.Streamed.{IsHistory, IsWholeHistory};
@@ -12,6 +12,9 @@ use crate::fault::{HART_BAD_FAULT_BITS, HART_OK};
 use crate::frame::{HartFrame, show_found};
 use crate::heard::have_fault_bits;
 use hart_frame::{Char, Scanner, next_in_bytes};
+
+/// The most characters that are handed to the scanner at once.
+const CHUNK: usize = 64;
 
 /// What a search came to.
 #[repr(C)]
@@ -87,14 +90,29 @@ pub extern "C" fn hart_find(heard: &[HartChar], ended: bool, frames: &mut [HartF
         };
     }
     let mut scanner = Scanner::new();
+    let mut chunk = [Char::new(0, 0).unwrap(); CHUNK];
     let mut taken = 0;
     let mut count = 0;
     while taken < heard.len() && count < frames.len() {
-        scanner.push(char_of(&heard[taken]));
-        taken += 1;
+        let len = copy_front(&heard[taken..], &mut chunk);
+        taken += scanner.push_chars(&chunk[..len]);
         count = fill(&mut scanner, frames, count);
     }
     settle(&mut scanner, ended, heard.len(), frames, count)
+}
+
+/// Writes the first characters over the front of a chunk, as many as fit, and gives how many.
+fn copy_front(heard: &[HartChar], chunk: &mut [Char]) -> usize
+    requires { All (λ given. AreFaultBits given.faults) heard.now }
+    ensures count { result ≡ min (length heard.now) (length chunk.old) }
+    ensures copied { take result chunk.new ≡ take result (map char_of heard.now) }
+    ensures len { length chunk.new ≡ length chunk.old }
+{
+    let count = heard.len().min(chunk.len());
+    for place in 0..count {
+        chunk[place] = char_of(&heard[place]);
+    }
+    count
 }
 
 /// The character that was passed.

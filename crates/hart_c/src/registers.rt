@@ -38,7 +38,7 @@ pub extern "C" fn hart_bench_registers(registers: &mut HartRegisters)
 {
     let values = bench::register_values();
     registers.polling_address = values.polling.number();
-    registers.loop_current_mode = mode_byte(values.mode);
+    registers.loop_current_mode = values.mode.byte();
     registers.message.copy_from_slice(values.message.as_bytes());
     registers.tag.copy_from_slice(values.tag.as_bytes());
     registers
@@ -49,35 +49,13 @@ pub extern "C" fn hart_bench_registers(registers: &mut HartRegisters)
     registers.long_tag = values.long_tag;
 }
 
-/// The byte of a loop current mode.
-fn mode_byte(mode: LoopMode) -> u8
-    ensures { result ≡ mode_byte mode }
-{
-    match mode {
-        LoopMode::Disabled => 0,
-        LoopMode::Enabled => 1,
-    }
-}
-
-/// The loop current mode of a byte, or `None` if it has none.
-fn mode_of(byte: u8) -> Option<LoopMode>
-    ensures in_range { IsSome result ↔ (byte < 2) }
-    ensures same { IfSome result (λ mode. mode_byte mode ≡ byte) }
-{
-    match byte {
-        0 => Some(LoopMode::Disabled),
-        1 => Some(LoopMode::Enabled),
-        _ => None,
-    }
-}
-
 /// The values that these numbers say, or `None` if a register would hold bytes that are not valid in it.
 pub(crate) fn values_of(given: &HartRegisters) -> Option<RegisterValues>
     ensures accepted { IsSome result ↔ AreValid (contents_of given.now) }
     ensures same { IfSome result (λ values. values_of values ≡ contents_of given.now) }
 {
     let polling = PollingAddress::new(given.polling_address).ok()?;
-    let mode = mode_of(given.loop_current_mode)?;
+    let mode = LoopMode::from_byte(given.loop_current_mode)?;
     let date = HartDate::from_bytes(given.date).ok()?;
     Some(RegisterValues {
         polling,

@@ -1,6 +1,6 @@
 -- The table of the commands, and what it says of each (HCF_SPEC-099, HCF_SPEC-127).
 use Prim.Native.String.{String}
-use Rattle.std.specs.Prelude.{ℕ, ◌==◌, Bool, List, [], ◌∷◌, find, map, Ok, Option, is_some}
+use Rattle.std.specs.Prelude.{ℕ, ◌==◌, ◌||◌, Bool, List, [], ◌∷◌, find, map, Ok, Option, is_some}
 use Rattle.std.specs.Option.{option_map, option_map_or}
 use Rattle.hart_commands.specs.declared.commands.table.Command.{Command as CommandInCode}
 use Rattle.hart_commands.specs.declared.content.ReplyContent.{ReplyContent}
@@ -122,6 +122,10 @@ command_row number = find (λ row. row.command.number == number) commands
 -- A command is known if the table has a row for it.
 abbrev pub is_known : ℕ → Bool
 is_known number = is_some (command_row number)
+
+-- Own profile: Commands 11 and 21 alone are asked by broadcast, as a device is found by its tag or by its long tag.
+abbrev pub may_be_broadcast : ℕ → Bool
+may_be_broadcast number = (number == 11) || (number == 21)
 
 -- What the table says of a command, if it has a row.
 unfoldable pub known : ℕ → Option Command

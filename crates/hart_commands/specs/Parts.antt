@@ -2,8 +2,7 @@
 -- profile is that Command 6 is always written with two bytes.
 use Rattle.std.specs.Prelude.{ℕ, ◌/◌, ◌%◌, List, [], ◌∷◌, map, None, Some}
 use Rattle.std.specs.List.{flat_map}
-use Rattle.hart_values.specs.declared.loop_mode.LoopMode.{LoopMode}
-use Rattle.hart_values.specs.declared.loop_mode.LoopMode.TheVariants.{Disabled, Enabled}
+pub use Rattle.hart_values.specs.LoopMode.{mode_byte}
 use Rattle.hart_commands.specs.declared.content.ReplyContent.{ReplyContent}
 use Rattle.hart_commands.specs.declared.content.ReplyContent.TheVariants as contents
 use Rattle.hart_commands.specs.declared.request.Request.{Request}
@@ -36,11 +35,6 @@ content_parts contents.Refused = []
 -- The data of a content are its parts, one after another.
 abbrev pub content_bytes : ReplyContent → List ℕ
 content_bytes content = joined (content_parts content)
-
--- A loop current mode is a byte: 0 if it is disabled, 1 if it is enabled.
-abbrev pub mode_byte : LoopMode → ℕ
-mode_byte Disabled = 0
-mode_byte Enabled = 1
 
 -- The parts of the data of a request: none, if it has no data.
 abbrev pub request_parts : Request → List (List ℕ)

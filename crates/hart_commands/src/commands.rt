@@ -1,6 +1,6 @@
 //! What the table says of each command (HCF_SPEC-099, HCF_SPEC-127).
 ghost use Rattle.std.specs.Prelude.{◌≡◌, ◌==◌, find, map, option_map};
-ghost use Rattle.hart_commands.specs.Commands.{command_name, is_known, known, reply_rows, request_rows, seen_command};
+ghost use Rattle.hart_commands.specs.Commands.{command_name, is_known, known, may_be_broadcast, reply_rows, request_rows, seen_command};
 ghost use Rattle.hart_commands.specs.Fields.{seen};
 ghost use Rattle.hart_commands.specs.NeededData.{needed_data};
 ghost use Rattle.hart_commands.specs.RequestCode.{is_write};
@@ -68,6 +68,13 @@ pub fn is_write(command: u8) -> bool
         Some(row) => !row.writes.is_empty(),
         None => false,
     }
+}
+
+/// Whether a command may be asked by broadcast: by Commands 11 and 21 a device is found by its tag or by its long tag (own profile).
+pub fn may_be_broadcast(command: u8) -> bool
+    ensures { result ≡ may_be_broadcast command }
+{
+    command == 11 || command == 21
 }
 
 /// Returns the row of a command, if it has one.

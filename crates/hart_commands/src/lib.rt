@@ -41,7 +41,9 @@ mod tag_bytes;
 mod value;
 
 pub use code_list::CodeList;
-pub use commands::{command_name, is_write, needed_data, reply_rows, request_rows};
+pub use commands::{
+    command_name, is_write, may_be_broadcast, needed_data, reply_rows, request_rows,
+};
 pub use content::ReplyContent;
 pub use fields::{FieldKind, FieldRow, FieldSize};
 pub use identity::IdentityContent;

@@ -1,3 +1,4 @@
+pub mod Bits
 pub mod Identity
 pub mod Process
 pub mod registers

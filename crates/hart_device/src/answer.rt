@@ -10,7 +10,9 @@ ghost use Rattle.hart_device.specs.declared.answer.garbled.GarbledRequest.{Garbl
 
 use crate::answer::garbled::garbled_in;
 use crate::{Device, Process, RegisterStore};
-use hart_commands::{Register, Reply, ReplyContent, Request, request_code, writes_of};
+use hart_commands::{
+    Register, Reply, ReplyContent, Request, may_be_broadcast, request_code, writes_of,
+};
 use hart_frame::{Char, Frame, FrameKind, LoneFrame, Payload, lone_frame};
 use hart_values::{Address, EachMaster, MasterId, ResponseCode};
 
@@ -22,12 +24,6 @@ mod variables;
 
 /// The command by which a master finds the device at a polling address.
 const IDENTIFY: u8 = 0;
-
-/// The command by which a master finds the device of a tag.
-const IDENTIFY_BY_TAG: u8 = 11;
-
-/// The command by which a master finds the device of a long tag.
-const IDENTIFY_BY_LONG_TAG: u8 = 21;
 
 impl<S: RegisterStore> Device<S> {
     /// What the device answers to a delivery, which is what it heard at once: what it answers to the frame of a delivery with
@@ -159,8 +155,7 @@ impl<S: RegisterStore> Device<S> {
             }
             Address::Unique(unique) => {
                 unique == self.identity.unique_address()
-                    || ((command == IDENTIFY_BY_TAG || command == IDENTIFY_BY_LONG_TAG)
-                        && address.is_broadcast())
+                    || (may_be_broadcast(command) && address.is_broadcast())
             }
         }
     }

@@ -27,6 +27,7 @@
 
 mod answer;
 pub mod bench;
+mod bits;
 mod device;
 mod fault;
 mod identity;

@@ -4,3 +4,4 @@ pub mod hart_date
 pub mod status
 pub mod EachMaster
 pub mod FaultNumbers
+pub mod LoopMode

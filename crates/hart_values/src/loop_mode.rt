@@ -1,3 +1,6 @@
+ghost use Rattle.std.specs.Prelude.{◌≡◌, ◌<◌, ◌↔◌, IsSome, IfSome};
+ghost use Rattle.hart_values.specs.LoopMode.{mode_byte};
+
 /// Whether the loop current follows the process (HCF_SPEC-127).
 #[derive(Clone, Copy, Debug, PartialEq, Eq)]
 pub enum LoopMode {
@@ -5,4 +8,28 @@ pub enum LoopMode {
     Disabled,
     /// The loop current follows the primary variable.
     Enabled,
+}
+
+impl LoopMode {
+    /// The mode of this byte, or `None` if it is above 1.
+    pub fn from_byte(byte: u8) -> Option<Self>
+        ensures known { IsSome result ↔ (byte < 2) }
+        ensures mode { IfSome result (λ mode. mode_byte mode ≡ byte) }
+    {
+        match byte {
+            0 => Some(LoopMode::Disabled),
+            1 => Some(LoopMode::Enabled),
+            _ => None,
+        }
+    }
+
+    /// Its byte: 0 disabled, 1 enabled.
+    pub fn byte(self) -> u8
+        ensures { result ≡ mode_byte self }
+    {
+        match self {
+            LoopMode::Disabled => 0,
+            LoopMode::Enabled => 1,
+        }
+    }
 }

@@ -30,12 +30,14 @@ pub fn read_set_polling(bytes: &[u8]) -> Result<Request, ResponseCode>
         return Err(ResponseCode::INVALID_SELECTION);
     };
     let mode = match bytes.get(1) {
-        None if address.number() == 0 => LoopMode::Enabled,
-        None | Some(0) => LoopMode::Disabled,
-        Some(1) => LoopMode::Enabled,
-        Some(_) => return Err(ResponseCode::INVALID_MODE),
+        Some(byte) => *byte,
+        None if address.number() == 0 => 1,
+        None => 0,
     };
-    Ok(Request::SetPolling { address, mode })
+    match LoopMode::from_byte(mode) {
+        Some(mode) => Ok(Request::SetPolling { address, mode }),
+        None => Err(ResponseCode::INVALID_MODE),
+    }
 }
 
 /// Command 9: the codes of device variables.

@@ -15,6 +15,7 @@ use Rattle.hart_commands.specs.declared.reply.Reply.{Reply}
 use Rattle.hart_commands.specs.declared.content.ReplyContent.{ReplyContent}
 use Rattle.hart_commands.specs.declared.content.ReplyContent.TheVariants.{Refused}
 use Rattle.hart_commands.specs.declared.request.Request.TheVariants.{IdentifyByTag, IdentifyByLongTag, ResetChanged}
+use Rattle.hart_commands.specs.Commands.{may_be_broadcast}
 use Rattle.hart_commands.specs.Registers.{Overwrite, overwrite_of}
 use Rattle.hart_commands.specs.ReplyData.{reply_payload}
 use Rattle.hart_commands.specs.RequestCode.{request_code}
@@ -34,12 +35,12 @@ is_request Ack = false
 abbrev pub same_numbers : DeviceNumbers → DeviceNumbers → Bool
 same_numbers a b = (a.expanded_type == b.expanded_type) && (a.device_id == b.device_id)
 
--- Command 0 is asked at the polling address that the device has, every command at its own unique address, and Commands 11 and 21 at
--- the broadcast address.
+-- Command 0 is asked at the polling address that the device has, every command at its own unique address, and at the broadcast address
+-- those that may be asked by broadcast.
 abbrev pub is_paired : DeviceState → Address → ℕ → Bool
 is_paired state (Polling number) command = (command == 0) && (slice_index state.contents.polling 0 == number)
 is_paired state (Unique numbers) command =
-    same_numbers numbers (own_numbers state.identity) || (((command == 11) || (command == 21)) && is_broadcast (Unique numbers))
+    same_numbers numbers (own_numbers state.identity) || (may_be_broadcast command && is_broadcast (Unique numbers))
 
 -- A frame is for the device if it is a request without expansion bytes whose address and command are paired so; the burst bit
 -- is not looked at.

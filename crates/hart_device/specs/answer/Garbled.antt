@@ -16,7 +16,7 @@ use Rattle.hart_frame.specs.declared.wire.kind.FrameKind.TheVariants.{Ack}
 use Rattle.hart_device.specs.declared.answer.garbled.GarbledRequest.{GarbledRequest}
 use Rattle.hart_device.specs.declared.identity_parts.IdentityParts.{IdentityParts}
 use Rattle.hart_device.specs.Identity.{own_numbers, three_bytes, two_bytes}
-use Rattle.hart_device.specs.answer.Status.{bit_if}
+use Rattle.hart_device.specs.Bits.{bit_if}
 
 -- Whether some of the characters have this fault bit.
 abbrev pub has_fault : ℕ → List Character → Bool

@@ -1,8 +1,9 @@
 -- The device status, the second status byte of a reply (HCF_SPEC-099; what bit 10 stands for is of the own profile).
-use Rattle.std.specs.Prelude.{ℕ, Bool, ◌==◌, bit_and, bit_or, slice_index, if◌then◌else◌}
+use Rattle.std.specs.Prelude.{ℕ, Bool, ◌==◌, bit_and, bit_or, slice_index}
 use Rattle.hart_values.specs.declared.master_id.MasterId.{MasterId}
 use Rattle.hart_values.specs.EachMaster.{of_master}
 use Rattle.hart_device.specs.declared.process.Process.{Process}
+use Rattle.hart_device.specs.Bits.{bit_if}
 use Rattle.hart_device.specs.Device.{DeviceState}
 use Rattle.hart_device.specs.Process.{has_more_status}
 
@@ -10,10 +11,6 @@ use Rattle.hart_device.specs.Process.{has_more_status}
 -- primary variable out of limits; the other bits that are handed in are not used.
 abbrev pub process_bits : ℕ
 process_bits = 0x87
-
--- A bit of the device status, if something holds.
-abbrev pub bit_if : Bool → ℕ → ℕ
-bit_if holds bit = if holds then bit else 0
 
 -- The loop current is fixed if the loop current mode is 0.
 abbrev pub is_loop_current_fixed : DeviceState → Bool

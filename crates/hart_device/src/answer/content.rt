@@ -7,8 +7,9 @@ ghost use Rattle.hart_device.specs.answer.Status.{device_status};
 use crate::answer::process_content::{
     additional_status, classes, output_content, unit_value, unit_values,
 };
-use crate::answer::status::{PROCESS_BITS, bit_if};
+use crate::answer::status::PROCESS_BITS;
 use crate::answer::variables::variable_readings;
+use crate::bits::bit_if;
 use crate::registers::bytes_of;
 use crate::{Device, Process, RegisterStore};
 use hart_commands::{CodeList, Register, ReplyContent, Request};

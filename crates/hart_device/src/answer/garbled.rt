@@ -4,12 +4,12 @@ ghost use Rattle.std.specs.List.{list_any};
 ghost use Rattle.hart_values.specs.declared.address.Address.TheVariants.{Unique};
 ghost use Rattle.hart_device.specs.answer.Garbled.{HasGarbled, asking_master, communication_faults, garbled_reply, garbled_request};
 ghost use Rattle.hart_device.specs.answer.Garbled.{has_fault, has_odd_bit};
-ghost use Rattle.hart_device.specs.answer.Status.{bit_if};
+ghost use Rattle.hart_device.specs.Bits.{bit_if};
 ghost use Rattle.hart_device.specs.Identity.{own_numbers};
 ghost use Rattle.hart_device.specs.declared.answer.garbled.GarbledRequest.{GarbledRequest};
 
 use crate::Identity;
-use crate::answer::status::bit_if;
+use crate::bits::bit_if;
 use hart_frame::{
     Char, Frame, Payload, UNIQUE_COMMAND_PLACE, UNIQUE_REQUEST, are_faultless, first_start,
     unique_request_len,

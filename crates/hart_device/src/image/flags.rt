@@ -2,7 +2,7 @@
 ghost use Rattle.std.specs.Prelude.{◌≡◌, ◌≤◌, ◌↔◌, IsSome, IfSome};
 ghost use Rattle.hart_device.specs.image.Image.{flags_of};
 
-use crate::answer::status::bit_if;
+use crate::bits::bit_if;
 use hart_values::EachMaster;
 
 /// The primary master's configuration-changed bit.

@@ -119,9 +119,5 @@ fn mode_in(bytes: &[u8]) -> Option<LoopMode>
     ensures valid { IsSome result ↔ IsValidIn Mode bytes.now }
     ensures kept { IfSome result (λ mode. mode_byte mode ∷ [] ≡ bytes.now) }
 {
-    match bytes[0] {
-        0 => Some(LoopMode::Disabled),
-        1 => Some(LoopMode::Enabled),
-        _ => None,
-    }
+    LoopMode::from_byte(bytes[0])
 }

@@ -8,7 +8,8 @@ use Rattle.hart_frame.specs.wire.FrameParts.{FrameParts}
 use Rattle.hart_device.specs.Device.{DeviceState, Effect, after}
 use Rattle.hart_device.specs.Process.{has_more_status}
 use Rattle.hart_device.specs.answer.Answer.{after_command, answer_of, effect_of, is_answered, reply_of, state_after}
-use Rattle.hart_device.specs.answer.Status.{bit_if, is_loop_current_fixed}
+use Rattle.hart_device.specs.Bits.{bit_if}
+use Rattle.hart_device.specs.answer.Status.{is_loop_current_fixed}
 use Rattle.hart_device.specs.declared.process.Process.{Process}
 use Rattle.hart_device.proofs.lemmas.answer.Effect.{answered_if}
 use Rattle.hart_device.proofs.laws.cold_starts_are_shown_once.Goals as goal
