@@ -90,6 +90,7 @@ pub fn answer_in<S: RegisterStore>(
 /// # Errors
 ///
 /// [`Undetected`], if the damage is.
+#[tactic(auto, using(crate::proofs::lemmas::line::Leg::answered_among))]
 pub fn answer_among<S: RegisterStore>(
     device: &mut Device<S>,
     chars: &[Char],

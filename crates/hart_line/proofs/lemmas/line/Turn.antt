@@ -1,7 +1,7 @@
 -- A turn of the line is a turn of the world, and noise on it is noise there.
-use Rattle.hart_line.proofs.Common.{◌≡◌, Bool, false, ◌∙◌, refl, Option, None, Some, List, [], ◌∷◌, ◌++◌, ◌⊎◌, arith, common_steps, option_to_list}
-use Rattle.hart_line.proofs.Common.{of_master, with_master, MasterId, FrameParts, DeviceState, Effect, Nothing, after, after_reply, Brought}
-use Rattle.hart_line.proofs.Common.{OneFrame, state_after_delivery, Process, Heard, LineEvent, Turn, Spoken}
+use Rattle.hart_line.proofs.Common.{◌≡◌, Bool, false, ◌∙◌, refl, Option, None, Some, List, [], ◌∷◌, ◌++◌, ◌⊎◌, arith, common_steps}
+use Rattle.hart_line.proofs.Common.{option_to_list, of_master, with_master, MasterId, FrameParts, DeviceState, Effect, Nothing, after}
+use Rattle.hart_line.proofs.Common.{after_reply, Brought, OneFrame, state_after_delivery, Process, Heard, LineEvent, Turn, Spoken}
 use Rattle.std.proofs.Common.{◌&&◌, if◌then◌else◌, append-nil}
 use Rattle.hart_frame.specs.wire.Message.{IsPreambleCount}
 use Rattle.hart_line.specs.line.Leg.{AnswersTo, IsSent}
@@ -71,17 +71,24 @@ unheard : (state : DeviceState) (brought : Brought) → frame_in brought ≡ Non
 unheard state (OneFrame frame) none = cc
 unheard state brought none = refl
 
--- If nothing was said, as in noise, the line stands for the world in which the device has replied to what it was brought.
-pub replied_stands : (start : Start) (world : World) (heard : Heard) (answer : Option FrameParts) (line : LineState)
-    → (a : IsAnswered start world heard None answer line.device line.spoken) → AreHeld start.retries world.hands line.masters
-    → line.outcomes ≡ world.outcomes → line.response_preambles ≡ start.device.identity.response_preambles
-    → Stands start (replied start world a.brought) line
-replied_stands start world heard answer line a held same preambles_are = record {
-  device_is = a.after_is ∙ unheard (state_of start.device world) a.brought
-      (none_reaches start.device.identity heard a.brought a.arrives);
-  masters_are = held;
-  outcomes_are = same;
-  preambles_are = preambles_are;
+-- If nothing was said, as in noise, the event leads to the world in which the device has replied to what it was brought.
+pub replied_steps : (start : Start) (world : World) (event : LineEvent) (heard : Heard) (answer : Option FrameParts) (line : LineState)
+    → (a : IsAnswered start world heard None answer line.device line.spoken) → Step start world event (replied start world a.brought)
+    → AreHeld start.retries world.hands line.masters → line.outcomes ≡ world.outcomes
+    → line.response_preambles ≡ start.device.identity.response_preambles → Stepped start world event line
+replied_steps start world event heard answer line a step held same preambles_are = record {
+  next = replied start world a.brought;
+  step = step;
+  stands = record {
+    device_is = a.after_is ∙ unheard (state_of start.device world) a.brought
+        (none_reaches start.device.identity heard a.brought a.arrives);
+    masters_are = held;
+    outcomes_are = same;
+    preambles_are = preambles_are;
+  };
+  said = option_to_list (sent_back start world a.brought);
+  said_is = refl;
+  spoken_are = a.spoken_are;
 }
 
 -- What an answer leaves is what its command leaves, but for the cold start bit of its master; silence leaves all.
@@ -107,14 +114,8 @@ pub turn_stands : (start : Start) (world : World) (who : MasterId) (up down : He
     (λ left. AreHeld start.retries (with_master who left world.hands) line.masters)
     → line.response_preambles ≡ start.device.identity.response_preambles
     → Stepped start world (Turn who up down) line
-turn_stands start world who up down None answer returned line within in_hand a returns ends preambles_are = record {
-  next = replied start world a.brought;
-  step = grind (arith, common_steps);
-  stands = replied_stands start world up answer line a ends.0 ends.1 preambles_are;
-  said = option_to_list (sent_back start world a.brought);
-  said_is = refl;
-  spoken_are = a.spoken_are;
-}
+turn_stands start world who up down None answer returned line within in_hand a returns ends preambles_are =
+    replied_steps start world (Turn who up down) up answer line a (grind (arith, common_steps)) ends.0 ends.1 preambles_are
 turn_stands start world who up down (Some held) answer returned line within in_hand a returns ends preambles_are =
     let next = turned start world who (Some held) a.brought ends.accepted in record {
       next = next;

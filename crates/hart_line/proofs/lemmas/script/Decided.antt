@@ -9,8 +9,10 @@ use Rattle.std.specs.Bool.{Decides}
 use Rattle.std.specs.Int.{bit_at}
 use Rattle.std.specs.Str.{bytes_eq}
 use Rattle.hart_frame.specs.heard.Character.{IsFaultBit}
-use Rattle.hart_line.specs.script.Items.{AreDigits, AreItems, BeginsWithItem, Faulty, IsItemsWord, Item, NoItemBegins, Plain, byte_of, item_meaning}
-use Rattle.hart_line.specs.script.Rows.{AreEvents, HasFirstBadLine, IsBadLine, IsLegWord, IsScript, Says, is_skipped, lines_in_words, request_of}
+use Rattle.hart_line.specs.script.Items.{AreDigits, AreItems, BeginsWithItem, Faulty, IsItemsWord, Item, NoItemBegins, Plain, byte_of}
+use Rattle.hart_line.specs.script.Items.{item_meaning}
+use Rattle.hart_line.specs.script.Rows.{AreEvents, HasFirstBadLine, IsBadLine, IsLegWord, IsScript, Says, is_skipped, lines_in_words}
+use Rattle.hart_line.specs.script.Rows.{request_of}
 use Rattle.hart_line.specs.script.Words.{HasNoValue, IsAddressWord, IsWho, address_of, who_of}
 use Rattle.hart_line.proofs.lemmas.script.Items.{after_item, before_items, items_begin}
 use Rattle.hart_line.proofs.lemmas.script.Rows.{no_leg, no_noise, says_none}

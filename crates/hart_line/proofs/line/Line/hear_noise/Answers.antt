@@ -1,7 +1,7 @@
-use Rattle.hart_line.proofs.Common.{arith, None, refl, option_to_list, Chars}
-use Rattle.hart_line.specs.world.Step.{replied, sent_back}
+use Rattle.hart_line.proofs.Common.{arith, None, refl, Chars, Noise}
+use Rattle.hart_line.specs.world.Step.{replied}
 use Rattle.hart_line.proofs.lemmas.line.Leg.{noise_answers}
-use Rattle.hart_line.proofs.lemmas.line.Turn.{answered, replied_stands}
+use Rattle.hart_line.proofs.lemmas.line.Turn.{answered, replied_steps}
 use Rattle.hart_line.proofs.line.Line.hear_noise.Goals as goal
 
 pub returns-in_default-clause-stopped : goal.returns-in_default-clause-stopped
@@ -19,11 +19,6 @@ returns-clause-stepped g c = λ start world process within stands.
     (grind (arith, noise_answers)) c.self.invariant
     (rw (c.frame_if-answer.ensures, rw (← c.self.view_is) at c.requires.room.nothing_spoken) at c.speak.ensures.speaks) in
     let held = c.overhear.ensures start.retries world.hands (c.hear_noise.ensures start.retries world.hands s.masters_are) in
-    record {
-      next = replied start world a.brought;
-      step = record { brought = a.brought; arrives = a.arrives; next_is = refl {a = replied start world a.brought} };
-      stands = replied_stands start world (Chars c.args.chars.now) _ _ a held s.outcomes_are s.preambles_are;
-      said = option_to_list (sent_back start world a.brought);
-      said_is = refl;
-      spoken_are = a.spoken_are;
-    }
+    replied_steps start world (Noise c.args.chars.now) (Chars c.args.chars.now) _ _ a
+    (record { brought = a.brought; arrives = a.arrives; next_is = refl {a = replied start world a.brought} })
+    held s.outcomes_are s.preambles_are

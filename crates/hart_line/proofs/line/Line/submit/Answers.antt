@@ -1,5 +1,5 @@
-use Rattle.hart_line.proofs.Common.{◌≡◌, Option, [], ◌∷◌, ◌++◌, length, refl, arith, of_master, with_master, Address, MasterId, Request, MasterFault}
-use Rattle.hart_line.proofs.Common.{Outcome, Submit}
+use Rattle.hart_line.proofs.Common.{◌≡◌, Option, [], ◌∷◌, ◌++◌, length, refl, arith, of_master, with_master, Address, MasterId, Request}
+use Rattle.hart_line.proofs.Common.{MasterFault, Outcome, Submit}
 use Rattle.hart_line.specs.declared.line.masters.Masters.{Masters}
 use Rattle.hart_line.specs.line.Line.{LineState, Stands, Stepped}
 use Rattle.hart_line.specs.line.Masters.{AreHeld, Submits}

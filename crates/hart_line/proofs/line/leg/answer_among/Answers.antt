@@ -1,5 +1,5 @@
 use Rattle.hart_line.proofs.Common.{arith, common_steps, OneFrame}
-use Rattle.hart_line.proofs.lemmas.line.Leg.{among_frame, answered_among}
+use Rattle.hart_line.proofs.lemmas.line.Leg.{among_frame}
 use Rattle.hart_line.proofs.line.leg.answer_among.Goals as goal
 
 pub returns-in-Some-clause-answers : goal.returns-in-Some-clause-answers
@@ -9,9 +9,3 @@ returns-in-Some-clause-answers g c = record {
   answer_is = c.answer.ensures.answer;
   after_is = c.answer.ensures.state;
 }
-
-pub returns-in_default-reply_to_garbled-clause-answers : goal.returns-in_default-reply_to_garbled-clause-answers
-returns-in_default-reply_to_garbled-clause-answers g c = grind (arith, answered_among)
-
-pub returns-clause-answers : goal.returns-clause-answers
-returns-clause-answers g c = grind (arith, answered_among)
