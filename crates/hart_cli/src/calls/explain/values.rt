@@ -1,5 +1,6 @@
 //! The values of fields in words.
 ghost use Rattle.std.specs.Prelude.{◌≡◌, ◌++◌, ◌+◌, ◌*◌, ◌≤◌, decimal, encode_utf8_all, length, true};
+ghost use Rattle.std.specs.List.{list_all};
 ghost use Rattle.hart_values.specs.packed_text.Packing.{IsPackedSize};
 ghost use Rattle.hart_cli.specs.explain.Values.{day_words, is_printable, latin_words, no_date_words, suits, two_digits, unpacked};
 ghost use Rattle.hart_cli.specs.explain.Values.{value_words, variable_words, variables_words};
@@ -88,13 +89,20 @@ fn push_latin_text(text: &mut Kept, pairs: &Pairs, bytes: &[u8])
     ensures words { text.new ≡ text.old ++ latin_words bytes.now }
     ensures few { length text.new ≤ length text.old + 2 * length bytes.now + 2 }
 {
-    if !bytes.iter().all(|byte| is_printable(*byte)) {
+    if are_printable(bytes) {
+        text.push(b'"');
+        push_in_utf8(text, bytes);
+        text.push(b'"');
+    } else {
         push_hex_value(text, pairs, bytes);
-        return;
     }
-    text.push(b'"');
-    push_in_utf8(text, bytes);
-    text.push(b'"');
+}
+
+/// Whether all characters of a text in ISO Latin-1 can be printed.
+fn are_printable(characters: &[u8]) -> bool
+    ensures { result ≡ list_all is_printable characters.now }
+{
+    characters.iter().all(|code| is_printable(*code))
 }
 
 /// Whether a character of ISO Latin-1 can be printed.
