@@ -101,7 +101,7 @@ pub extern "C" fn hart_find(heard: &[HartChar], ended: bool, frames: &mut [HartF
     settle(&mut scanner, ended, heard.len(), frames, count)
 }
 
-/// Writes the first characters over the front of a chunk, as many as fit, and gives how many.
+/// Copies characters to the front of a chunk, as many as fit, and returns their number.
 fn copy_front(heard: &[HartChar], chunk: &mut [Char]) -> usize
     requires { All (λ given. AreFaultBits given.faults) heard.now }
     ensures count { result ≡ min (length heard.now) (length chunk.old) }

@@ -16,7 +16,8 @@ use Rattle.hart_commands.specs.declared.request.Request.{Request}
 use Rattle.hart_commands.proofs.lemmas.Reply.{kept, parts_of_reply}
 use Rattle.hart_commands.proofs.lemmas.Request.{written_is_own}
 use Rattle.hart_commands.proofs.lemmas.RequestFields.{parts_of_request}
-pub use Rattle.hart_commands.proofs.lemmas.FieldWidths.{fields_have_the_width_of_their_kind-reply, fields_have_the_width_of_their_kind-request}
+pub use Rattle.hart_commands.proofs.lemmas.FieldWidths.{fields_have_the_width_of_their_kind-reply}
+pub use Rattle.hart_commands.proofs.lemmas.FieldWidths.{fields_have_the_width_of_their_kind-request}
 pub use Rattle.hart_commands.proofs.lemmas.RequestMade.{requests_have_their_command}
 
 pub all_registers_are_listed_once-every : (register : Register) → Contains registers register

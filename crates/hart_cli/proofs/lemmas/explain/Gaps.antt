@@ -28,7 +28,7 @@ use Rattle.hart_cli.specs.explain.Gaps.{IsGap, seen_place}
 use Rattle.hart_cli.specs.explain.Misses.{miss_words}
 use Rattle.hart_cli.specs.explain.Words.{hex_value}
 
--- places that have a miss, each with what is told of it
+-- a place with what a function makes of its miss, if it has one
 abbrev pub told_at : (Miss → Miss) → (ℕ → Option Miss) → ℕ → List Seen
 told_at told f place = option_map_or (λ miss. Missed place (told miss) ∷ []) (f place) []
 
@@ -121,7 +121,7 @@ no_frame_in_gap chars _ _ (none at without) from stop place gap after below has 
 no_frame_in_gap chars _ _ (first at found later is are) from stop place gap after below has =
     grind (arith, stands_in_rest chars from at has.0, no_frame_in_gap chars found.stop later are from stop place)
 
--- the miss of a place that is told as another
+-- a miss that a function makes is made of a miss
 own_miss : (told : Miss → Miss) (found : Option Miss) (miss : Miss) → option_map told found ≡ Some miss
     → (own : Miss) × (found ≡ Some own) × (miss ≡ told own)
 own_miss told None miss is = absurd cc
@@ -138,7 +138,7 @@ missed_are chars from stop place miss has =
     let is = told_is (miss_in_whole from) (λ at. seen_miss (drop from chars) (at - from)) from (stop - from) place miss has in
     let own = own_miss (miss_in_whole from) (seen_miss (drop from chars) (place - from)) miss is.2 in (is.0, own.0, own.1, own.2)
 
--- one preamble byte alone is told as such
+-- the miss for one preamble byte alone
 pub whole_one : (from : ℕ) (own miss : Miss) → miss ≡ miss_in_whole from own → own ≡ OnePreamble → miss ≡ OnePreamble
 whole_one from own miss told one = rw (told, one) refl
 

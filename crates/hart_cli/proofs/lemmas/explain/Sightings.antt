@@ -27,7 +27,7 @@ pub moved_none : (seen : List Seen) → map (moved_seen 0) seen ≡ seen
 moved_none [] = refl
 moved_none (s ∷ seen) = rw (unmoved s, moved_none seen) refl
 
--- what is seen of the rest of some characters is seen of them, so many places later
+-- the sightings of the rest of a list are sightings of the list, with their places moved
 pub sees_later : (chars : List Character) (ended : Bool) (first used : ℕ) (seen given : List Seen) → first ≤ length chars
     → SeesOn chars ended 0 seen first → SeesOn (drop first chars) ended 0 given used
     → SeesOn chars ended 0 (seen ++ map (moved_seen first) given) (first + used)

@@ -157,7 +157,8 @@ told_is_decided start telling chars w w1 new h waiting quiet =
 
 -- a read and what it gave is told of, and what was decided before it was written in time
 pub told_step : (r r1 r2 w w1 w2 : Stream) (start old new : Telling) (ahead after : List ℕ) (read place : ℕ) (portion : Portion)
-    → IsNew start → ToldUpTo r r1 start old None ahead read w w1 → MayBegin ahead → ReadsAhead r1 r2 ahead after (stream_limit - read) portion
+    → IsNew start → ToldUpTo r r1 start old None ahead read w w1 → MayBegin ahead
+    → ReadsAhead r1 r2 ahead after (stream_limit - read) portion
     → length after ≤ most_ahead → NoPieceBegins (drop place after) → HearsText old new after place w1 w2 → IsWaiting new → new.kept ≡ []
     → (now : ToldUpTo r r2 start new portion.end (drop place after) (read + portion.len) w w2)
     × WroteInTime (IsDecidedText IsDecidedExplanation) now.input w w1

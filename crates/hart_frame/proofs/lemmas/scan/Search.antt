@@ -10,7 +10,6 @@ use Rattle.hart_frame.specs.declared.scan.candidate.Candidate.TheVariants.{Never
 use Rattle.hart_frame.specs.declared.wire.layout.Layout.{Layout}
 use Rattle.hart_frame.specs.declared.wire.prefix.Wrong.TheVariants.{BadDelimiter}
 use Rattle.hart_frame.specs.private.Candidate.{IsCandidate, IsWhole, MayBegin, MayBeginBefore, NeverBegin}
-use Rattle.hart_frame.specs.private.Prefix.{IsWrong}
 use Rattle.hart_frame.specs.private.Search.{HasThree, IsNextCandidate, IsOpenBefore, IsSearched, NoneBegin}
 use Rattle.hart_frame.specs.private.Layout.{layout_length}
 use Rattle.hart_frame.proofs.lemmas.scan.Candidate.{may_begin_before, never_after, never_first, never_more}
@@ -58,9 +57,9 @@ passed_never xs here within (inl other) = (1, grind (arith, drop_more xs here 0,
 passed_never xs here within (inr (inside, first, second, third)) =
     let parts : drop here xs ≡ 255 ∷ 255 ∷ 255 ∷ drop (here + 3) xs =
     grind (arith, drop_more xs here 0, drop_more xs (here + 1) 0, drop_more xs (here + 2) 0) in
-    let never : IsWrong (255 ∷ []) (BadDelimiter 255) = grind arith in (
+    let never = never_after 255 255 (255 ∷ []) (BadDelimiter 255) (grind arith) in (
       3,
-      rw parts (omega arith, never_after 255 255 (255 ∷ []) (BadDelimiter 255) never, may_begin_before 1 (255 ∷ drop (here + 3) xs) (grind arith)),
+      rw parts (omega arith, never, may_begin_before 1 (255 ∷ drop (here + 3) xs) (grind arith)),
       omega arith,
       omega arith,
     )

@@ -28,7 +28,7 @@ tell_text-requires-clause-places g c =
     let fits = places_fit _ _ c.args.telling.now c.loop-place.telling _ _ c.loop-place.read _ _ c.requires loop.told loop.within in
     omega (arith, fits, c.as_slice.ensures.fits)
 
--- what was read is told
+-- the text of what was read was written
 told : (g : Over) (c : In_ok-place g)
     → (now : ToldUpTo (g.R.Source.stream c.args.reader.now) (g.R.Source.stream c.read_ahead-portion.new.reader) c.args.telling.now
     c.tell_text.new.self c.read_ahead-portion.result.end (drop c.in_ok-place.place c.read_ahead-portion.new.ahead)

@@ -10,8 +10,8 @@ returns-then-not-has_two_preambles-clause-may c = λ good.
     let bytes = c.args.bytes.now in
     let fit = All-from_get_or (λ byte. byte < 256) bytes 0 (λ i below. omega (arith, c.type_inv.bytes i)) in
     let clear : has_two_preambles bytes ≡ false = grind arith in
-    may bytes 300 fit (cut_truncated bytes c.args.missing c.requires) clear (λ lacks. let both = c.lacks_one_preamble.ensures.1 lacks in absurd (grind arith))
-    (omega arith)
+    let truncated = cut_truncated bytes c.args.missing c.requires in
+    may bytes 300 fit truncated clear (λ lacks. let both = c.lacks_one_preamble.ensures.1 lacks in absurd (grind arith)) (omega arith)
 
 pub returns-then-not-has_two_preambles-clause-never : goal.returns-then-not-has_two_preambles-clause-never
 returns-then-not-has_two_preambles-clause-never c = λ not more.

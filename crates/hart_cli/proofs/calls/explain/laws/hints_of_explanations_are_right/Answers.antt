@@ -64,7 +64,7 @@ known chars from stop place miss small has =
       told = told;
     }
 
--- which miss is told as a bad check byte
+-- the misses that name a bad check byte
 own_check : (from at byte fits : ℕ) (own : Miss) → BadCheck at byte fits ≡ miss_in_whole from own
     → (start : ℕ) × (own ≡ BadCheck start byte fits) × (at ≡ from + start)
 own_check from at byte fits (BadCheck start b f) is = (start, grind arith, grind arith)

@@ -6,7 +6,7 @@ use Rattle.hart_cli.proofs.calls.explain.telling.Telling.tell_held.Goals.{After-
 use Rattle.hart_cli.proofs.lemmas.explain.Telling.{told_held}
 use Rattle.hart_cli.proofs.calls.explain.telling.Telling.tell_held.Goals as goal
 
--- all that is decided is told
+-- the text of all decided sightings was written or is kept
 told : (g : Over) (c : After-let_go g)
     → Hears c.args.self.now c.let_go.new.self (chars_after c.args.after) (is_end c.args.after) (g.W.Sink.stream c.args.writer.now)
     (g.W.Sink.stream c.tell_decided.new.writer)
