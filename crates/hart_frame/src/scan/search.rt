@@ -84,6 +84,7 @@ fn next_candidate(bytes: &[u8], from: usize) -> Option<usize>
 }
 
 /// The place of the first preamble byte from a place on, or the place after the last byte if there is none.
+#[inline(always)]
 pub(crate) fn next_preamble(bytes: &[u8], from: usize) -> usize
     requires { from ≤ length bytes.now }
     ensures after { from ≤ result }

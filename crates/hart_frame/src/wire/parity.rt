@@ -18,6 +18,7 @@ pub fn check_byte(bytes: &[u8]) -> u8
 }
 
 /// The same, by four bytes at a time if they are few, as those of most bodies are.
+#[inline(always)]
 pub(crate) fn body_check(bytes: &[u8]) -> u8
     ensures { IsCheckByte bytes.now result }
 {
