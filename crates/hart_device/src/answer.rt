@@ -1,4 +1,4 @@
-//! What a device answers to what it hears, and what that does to it.
+//! The answers of a device, and how they change it.
 ghost use Rattle.std.specs.Prelude.{◌≡◌, ◌≤◌, ◌↔◌, length, false, true, IsSome, IsTrue, IfSome, MatchOption, None, Ok};
 ghost use Rattle.hart_commands.specs.ReplyData.{reply_payload};
 ghost use Rattle.hart_device.specs.Device.{after};
@@ -26,9 +26,9 @@ mod variables;
 const IDENTIFY: u8 = 0;
 
 impl<S: RegisterStore> Device<S> {
-    /// What the device answers to a delivery, which is what it heard at once: what it answers to the frame of a delivery with
-    /// exactly one, and to a garbled request in a delivery without a frame a communication-fault reply, which changes nothing.
-    /// To any other delivery it is silent, `None`, and stays as it is.
+    /// Hears a delivery, which is what was heard at once, and returns the reply. If the delivery has exactly one frame, the device
+    /// receives it as by [`Device::receive`]. If it has no frame but a garbled request, the reply has its communication faults, and
+    /// the device is unchanged. To any other delivery the device is silent (`None`) and unchanged.
     pub fn hear(&mut self, delivery: &[Char], process: &Process) -> Option<Frame>
         ensures answer { (brought : Brought) → Brings self.old.identity delivery.now brought
             → result ≡ answer_to self.old process.now brought }
@@ -43,8 +43,8 @@ impl<S: RegisterStore> Device<S> {
         }
     }
 
-    /// The communication-fault reply to the garbled request of a delivery, or `None` if it has none. It is for a delivery without a
-    /// frame: a whole request has the form of a garbled one.
+    /// Returns the communication-fault reply to the garbled request of a delivery, or `None` if it has none. Use it for a delivery
+    /// without a frame, since a whole request has the form of a garbled one too.
     pub fn reply_to_garbled(&self, delivery: &[Char]) -> Option<Frame>
         ensures reply { MatchOption result ((request : GarbledRequest) → HasGarbled self.now.identity delivery.now request → ⊥)
             (λ reply. (request : GarbledRequest) × HasGarbled self.now.identity delivery.now request
@@ -54,10 +54,10 @@ impl<S: RegisterStore> Device<S> {
         Some(request.reply(&self.identity))
     }
 
-    /// What the device answers to a frame, or silence, `None`, which changes nothing.
+    /// Receives a frame and returns the reply. Silence (`None`) changes nothing.
     ///
-    /// The reply is about the state after the command. It shows the master its cold start bit, and clears it, whatever its response
-    /// code; a command with another code than 0 changes nothing else.
+    /// The reply describes the state after the command. It shows the master's cold start bit and clears it, whatever its response code.
+    /// A command with another code than 0 changes nothing else.
     pub fn receive(&mut self, frame: &Frame, process: &Process) -> Option<Frame>
         ensures answer { result ≡ answer_of self.old process.now frame.now }
         ensures state { self.new ≡ state_after self.old frame.now }
@@ -70,8 +70,8 @@ impl<S: RegisterStore> Device<S> {
         }
     }
 
-    /// Answers a frame as [`Device::receive`] does, with the answer written over `reply`, and says whether there is one. If
-    /// there is none, `reply` is as it was.
+    /// Like [`Device::receive`], but writes the reply over `reply` and returns true. In silence it returns false, and `reply` is
+    /// unchanged.
     pub fn receive_into(&mut self, frame: &Frame, process: &Process, reply: &mut Frame) -> bool
         ensures answers { IsTrue result ↔ IsSome (answer_of self.old process.now frame.now) }
         ensures answer { IfSome (answer_of self.old process.now frame.now) (λ answer. reply.new ≡ answer) }
@@ -86,7 +86,7 @@ impl<S: RegisterStore> Device<S> {
         answers
     }
 
-    /// Whether the device answers a frame, which it carries out; the payload of the answer is then in `payload`.
+    /// Carries out a frame. Returns true if the device answers it; `payload` then has the payload of the answer.
     fn answer_into(&mut self, frame: &Frame, process: &Process, payload: &mut Payload) -> bool
         ensures answers { result ≡ is_answered self.old frame.now }
         ensures written { IsTrue result → payload.new ≡ reply_payload (reply_of self.old process.now frame.now) }
@@ -102,8 +102,7 @@ impl<S: RegisterStore> Device<S> {
         true
     }
 
-    /// What the device makes of a frame that it answers: the request that it carries out, or the code with which it refuses it. `None`
-    /// is silence.
+    /// Judges a frame: the request to carry out, or the code that refuses it. `None` is silence.
     fn judge(&self, frame: &Frame) -> Option<Result<Request, ResponseCode>>
         ensures { MatchOption result (is_answered self.now frame.now ≡ false)
             (λ judged. (is_answered self.now frame.now ≡ true) × (judged ≡ judged_of self.now frame.now)) }
@@ -120,7 +119,7 @@ impl<S: RegisterStore> Device<S> {
         }
     }
 
-    /// Whether the device answers a frame, which is read so and has this code.
+    /// Returns true if the device answers a frame with this reading and this code.
     fn answers(
         &self,
         frame: &Frame,
@@ -136,7 +135,7 @@ impl<S: RegisterStore> Device<S> {
             && !(frame.address().is_broadcast() && code != ResponseCode::SUCCESS)
     }
 
-    /// Whether the frame is a request without expansion bytes, whose address and command are paired.
+    /// Returns true for a request without expansion bytes whose address and command are paired.
     fn is_addressed(&self, frame: &Frame) -> bool
         ensures { result ≡ is_addressed self.now frame.now }
     {
@@ -145,7 +144,7 @@ impl<S: RegisterStore> Device<S> {
             && self.is_paired(frame.address(), frame.command())
     }
 
-    /// Whether the device is asked this command at this address.
+    /// Returns true if the device answers this command at this address.
     fn is_paired(&self, address: Address, command: u8) -> bool
         ensures { result ≡ is_paired self.now address command }
     {
@@ -160,7 +159,7 @@ impl<S: RegisterStore> Device<S> {
         }
     }
 
-    /// Whether Command 11 names a tag, or Command 21 a long tag, that is not the device's.
+    /// Returns true if Command 11 names another tag, or Command 21 another long tag, than the device's.
     fn names_another(&self, reading: &Result<Request, ResponseCode>) -> bool
         ensures { result ≡ names_another self.now reading.now }
     {
@@ -173,7 +172,7 @@ impl<S: RegisterStore> Device<S> {
         }
     }
 
-    /// Does what is asked by a frame that is judged so.
+    /// Carries out a frame as it was judged.
     fn carry_out(&mut self, master: MasterId, judged: &Result<Request, ResponseCode>)
         ensures { self.new ≡ after master (asked_effect judged.now) self.old }
     {
@@ -182,7 +181,7 @@ impl<S: RegisterStore> Device<S> {
         }
     }
 
-    /// Does what a request asks with code 0.
+    /// Carries out a request that has code 0.
     fn execute(&mut self, master: MasterId, request: &Request)
         ensures { self.new ≡ after master (asked_effect (Ok request.now)) self.old }
     {
@@ -198,7 +197,7 @@ impl<S: RegisterStore> Device<S> {
         }
     }
 
-    /// Replaces `payload` by that of the reply to a frame that is judged so.
+    /// Replaces `payload` by that of the reply to a judged frame.
     fn write_payload(
         &self,
         frame: &Frame,

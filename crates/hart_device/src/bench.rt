@@ -1,4 +1,4 @@
-//! The bench device (own profile): the device that a program has if it is given no other.
+//! The bench device (own profile): the device of a program that is given no other.
 ghost use Rattle.std.specs.Prelude.{◌≡◌};
 ghost use Rattle.hart_device.specs.Bench.{bench_identity, bench_process, bench_values};
 
@@ -26,7 +26,7 @@ const LONG_TAG: [u8; 32] = [b' '; 32];
 /// Degrees Celsius.
 const CELSIUS: u8 = 0x20;
 
-/// Its identity: type hex 3742, id hex 0A1B2C.
+/// Returns the identity: type hex 3742, id hex 0A1B2C.
 pub fn identity() -> Identity
     ensures { result ≡ bench_identity }
 {
@@ -48,8 +48,8 @@ pub fn identity() -> Identity
     .unwrap()
 }
 
-/// What its registers begin with: polling address 0, the loop current enabled, texts of spaces, no date, assembly number 0, and a
-/// long tag of spaces.
+/// Returns the first values of the registers: polling address 0, loop current enabled, texts of spaces, date not set, assembly number
+/// 0, long tag of spaces.
 pub fn register_values() -> RegisterValues
     ensures { result ≡ bench_values }
 {
@@ -65,7 +65,7 @@ pub fn register_values() -> RegisterValues
     }
 }
 
-/// Its process: 12 mA, 50 percent, 25 degrees Celsius.
+/// Returns the process: 12 mA, 50 percent, 25 degrees Celsius.
 pub fn process() -> Process
     ensures { result ≡ bench_process }
 {

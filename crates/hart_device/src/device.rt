@@ -45,8 +45,8 @@ impl<S: RegisterStore> Model for Device<S> {
 }
 
 impl<S: RegisterStore> Device<S> {
-    /// A device with this identity, whose registers hold these values. It has counted nothing, its configuration has not changed
-    /// for any master, it is not protected, and no cold start bit is set.
+    /// Makes a device with this identity and these values of its registers. Its counter is 0, its configuration has changed for neither
+    /// master, it is not write protected, and its cold start bits are clear.
     pub fn new(identity: Identity, values: &RegisterValues) -> Self
         ensures { result ≡ new_device identity values.now }
     {
@@ -57,7 +57,7 @@ impl<S: RegisterStore> Device<S> {
         Device::restored(identity, values, 0, changed, false)
     }
 
-    /// A device in this state, of which no cold start bit is set.
+    /// Makes a device in this state, with clear cold start bits.
     pub(crate) fn restored(
         identity: Identity,
         values: &RegisterValues,
@@ -87,8 +87,7 @@ impl<S: RegisterStore> Device<S> {
         }
     }
 
-    /// The device was without power: the next reply with a response code to each master shows it a cold start, once. All else
-    /// stays as it is.
+    /// Restarts the device: the next reply with a response code to each master shows a cold start, once. Nothing else changes.
     pub fn restart(&mut self)
         ensures { self.new ≡ restarted self.old }
     {
@@ -98,36 +97,35 @@ impl<S: RegisterStore> Device<S> {
         };
     }
 
-    /// The cold start bit of a master: whether the next reply with a response code to this master shows it a cold start.
+    /// Returns true if the next reply with a response code to this master shows a cold start.
     pub fn cold_start(&self, master: MasterId) -> bool
         ensures { result ≡ of_master master self.now.cold_start }
     {
         *self.cold_start.get(master)
     }
 
-    /// Sets the cold start bit of each master. So they are put back in a device that goes on from its image, which has none of them. All
-    /// else stays as it is.
+    /// Sets the cold start bit of each master, for a device that was made from its image, which has none. Nothing else changes.
     pub fn restore_cold_start(&mut self, cold_start: EachMaster<bool>)
         ensures { self.new ≡ record self.old { cold_start = cold_start } }
     {
         self.cold_start = cold_start;
     }
 
-    /// Sets whether it is write protected: configuration writes are then refused.
+    /// Switches write protection on or off. A protected device refuses configuration writes.
     pub fn protect(&mut self, protected: bool)
         ensures { self.new ≡ record self.old { protected = protected } }
     {
         self.protected = protected;
     }
 
-    /// Whether it is write protected.
+    /// Returns true if the device is write protected.
     pub fn is_protected(&self) -> bool
         ensures { result ≡ self.now.protected }
     {
         self.protected
     }
 
-    /// The store of its registers.
+    /// Returns the store of the registers.
     pub fn registers(&self) -> &S
         ensures contents { S.contents result.now ≡ self.now.contents }
         ensures valid { AreValid self.now.contents }
@@ -135,21 +133,21 @@ impl<S: RegisterStore> Device<S> {
         &self.registers
     }
 
-    /// The configuration change counter: the number of executed configuration writes modulo 65536.
+    /// Returns the configuration change counter: the number of executed configuration writes modulo 65536.
     pub fn counter(&self) -> u16
         ensures { result ≡ self.now.counter }
     {
         self.counter
     }
 
-    /// The configuration-changed bit of a master: whether a configuration write was executed since this master's last reset.
+    /// Returns true if a configuration write was executed since this master's last reset.
     pub fn changed(&self, master: MasterId) -> bool
         ensures { result ≡ of_master master self.now.changed }
     {
         *self.changed.get(master)
     }
 
-    /// The number of preamble bytes of its replies, 5 to 20.
+    /// Returns the number of preamble bytes of its replies, 5 to 20.
     pub fn response_preambles(&self) -> u8
         ensures same { result ≡ self.now.identity.response_preambles }
         ensures in_range { IsPreambleCount result }

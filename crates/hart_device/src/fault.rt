@@ -5,7 +5,7 @@ ghost use Rattle.hart_device.specs.FaultText.{device_fault_text};
 use std::fmt;
 use thiserror::Error;
 
-/// Why the parts of a device, or its image, were refused.
+/// Why the parts of a device or its image were refused.
 #[derive(Clone, Copy, Debug, PartialEq, Eq, Error)]
 pub enum DeviceFault {
     /// The unique address would be the broadcast address.
@@ -16,7 +16,7 @@ pub enum DeviceFault {
     BadVersion,
     /// An image of no bytes, or of another length than its version has.
     BadLength,
-    /// An image in which a register would hold bytes that are not valid in it, or with flags above 7.
+    /// An image with bytes that are not valid in their register, or with flags above 7.
     BadField,
 }
 
@@ -34,7 +34,7 @@ impl DeviceFault {
         }
     }
 
-    /// The text of the fault.
+    /// Returns the text of the fault.
     pub fn text(self) -> &'static str
         ensures text { result.now ≡ device_fault_text self }
         ensures short { length result.now ≤ 18 }

@@ -11,7 +11,7 @@ use std::marker::Model;
 /// The major revision of the protocol.
 const PROTOCOL_REVISION: u8 = 7;
 
-/// Who a device is (HCF_SPEC-127), by numbers that lie within their ranges and give a unique address that is not broadcast.
+/// Who a device is (HCF_SPEC-127). Its numbers are in range, and its unique address is not broadcast.
 ///
 /// Contracts see its parts.
 #[derive(Clone, Copy, Debug, PartialEq, Eq)]
@@ -33,13 +33,13 @@ impl Model for Identity {
 }
 
 impl Identity {
-    /// The identity of these parts.
+    /// Makes an identity of these parts.
     ///
     /// # Errors
     ///
-    /// [`DeviceFault::OutOfRange`] if the device id is above 16,777,215, a number of preamble bytes is outside 5 to 20, the
-    /// hardware revision is above 31 or the signalling code is above 7; then [`DeviceFault::BroadcastAddress`] if the lower
-    /// 14 bits of the type and the device id are all zero.
+    /// [`DeviceFault::OutOfRange`] if the device id is above 16,777,215, a number of preamble bytes is outside 5 to 20, the hardware
+    /// revision is above 31 or the signalling code is above 7. Then [`DeviceFault::BroadcastAddress`] if the lower 14 bits of the type
+    /// and the device id are all 0.
     pub fn new(parts: IdentityParts) -> Result<Self, DeviceFault>
         ensures accepted { IsOk result ↔ AreIdentityParts parts }
         ensures kept { IfOk result (λ identity. identity ≡ parts) }
@@ -54,7 +54,7 @@ impl Identity {
         Ok(Identity { parts })
     }
 
-    /// The unique address of the device.
+    /// Returns the unique address of the device.
     pub fn unique_address(&self) -> UniqueAddress
         ensures { result ≡ own_numbers self.now }
     {
@@ -70,7 +70,7 @@ impl Identity {
         self.parts.response_preambles
     }
 
-    /// What the identity, this configuration change counter and this extended device status say to a master.
+    /// Returns the content of a reply to Command 0, with this configuration change counter and this extended device status.
     pub(crate) fn content(&self, counter: u16, extended_device_status: u8) -> IdentityContent
         ensures { result ≡ identity_content self.now counter extended_device_status }
     {
@@ -95,7 +95,7 @@ impl Identity {
     }
 }
 
-/// Whether each number lies within its range.
+/// Returns true if each number is in its range.
 fn is_in_range(parts: &IdentityParts) -> bool
     ensures { IsTrue result ↔ AreInRange parts.now }
 {
@@ -106,7 +106,7 @@ fn is_in_range(parts: &IdentityParts) -> bool
         && parts.signalling_code < 1 << 3
 }
 
-/// The unique address of the lower 14 bits of the type and of the device id.
+/// Returns the unique address of the lower 14 bits of the type and of the device id.
 fn address_of(parts: &IdentityParts) -> UniqueAddress
     requires { parts.now.device_id < 2 ^ 24 }
     ensures { result ≡ own_numbers parts.now }
@@ -114,7 +114,7 @@ fn address_of(parts: &IdentityParts) -> UniqueAddress
     UniqueAddress::new(parts.expanded_device_type, parts.device_id).unwrap()
 }
 
-/// The three bytes of a number of 24 bits, the most significant first.
+/// Returns the three bytes of a number of 24 bits, the most significant first.
 fn three_bytes(number: u32) -> [u8; 3]
     requires { number < 2 ^ 24 }
     ensures { result ≡ three_bytes number }

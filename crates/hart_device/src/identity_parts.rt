@@ -1,7 +1,7 @@
-/// The numbers that say who a device is (HCF_SPEC-127). [`Identity::new`](crate::Identity::new) says which are taken.
+/// The numbers of a device's identity (HCF_SPEC-127). [`Identity::new`](crate::Identity::new) says which are accepted.
 #[derive(Clone, Copy, Debug, PartialEq, Eq)]
 pub struct IdentityParts {
-    /// The expanded device type, of which the lower 14 bits stand in the unique address.
+    /// The expanded device type. Its lower 14 bits are in the unique address.
     pub expanded_device_type: u16,
     /// The device id, at most 16,777,215.
     pub device_id: u32,

@@ -27,7 +27,7 @@ const VERSION_1: u8 = 1;
 /// The version that has every register.
 const VERSION_2: u8 = 2;
 
-/// How many bytes the registers of an image of version 1 have together.
+/// The number of bytes of the registers in an image of version 1.
 const ARRAY_LEN_OF_VERSION_1: usize = 50;
 
 /// An image ends with two bytes of the counter and the flags.
@@ -45,8 +45,8 @@ pub(crate) struct ImageParts {
 }
 
 impl<S: RegisterStore> Device<S> {
-    /// What the device holds, but for its identity and its cold start bits: its image, of version 2. [`Device::from_image`] reads it
-    /// again, and [`Device::restore_cold_start`] puts the cold start bits back.
+    /// Returns the image of the device, of version 2: what it holds without its identity and its cold start bits.
+    /// [`Device::from_image`] reads it, and [`Device::restore_cold_start`] restores the cold start bits.
     pub fn image(&self) -> Image
         ensures written { result ≡ image_of self.now }
         ensures image { IsImageOf self.now result }
@@ -71,14 +71,14 @@ impl<S: RegisterStore> Device<S> {
         image
     }
 
-    /// A device with this identity that goes on from an image of either version, with no cold start bit set. From one of version 1 its
-    /// long tag is the text of its tag and 24 spaces.
+    /// Makes a device with this identity from an image of version 1 or 2, with clear cold start bits. From version 1 its long tag is the
+    /// text of its tag and 24 spaces.
     ///
     /// # Errors
     ///
-    /// [`DeviceFault::BadLength`] if there are no bytes, then [`DeviceFault::BadVersion`] if the version is not known, then
-    /// [`DeviceFault::BadLength`] if an image of that version has not so many, then [`DeviceFault::BadField`] if the
-    /// polling address is above 63, the loop current mode is above 1, the date is none, or the flags are above 7.
+    /// [`DeviceFault::BadLength`] if there are no bytes. Then [`DeviceFault::BadVersion`] for another version than 1 and 2. Then
+    /// [`DeviceFault::BadLength`] if that version has another length. Then [`DeviceFault::BadField`] for a polling address above 63, a
+    /// loop current mode above 1, bytes that are no date, or flags above 7.
     pub fn from_image(identity: Identity, image: &[u8]) -> Result<Self, DeviceFault>
         ensures accepted { IsOk result ↔ IsImage image.now }
         ensures kept { IfOk result (λ device. (device.identity ≡ identity) × IsImageOf device image.now) }
@@ -109,7 +109,7 @@ fn read_image(image: &[u8]) -> Result<ImageParts, DeviceFault>
     }
 }
 
-/// What an image of version 1 says, by its bytes after the version.
+/// Reads an image of version 1 from its bytes after the version.
 fn read_version_1(rest: &[u8]) -> Result<ImageParts, DeviceFault>
     ensures kept { IfOk result (λ parts. (identity : IdentityParts) → IsImageOf (state_with identity parts) (1 ∷ rest.now)) }
     ensures refused { IfErr result (IsImageFault (1 ∷ rest.now)) }
@@ -125,7 +125,7 @@ fn read_version_1(rest: &[u8]) -> Result<ImageParts, DeviceFault>
     read_parts(&registers, ending).ok_or(DeviceFault::BadField)
 }
 
-/// What an image of version 2 says, by its bytes after the version.
+/// Reads an image of version 2 from its bytes after the version.
 fn read_version_2(rest: &[u8]) -> Result<ImageParts, DeviceFault>
     ensures kept { IfOk result (λ parts. (identity : IdentityParts) → IsImageOf (state_with identity parts) (2 ∷ rest.now)) }
     ensures refused { IfErr result (IsImageFault (2 ∷ rest.now)) }
@@ -139,7 +139,7 @@ fn read_version_2(rest: &[u8]) -> Result<ImageParts, DeviceFault>
     read_parts(&ImageRegisters { bytes }, ending).ok_or(DeviceFault::BadField)
 }
 
-/// What the registers and the bytes that end an image say, or `None` if a field of them is bad.
+/// Reads the registers and the last bytes of an image. The result is `None` if a field is bad.
 fn read_parts(registers: &ImageRegisters, ending: &[u8]) -> Option<ImageParts>
     requires { length ending.now ≡ 3 }
     ensures registers { IfSome result (λ parts. values_of parts.values ≡ contents_in «registers».now.bytes) }

@@ -1,9 +1,8 @@
 //! A HART field device (HCF_SPEC-081, HCF_SPEC-099, HCF_SPEC-127): its registers, what it answers to what it hears, and its
 //! state afterwards.
 //!
-//! A [`Device`] is an [`Identity`], registers in a [`RegisterStore`], a configuration change counter, for each master whether
-//! the configuration has changed since it last reset this, whether the device is write protected, and for each master its cold
-//! start bit. What the device measures is handed in with each request, as a [`Process`].
+//! A [`Device`] has an [`Identity`], registers in a [`RegisterStore`], a configuration change counter, a configuration-changed bit and
+//! a cold start bit for each master, and write protection. What the device measures is passed with each request, as a [`Process`].
 //!
 //! ```rust
 //! let mut device: Device<FieldRegisters> = Device::new(bench::identity(), &bench::register_values());
@@ -13,12 +12,12 @@
 //! assert_eq!(rt; reply.payload(), [0, 0, 0, 1].as_slice());
 //! ```
 //!
-//! The program `hart` has the device of [`bench`]; [`Identity::new`] and [`RegisterStore`] are for devices of one's own. Of its [`laws`]
+//! The program `hart` has the device of [`bench`]. Use [`Identity::new`] and [`RegisterStore`] for devices of your own. Of its [`laws`]
 //! no crate of `hart` cites `overwrites_absorb`, `frames_leave_identity_and_protection`, `cold_starts_are_shown_once`,
 //! `garbled_requests_are_decided` and `devices_are_kept_whole`: they are for whoever proves more of a device, and the last one for
-//! whoever keeps a device as bytes. No call of this crate takes memory.
+//! whoever keeps a device as bytes. No call of this crate allocates.
 //!
-//! At the root stand what a device is and what it is made with. The rooms:
+//! The root has the device and what it is made with. The modules:
 //!
 //! - `registers`: what holds the registers, and the two stores, a field for each and one array of them all.
 //! - `answer`: who is answered, with what, and what that does to the device.

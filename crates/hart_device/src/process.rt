@@ -53,7 +53,7 @@ pub struct Process {
     pub others: ShortList<ProcessVariable, 3>,
     /// When the variables were measured.
     pub time_stamp: [u8; 4],
-    /// The bits of the device status that the process has: hex 80, 04, 02 and 01. Others are not looked at.
+    /// The bits of the device status that the process sets: hex 80, 04, 02 and 01. Other bits are ignored.
     pub status: u8,
     /// The additional status bytes; byte 6, counted from 0, is the extended device status.
     pub additional_status: [u8; 25],
@@ -71,7 +71,7 @@ impl Process {
         self.additional_status[EXTENDED_DEVICE_STATUS]
     }
 
-    /// Whether an additional status byte other than the extended device status is not zero.
+    /// Returns true if an additional status byte other than the extended device status is not 0.
     pub(crate) fn has_more_status(&self) -> bool
         ensures { result ≡ has_more_status self.now }
     {
@@ -81,7 +81,7 @@ impl Process {
     }
 }
 
-/// Whether one of some bytes is not zero.
+/// Returns true if one of some bytes is not 0.
 fn is_any_set(bytes: &[u8]) -> bool
     ensures { result ≡ is_any_set bytes.now }
 {

@@ -1,4 +1,4 @@
-//! What holds the registers of a device.
+//! Stores of the registers of a device.
 ghost use Rattle.std.specs.Prelude.{◌≡◌, length, unwrap_or};
 ghost use Rattle.hart_commands.specs.Registers.{AreValid, Contents, bytes_in, named_in, size_of};
 ghost use Rattle.hart_commands.specs.declared.register.Register.{Register};
@@ -12,13 +12,13 @@ pub mod image_registers;
 pub mod ranges;
 pub mod values;
 
-/// What holds the registers of a device, however it lays them out.
+/// A store of the registers of a device, in any layout.
 ///
 /// Contracts see the contents: the bytes of each register.
 pub trait RegisterStore {
     ghost contents: { Self → Contents };
 
-    /// A store in which each register holds its value.
+    /// Makes a store in which each register holds its value.
     fn with(values: &RegisterValues) -> Self
         ensures held { (register : Register) → bytes_in (contents result) register ≡ bytes_in (values_of values.now) register }
         ensures valid { AreValid (contents result) };
@@ -28,7 +28,7 @@ pub trait RegisterStore {
         ensures value { result.now ≡ bytes_in (contents self.now) register }
         ensures size { length result.now ≡ size_of register };
 
-    /// Gives each register that the overwrite names the bytes that it gives it; every other holds what it held.
+    /// Sets the registers named by `overwrite`. Every other register is unchanged.
     fn overwrite(&mut self, overwrite: &Overwrite)
         ensures { (register : Register) → bytes_in (contents self.new) register
             ≡ unwrap_or (named_in overwrite.now register) (bytes_in (contents self.old) register) };

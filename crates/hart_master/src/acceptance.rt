@@ -1,4 +1,4 @@
-//! The reply to a request that a frame is.
+//! Whether a frame is the reply to a request.
 ghost use Rattle.std.specs.Prelude.{◌≡◌, ◌↔◌, IsTrue, IfSome};
 ghost use Rattle.hart_commands.specs.declared.reply.Reply.{Reply};
 ghost use Rattle.hart_master.specs.Acceptance.{MatchesRequest, IsReplyTo};
@@ -8,7 +8,7 @@ use hart_commands::Reply;
 use hart_frame::{Frame, FrameKind};
 use hart_values::MasterId;
 
-/// The reply that a frame is to what this master asks, or `None` if it is none.
+/// Returns the reply that a frame is to this request, or `None` if it is none.
 pub(crate) fn accepted_reply(
     id: MasterId,
     transaction: &Transaction,
@@ -25,7 +25,7 @@ pub(crate) fn accepted_reply(
     }
 }
 
-/// Whether a frame answers what this master asks.
+/// Returns true if a frame answers this request.
 fn matches_request(id: MasterId, transaction: &Transaction, frame: &Frame) -> bool
     ensures { IsTrue result ↔ MatchesRequest id transaction.now.address transaction.now.request frame.now }
 {

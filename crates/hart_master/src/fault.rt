@@ -4,7 +4,7 @@ ghost use Rattle.hart_master.specs.FaultNumbers.{master_fault_number};
 use hart_commands::Request;
 use thiserror::Error;
 
-/// Why a master was not made, or took no request.
+/// Why a master could not be made, or did not take a request.
 #[derive(Clone, Copy, Debug, PartialEq, Eq, Error)]
 pub enum MasterFault {
     /// More than 15 retries, or a reply limit of 0.
@@ -31,11 +31,11 @@ impl MasterFault {
     }
 }
 
-/// A request that a master did not take, and why.
+/// A request that a master did not take, and the reason.
 #[derive(Debug, Drop, PartialEq, Eq)]
 pub struct Rejected {
     /// Why it was not taken.
     pub fault: MasterFault,
-    /// The request, as it was handed in.
+    /// The request.
     pub request: Request,
 }

@@ -8,7 +8,7 @@ pub(crate) enum Hand {
     Empty,
     /// A request that is to be sent, for the first time or again.
     ToSend(Transaction),
-    /// A request whose reply is awaited, and for how many character times it has been, 255 standing for more too.
+    /// A request whose reply is awaited, and the character times since it was sent; 255 stands for longer times too.
     Awaiting(Transaction, u8),
 }
 

@@ -12,9 +12,9 @@
 //! assert_eq!(rt; master.tick(33), MasterEvent::NoReply(2));
 //! ```
 //!
-//! The program `hart` itself does not call [`unique_of`]: it is for whoever looks for devices with this library.
+//! The program `hart` does not call [`unique_of`]. It is for programs that search for devices with this library.
 //!
-//! No call of this crate takes memory.
+//! No call of this crate allocates.
 #![tactic(auto)]
 
 mod acceptance;

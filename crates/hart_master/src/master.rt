@@ -16,13 +16,13 @@ use hart_values::{Address, MasterId, Payload};
 use std::marker::Model;
 use std::mem;
 
-/// The greatest number of retries.
+/// The retry limit that a master can have at most.
 const MOST_RETRIES: u8 = 15;
 
 /// One of the two masters, with one request in hand or none.
 ///
-/// A request is submitted, then sent; its reply is awaited until one is heard or the reply limit is reached, and it is then
-/// sent again, until it was sent once more than there are retries.
+/// A request is submitted and then sent. The master waits for its reply until the reply limit, and then sends it again, in all once
+/// more than its retries.
 #[derive(Debug, Drop)]
 pub struct Master {
     id: MasterId,
@@ -43,8 +43,8 @@ impl Model for Master {
 }
 
 impl Master {
-    /// The master that sends a request again at most `retries` times, 15 at most, each time no reply was accepted within
-    /// `reply_limit` character times, 1 at least. It has no request in hand.
+    /// Makes a master with no request in hand. It sends a request again if it accepted no reply within `reply_limit` character times,
+    /// which is at least 1, and does so at most `retries` times, which is at most 15.
     ///
     /// # Errors
     ///
@@ -66,21 +66,21 @@ impl Master {
         })
     }
 
-    /// Which of the two masters it is.
+    /// Returns which of the two masters this is.
     pub fn id(&self) -> MasterId
         ensures { result ≡ self.now.id }
     {
         self.id
     }
 
-    /// Whether no request is in hand.
+    /// Returns true if no request is in hand.
     pub fn is_idle(&self) -> bool
         ensures { IsTrue result ↔ (self.now.hand ≡ hands.Empty) }
     {
         matches!(self.hand, Hand::Empty)
     }
 
-    /// How often the request in hand was sent, 0 if there is none.
+    /// Returns how often the request in hand was sent, 0 if there is none.
     pub fn sendings(&self) -> u8
         ensures counted { result ≡ sendings_of self.now.hand }
         ensures at_most { result ≤ self.now.retries + 1 }
@@ -91,13 +91,13 @@ impl Master {
         }
     }
 
-    /// Takes a request in hand, to be sent to this address.
+    /// Takes a request in hand, for this address.
     ///
     /// # Errors
     ///
-    /// [`MasterFault::Pending`] if one is in hand already, whatever the address; then [`MasterFault::WrongAddress`] for a
-    /// polling address with a command other than 0, and for broadcast with a command other than 11 and 21. The request is
-    /// handed back, and the master is as it was.
+    /// [`MasterFault::Pending`] if one is in hand already, whatever the address. Then [`MasterFault::WrongAddress`] for a polling
+    /// address with a command other than 0, and for broadcast with a command other than 11 and 21. The fault returns the request, and
+    /// the master is unchanged.
     pub fn submit(&mut self, address: Address, request: Request) -> Result<(), Rejected>
         ensures result { result ≡ result_submitted self.old.hand address request }
         ensures state { self.new ≡ record self.old { hand = hand_submitted self.old.hand address request } }
@@ -117,8 +117,9 @@ impl Master {
         Err(Rejected { fault, request })
     }
 
-    /// The frame of the request in hand, if that is to be sent: an STX of this master with the burst bit clear, no expansion
-    /// bytes and the written data of the request. Its reply is then awaited. Otherwise it is `None`, and nothing changes.
+    /// Returns the frame of the request in hand if it is due, and waits for its reply from then on. The frame is an STX of this master
+    /// with the burst bit clear, no expansion bytes and the data of the request. If nothing is due the result is `None`, and nothing
+    /// changes.
     pub fn send(&mut self) -> Option<Frame>
         ensures frame { result ≡ frame_sent self.old.id self.old.hand }
         ensures state { self.new ≡ record self.old { hand = hand_sent self.old.hand } }
@@ -146,8 +147,8 @@ impl Master {
         }
     }
 
-    /// Sends as [`Master::send`] does, with the frame written over `frame`, and says whether there is one. If there is none,
-    /// `frame` is as it was.
+    /// Like [`Master::send`], but writes the frame over `frame` and returns true. If nothing is due it returns false, and `frame` is
+    /// unchanged.
     pub fn send_into(&mut self, frame: &mut Frame) -> bool
         ensures sends { IsTrue result ↔ IsSome (frame_sent self.old.id self.old.hand) }
         ensures frame { IfSome (frame_sent self.old.id self.old.hand) (λ sent. frame.new ≡ sent) }
@@ -179,7 +180,7 @@ impl Master {
         }
     }
 
-    /// What a delivery brings: what its frame brings to [`Master::receive`], if it has exactly one. Otherwise it is
+    /// Hears a delivery. If it has exactly one frame, that is received as by [`Master::receive`]. Otherwise the result is
     /// [`MasterEvent::Nothing`], and nothing changes.
     pub fn hear(&mut self, delivery: &[Char]) -> MasterEvent
         ensures event { IsHeard self.old.hand (DeliveryBrings self.old.id self.old.hand delivery.now) result }
@@ -199,11 +200,11 @@ impl Master {
         }
     }
 
-    /// What a frame brings: the reply that is awaited and the number of sendings, and the request is no longer in hand.
-    /// Otherwise it is [`MasterEvent::Nothing`], and nothing changes.
+    /// Receives a frame. If it is the awaited reply, returns that and the number of sendings, and lets go of the request. Otherwise the
+    /// result is [`MasterEvent::Nothing`], and nothing changes.
     ///
-    /// Accepted is an ACK without expansion bytes, with the master's bit, the address and the command of the request, whose
-    /// payload [`Reply::read`](hart_commands::Reply::read) accepts. Its burst bit is not looked at.
+    /// A reply is an ACK without expansion bytes, with the master's bit, the address and the command of the request, whose payload
+    /// [`Reply::read`](hart_commands::Reply::read) accepts. Its burst bit is ignored.
     pub fn receive(&mut self, frame: &Frame) -> MasterEvent
         ensures event { IsHeard self.old.hand (FrameBrings self.old.id self.old.hand frame.now) result }
         ensures state { self.new ≡ record self.old { hand = hand_heard self.old.hand result } }
@@ -223,11 +224,11 @@ impl Master {
         MasterEvent::Answered(reply, sendings)
     }
 
-    /// Passes so many character times, of which 255 stand for more too.
+    /// Lets some character times pass. 255 stands for longer times too.
     ///
-    /// If a reply is awaited they add up, to 255 at most. From the reply limit on it is [`MasterEvent::Retry`] if the
-    /// request is to be sent again, and [`MasterEvent::NoReply`] if it was sent once more than there are retries, and is no
-    /// longer in hand. Otherwise it is [`MasterEvent::Nothing`].
+    /// While a reply is awaited the times add up, to 255 at most. From the reply limit on the result is [`MasterEvent::Retry`], and the
+    /// request is due again; or [`MasterEvent::NoReply`] if it was sent once more than the retries, and it is no longer in hand.
+    /// Otherwise the result is [`MasterEvent::Nothing`].
     pub fn tick(&mut self, character_times: u8) -> MasterEvent
         ensures event { result ≡ event_ticked self.old.retries self.old.reply_limit self.old.hand character_times }
         ensures state { self.new ≡ record self.old {
@@ -259,7 +260,7 @@ impl Master {
     }
 }
 
-/// The frame of a request of this master.
+/// Returns the frame of a request of this master.
 fn request_frame(id: MasterId, transaction: &Transaction) -> Frame
     ensures { result ≡ request_parts id transaction.now.address
         (command_of transaction.now.request) (request_data transaction.now.request) }

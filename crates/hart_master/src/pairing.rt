@@ -5,8 +5,8 @@ ghost use Rattle.hart_master.specs.Pairing.{may_ask};
 use hart_commands::{Request, may_be_broadcast};
 use hart_values::Address;
 
-/// Whether the request may be sent to this address: to a polling address Command 0 alone, to broadcast Commands 11 and 21
-/// alone, and to any other address every command.
+/// Returns true if the request may be sent to this address: only Command 0 to a polling address, only Commands 11 and 21 by
+/// broadcast, and every command to any other address.
 pub(crate) fn may_ask(address: Address, request: &Request) -> bool
     ensures { result ≡ may_ask address request.now }
 {

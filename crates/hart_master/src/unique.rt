@@ -4,10 +4,9 @@ ghost use Rattle.hart_master.specs.Unique.{address_of, unique_in};
 use hart_commands::{IdentityContent, Reply, ReplyContent};
 use hart_values::Address;
 
-/// The unique address that a reply gives: that of an identity with code 0. It is `None` for every other reply, and if the
-/// address is broadcast.
+/// Returns the unique address in an identity with code 0. The result is `None` for every other reply, and for the broadcast address.
 ///
-/// Of the expanded device type only the lower 14 bits stand in an address.
+/// An address has only the lower 14 bits of the expanded device type.
 pub fn unique_of(reply: &Reply) -> Option<Address>
     ensures { result ≡ unique_in reply.now }
 {
@@ -19,7 +18,7 @@ pub fn unique_of(reply: &Reply) -> Option<Address>
     }
 }
 
-/// The address of a device, which may be broadcast.
+/// Returns the address of these numbers, which may be broadcast.
 fn address_of(identity: &IdentityContent) -> Address
     ensures { result ≡ address_of identity.now }
 {

@@ -23,7 +23,7 @@ pub enum Address {
 impl Address {
     ghost use Rattle.hart_values.specs.address.AddressBytes.{IsAddressBytes, broadcast, is_broadcast};
 
-    /// The address with this polling address.
+    /// Returns the address with this polling address.
     ///
     /// # Errors
     ///
@@ -36,7 +36,7 @@ impl Address {
         Ok(Address::Polling(PollingAddress::new(number)?))
     }
 
-    /// The unique address of the lower 14 bits of this expanded device type and of this device id.
+    /// Returns the unique address of this device id and of the lower 14 bits of this expanded device type.
     ///
     /// # Errors
     ///
@@ -50,7 +50,7 @@ impl Address {
         Ok(Address::Unique(UniqueAddress::new(expanded_type, device_id)?))
     }
 
-    /// Whether it is the broadcast address: the unique address whose two numbers are zero.
+    /// Returns true if this is the broadcast address: the unique address whose two numbers are 0.
     pub fn is_broadcast(self) -> bool
         ensures known { IsTrue result ↔ (self ≡ broadcast) }
         ensures test { result ≡ is_broadcast self }
@@ -61,7 +61,7 @@ impl Address {
         }
     }
 
-    /// The bytes of the address in a message of, or to, this master, with this burst bit.
+    /// Returns the bytes of the address in a message of, or to, this master, with this burst bit.
     pub fn bytes(self, master: MasterId, burst: bool) -> AddressBytes
         ensures { IsAddressBytes master burst self result }
     {
@@ -82,9 +82,9 @@ impl Address {
         bytes
     }
 
-    /// The master bit, the burst bit and the address that these bytes hold.
+    /// Reads the master bit, the burst bit and the address in these bytes.
     ///
-    /// One byte is a polling address, five are a unique address, and any other number of bytes is `None`.
+    /// One byte is a polling address, five bytes are a unique address. The result is `None` for any other number.
     pub fn read(bytes: &[u8]) -> Option<(MasterId, bool, Address)>
         ensures lengths { IsSome result ↔ ((length bytes.now ≡ 1) ⊎ (length bytes.now ≡ 5)) }
         ensures found { IfSome result (λ (master, burst, address). IsAddressBytes master burst address bytes.now) }

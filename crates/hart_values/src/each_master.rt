@@ -14,7 +14,7 @@ pub struct EachMaster<T> {
 impl<T> EachMaster<T> {
     ghost use Rattle.hart_values.specs.EachMaster.{of_master};
 
-    /// This master's.
+    /// Returns the value of a master.
     pub fn get(&self, master: MasterId) -> &T
         ensures { result.now ≡ of_master master self.now }
     {
@@ -28,7 +28,7 @@ impl<T> EachMaster<T> {
 impl<T: Drop> EachMaster<T> {
     ghost use Rattle.hart_values.specs.EachMaster.{with_master};
 
-    /// Gives this master another; the other master's stays.
+    /// Sets the value of a master. The other master's stays.
     pub fn set(&mut self, master: MasterId, thing: T)
         ensures { self.new ≡ with_master master thing self.old }
     {

@@ -8,7 +8,7 @@ use std::marker::Model;
 
 mod calendar;
 
-/// The bytes of the date that is not set.
+/// The bytes of "not set".
 const NOT_SET: [u8; 3] = [0; 3];
 
 /// A day of the years 1900 to 2155 (HCF_SPEC-127), or "not set" (own profile).
@@ -33,7 +33,7 @@ impl Model for HartDate {
 }
 
 impl HartDate {
-    /// The date that these bytes hold.
+    /// Reads the date in these bytes.
     ///
     /// # Errors
     ///
@@ -51,7 +51,7 @@ impl HartDate {
         }
     }
 
-    /// The three bytes.
+    /// Returns the three bytes.
     pub fn as_bytes(&self) -> &[u8]
         ensures value { result.now ≡ self.now }
         ensures date { IsDateBytes result.now }
@@ -59,7 +59,7 @@ impl HartDate {
         &self.bytes
     }
 
-    /// Whether it is a day, and not "not set".
+    /// Returns true for a day, and false for "not set".
     pub fn is_set(self) -> bool
         ensures { MatchBool result (self ≢ not_set) (self ≡ not_set) }
     {

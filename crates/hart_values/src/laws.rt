@@ -24,7 +24,7 @@ pub fn packed_text_and_bytes_determine_each_other()
         → IsPacked text bytes → IsPacked others bytes → text ≡ others }
 {}
 
-/// The test of a date is true exactly for the bytes of a date, and false exactly for what is none.
+/// The test of a date is true exactly for the bytes of a date.
 pub fn dates_are_decided()
     ensures date { (bytes : List ℕ) → (is_date bytes ≡ true) ↔ IsDateBytes bytes }
     ensures no_date { (bytes : List ℕ) → (is_date bytes ≡ false) ↔ (¬ IsDateBytes bytes) }

@@ -11,7 +11,7 @@ pub enum LoopMode {
 }
 
 impl LoopMode {
-    /// The mode of this byte, or `None` if it is above 1.
+    /// Returns the mode of this byte, or `None` if it is above 1.
     pub fn from_byte(byte: u8) -> Option<Self>
         ensures known { IsSome result ↔ (byte < 2) }
         ensures mode { IfSome result (λ mode. mode_byte mode ≡ byte) }
@@ -23,7 +23,7 @@ impl LoopMode {
         }
     }
 
-    /// Its byte: 0 disabled, 1 enabled.
+    /// Returns the byte of the mode: 0 disabled, 1 enabled.
     pub fn byte(self) -> u8
         ensures { result ≡ mode_byte self }
     {

@@ -30,7 +30,7 @@ impl<const N: usize> Model for PackedText<N> {
 }
 
 impl<const N: usize> PackedText<N> {
-    /// The packed form of this text.
+    /// Packs a text.
     ///
     /// # Errors
     ///
@@ -53,7 +53,7 @@ impl<const N: usize> PackedText<N> {
         Ok(PackedText { bytes })
     }
 
-    /// The text of these bytes, which are any bytes.
+    /// Returns the packed text of these bytes. Any bytes are one.
     pub fn from_bytes(bytes: [u8; N]) -> Self
         requires { IsPackedSize N }
         ensures { result ≡ bytes.entry }
@@ -61,7 +61,7 @@ impl<const N: usize> PackedText<N> {
         PackedText { bytes }
     }
 
-    /// The `N` bytes.
+    /// Returns the `N` bytes.
     pub fn as_bytes(&self) -> &[u8]
         ensures value { result.now ≡ self.now }
         ensures size { length result.now ≡ N }
@@ -69,11 +69,11 @@ impl<const N: usize> PackedText<N> {
         &self.bytes
     }
 
-    /// Writes the text's characters.
+    /// Writes the characters of the text.
     ///
     /// # Errors
     ///
-    /// [`ValueFault::WrongLength`] unless `text` has 4N/3 bytes; it is then left as it was.
+    /// [`ValueFault::WrongLength`] unless `text` has 4N/3 bytes. `text` is then unchanged.
     pub fn write_text(&self, text: &mut [u8]) -> Result<(), ValueFault>
         ensures accepted { IsOk result ↔ (length text.old ≡ 4 * N / 3) }
         ensures written { OnOk result (IsPacked text.new self.now) }

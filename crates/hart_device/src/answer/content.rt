@@ -1,4 +1,4 @@
-//! What the device shows and says in a reply.
+//! The device status and the content of a reply.
 ghost use Rattle.std.specs.Prelude.{◌≡◌, slice_index};
 ghost use Rattle.hart_commands.specs.Registers.{bytes_in, size_of};
 ghost use Rattle.hart_device.specs.answer.Content.{reply_content, reply_identity, reply_polling, reply_tag, reply_variables};
@@ -16,7 +16,7 @@ use hart_commands::{CodeList, Register, ReplyContent, Request};
 use hart_values::{DeviceStatus, MasterId, PackedText};
 
 impl<S: RegisterStore> Device<S> {
-    /// What the device shows this master of its state.
+    /// Returns the device status that this master is shown.
     pub(super) fn status(&self, process: &Process, master: MasterId) -> DeviceStatus
         ensures { result.0 ≡ device_status self.now process.now master }
     {
@@ -31,7 +31,7 @@ impl<S: RegisterStore> Device<S> {
         DeviceStatus((process.status & PROCESS_BITS) | changed | cold_start | more | fixed)
     }
 
-    /// What the device says in reply to a request.
+    /// Returns the content of the reply to a request.
     pub(super) fn content(&self, process: &Process, request: &Request) -> ReplyContent
         ensures { result ≡ reply_content self.now process.now request.now }
     {
@@ -70,7 +70,7 @@ impl<S: RegisterStore> Device<S> {
         }
     }
 
-    /// The identity of the device, with the counter of its state.
+    /// Returns the content with the identity of the device and its counter.
     fn identity(&self, process: &Process) -> ReplyContent
         ensures { result ≡ reply_identity self.now process.now }
     {
@@ -78,7 +78,7 @@ impl<S: RegisterStore> Device<S> {
         ReplyContent::Identity(self.identity.content(self.counter, extended_device_status))
     }
 
-    /// The polling address and the loop current mode that the registers hold.
+    /// Returns the polling address and the loop current mode in the registers.
     fn polling(&self) -> ReplyContent
         ensures { result ≡ reply_polling self.now }
     {
@@ -88,7 +88,7 @@ impl<S: RegisterStore> Device<S> {
         }
     }
 
-    /// The tag, the descriptor and the date that the registers hold.
+    /// Returns the tag, the descriptor and the date in the registers.
     fn tag(&self) -> ReplyContent
         ensures { result ≡ reply_tag self.now }
     {
@@ -99,7 +99,7 @@ impl<S: RegisterStore> Device<S> {
         }
     }
 
-    /// The bytes of a register that has `N` bytes.
+    /// Returns the bytes of a register that has `N` bytes.
     fn bytes<const N: usize>(&self, register: Register) -> [u8; N]
         requires { size_of register ≡ N }
         ensures { result ≡ bytes_in self.now.contents register }
@@ -107,7 +107,7 @@ impl<S: RegisterStore> Device<S> {
         bytes_of(&self.registers, register)
     }
 
-    /// The byte of a register that has one.
+    /// Returns the byte of a register that has one.
     pub(super) fn byte(&self, register: Register) -> u8
         requires { size_of register ≡ 1 }
         ensures { result ≡ slice_index (bytes_in self.now.contents register) 0 }
@@ -116,7 +116,7 @@ impl<S: RegisterStore> Device<S> {
     }
 }
 
-/// The extended device status, the device variables of these codes, and the time stamp.
+/// Returns the extended device status, the device variables of these codes, and the time stamp.
 fn variables(process: &Process, codes: &CodeList) -> ReplyContent
     ensures { result ≡ reply_variables process.now codes.now }
 {

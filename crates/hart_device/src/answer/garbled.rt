@@ -28,7 +28,7 @@ pub struct GarbledRequest {
 }
 
 impl GarbledRequest {
-    /// The communication-fault reply to it, by the device of this identity.
+    /// Returns the communication-fault reply of the device of this identity.
     pub(crate) fn reply(self, identity: &Identity) -> Frame
         ensures { result ≡ garbled_reply identity.now self }
     {
@@ -40,9 +40,9 @@ impl GarbledRequest {
     }
 }
 
-/// The garbled request for the device of this identity in a delivery, or `None` if it has none.
+/// Finds the garbled request for the device of this identity in a delivery, or returns `None`.
 ///
-/// Only the first place at which a body may start is looked at.
+/// It looks only at the first place where a body may start.
 pub(crate) fn garbled_in(identity: &Identity, delivery: &[Char]) -> Option<GarbledRequest>
     ensures { MatchOption result ((request : GarbledRequest) → HasGarbled identity.now delivery.now request → ⊥)
         (HasGarbled identity.now delivery.now) }
@@ -50,7 +50,7 @@ pub(crate) fn garbled_in(identity: &Identity, delivery: &[Char]) -> Option<Garbl
     garbled_at(identity, &delivery[first_start(delivery)?..])
 }
 
-/// The garbled request with which the characters begin, or `None` if they begin with none.
+/// Reads the garbled request at the front of the characters, or returns `None`.
 fn garbled_at(identity: &Identity, chars: &[Char]) -> Option<GarbledRequest>
     ensures { result ≡ garbled_request identity.now chars.now }
 {
@@ -65,7 +65,7 @@ fn garbled_at(identity: &Identity, chars: &[Char]) -> Option<GarbledRequest>
     })
 }
 
-/// The master that asks the device of this identity with the six characters of a head, or `None` if none does.
+/// Returns the master that asks the device of this identity by the six characters of a head, or `None`.
 fn asking_master(identity: &Identity, head: &[Char]) -> Option<MasterId>
     ensures { result ≡ asking_master identity.now head.now }
 {
@@ -88,7 +88,7 @@ fn asking_master(identity: &Identity, head: &[Char]) -> Option<MasterId>
     Some(master)
 }
 
-/// Whether this is the unique address of the device of this identity.
+/// Returns true for the unique address of the device of this identity.
 fn is_own(identity: &Identity, address: Address) -> bool
     ensures { IsTrue result ↔ (address ≡ Unique (own_numbers identity.now)) }
 {
@@ -98,7 +98,7 @@ fn is_own(identity: &Identity, address: Address) -> bool
     }
 }
 
-/// The communication faults of the characters.
+/// Returns the communication faults of the characters.
 fn communication_faults(chars: &[Char]) -> CommFaults
     ensures { result ≡ communication_faults chars.now }
 {
@@ -110,14 +110,14 @@ fn communication_faults(chars: &[Char]) -> CommFaults
     CommFaults::new(faults).unwrap()
 }
 
-/// A fault bit, if one of the characters has it.
+/// Returns a fault bit, or 0 if none of the characters has it.
 fn fault_if(chars: &[Char], fault: u8) -> u8
     ensures { (bit : ℕ) → fault ≡ 2 ^ bit → result ≡ bit_if (has_fault bit chars.now) fault }
 {
     bit_if(has_fault(chars, fault), fault)
 }
 
-/// Whether one of the characters has one of these fault bits.
+/// Returns true if one of the characters has one of these fault bits.
 fn has_fault(chars: &[Char], faults: u8) -> bool
     ensures { result ≡ list_any (λ character. not (bit_and character.faults faults == 0)) chars.now }
 {
@@ -126,7 +126,7 @@ fn has_fault(chars: &[Char], faults: u8) -> bool
         .any(|character| character.faults() & faults != 0)
 }
 
-/// Whether the exclusive or of the bytes of the characters is not zero.
+/// Returns true if the exclusive or of the bytes is not 0.
 fn has_odd_bit(chars: &[Char]) -> bool
     ensures { result ≡ has_odd_bit chars.now }
 {

@@ -1,4 +1,4 @@
-//! What a reply says of the device's process (HCF_SPEC-127).
+//! The process of the device in its replies (HCF_SPEC-127).
 ghost use Rattle.std.specs.Prelude.{◌≡◌, [], ◌∷◌, map};
 ghost use Rattle.hart_device.specs.answer.Content.{unit_value, class_at, output_content};
 ghost use Rattle.hart_device.specs.Process.{dynamic_variables};
@@ -11,7 +11,7 @@ use hart_values::ByteList;
 /// The byte of Command 15 that the standard reserves.
 const RESERVED: u8 = 250;
 
-/// The unit and the value of a variable.
+/// Returns the unit and the value of a variable.
 pub(crate) fn unit_value(variable: &ProcessVariable) -> UnitValue
     ensures { result ≡ unit_value variable.now }
 {
@@ -21,7 +21,7 @@ pub(crate) fn unit_value(variable: &ProcessVariable) -> UnitValue
     }
 }
 
-/// The units and the values of the dynamic variables, one to four.
+/// Returns the units and the values of the dynamic variables, one to four.
 pub(crate) fn unit_values(process: &Process) -> ShortList<UnitValue, 4>
     ensures { result ≡ map unit_value (dynamic_variables process.now) }
 {
@@ -33,7 +33,7 @@ pub(crate) fn unit_values(process: &Process) -> ShortList<UnitValue, 4>
     values
 }
 
-/// The classifications of the four dynamic variables.
+/// Returns the classifications of the four dynamic variables.
 pub(crate) fn classes(process: &Process) -> [u8; 4]
     ensures { result ≡ class_at process.now 0 ∷ class_at process.now 1 ∷ class_at process.now 2 ∷ class_at process.now 3 ∷ [] }
 {
@@ -45,14 +45,14 @@ pub(crate) fn classes(process: &Process) -> [u8; 4]
     ]
 }
 
-/// The classification of the dynamic variable at a place, 0 if there is none.
+/// Returns the classification of the dynamic variable at a place, 0 if there is none.
 fn class_at(process: &Process, place: u8) -> u8
     ensures { result ≡ class_at process.now place }
 {
     dynamic_variable(process, place).map_or(0, |variable| variable.classification)
 }
 
-/// The loop current output, with the write protect code.
+/// Returns the loop current output, with the write protect code.
 pub(crate) fn output_content(output: &OutputValues, protected: bool) -> OutputContent
     ensures { result ≡ output_content output.now protected }
 {
@@ -69,7 +69,7 @@ pub(crate) fn output_content(output: &OutputValues, protected: bool) -> OutputCo
     }
 }
 
-/// The additional status bytes.
+/// Returns the additional status bytes.
 pub(crate) fn additional_status(process: &Process) -> ByteList<25>
     ensures { result ≡ process.now.additional_status }
 {

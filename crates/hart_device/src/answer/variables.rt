@@ -20,7 +20,7 @@ const MILLIAMPERE: u8 = 39;
 /// The code of the first dynamic variable.
 const FIRST: u8 = 246;
 
-/// What is said of a variable that is not there.
+/// The variable that stands for one that is absent.
 const MISSING: ProcessVariable = ProcessVariable {
     classification: 0,
     unit: 250,
@@ -28,7 +28,7 @@ const MISSING: ProcessVariable = ProcessVariable {
     status: 0x30,
 };
 
-/// What is said of each of these codes.
+/// Returns the variable of each code.
 pub(crate) fn variable_readings(
     process: &Process,
     codes: &CodeList,
@@ -42,7 +42,7 @@ pub(crate) fn variable_readings(
     readings
 }
 
-/// What is said of a code that was asked.
+/// Returns the variable of a code, or the one that stands for an absent one.
 fn variable_reading(process: &Process, code: u8) -> VariableReading
     ensures { result ≡ variable_reading process.now code }
 {
@@ -56,7 +56,7 @@ fn variable_reading(process: &Process, code: u8) -> VariableReading
     }
 }
 
-/// The variable of a code.
+/// Finds the variable of a code.
 fn variable_of_code(process: &Process, code: u8) -> ProcessVariable
     ensures { result ≡ variable_of_code process.now code }
 {
@@ -79,7 +79,7 @@ fn variable_of_code(process: &Process, code: u8) -> ProcessVariable
     }
 }
 
-/// The dynamic variable at a place, the first at 0, or `None` if it is not there.
+/// Returns the dynamic variable at a place, counted from 0, or `None` if it is absent.
 pub(crate) fn dynamic_variable(process: &Process, place: u8) -> Option<ProcessVariable>
     ensures { result ≡ slice_get (dynamic_variables process.now) place }
 {

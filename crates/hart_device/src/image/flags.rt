@@ -11,10 +11,10 @@ const PRIMARY_CHANGED: u8 = 1;
 /// The secondary master's configuration-changed bit.
 const SECONDARY_CHANGED: u8 = 2;
 
-/// The bit that says that the device is write protected.
+/// The write protection bit.
 const PROTECTED: u8 = 4;
 
-/// What the flags of an image say.
+/// The flags of an image.
 #[derive(Clone, Copy)]
 pub(crate) struct Flags {
     /// For each master its configuration-changed bit.
@@ -24,7 +24,7 @@ pub(crate) struct Flags {
 }
 
 impl Flags {
-    /// What a byte says, or `None` if it is above 7.
+    /// Reads the flags of a byte, or returns `None` if it is above 7.
     pub fn from_byte(byte: u8) -> Option<Self>
         ensures accepted { IsSome result ↔ (byte ≤ 7) }
         ensures kept { IfSome result (λ flags. flags_of flags.changed flags.protected ≡ byte) }
@@ -41,7 +41,7 @@ impl Flags {
         })
     }
 
-    /// The byte that says so.
+    /// Returns the byte of the flags.
     pub fn byte(&self) -> u8
         ensures value { result ≡ flags_of self.now.changed self.now.protected }
     {

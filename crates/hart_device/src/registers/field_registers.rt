@@ -74,7 +74,7 @@ impl RegisterStore for FieldRegisters {
     }
 }
 
-/// Gives the bytes of a register their new value, if the overwrite names that register.
+/// Sets the bytes of a register, if the overwrite names it.
 fn replace(bytes: &mut [u8], overwrite: &Overwrite, register: Register)
     requires { length bytes.old ≡ size_of register }
     ensures { bytes.new ≡ unwrap_or (named_in overwrite.now register) bytes.old }

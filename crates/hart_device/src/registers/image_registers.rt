@@ -49,8 +49,7 @@ impl RegisterStore for ImageRegisters {
 }
 
 impl ImageRegisters {
-    /// The values of the registers, or `None` if one of them holds bytes that are not valid in it. That is never the long tag, of which any
-    /// bytes are valid.
+    /// Returns the values of the registers, or `None` if one holds bytes that are not valid in it. Any bytes are valid in the long tag.
     pub(crate) fn values(&self) -> Option<RegisterValues>
         ensures kept { IfSome result (λ values. values_of values ≡ contents_in self.now.bytes) }
         ensures valid { IfSome result (λ values. AreValid (values_of values)) }
@@ -71,7 +70,7 @@ impl ImageRegisters {
         })
     }
 
-    /// Gives the long tag the text of the tag and 24 spaces.
+    /// Sets the long tag to the text of the tag and 24 spaces.
     pub(crate) fn set_long_tag(&mut self)
         ensures set { IsLongTagOf (standing_for Tag self.new.bytes) (standing_for LongTag self.new.bytes) }
         ensures others { (other : Register) → other ≢ LongTag
@@ -81,7 +80,7 @@ impl ImageRegisters {
         self.write(Register::LongTag, &long_tag_of(&tag));
     }
 
-    /// Gives a register other bytes.
+    /// Sets the bytes of a register.
     fn write(&mut self, register: Register, bytes: &[u8])
         requires { length bytes.now ≡ size_of register }
         ensures written { standing_for register self.new.bytes ≡ bytes.now }
@@ -93,7 +92,7 @@ impl ImageRegisters {
     }
 }
 
-/// The text of a tag and 24 spaces.
+/// Returns the text of a tag and 24 spaces.
 fn long_tag_of(tag: &PackedText<6>) -> [u8; 32]
     ensures { IsLongTagOf tag.now result }
 {
@@ -104,7 +103,7 @@ fn long_tag_of(tag: &PackedText<6>) -> [u8; 32]
     long_tag
 }
 
-/// The polling address in the byte of its register, if that is valid.
+/// Returns the polling address in the byte of its register, if that is valid.
 fn polling_in(bytes: &[u8]) -> Option<PollingAddress>
     requires { length bytes.now ≡ size_of Polling }
     ensures valid { IsSome result ↔ IsValidIn Polling bytes.now }
@@ -113,7 +112,7 @@ fn polling_in(bytes: &[u8]) -> Option<PollingAddress>
     PollingAddress::new(bytes[0]).ok()
 }
 
-/// The loop current mode in the byte of its register, if that is valid.
+/// Returns the loop current mode in the byte of its register, if that is valid.
 fn mode_in(bytes: &[u8]) -> Option<LoopMode>
     requires { length bytes.now ≡ size_of Mode }
     ensures valid { IsSome result ↔ IsValidIn Mode bytes.now }

@@ -5,7 +5,7 @@ ghost use Rattle.hart_device.specs.registers.Ranges.{end_of, start_of};
 use hart_commands::Register;
 use std::ops::Range;
 
-/// How many bytes all registers have together.
+/// The number of bytes of all registers.
 pub(crate) const ARRAY_LEN: usize = 82;
 
 /// The table of the ranges.

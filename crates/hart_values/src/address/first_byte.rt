@@ -8,7 +8,7 @@ const MASTER_BIT: u8 = 0x80;
 
 const BURST_BIT: u8 = 0x40;
 
-/// The first byte of an address with these six bits.
+/// Returns the first byte of an address with these six bits.
 pub(crate) fn join_first_byte(master: MasterId, burst: bool, six_bits: u8) -> u8
     requires { six_bits < 64 }
     ensures { result ≡ first_byte master burst six_bits }
@@ -21,7 +21,7 @@ pub(crate) fn join_first_byte(master: MasterId, burst: bool, six_bits: u8) -> u8
     master_bit + burst_bit + six_bits
 }
 
-/// What stands in the first byte of an address.
+/// The parts of the first byte of an address.
 pub(crate) fn split_first_byte(byte: u8) -> (MasterId, bool, u8)
     ensures joined { byte ≡ first_byte result.0 result.1 result.2 }
     ensures in_range { result.2 < 64 }

@@ -6,7 +6,7 @@ use std::slice;
 
 /// A polling address, 0 to 63 (HCF_SPEC-081).
 ///
-/// A master asks a device by it for the unique address, with Command 0.
+/// A master sends Command 0 to it to learn the unique address of a device.
 #[derive(Clone, Copy, Debug, PartialEq, Eq, Hash)]
 pub struct PollingAddress {
     number: u8,
@@ -25,7 +25,7 @@ impl Model for PollingAddress {
 }
 
 impl PollingAddress {
-    /// The polling address of this number.
+    /// Returns the polling address of this number.
     ///
     /// # Errors
     ///
@@ -42,7 +42,7 @@ impl PollingAddress {
         }
     }
 
-    /// The number, 0 to 63.
+    /// Returns the number, 0 to 63.
     pub fn number(self) -> u8
         ensures same { result ≡ self }
         ensures in_range { result < 64 }
@@ -50,7 +50,7 @@ impl PollingAddress {
         self.number
     }
 
-    /// The number in one byte.
+    /// Returns the number in one byte.
     pub fn as_bytes(&self) -> &[u8]
         ensures same { result.now ≡ self.now ∷ [] }
         ensures in_range { self.now < 64 }

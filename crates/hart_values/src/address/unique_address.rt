@@ -5,8 +5,8 @@ use std::marker::Model;
 
 /// The unique address of a device: its expanded device type and its device id (HCF_SPEC-081).
 ///
-/// Of the 16 bits of the type only the lower 14 stand in an address, so only they are kept. Both numbers zero are the
-/// broadcast address.
+/// An address has only the lower 14 of the 16 bits of the type, so only these are kept. Both numbers 0 are the broadcast
+/// address.
 #[derive(Clone, Copy, Debug, PartialEq, Eq, Hash)]
 pub struct UniqueAddress {
     expanded_type: u16,
@@ -27,7 +27,7 @@ impl Model for UniqueAddress {
 }
 
 impl UniqueAddress {
-    /// The unique address of this expanded device type and this device id.
+    /// Returns the unique address of this expanded device type and this device id.
     ///
     /// # Errors
     ///
@@ -48,7 +48,7 @@ impl UniqueAddress {
         }
     }
 
-    /// The lower 14 bits of the expanded device type.
+    /// Returns the lower 14 bits of the expanded device type.
     pub fn expanded_type(self) -> u16
         ensures same { result ≡ self.expanded_type }
         ensures in_range { result < 2 ^ 14 }
@@ -56,7 +56,7 @@ impl UniqueAddress {
         self.expanded_type
     }
 
-    /// The device id, 24 bits.
+    /// Returns the device id, 24 bits.
     pub fn device_id(self) -> u32
         ensures same { result ≡ self.device_id }
         ensures in_range { result < 2 ^ 24 }

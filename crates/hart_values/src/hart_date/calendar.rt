@@ -7,7 +7,7 @@ use jiff::civil::Date;
 /// The year whose byte is 0.
 const FIRST_YEAR: i16 = 1900;
 
-/// Whether the calendar has this day, the year being counted from 1900.
+/// Returns true if the calendar has this day. Years count from 1900.
 pub(crate) fn is_calendar_day(day: u8, month: u8, year: u8) -> bool
     ensures { IsTrue result ↔ IsCalendarDay day month (1900 + year) }
 {

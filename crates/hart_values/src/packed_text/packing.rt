@@ -11,24 +11,24 @@ const LAST_CHARACTER: u8 = 0x5F;
 /// The bits of a character that packed text keeps.
 const SIX_BITS: u32 = 0x3F;
 
-/// The bit that packed text drops: a character has it if the next lower one is clear.
+/// The bit that packed text drops. A character has it if the next lower bit is clear.
 const DROPPED_BIT: u8 = 0x40;
 
-/// Whether packed text has this character.
+/// Returns true if packed text has this character.
 fn is_character(code: u8) -> bool
     ensures { IsTrue result ↔ IsCharacter code }
 {
     matches!(code, FIRST_CHARACTER..=LAST_CHARACTER)
 }
 
-/// The first place of a byte that is no character of packed text.
+/// Finds the first byte that is no character of packed text.
 pub(crate) fn first_bad_character(text: &[u8]) -> Option<usize>
     ensures { MatchOption result (All IsCharacter text.now) (IsFirstBadCharacter text.now) }
 {
     text.iter().position(|code| !is_character(*code))
 }
 
-/// The character of these six bits.
+/// Returns the character of six bits.
 fn character(six_bits: u8) -> u8
     requires { six_bits < 64 }
     ensures known { IsCharacter result }
@@ -41,14 +41,14 @@ fn character(six_bits: u8) -> u8
     }
 }
 
-/// Twelve bits of two characters.
+/// Returns the 12 bits of two characters.
 fn join_characters(high: u8, low: u8) -> u32
     ensures { result ≡ 64 * (high % 64) + low % 64 }
 {
     (u32::from(high) & SIX_BITS) << 6 | u32::from(low) & SIX_BITS
 }
 
-/// The three bytes of four characters.
+/// Packs four characters into three bytes.
 fn pack_group(w: u8, x: u8, y: u8, z: u8) -> [u8; 3]
     ensures { IsPackedGroup w x y z (slice_index result 0) (slice_index result 1) (slice_index result 2) }
 {
@@ -57,7 +57,7 @@ fn pack_group(w: u8, x: u8, y: u8, z: u8) -> [u8; 3]
     [a, b, c]
 }
 
-/// The four characters of three bytes.
+/// Unpacks the four characters of three bytes.
 fn unpack_group(a: u8, b: u8, c: u8) -> [u8; 4]
     ensures packed { IsPackedGroup (slice_index result 0) (slice_index result 1) (slice_index result 2)
         (slice_index result 3) a b c }
@@ -72,7 +72,7 @@ fn unpack_group(a: u8, b: u8, c: u8) -> [u8; 4]
     ]
 }
 
-/// Writes the bytes of a text.
+/// Packs a text.
 pub(crate) fn pack(text: &[u8], bytes: &mut [u8])
     requires lengths { 3 * length text.now ≡ 4 * length bytes.old }
     requires characters { All IsCharacter text.now }
@@ -85,7 +85,7 @@ pub(crate) fn pack(text: &[u8], bytes: &mut [u8])
     }
 }
 
-/// Writes the text of bytes.
+/// Unpacks a text.
 pub(crate) fn unpack(bytes: &[u8], text: &mut [u8])
     requires { 3 * length text.old ≡ 4 * length bytes.now }
     ensures { IsPacked text.new bytes.now }

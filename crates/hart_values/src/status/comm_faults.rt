@@ -39,7 +39,7 @@ impl CommFaults {
     /// The message was longer than the receiver's buffer.
     pub const BUFFER_OVERFLOW: u8 = 0x02;
 
-    /// The communication faults of these bits.
+    /// Returns the communication faults of these bits.
     ///
     /// # Errors
     ///
@@ -56,7 +56,7 @@ impl CommFaults {
         }
     }
 
-    /// The bits, with bit 7 clear.
+    /// Returns the bits. Bit 7 is clear.
     pub fn value(self) -> u8
         ensures same { result ≡ self }
         ensures in_range { result < 128 }

@@ -3,7 +3,7 @@ ghost use Rattle.std.specs.Prelude.{◌≡◌, ◌<◌, ◌↔◌, IsOk, IfOk, I
 use crate::ValueFault;
 use std::marker::Model;
 
-/// What a device answers to a request, 0 to 127, 0 being success (HCF_SPEC-099).
+/// The response code of a reply, 0 to 127; 0 is success (HCF_SPEC-099).
 #[derive(Clone, Copy, Debug, PartialEq, Eq)]
 pub struct ResponseCode {
     value: u8,
@@ -25,7 +25,7 @@ impl ResponseCode {
     /// The command was carried out.
     pub const SUCCESS: ResponseCode = ResponseCode { value: 0 };
 
-    /// A value of the data is none that may be selected.
+    /// The data select a value that does not exist.
     pub const INVALID_SELECTION: ResponseCode = ResponseCode { value: 2 };
 
     /// The command needs more data bytes.
@@ -37,7 +37,7 @@ impl ResponseCode {
     /// The configuration change counter that Command 38 names is not the device's (own profile).
     pub const COUNTER_MISMATCH: ResponseCode = ResponseCode { value: 9 };
 
-    /// The date of Command 18 is not in the calendar, and not the three zero bytes of a date that is not set (own profile).
+    /// The date of Command 18 is neither a day of the calendar nor "not set" (own profile).
     pub const INVALID_DATE: ResponseCode = ResponseCode { value: 9 };
 
     /// The loop current mode of Command 6 is neither 0 nor 1 (own profile).
@@ -46,7 +46,7 @@ impl ResponseCode {
     /// The device does not know the command.
     pub const COMMAND_NOT_IMPLEMENTED: ResponseCode = ResponseCode { value: 64 };
 
-    /// The response code of this number.
+    /// Returns the response code of this number.
     ///
     /// # Errors
     ///
@@ -63,7 +63,7 @@ impl ResponseCode {
         }
     }
 
-    /// The number, 0 to 127.
+    /// Returns the number, 0 to 127.
     pub fn value(self) -> u8
         ensures same { result ≡ self }
         ensures in_range { result < 128 }
