@@ -24,7 +24,7 @@ impl Model for CodeList {
 }
 
 impl CodeList {
-    /// The list of these codes.
+    /// Makes a list of these codes.
     ///
     /// # Errors
     ///
@@ -41,7 +41,7 @@ impl CodeList {
         Ok(CodeList { codes })
     }
 
-    /// The same list.
+    /// Returns the same list.
     pub(crate) fn copy(&self) -> Self
         ensures { result ≡ self.now }
     {
@@ -49,7 +49,7 @@ impl CodeList {
         CodeList { codes }
     }
 
-    /// The codes, in order.
+    /// Returns the codes, in order.
     pub fn as_slice(&self) -> &[u8]
         ensures value { result.now ≡ self.now }
         ensures some { 0 < length result.now }

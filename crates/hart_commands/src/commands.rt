@@ -1,4 +1,4 @@
-//! What the table says of each command (HCF_SPEC-099, HCF_SPEC-127).
+//! The table of commands (HCF_SPEC-099, HCF_SPEC-127).
 ghost use Rattle.std.specs.Prelude.{◌≡◌, ◌==◌, find, map, option_map};
 ghost use Rattle.hart_commands.specs.Commands.{command_name, is_known, known, may_be_broadcast, reply_rows, request_rows, seen_command};
 ghost use Rattle.hart_commands.specs.Fields.{seen};
@@ -10,7 +10,7 @@ use crate::commands::table::{Command, TABLE};
 
 mod table;
 
-/// Whether a command is known.
+/// Returns true if a command is known.
 #[tactic(auto, unfolding(crate::specs::Commands::known))]
 pub fn is_known(command: u8) -> bool
     ensures { result ≡ is_known command }
@@ -25,8 +25,8 @@ pub fn command_name(command: u8) -> Option<&'static str>
     Some(row_for(command)?.name)
 }
 
-/// Returns the fields of the data of a request of this command, in their order; none if the command is not known. Bytes after the data
-/// that the command takes belong to no field.
+/// Returns the fields of the data of a request of this command, in their order. An unknown command has none. Bytes that the command
+/// does not take belong to no field.
 pub fn request_rows(command: u8) -> &'static [FieldRow]
     ensures { map seen result.now ≡ request_rows command }
 {
@@ -36,8 +36,8 @@ pub fn request_rows(command: u8) -> &'static [FieldRow]
     }
 }
 
-/// Returns the fields of the data of a reply to this command with response code 0, in their order; none if the command is not known.
-/// Data after those that the reply says are no field.
+/// Returns the fields of the data of a reply to this command with response code 0, in their order. An unknown command has none. Data
+/// after the content belong to no field.
 pub fn reply_rows(command: u8) -> &'static [FieldRow]
     ensures { map seen result.now ≡ reply_rows command }
 {
@@ -47,8 +47,8 @@ pub fn reply_rows(command: u8) -> &'static [FieldRow]
     }
 }
 
-/// Returns how many data bytes a request of this command needs. Fewer are refused with code 5, too few data bytes; but Command 38 may
-/// have none. The number is 0 if the command needs none, or is not known (HCF_SPEC-127).
+/// Returns how many data bytes a request of this command needs, 0 if the command is not known (HCF_SPEC-127). Fewer are refused with
+/// code 5, too few data bytes; but Command 38 may have none.
 #[tactic(auto, unfolding(crate::specs::Commands::known))]
 pub fn needed_data(command: u8) -> usize
     ensures { result ≡ needed_data command }
@@ -59,7 +59,7 @@ pub fn needed_data(command: u8) -> usize
     }
 }
 
-/// Whether a command is a configuration write, which writes a register: 6, 17, 18, 19 or 22.
+/// Returns true for a configuration write, which sets a register: 6, 17, 18, 19 or 22.
 #[tactic(auto, unfolding(crate::specs::Commands::known, crate::specs::Commands::written_by))]
 pub fn is_write(command: u8) -> bool
     ensures { result ≡ is_write command }
@@ -70,7 +70,7 @@ pub fn is_write(command: u8) -> bool
     }
 }
 
-/// Whether a command may be asked by broadcast: by Commands 11 and 21 a device is found by its tag or by its long tag (own profile).
+/// Returns true if a command may be sent by broadcast: Commands 11 and 21 find a device by its tag or its long tag (own profile).
 pub fn may_be_broadcast(command: u8) -> bool
     ensures { result ≡ may_be_broadcast command }
 {

@@ -1,4 +1,4 @@
-//! What a reply says, and how it is read and written.
+//! The content of a reply, and how it is read and written.
 ghost use Rattle.std.specs.Prelude.{◌≡◌, ◌≤◌, ◌++◌, length};
 ghost use Rattle.hart_commands.specs.ReplyData.{content_reading, content_bytes};
 
@@ -13,10 +13,9 @@ use hart_values::{Bits32, ByteList, PackedText, Payload};
 mod reading;
 mod writing;
 
-/// What a reply says after its status bytes, by its command (HCF_SPEC-127).
+/// The content of a reply after its status bytes, by its command (HCF_SPEC-127).
 ///
-/// Numbers of the device are kept as they come, also a polling address above 63, a mode above 1 or bytes that are no
-/// date.
+/// Numbers are not checked: a polling address may be above 63, a mode above 1, a date none of the calendar.
 #[derive(Debug, Drop, PartialEq, Eq)]
 pub enum ReplyContent {
     /// Who the device is (Commands 0, 11 and 21).
@@ -71,7 +70,7 @@ pub enum ReplyContent {
 }
 
 impl ReplyContent {
-    /// The content of a reply with code 0, by its command's row of the table.
+    /// Reads the content of a reply with code 0, by its command's row of the table.
     #[tactic(auto, unfolding(crate::specs::Commands::replied))]
     pub(crate) fn read(command: u8, bytes: &[u8]) -> Option<Self>
         ensures { result ≡ content_reading command bytes.now }

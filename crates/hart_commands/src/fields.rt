@@ -2,10 +2,10 @@
 ghost use Rattle.std.specs.Prelude.{◌≡◌, option_map};
 ghost use Rattle.hart_commands.specs.Fields.{split};
 
-/// How the bytes of a field are meant.
+/// The kind of value that the bytes of a field are.
 #[derive(Clone, Copy, Debug, PartialEq, Eq)]
 pub enum FieldKind {
-    /// Bytes that stand for themselves: an id, flags, a status, codes of device variables, a time stamp.
+    /// Plain bytes: an id, flags, a status, codes of device variables, a time stamp.
     Bytes,
     /// A number or a code of one or two bytes, the most significant byte first.
     Number,
@@ -21,28 +21,28 @@ pub enum FieldKind {
     Variables,
 }
 
-/// How many bytes a field has.
+/// The number of bytes of a field.
 #[derive(Clone, Copy, Debug, PartialEq, Eq)]
 pub enum FieldSize {
-    /// So many.
+    /// This number.
     Exactly(u8),
-    /// All that are left but so many at the end, and one at least.
+    /// All that are left except this number at the end, and at least one.
     AllBut(u8),
 }
 
-/// A field of data: what it is called, how many bytes it has, and how they are meant (HCF_SPEC-127).
+/// A field of data: its name, its size and its kind (HCF_SPEC-127).
 #[derive(Clone, Copy, Debug, PartialEq, Eq)]
 pub struct FieldRow {
     /// The name.
     pub name: &'static str,
-    /// How many bytes it has.
+    /// The number of bytes.
     pub size: FieldSize,
-    /// How they are meant.
+    /// The kind of value.
     pub kind: FieldKind,
 }
 
 impl FieldRow {
-    /// The bytes of the field, with which data begin, and those after it; or `None` if there are too few for it.
+    /// Splits data into the bytes of the field, which come first, and the rest. The result is `None` if there are too few.
     pub fn split<'a>(&self, bytes: &'a [u8]) -> Option<(&'a [u8], &'a [u8])>
         ensures { option_map (λ parts. (parts.0.now, parts.1.now)) result ≡ split self.now.size bytes.now }
     {

@@ -6,9 +6,9 @@ use hart_values::Payload;
 /// The byte with which an identity begins.
 pub(crate) const FIRST_BYTE: u8 = 254;
 
-/// Who a device is, as its reply to Command 0, 11 or 21 gives it (HCF_SPEC-127).
+/// Who a device is, in its reply to Command 0, 11 or 21 (HCF_SPEC-127).
 ///
-/// The numbers of several bytes are kept as they come, the most significant byte first.
+/// Numbers of several bytes have the most significant byte first.
 #[derive(Clone, Copy, Debug, PartialEq, Eq)]
 pub struct IdentityContent {
     /// The expanded device type.
@@ -44,7 +44,7 @@ pub struct IdentityContent {
 }
 
 impl IdentityContent {
-    /// The identity after the first of 22 bytes.
+    /// Reads the identity after the first of 22 bytes.
     pub(crate) fn from_bytes(bytes: [u8; 22]) -> Self
         ensures { result ≡ identity_of bytes }
     {

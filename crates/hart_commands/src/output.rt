@@ -3,7 +3,7 @@ ghost use Rattle.hart_commands.specs.OutputBytes.{output_of, output_bytes};
 
 use hart_values::{Bits32, Payload};
 
-/// What a device says of its loop current output (HCF_SPEC-127, Command 15).
+/// The loop current output of a device (HCF_SPEC-127, Command 15).
 #[derive(Clone, Copy, Debug, PartialEq, Eq)]
 pub struct OutputContent {
     /// What the loop current does at an alarm.
@@ -27,7 +27,7 @@ pub struct OutputContent {
 }
 
 impl OutputContent {
-    /// What 18 bytes say.
+    /// Reads 18 bytes.
     pub(crate) fn from_bytes(bytes: [u8; 18]) -> Self
         ensures { result ≡ output_of bytes }
     {

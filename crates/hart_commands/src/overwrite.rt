@@ -5,9 +5,9 @@ use crate::request::mode_bytes;
 use crate::{Register, Request, is_write};
 use std::marker::Model;
 
-/// The registers that a write names, each with its new bytes (HCF_SPEC-127).
+/// The registers that a write sets, each with its new bytes (HCF_SPEC-127).
 ///
-/// Contracts see the write, and by it for each register the bytes that it gets, or none.
+/// Contracts see the write, and by it the bytes that each register gets, or none.
 #[derive(Debug, Drop)]
 pub struct Overwrite<'a> {
     write: &'a Request,
@@ -22,7 +22,7 @@ impl<'a> Model for Overwrite<'a> {
 }
 
 impl<'a> Overwrite<'a> {
-    /// The bytes that it gives a register, or `None` if it does not name it.
+    /// Returns the new bytes of a register, or `None` if the write does not set it.
     #[tactic(auto, unfolding(crate::specs::Commands::written_by))]
     pub fn get(&self, register: Register) -> Option<&'a [u8]>
         ensures named { option_map (λ bytes. bytes.now) result ≡ named_in self.now register }
@@ -45,7 +45,7 @@ impl<'a> Overwrite<'a> {
     }
 }
 
-/// The overwrite of a configuration write, or `None` for every other request.
+/// Returns the overwrite of a configuration write, or `None` for every other request.
 #[tactic(auto, unfolding(crate::specs::Commands::written_by))]
 pub fn writes_of(request: &Request) -> Option<Overwrite<'_>>
     ensures overwrite { result ≡ overwrite_of request.now }

@@ -5,26 +5,25 @@ use crate::ReplyContent;
 use crate::commands::is_known;
 use hart_values::{DeviceStatus, Payload, ResponseCode};
 
-/// What a device replies to a command (HCF_SPEC-127).
+/// The reply of a device to a command (HCF_SPEC-127).
 #[derive(Debug, Drop, PartialEq, Eq)]
 pub struct Reply {
-    /// The number of the command that is replied to.
+    /// The number of the command.
     pub command: u8,
-    /// The response code, 0 being success.
+    /// The response code; 0 is success.
     pub code: ResponseCode,
     /// The state of the device.
     pub status: DeviceStatus,
-    /// What it says: with code 0 the content of the command, otherwise [`ReplyContent::Refused`].
+    /// The content: with code 0 that of the command, otherwise [`ReplyContent::Refused`].
     pub content: ReplyContent,
 }
 
 impl Reply {
-    /// The reply to a command that a payload holds, or `None` if it holds none: if it has fewer than two bytes, if bit 7 of the
-    /// first is set, if the command is none that [`Request::read`] knows, or if with code 0 the data are no content of the
-    /// command.
+    /// Reads the reply to a command from a payload. The result is `None` if the payload has fewer than two bytes, if bit 7 of the first
+    /// is set, if [`Request::read`] does not know the command, or if with code 0 the data are no content of the command.
     ///
-    /// Data after those of the content are ignored, but for Command 9, whose data have to end with the time stamp. With a code
-    /// other than 0 all data are ignored.
+    /// Data after the content are ignored, except that the data of Command 9 must end with the time stamp. With another code than 0 all
+    /// data are ignored.
     pub fn read(command: u8, payload: &[u8]) -> Option<Self>
         ensures read { result ≡ reply_reading command payload.now }
         ensures well_made { IfSome result IsReply }
@@ -34,8 +33,8 @@ impl Reply {
 
     /// Replaces `payload` by the two status bytes and the data of the content.
     ///
-    /// A reply that [`Reply::read`] can give is read again; one that no device says, as with a content of another command, may
-    /// be written too.
+    /// A reply from [`Reply::read`] is read again as itself. A reply that no device sends, such as one with the content of another
+    /// command, can be written too.
     pub fn write(&self, payload: &mut Payload)
         ensures { payload.new ≡ reply_payload self.now }
     {
@@ -45,7 +44,7 @@ impl Reply {
         self.content.push_to(payload);
     }
 
-    /// How many data bytes [`Reply::write`] gives, after the two status bytes: those of the content.
+    /// Returns the number of data bytes that [`Reply::write`] writes after the two status bytes.
     pub fn data_len(&self) -> usize
         ensures len { result ≡ length (content_bytes self.now.content) }
         ensures few { result ≤ 255 }
@@ -56,7 +55,7 @@ impl Reply {
     }
 }
 
-/// The reply to a command that a payload holds.
+/// Reads the reply to a command from its two status bytes and its data.
 fn reply_in(command: u8, payload: &[u8]) -> Option<Reply>
     ensures { result ≡ reply_reading command payload.now }
 {

@@ -66,13 +66,12 @@ pub enum Request {
 }
 
 impl Request {
-    /// The request that a command asks by these data bytes. Bytes after those that the command needs are ignored.
+    /// Reads the data bytes of a request of this command. Bytes after those that the command needs are ignored.
     ///
     /// # Errors
     ///
-    /// The first of these response codes that holds, which can be decided without a device: 64 if no request has this command; 5
-    /// if there are too few bytes; 2 for an address above 63 of Command 6, and then 12 for a mode above 1; 9 for a bad date of
-    /// Command 18.
+    /// The first response code that applies and needs no device to decide: 64 if no request has this command; 5 if there are too few
+    /// bytes; for Command 6 2 for an address above 63, then 12 for a mode above 1; 9 for a bad date of Command 18.
     pub fn read(command: u8, bytes: &[u8]) -> Result<Self, ResponseCode>
         ensures read { result ≡ request_reading command bytes.now }
         ensures well_made { IfOk result IsRequest }
@@ -104,7 +103,7 @@ impl Request {
         }
     }
 
-    /// Returns the number of the command that asks it.
+    /// Returns the number of its command.
     pub fn command(&self) -> u8
         ensures command { result ≡ command_of self.now }
         ensures well_made { IsRequest self.now }
@@ -137,7 +136,7 @@ impl Request {
         }
     }
 
-    /// The same request.
+    /// Returns the same request.
     #[tactic(auto, using(crate::proofs::lemmas::Request::written_is_own))]
     pub fn copy(&self) -> Self
         ensures same { result ≡ self.now }
@@ -148,7 +147,7 @@ impl Request {
         Request::read(self.command(), data.as_slice()).unwrap()
     }
 
-    /// Replaces `data` by the bytes that ask it, and none after them. Command 6 is always written with both of its bytes.
+    /// Replaces `data` by the data bytes of the request. Command 6 always has both of its bytes.
     pub fn write(&self, data: &mut Payload)
         ensures written { «data».new ≡ request_data self.now }
         ensures well_made { IsRequest self.now }
@@ -161,7 +160,7 @@ impl Request {
         data.extend_from_slice(parts.third);
     }
 
-    /// Returns how many bytes [`Request::write`] gives.
+    /// Returns the number of bytes that [`Request::write`] writes.
     pub fn data_len(&self) -> usize
         ensures len { result ≡ length (request_data self.now) }
         ensures few { result ≤ 32 }
@@ -172,7 +171,7 @@ impl Request {
         parts.first.len() + parts.second.len() + parts.third.len()
     }
 
-    /// Returns the parts of its data. The bytes of a counter are put in `counter`.
+    /// Returns the parts of its data. `counter` gets the bytes of a counter.
     fn parts<'a>(&'a self, counter: &'a mut [u8; 2]) -> Parts<'a>
         ensures written { result.first.now ++ result.second.now ++ result.third.now ≡ request_data self.now }
         ensures few { length result.first.now + length result.second.now + length result.third.now ≤ 32 }
@@ -208,7 +207,7 @@ impl Request {
     }
 }
 
-/// The parts of the data of a request, one after another. A part that it does not have is empty.
+/// The parts of the data of a request, one after another. An absent part is empty.
 #[derive(Clone, Copy)]
 struct Parts<'a> {
     first: &'a [u8],
@@ -229,7 +228,7 @@ impl<'a> Parts<'a> {
     }
 }
 
-/// The byte of a loop current mode: 0 disabled, 1 enabled.
+/// Returns the byte of a loop current mode: 0 disabled, 1 enabled.
 pub fn mode_bytes(mode: LoopMode) -> &'static [u8]
     ensures { result.now ≡ mode_byte mode ∷ [] }
 {

@@ -3,7 +3,7 @@ ghost use Rattle.hart_commands.specs.SensorBytes.{sensor_of, sensor_bytes};
 
 use hart_values::{Bits32, Payload};
 
-/// What a device says of its sensor (HCF_SPEC-127, Command 14).
+/// The sensor of a device (HCF_SPEC-127, Command 14).
 #[derive(Clone, Copy, Debug, PartialEq, Eq)]
 pub struct SensorContent {
     /// The serial number of the transducer.
@@ -19,7 +19,7 @@ pub struct SensorContent {
 }
 
 impl SensorContent {
-    /// What 16 bytes say.
+    /// Reads 16 bytes.
     pub(crate) fn from_bytes(bytes: [u8; 16]) -> Self
         ensures { result ≡ sensor_of bytes }
     {

@@ -1,4 +1,4 @@
-//! What a reply says of one variable.
+//! Variables in a reply.
 ghost use Rattle.std.specs.Prelude.{◌≡◌};
 ghost use Rattle.hart_commands.specs.Values.{unit_value_of, unit_value_bytes, variable_of, variable_bytes};
 
@@ -14,7 +14,7 @@ pub struct UnitValue {
 }
 
 impl UnitValue {
-    /// The value that five bytes hold.
+    /// Reads five bytes.
     pub(crate) fn from_bytes(bytes: [u8; 5]) -> Self
         ensures { result ≡ unit_value_of bytes }
     {
@@ -25,7 +25,7 @@ impl UnitValue {
         }
     }
 
-    /// The five bytes.
+    /// Returns the five bytes.
     pub(crate) fn to_bytes(self) -> [u8; 5]
         ensures { result ≡ unit_value_bytes self }
     {
@@ -50,7 +50,7 @@ pub struct VariableReading {
 }
 
 impl VariableReading {
-    /// The variable that eight bytes hold.
+    /// Reads eight bytes.
     pub(crate) fn from_bytes(bytes: [u8; 8]) -> Self
         ensures { result ≡ variable_of bytes }
     {
@@ -64,7 +64,7 @@ impl VariableReading {
         }
     }
 
-    /// The eight bytes.
+    /// Returns the eight bytes.
     pub(crate) fn to_bytes(self) -> [u8; 8]
         ensures { result ≡ variable_bytes self }
     {

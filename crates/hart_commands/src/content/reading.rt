@@ -1,4 +1,4 @@
-//! The contents that are not read in one line of the table.
+//! Reading the contents that take more than one line of the table.
 ghost use Rattle.std.specs.Prelude.{◌≡◌, ◌<◌, ◌≤◌, length, map};
 ghost use Rattle.hart_commands.specs.ReplyReading.{saying, current_of, polling_of, tag_of, identity_reading, dynamic_reading};
 ghost use Rattle.hart_commands.specs.ReplyReading.{variables_reading, more_reading};
@@ -10,7 +10,7 @@ use crate::tag_bytes::tag_parts;
 use crate::{IdentityContent, ReplyContent, ShortList, UnitValue, VariableReading};
 use hart_values::{Bits32, ByteList, PackedText};
 
-/// Commands 0, 11 and 21: an identity, which begins with 254.
+/// Reads Commands 0, 11 and 21: an identity, which begins with 254.
 pub fn read_identity(bytes: &[u8]) -> Option<ReplyContent>
     ensures { result ≡ identity_reading bytes.now }
 {
@@ -21,7 +21,7 @@ pub fn read_identity(bytes: &[u8]) -> Option<ReplyContent>
     Some(ReplyContent::Identity(IdentityContent::from_bytes(identity)))
 }
 
-/// Command 2: the loop current and the percent of range.
+/// Reads Command 2: the loop current and the percent of range.
 pub fn read_current(bytes: &[u8]) -> Option<ReplyContent>
     ensures { result ≡ saying 8 current_of bytes.now }
 {
@@ -32,7 +32,7 @@ pub fn read_current(bytes: &[u8]) -> Option<ReplyContent>
     })
 }
 
-/// Command 3: the loop current, and one to four variables.
+/// Reads Command 3: the loop current, and one to four variables.
 pub fn read_dynamic(bytes: &[u8]) -> Option<ReplyContent>
     ensures { result ≡ dynamic_reading bytes.now }
 {
@@ -47,7 +47,7 @@ pub fn read_dynamic(bytes: &[u8]) -> Option<ReplyContent>
     })
 }
 
-/// The values of at most four groups.
+/// Reads the values of at most four groups.
 fn values_in(groups: &[[u8; 5]]) -> ShortList<UnitValue, 4>
     requires { length groups.now ≤ 4 }
     ensures { result ≡ map unit_value_of groups.now }
@@ -59,7 +59,7 @@ fn values_in(groups: &[[u8; 5]]) -> ShortList<UnitValue, 4>
     values
 }
 
-/// Commands 6 and 7: a polling address and a loop current mode, as they come.
+/// Reads Commands 6 and 7: a polling address and a loop current mode, unchecked.
 pub fn read_polling(bytes: &[u8]) -> Option<ReplyContent>
     ensures { result ≡ saying 2 polling_of bytes.now }
 {
@@ -67,7 +67,7 @@ pub fn read_polling(bytes: &[u8]) -> Option<ReplyContent>
     Some(ReplyContent::Polling { address, mode })
 }
 
-/// Command 9: the extended device status, one to eight variables and their time stamp, which ends the data.
+/// Reads Command 9: the extended device status, one to eight variables and their time stamp, which ends the data.
 pub fn read_variables(bytes: &[u8]) -> Option<ReplyContent>
     ensures { result ≡ variables_reading bytes.now }
 {
@@ -83,7 +83,7 @@ pub fn read_variables(bytes: &[u8]) -> Option<ReplyContent>
     })
 }
 
-/// The variables of at most eight groups.
+/// Reads the variables of at most eight groups.
 fn variables_in(groups: &[[u8; 8]]) -> ShortList<VariableReading, 8>
     requires { length groups.now ≤ 8 }
     ensures { result ≡ map variable_of groups.now }
@@ -95,7 +95,7 @@ fn variables_in(groups: &[[u8; 8]]) -> ShortList<VariableReading, 8>
     variables
 }
 
-/// Commands 13 and 18: a tag, a descriptor and a date, as it comes.
+/// Reads Commands 13 and 18: a tag, a descriptor and an unchecked date.
 pub fn read_tag(bytes: &[u8]) -> Option<ReplyContent>
     ensures { result ≡ saying 21 tag_of bytes.now }
 {
@@ -107,7 +107,7 @@ pub fn read_tag(bytes: &[u8]) -> Option<ReplyContent>
     })
 }
 
-/// Command 48: the additional status bytes, one to 25.
+/// Reads Command 48: the additional status bytes, one to 25.
 pub fn read_more(bytes: &[u8]) -> Option<ReplyContent>
     ensures { result ≡ more_reading bytes.now }
 {

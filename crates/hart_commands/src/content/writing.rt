@@ -1,4 +1,4 @@
-//! The data of the contents that are not written in one line of the table.
+//! Writing the contents that take more than one line of the table.
 ghost use Rattle.std.specs.Prelude.{◌≡◌, ◌+◌, ◌*◌, ◌≤◌, ◌∷◌, ◌++◌, length};
 ghost use Rattle.std.specs.List.{flat_map};
 ghost use Rattle.hart_commands.specs.Values.{joined, unit_value_bytes, unit_value_parts, variable_bytes};

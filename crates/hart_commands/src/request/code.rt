@@ -5,8 +5,8 @@ ghost use Rattle.hart_commands.specs.RequestCode.{counter_code, data_code, reque
 use crate::{Request, is_write};
 use hart_values::ResponseCode;
 
-/// The response code of a command whose data were read so, for a device with this protection and this configuration change
-/// counter: 64 and 5 come first, then 7 for a write under protection, then what the data and the counter say.
+/// Returns the response code of a command with this reading of its data, for a device with this protection and this configuration
+/// change counter: 64 and 5 come first, then 7 for a write under protection, then the code of the data and of the counter.
 pub fn request_code(
     command: u8,
     reading: &Result<Request, ResponseCode>,
@@ -28,7 +28,7 @@ pub fn request_code(
     }
 }
 
-/// The code that the data and the counter give.
+/// Returns the code of the data and the counter.
 fn data_code(reading: &Result<Request, ResponseCode>, counter: u16) -> ResponseCode
     ensures { result ≡ data_code reading.now counter }
 {
@@ -38,7 +38,7 @@ fn data_code(reading: &Result<Request, ResponseCode>, counter: u16) -> ResponseC
     }
 }
 
-/// The code that the counter gives: 9 if the request names another.
+/// Returns the code of the counter: 9 if the request names another.
 fn counter_code(request: &Request, counter: u16) -> ResponseCode
     ensures { result ≡ counter_code request.now counter }
 {

@@ -1,4 +1,4 @@
-//! The requests whose data have parts, as they are read.
+//! Reading the data of requests that have parts.
 ghost use Rattle.std.specs.Prelude.{◌≡◌, ◌≤◌, ◌↔◌, if◌then◌else◌, length, take, IsOk, IfOk, IfErr, Ok, Err};
 ghost use Rattle.hart_values.specs.hart_date.Calendar.{is_date};
 ghost use Rattle.hart_commands.specs.RequestReading.{polling_reading, codes_reading, tag_reading, reset_reading};
@@ -7,7 +7,7 @@ use crate::tag_bytes::tag_parts;
 use crate::{CodeList, Request};
 use hart_values::{HartDate, LoopMode, PackedText, PollingAddress, ResponseCode};
 
-/// The first `N` bytes, or the code of too few.
+/// Returns the first `N` bytes, or the code of too few.
 pub fn needed<const N: usize>(all: &[u8]) -> Result<[u8; N], ResponseCode>
     ensures accepted { IsOk result ↔ (N ≤ length all.now) }
     ensures first { IfOk result (λ bytes. bytes ≡ take N all.now) }
@@ -19,7 +19,7 @@ pub fn needed<const N: usize>(all: &[u8]) -> Result<[u8; N], ResponseCode>
     }
 }
 
-/// Command 6: a polling address and, from today's masters, a loop current mode.
+/// Reads Command 6: a polling address and, from today's masters, a loop current mode.
 pub fn read_set_polling(bytes: &[u8]) -> Result<Request, ResponseCode>
     ensures { result ≡ polling_reading bytes.now }
 {
@@ -40,7 +40,7 @@ pub fn read_set_polling(bytes: &[u8]) -> Result<Request, ResponseCode>
     }
 }
 
-/// Command 9: the codes of device variables.
+/// Reads Command 9: the codes of device variables.
 pub fn read_codes(bytes: &[u8]) -> Result<Request, ResponseCode>
     ensures { result ≡ codes_reading bytes.now }
 {
@@ -50,7 +50,7 @@ pub fn read_codes(bytes: &[u8]) -> Result<Request, ResponseCode>
     }
 }
 
-/// Command 18: a tag, a descriptor and a date.
+/// Reads Command 18: a tag, a descriptor and a date.
 pub fn read_tag(bytes: &[u8]) -> Result<Request, ResponseCode>
     ensures { result ≡ tag_reading bytes.now }
 {
@@ -64,7 +64,7 @@ pub fn read_tag(bytes: &[u8]) -> Result<Request, ResponseCode>
     })
 }
 
-/// A date, or the code of a bad one.
+/// Reads a date, or returns the code of a bad one.
 fn read_date(bytes: [u8; 3]) -> Result<HartDate, ResponseCode>
     ensures { result ≡ if is_date bytes then Ok bytes else Err 9 }
 {
@@ -74,7 +74,7 @@ fn read_date(bytes: [u8; 3]) -> Result<HartDate, ResponseCode>
     }
 }
 
-/// Command 38: no counter, or one of two bytes.
+/// Reads Command 38: no counter, or one of two bytes.
 pub fn read_reset(bytes: &[u8]) -> Result<Request, ResponseCode>
     ensures { result ≡ reset_reading bytes.now }
 {
