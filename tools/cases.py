@@ -9,14 +9,15 @@ from fuzz import commands, explain, texts, worked
 from fuzz.device import COMMUNICATION_FAULTS, GREATEST_POLLING, LONGITUDINAL_PARITY, OWN_ADDRESS, Device, new_device
 from fuzz.frames import BROADCAST, Frame, Polling, Unique, frames_of
 
-PROTOCOL = (pathlib.Path(__file__).parents[1] / "docs" / "PROTOCOL.md").read_text(encoding="utf-8")
+DOCS = pathlib.Path(__file__).parents[1] / "docs"
+PAGES = "".join((DOCS / name).read_text(encoding="utf-8") for name in ("WIRE.md", "FORMATS.md"))
 PREAMBLES = 5
 FAULT_BITS = (0x40, 0x20, 0x10, 0x02)
 ALL_FAULT_BITS = sum(FAULT_BITS)
 COUNTER_BYTES = 2
 
-# The two words that docs/PROTOCOL.md uses in its rows of garbled requests, and a row of what is heard; its second cell may be a reply.
-WORDS = {word: digits for word, digits in re.findall(r"\b([QA]) (?:stands )?for\s+`([0-9A-F ]+)`", PROTOCOL)}
+# The two words that docs/WIRE.md uses in its rows of garbled requests, and a row of what is heard; its second cell may be a reply.
+WORDS = {word: digits for word, digits in re.findall(r"\b([QA]) (?:stands )?for\s+`([0-9A-F ]+)`", PAGES)}
 ROW = re.compile(r"^\| ((?:Q )?`[0-9A-F! ]+`) \| (.+?) \|", re.MULTILINE)
 CODE_CELL = re.compile(r"(?:[QA] )?`[0-9A-F! ]+`")
 
@@ -47,8 +48,8 @@ def is_heard(text):
 
 
 def of_rows():
-    """The rows of docs/PROTOCOL.md that begin with what is heard."""
-    for heard, reply in ROW.findall(PROTOCOL):
+    """The rows of docs/WIRE.md and docs/FORMATS.md that begin with what is heard."""
+    for heard, reply in ROW.findall(PAGES):
         if is_heard(cell_text(heard)):
             known = cell_text(reply) if CODE_CELL.fullmatch(reply) else "" if reply == "silence" else None
             yield Case(new_device(), cell_text(heard), known)

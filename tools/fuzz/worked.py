@@ -64,7 +64,7 @@ def said_text(shown):
     return shown.replace(GOES_ON, " ").replace(INDENT, "\n") + "\n"
 
 
-# What `hart explain` hears and says, as docs/PROTOCOL.md shows it; what is heard may be wrapped.
+# What `hart explain` hears and says, as docs/FORMATS.md shows it; what is heard may be wrapped.
 HEARD = re.compile(r"^heard    (.+(?:\n {9}.+)*)\n" + SAID, re.MULTILINE)
 
 # What the bench device as it is new hears and replies, as docs/COMMANDS.md shows it, and what is said of both, one after the other.
