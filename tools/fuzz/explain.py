@@ -124,8 +124,10 @@ def said_of_reply(command, first, data):
     """What is said of the data of a reply, by its command and its first status byte."""
     if first == commands.SUCCESS and command in COMMANDS:
         yield from said_of_content(command, data)
-    elif first & COMMUNICATION_FAULTS or command in COMMANDS:
+    elif first & COMMUNICATION_FAULTS:
         yield from bytes_line("ignored", data)
+    elif command in COMMANDS:
+        yield from bytes_line(f"not read (code {first})", data)
     else:
         yield from bytes_line("data", data)
 

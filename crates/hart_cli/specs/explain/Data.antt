@@ -20,6 +20,10 @@ data_line bytes = bytes_line (codes "data") bytes
 abbrev pub ignored_line : List ℕ → List ℕ
 ignored_line bytes = bytes_line (codes "ignored") bytes
 
+-- What follows another response code than 0 is not read, since codes may be warnings with data. It is shown with the code, if there is any.
+abbrev pub not_read_line : ℕ → List ℕ → List ℕ
+not_read_line code bytes = bytes_line (codes "not read (code " ++ decimal code ++ codes ")") bytes
+
 -- Too few data are shown in hex, if there are any, and then it is said how many they are, and how many are needed.
 abbrev pub too_few_lines : ℕ → List ℕ → List ℕ
 too_few_lines needed bytes =
@@ -62,12 +66,12 @@ other_data_line command bytes =
 abbrev pub no_reply_line : ℕ → List ℕ → List ℕ
 no_reply_line command bytes = if is_some (command_name command) then other_data_line command bytes else data_line bytes
 
--- A reply with response code 0 takes as many bytes of the data as its content is written as; with another code all are ignored.
+-- A reply with response code 0 takes as many bytes of the data as its content is written as; with another code none is read.
 abbrev pub replied_lines : ℕ → List ℕ → Option Reply → List ℕ
 replied_lines command bytes None = no_reply_line command bytes
 replied_lines command bytes (Some reply) =
     if reply.code == 0 then taken_lines (reply_rows command) (length (content_bytes reply.content)) bytes
-    else ignored_line bytes
+    else not_read_line reply.code bytes
 
 -- With communication faults in its first status byte a reply says nothing by its data, which are ignored; otherwise its payload is read
 -- as a reply to its command.

@@ -1,7 +1,7 @@
 //! What is said of the data of a message.
 ghost use Rattle.std.specs.Prelude.{◌≡◌, ◌++◌, ◌+◌, ◌*◌, ◌≤◌, Some, length};
-ghost use Rattle.hart_cli.specs.explain.Data.{bytes_or_none, no_reply_line, no_request_lines, other_data_line, refused_lines};
-ghost use Rattle.hart_cli.specs.explain.Data.{replied_lines, reply_lines, request_lines, too_few_lines};
+ghost use Rattle.hart_cli.specs.explain.Data.{bytes_or_none, no_reply_line, no_request_lines, not_read_line, other_data_line};
+ghost use Rattle.hart_cli.specs.explain.Data.{refused_lines, replied_lines, reply_lines, request_lines, too_few_lines};
 
 use crate::calls::explain::codes::push_code;
 use crate::calls::explain::fields::{push_fields, push_taken};
@@ -101,8 +101,24 @@ fn push_replied(text: &mut Kept, pairs: &Pairs, command: u8, reply: &Reply, byte
     if reply.code == ResponseCode::SUCCESS {
         push_taken(text, pairs, reply_rows(command), reply.data_len(), bytes);
     } else {
-        push_bytes_line(text, pairs, "ignored", bytes);
+        push_not_read(text, pairs, reply.code, bytes);
     }
+}
+
+/// Appends the line of data that follow another response code than 0, if there are any.
+fn push_not_read(text: &mut Kept, pairs: &Pairs, code: ResponseCode, bytes: &[u8])
+    requires room { length text.old + 900 ≤ 32768 }
+    requires few { length bytes.now ≤ 255 }
+    ensures line { text.new ≡ text.old ++ not_read_line code bytes.now }
+{
+    if bytes.is_empty() {
+        return;
+    }
+    push_text(text, "    not read (code ");
+    push_text(text, Buffer::new().format(code.value()));
+    push_text(text, "): ");
+    push_hex_value(text, pairs, bytes);
+    text.push(b'\n');
 }
 
 /// Adds what is said of data that are no reply.

@@ -144,7 +144,8 @@ line for each thing that the message says:
                     numbers in decimal, texts in double quotes, dates, and
                     everything else, floats among it, as bytes in hex
   ignored           what comes after those, in hex; all data of a reply with
-                    another response code than 0, or with faults
+                    communication faults
+  not read (code N) data after another response code than 0, in hex
   data              of a command that hart does not know, or too few, in hex
 and if the data do not fit the command: too few data; refused, with the response
 code that refuses them and why; data that are no reply.
