@@ -122,8 +122,8 @@ const UNITS: &[UnitRow] = units! {
     102, "degrees Baume heavy";
     103, "degrees Baume light";
     104, "degrees API";
-    105, "percent solids by weight";
-    106, "percent solids by volume";
+    105, "percent solids per weight";
+    106, "percent solids per volume";
     107, "degrees Balling";
     108, "proof per volume";
     109, "proof per mass";
