@@ -120,14 +120,15 @@ enum {
     HART_DATE = 3,        /* a date in three bytes: the day, the month, the year after 1900 */
     HART_FLOAT = 4,       /* a floating point number of IEEE 754 in four bytes */
     HART_VARIABLES = 5,   /* one to eight device variables of eight bytes each: code, classification, unit, value in four bytes, status */
-    HART_LATIN_TEXT = 6   /* text in ISO Latin-1 in 32 bytes, a character in each: a long tag */
+    HART_LATIN_TEXT = 6,  /* text in ISO Latin-1 in 32 bytes, a character in each: a long tag */
+    HART_UNIT_CODE = 7    /* the code of a unit in one byte (HCF_SPEC-183, table 2) */
 };
 
 /* A field of data: where it stands in what was passed, and how its bytes are meant. */
 typedef struct hart_field {
     uint8_t start; /* the place of its first byte, from 0 */
     uint8_t len;   /* how many bytes it has */
-    uint8_t kind;  /* HART_BYTES to HART_LATIN_TEXT */
+    uint8_t kind;  /* HART_BYTES to HART_UNIT_CODE */
 } hart_field;
 
 /* What was read of the data of a message. */

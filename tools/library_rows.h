@@ -38,7 +38,7 @@ _Static_assert(HART_OK == 0 && HART_TOO_SHORT_REPLY == 1 && HART_BAD_PREAMBLE ==
                    HART_WRONG_ADDRESS == 24,
                "the numbers of faults");
 _Static_assert(HART_BYTES == 0 && HART_NUMBER == 1 && HART_PACKED_TEXT == 2 && HART_DATE == 3 && HART_FLOAT == 4 &&
-                   HART_VARIABLES == 5 && HART_LATIN_TEXT == 6,
+                   HART_VARIABLES == 5 && HART_LATIN_TEXT == 6 && HART_UNIT_CODE == 7,
                "the numbers of kinds");
 
 /* These are compared byte by byte, so they may have no padding. */

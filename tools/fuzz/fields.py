@@ -5,6 +5,7 @@ from typing import NamedTuple
 
 from .commands import PAGE, is_date
 from .device import unpacked
+from .units import unit_text
 
 SECTION = PAGE.read_text(encoding="utf-8").split("\n## Names of fields\n")[1].split("\n## ")[0]
 # The cell of a row that says which data it is of, as `requests of 6; replies to 6 and 7`.
@@ -87,7 +88,7 @@ def date_text(data):
 def variable_text(data):
     """A device variable by its parts."""
     code, classification, unit = data[:3]
-    return f"code {code}, classification {classification}, unit {unit}, value {bytes_text(data[3:7])}, status {bytes_text(data[7:])}"
+    return f"code {code}, classification {classification}, unit {unit_text(unit)}, value {bytes_text(data[3:7])}, status {bytes_text(data[7:])}"
 
 
 def variables_text(data):
@@ -95,8 +96,8 @@ def variables_text(data):
     return "; ".join(variable_text(data[place:place + VARIABLE_BYTES]) for place in range(0, len(data), VARIABLE_BYTES))
 
 
-VALUES = {"bytes": bytes_text, "float": bytes_text, "number": number_text, "packed text": packed_text,
-          "Latin-1 text": latin_text, "date": date_text, "variables": variables_text}
+VALUES = {"bytes": bytes_text, "float": bytes_text, "number": number_text, "unit": lambda data: unit_text(data[0]),
+          "packed text": packed_text, "Latin-1 text": latin_text, "date": date_text, "variables": variables_text}
 
 
 def said_of_fields(kind, command, data):

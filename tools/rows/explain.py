@@ -1,6 +1,39 @@
 """`hart explain`: what was heard, and what is said of it."""
 
+import functools
+import operator
+
+from fuzz.units import unit_text
+
 IDENTIFY = "2-7: request of the primary master to the device at polling address 0, Command 0, read unique identifier\n"
+
+REPLY_WITH_UNIT = bytes.fromhex("86B7420A1B2C01070000")
+VALUE = bytes.fromhex("41C80000")
+CODES = range(256)
+
+
+def with_unit(code):
+    """A reply to Command 1 with this unit code, after two preamble bytes."""
+    checked = REPLY_WITH_UNIT + bytes([code]) + VALUE
+    return b"\xff\xff" + checked + bytes([functools.reduce(operator.xor, checked)])
+
+
+def said_with_unit(code, start):
+    """What is said of that reply, whose preamble bytes begin at a place."""
+    return (
+        f"{start + 2}-{start + len(with_unit(code))}: reply of device 37420A1B2C to the primary master, Command 1, read primary variable\n"
+        "    response code: 0, success\n"
+        "    device status: none\n"
+        f"    primary variable unit: {unit_text(code)}\n"
+        "    primary variable: 0x41C80000\n"
+    )
+
+
+EACH_UNIT = (
+    b"".join(with_unit(code) for code in CODES).hex(" ").upper(),
+    "".join(said_with_unit(code, code * len(with_unit(0))) for code in CODES),
+    "",
+)
 
 # What was heard, what is said of it, and the line of its fault, if it has one.
 ROWS = (
@@ -62,8 +95,8 @@ ROWS = (
         "    response code: 0, success\n"
         "    device status: none\n"
         "    extended device status: 0x00\n"
-        "    device variables: code 245, classification 0, unit 39, value 0x41400000, status 0xC0; "
-        "code 9, classification 0, unit 250, value 0x7FA00000, status 0x30\n"
+        "    device variables: code 245, classification 0, unit 39 (milliamperes), value 0x41400000, status 0xC0; "
+        "code 9, classification 0, unit 250 (not used), value 0x7FA00000, status 0x30\n"
         "    time stamp: 0x00000000\n",
         "",
     ),
@@ -110,6 +143,7 @@ ROWS = (
     ("FF FF 02 80 00 00 82!08", "2: no message: it lacks 1 character, its check byte\n", "bad hex at 18\n"),
     ("FF FF 0G", "", "bad hex at 6\n"),
     ("02!08", "", "bad hex at 0\n"),
+    EACH_UNIT,
 )
 
 # An input that cannot be read further, what is said of it, and its fault: an item is whole only once a byte follows it, and bad hex

@@ -8,7 +8,7 @@ use Rattle.hart_commands.specs.Fields.{Field, Row, bytes_of, fields_of}
 use Rattle.hart_commands.specs.ReplyData.{reply_payload, reply_reading}
 use Rattle.hart_commands.specs.RequestData.{Reading, request_data, request_reading}
 use Rattle.hart_commands.specs.declared.fields.FieldKind.{FieldKind}
-use Rattle.hart_commands.specs.declared.fields.FieldKind.TheVariants.{Bytes, Number, PackedText, LatinText, Date, Float, Variables}
+use Rattle.hart_commands.specs.declared.fields.FieldKind.TheVariants.{Bytes, Number, UnitCode, PackedText, LatinText, Date, Float, Variables}
 use Rattle.hart_commands.specs.declared.reply.Reply.{Reply}
 use Rattle.hart_c.specs.Names.{field_name, rows_for}
 use Rattle.hart_c.specs.declared.data.HartField.{HartField}
@@ -23,6 +23,7 @@ kind_number Date = 3
 kind_number Float = 4
 kind_number Variables = 5
 kind_number LatinText = 6
+kind_number UnitCode = 7
 
 -- The first field starts at a place, and each other one where the field before it stops.
 abbrev pub placed : ℕ → List Field → List HartField

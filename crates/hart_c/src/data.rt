@@ -29,6 +29,9 @@ pub const HART_VARIABLES: u8 = 5;
 /// Text in ISO Latin-1 in 32 bytes, a character in each.
 pub const HART_LATIN_TEXT: u8 = 6;
 
+/// The code of a unit in one byte.
+pub const HART_UNIT_CODE: u8 = 7;
+
 /// Where a field stands in what was passed, and how its bytes are meant.
 #[repr(C)]
 #[derive(Clone, Copy)]
@@ -37,7 +40,7 @@ pub struct HartField {
     pub start: u8,
     /// How many bytes it has.
     pub len: u8,
-    /// How they are meant, as one of [`HART_BYTES`] to [`HART_LATIN_TEXT`].
+    /// How they are meant, as one of [`HART_BYTES`] to [`HART_UNIT_CODE`].
     pub kind: u8,
 }
 
@@ -180,6 +183,7 @@ fn kind_number(kind: FieldKind) -> u8
     match kind {
         FieldKind::Bytes => HART_BYTES,
         FieldKind::Number => HART_NUMBER,
+        FieldKind::UnitCode => HART_UNIT_CODE,
         FieldKind::PackedText => HART_PACKED_TEXT,
         FieldKind::LatinText => HART_LATIN_TEXT,
         FieldKind::Date => HART_DATE,

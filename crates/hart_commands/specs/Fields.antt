@@ -4,7 +4,7 @@ use Rattle.std.specs.Prelude.{ℕ, ◌+◌, ◌-◌, nat_lt, if◌then◌else◌
 use Rattle.std.specs.List.{flat_map}
 use Rattle.std.specs.Option.{option_map, option_map_or}
 use Rattle.hart_commands.specs.declared.fields.FieldKind.{FieldKind}
-use Rattle.hart_commands.specs.declared.fields.FieldKind.TheVariants.{Bytes, Number, PackedText, LatinText, Date, Float, Variables}
+use Rattle.hart_commands.specs.declared.fields.FieldKind.TheVariants.{Bytes, Number, UnitCode, PackedText, LatinText, Date, Float, Variables}
 use Rattle.hart_commands.specs.declared.fields.FieldRow.{FieldRow}
 use Rattle.hart_commands.specs.declared.fields.FieldSize.{FieldSize}
 use Rattle.hart_commands.specs.declared.fields.FieldSize.TheVariants.{Exactly, AllBut}
@@ -57,7 +57,7 @@ identity =
 -- The fields of the primary variable (Command 1).
 abbrev pub primary : List Row
 primary =
-    field "primary variable unit" (Exactly 1) Number
+    field "primary variable unit" (Exactly 1) UnitCode
     ∷ field "primary variable" (Exactly 4) Float
     ∷ []
 
@@ -72,13 +72,13 @@ current =
 abbrev pub dynamic : List Row
 dynamic =
     field "loop current" (Exactly 4) Float
-    ∷ field "primary variable unit" (Exactly 1) Number
+    ∷ field "primary variable unit" (Exactly 1) UnitCode
     ∷ field "primary variable" (Exactly 4) Float
-    ∷ field "secondary variable unit" (Exactly 1) Number
+    ∷ field "secondary variable unit" (Exactly 1) UnitCode
     ∷ field "secondary variable" (Exactly 4) Float
-    ∷ field "tertiary variable unit" (Exactly 1) Number
+    ∷ field "tertiary variable unit" (Exactly 1) UnitCode
     ∷ field "tertiary variable" (Exactly 4) Float
-    ∷ field "quaternary variable unit" (Exactly 1) Number
+    ∷ field "quaternary variable unit" (Exactly 1) UnitCode
     ∷ field "quaternary variable" (Exactly 4) Float
     ∷ []
 
@@ -122,7 +122,7 @@ tag_and_more =
 abbrev pub sensor : List Row
 sensor =
     field "serial number" (Exactly 3) Bytes
-    ∷ field "unit" (Exactly 1) Number
+    ∷ field "unit" (Exactly 1) UnitCode
     ∷ field "upper limit" (Exactly 4) Float
     ∷ field "lower limit" (Exactly 4) Float
     ∷ field "minimum span" (Exactly 4) Float
@@ -133,7 +133,7 @@ abbrev pub output : List Row
 output =
     field "alarm code" (Exactly 1) Number
     ∷ field "transfer function" (Exactly 1) Number
-    ∷ field "unit" (Exactly 1) Number
+    ∷ field "unit" (Exactly 1) UnitCode
     ∷ field "upper range value" (Exactly 4) Float
     ∷ field "lower range value" (Exactly 4) Float
     ∷ field "damping" (Exactly 4) Float

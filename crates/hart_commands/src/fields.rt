@@ -9,6 +9,8 @@ pub enum FieldKind {
     Bytes,
     /// A number or a code of one or two bytes, the most significant byte first.
     Number,
+    /// The code of a unit in one byte. [`unit_name`](crate::unit_name) names it.
+    UnitCode,
     /// Packed text, four characters in three bytes.
     PackedText,
     /// Text in ISO Latin-1, a character in each byte: a long tag.

@@ -1,6 +1,7 @@
 -- `hart explain`.
 pub mod Heard
 pub mod Fields
+pub mod Units
 pub mod Gaps
 pub mod Sightings
 pub mod Decided

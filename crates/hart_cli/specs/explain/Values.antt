@@ -1,11 +1,12 @@
 -- The words of the value of a field, by how its bytes are meant (own profile).
-use Rattle.std.specs.Prelude.{◌+◌, ◌*◌, ◌/◌, ◌%◌, ◌==◌, ◌&&◌, ◌||◌, nat_le, nat_lt, if◌then◌else◌, ◌++◌, [], ◌∷◌, ℕ, Bool, true, List, codes}
-use Rattle.std.specs.Prelude.{decimal, encode_utf8_all, length, slice_index, slice_range}
+use Rattle.std.specs.Prelude.{◌+◌, ◌*◌, ◌/◌, ◌%◌, ◌==◌, ◌&&◌, ◌||◌, nat_le, nat_lt, if◌then◌else◌, ◌++◌, [], ◌∷◌, ℕ, Bool, true, List, Option, None, Some}
+use Rattle.std.specs.Prelude.{codes, decimal, encode_utf8_all, length, slice_index, slice_range}
 use Rattle.std.specs.List.{fold, join_by, list_all}
 use Rattle.std.specs.Simd.{first_chunks}
 use Rattle.hart_values.specs.hart_date.Calendar.{is_date}
 use Rattle.hart_commands.specs.declared.fields.FieldKind.{FieldKind}
-use Rattle.hart_commands.specs.declared.fields.FieldKind.TheVariants.{Bytes, Number, PackedText, LatinText, Date, Float, Variables}
+use Rattle.hart_commands.specs.declared.fields.FieldKind.TheVariants.{Bytes, Number, UnitCode, PackedText, LatinText, Date, Float, Variables}
+use Rattle.hart_commands.specs.Units.{unit_name}
 use Rattle.hart_cli.specs.explain.Words.{hex_value}
 
 -- Bytes are one number, of which the first is the most significant byte.
@@ -56,12 +57,21 @@ date_words (day ∷ month ∷ year ∷ []) =
     else no_date_words (day ∷ month ∷ year ∷ [])
 date_words bytes = no_date_words bytes
 
--- The words of eight bytes of a device variable: its code, classification and unit in decimal, its value and its status in hex.
+-- A name stands in parentheses after a space; without a name nothing does.
+abbrev pub in_parentheses : Option (List ℕ) → List ℕ
+in_parentheses None = []
+in_parentheses (Some name) = codes " (" ++ name ++ codes ")"
+
+-- The code of a unit is in decimal, and its name follows it in parentheses, if it has one.
+unfoldable pub unit_words : ℕ → List ℕ
+unit_words code = decimal code ++ in_parentheses (unit_name code)
+
+-- The words of eight bytes of a device variable: its code and classification in decimal, its unit, its value and its status in hex.
 unfoldable pub variable_words : List ℕ → List ℕ
 variable_words bytes =
     codes "code " ++ decimal (slice_index bytes 0)
     ++ codes ", classification " ++ decimal (slice_index bytes 1)
-    ++ codes ", unit " ++ decimal (slice_index bytes 2)
+    ++ codes ", unit " ++ unit_words (slice_index bytes 2)
     ++ codes ", value " ++ hex_value (slice_range bytes 3 7)
     ++ codes ", status " ++ hex_value (slice_index bytes 7 ∷ [])
 
@@ -69,11 +79,13 @@ variable_words bytes =
 abbrev pub variables_words : List ℕ → List ℕ
 variables_words bytes = join_by variable_words (codes "; ") (first_chunks 8 (length bytes / 8) bytes)
 
--- Bytes and a float are shown in hex, a number in decimal, a text in double quotes, a date as a day, and device variables one by one.
+-- Bytes and a float are shown in hex, a number in decimal, a unit with its name, a text in double quotes, a date as a day, and device
+-- variables one by one.
 abbrev pub value_words : FieldKind → List ℕ → List ℕ
 value_words Bytes bytes = hex_value bytes
 value_words Float bytes = hex_value bytes
 value_words Number bytes = decimal (number_in bytes)
+value_words UnitCode bytes = unit_words (number_in bytes)
 value_words PackedText bytes = codes "\"" ++ unpacked bytes ++ codes "\""
 value_words LatinText bytes = latin_words bytes
 value_words Date bytes = date_words bytes
@@ -81,9 +93,11 @@ value_words Variables bytes = variables_words bytes
 
 -- For private calls alone:
 
--- So many bytes suit a kind: one or two a number, 6, 12 or 24 a packed text, three a date, and any number every other kind.
+-- So many bytes suit a kind: one or two a number, one the code of a unit, 6, 12 or 24 a packed text, three a date, and any number every
+-- other kind.
 abbrev pub suits : FieldKind → ℕ → Bool
 suits Number size = (size == 1) || (size == 2)
+suits UnitCode size = size == 1
 suits PackedText size = (size == 6) || (size == 12) || (size == 24)
 suits Date size = size == 3
 suits _ size = true

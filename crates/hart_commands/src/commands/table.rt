@@ -51,7 +51,7 @@ const IDENTITY: &[FieldRow] = fields! {
 
 /// The fields of the primary variable (Command 1).
 const PRIMARY: &[FieldRow] = fields! {
-    "primary variable unit", Exactly(1), Number;
+    "primary variable unit", Exactly(1), UnitCode;
     "primary variable", Exactly(4), Float;
 };
 
@@ -64,13 +64,13 @@ const CURRENT: &[FieldRow] = fields! {
 /// The loop current, and the fields of the dynamic variables that there are (Command 3).
 const DYNAMIC: &[FieldRow] = fields! {
     "loop current", Exactly(4), Float;
-    "primary variable unit", Exactly(1), Number;
+    "primary variable unit", Exactly(1), UnitCode;
     "primary variable", Exactly(4), Float;
-    "secondary variable unit", Exactly(1), Number;
+    "secondary variable unit", Exactly(1), UnitCode;
     "secondary variable", Exactly(4), Float;
-    "tertiary variable unit", Exactly(1), Number;
+    "tertiary variable unit", Exactly(1), UnitCode;
     "tertiary variable", Exactly(4), Float;
-    "quaternary variable unit", Exactly(1), Number;
+    "quaternary variable unit", Exactly(1), UnitCode;
     "quaternary variable", Exactly(4), Float;
 };
 
@@ -108,7 +108,7 @@ const TAG_AND_MORE: &[FieldRow] = fields! {
 /// The fields of the sensor (Command 14).
 const SENSOR: &[FieldRow] = fields! {
     "serial number", Exactly(3), Bytes;
-    "unit", Exactly(1), Number;
+    "unit", Exactly(1), UnitCode;
     "upper limit", Exactly(4), Float;
     "lower limit", Exactly(4), Float;
     "minimum span", Exactly(4), Float;
@@ -118,7 +118,7 @@ const SENSOR: &[FieldRow] = fields! {
 const OUTPUT: &[FieldRow] = fields! {
     "alarm code", Exactly(1), Number;
     "transfer function", Exactly(1), Number;
-    "unit", Exactly(1), Number;
+    "unit", Exactly(1), UnitCode;
     "upper range value", Exactly(4), Float;
     "lower range value", Exactly(4), Float;
     "damping", Exactly(4), Float;

@@ -15,7 +15,7 @@ use itoa::Buffer;
 
 /// Adds what is said of the data of a request.
 pub fn push_request_data(text: &mut Kept, pairs: &Pairs, command: u8, bytes: &[u8])
-    requires room { length text.old + 5200 ≤ 32768 }
+    requires room { length text.old + 6300 ≤ 32768 }
     requires few { length bytes.now ≤ 255 }
     ensures lines { text.new ≡ text.old ++ request_lines command bytes.now }
 {
@@ -33,7 +33,7 @@ pub fn push_request_data(text: &mut Kept, pairs: &Pairs, command: u8, bytes: &[u
 
 /// Adds what is said of data that are no request, by the code that refuses them.
 fn push_no_request(text: &mut Kept, pairs: &Pairs, command: u8, code: ResponseCode, bytes: &[u8])
-    requires room { length text.old + 5200 ≤ 32768 }
+    requires room { length text.old + 6300 ≤ 32768 }
     requires few { length bytes.now ≤ 255 }
     ensures lines { text.new ≡ text.old ++ no_request_lines command code bytes.now }
 {
@@ -62,7 +62,7 @@ fn push_too_few(text: &mut Kept, pairs: &Pairs, needed: usize, bytes: &[u8])
 
 /// Adds what is said of data that are refused by a code.
 fn push_refused(text: &mut Kept, pairs: &Pairs, command: u8, code: ResponseCode, bytes: &[u8])
-    requires room { length text.old + 5200 ≤ 32768 }
+    requires room { length text.old + 6300 ≤ 32768 }
     requires few { length bytes.now ≤ 255 }
     ensures lines { text.new ≡ text.old ++ refused_lines command code bytes.now }
 {
@@ -75,7 +75,7 @@ fn push_refused(text: &mut Kept, pairs: &Pairs, command: u8, code: ResponseCode,
 
 /// Adds what is said of the data of a reply, which stand after its two status bytes.
 pub fn push_reply_data(text: &mut Kept, pairs: &Pairs, command: u8, payload: &[u8])
-    requires room { length text.old + 4500 ≤ 32768 }
+    requires room { length text.old + 5700 ≤ 32768 }
     requires few { length payload.now ≤ 255 }
     ensures lines { text.new ≡ text.old ++ reply_lines command payload.now }
 {
@@ -94,7 +94,7 @@ pub fn push_reply_data(text: &mut Kept, pairs: &Pairs, command: u8, payload: &[u
 
 /// Adds what is said of data that are read as a reply.
 fn push_replied(text: &mut Kept, pairs: &Pairs, command: u8, reply: &Reply, bytes: &[u8])
-    requires room { length text.old + 4500 ≤ 32768 }
+    requires room { length text.old + 5700 ≤ 32768 }
     requires few { length bytes.now ≤ 255 }
     ensures lines { text.new ≡ text.old ++ replied_lines command bytes.now (Some reply.now) }
 {

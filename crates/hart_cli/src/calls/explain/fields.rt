@@ -12,7 +12,7 @@ use hart_commands::FieldRow;
 
 /// Adds what is said of data of which so many bytes are taken by these rows.
 pub fn push_taken(text: &mut Kept, pairs: &Pairs, rows: &[FieldRow], count: usize, bytes: &[u8])
-    requires room { length text.old + 12 * length bytes.now + 1300 ≤ 32768 }
+    requires room { length text.old + 15 * length bytes.now + 1800 ≤ 32768 }
     requires shown { are_shown (map seen rows.now) ≡ true }
     ensures lines { text.new ≡ text.old ++ taken_lines (map seen rows.now) count bytes.now }
 {
@@ -28,10 +28,10 @@ pub fn push_fields<'a>(
     rows: &[FieldRow],
     bytes: &'a [u8],
 ) -> &'a [u8]
-    requires room { length text.old + 12 * length bytes.now + 1250 ≤ 32768 }
+    requires room { length text.old + 15 * length bytes.now + 1750 ≤ 32768 }
     requires shown { are_shown (map seen rows.now) ≡ true }
     ensures lines { text.new ≡ text.old ++ field_lines (fields_of (map seen rows.now) bytes.now) }
-    ensures few { length text.new ≤ length text.old + 12 * length bytes.now + 1250 }
+    ensures few { length text.new ≤ length text.old + 15 * length bytes.now + 1750 }
     ensures rest { result.now ≡ drop (length (bytes_of (fields_of (map seen rows.now) bytes.now))) bytes.now }
 {
     let mut rest = bytes;
@@ -47,11 +47,11 @@ pub fn push_fields<'a>(
 
 /// Adds the line of a field.
 fn push_field(text: &mut Kept, pairs: &Pairs, row: &FieldRow, bytes: &[u8])
-    requires room { length text.old + 12 * length bytes.now + 77 ≤ 32768 }
+    requires room { length text.old + 15 * length bytes.now + 107 ≤ 32768 }
     requires short { length row.now.name.now ≤ 40 }
     requires suits { suits row.now.kind (length bytes.now) ≡ true }
     ensures line { text.new ≡ text.old ++ field_line (record { name = row.now.name.now; kind = row.now.kind; bytes = bytes.now }) }
-    ensures few { length text.new ≤ length text.old + 12 * length bytes.now + 77 }
+    ensures few { length text.new ≤ length text.old + 15 * length bytes.now + 107 }
 {
     push_name(text, row.name);
     push_value(text, pairs, row.kind, bytes);

@@ -32,7 +32,7 @@ pub fn push_paragraph(text: &mut Kept, pairs: &Pairs, first: u64, found: &FoundV
 
 /// Adds what the payload of a message says.
 fn push_payload(text: &mut Kept, pairs: &Pairs, frame: &FrameView<'_>)
-    requires { length text.old + 6000 ≤ 32768 }
+    requires { length text.old + 7000 ≤ 32768 }
     ensures { text.new ≡ text.old ++ payload_lines (parts_of frame.now).kind (parts_of frame.now).command (parts_of frame.now).payload }
 {
     match frame.kind() {
@@ -43,7 +43,7 @@ fn push_payload(text: &mut Kept, pairs: &Pairs, frame: &FrameView<'_>)
 
 /// Adds what the payload of a reply says.
 fn push_reply(text: &mut Kept, pairs: &Pairs, command: u8, payload: &[u8])
-    requires room { length text.old + 6000 ≤ 32768 }
+    requires room { length text.old + 7000 ≤ 32768 }
     requires few { length payload.now ≤ 255 }
     ensures lines { text.new ≡ text.old ++ payload_lines Ack command payload.now }
 {

@@ -1,15 +1,16 @@
 //! The values of fields in words.
-ghost use Rattle.std.specs.Prelude.{◌≡◌, ◌++◌, ◌+◌, ◌*◌, ◌≤◌, decimal, encode_utf8_all, length, true};
+ghost use Rattle.std.specs.Prelude.{◌≡◌, ◌++◌, ◌+◌, ◌*◌, ◌≤◌, IfSome, decimal, encode_utf8_all, length, true};
 ghost use Rattle.std.specs.List.{list_all};
+ghost use Rattle.std.specs.Option.{option_map};
 ghost use Rattle.hart_values.specs.packed_text.Packing.{IsPackedSize};
-ghost use Rattle.hart_cli.specs.explain.Values.{day_words, is_printable, latin_words, no_date_words, suits, two_digits, unpacked};
-ghost use Rattle.hart_cli.specs.explain.Values.{value_words, variable_words, variables_words};
+ghost use Rattle.hart_cli.specs.explain.Values.{day_words, in_parentheses, is_printable, latin_words, no_date_words, suits, two_digits, unpacked};
+ghost use Rattle.hart_cli.specs.explain.Values.{unit_words, value_words, variable_words, variables_words};
 
 use crate::calls::explain::words::push_hex_value;
 use crate::kept::Kept;
 use crate::text::pairs::Pairs;
 use crate::text::words::push_text;
-use hart_commands::FieldKind;
+use hart_commands::{FieldKind, unit_name};
 use hart_values::{HartDate, PackedText};
 use itoa::Buffer;
 
@@ -21,14 +22,15 @@ const MOST_CHARACTERS: usize = 32;
 
 /// Adds the value of a field.
 pub fn push_value(text: &mut Kept, pairs: &Pairs, kind: FieldKind, bytes: &[u8])
-    requires room { length text.old + 12 * length bytes.now + 30 ≤ 32768 }
+    requires room { length text.old + 15 * length bytes.now + 60 ≤ 32768 }
     requires suits { suits kind (length bytes.now) ≡ true }
     ensures words { text.new ≡ text.old ++ value_words kind bytes.now }
-    ensures few { length text.new ≤ length text.old + 12 * length bytes.now + 30 }
+    ensures few { length text.new ≤ length text.old + 15 * length bytes.now + 60 }
 {
     match kind {
         FieldKind::Bytes | FieldKind::Float => push_hex_value(text, pairs, bytes),
         FieldKind::Number => push_number(text, bytes),
+        FieldKind::UnitCode => push_unit_of(text, bytes),
         FieldKind::PackedText => push_packed_text(text, bytes),
         FieldKind::LatinText => push_latin_text(text, pairs, bytes),
         FieldKind::Date => push_date(text, pairs, bytes),
@@ -49,6 +51,42 @@ fn push_number(text: &mut Kept, bytes: &[u8])
         _ => unreachable!(),
     };
     push_text(text, Buffer::new().format(number));
+}
+
+/// Appends the unit of one byte.
+fn push_unit_of(text: &mut Kept, bytes: &[u8])
+    requires room { length text.old + 60 ≤ 32768 }
+    requires suits { suits FieldKind.UnitCode (length bytes.now) ≡ true }
+    ensures words { text.new ≡ text.old ++ value_words FieldKind.UnitCode bytes.now }
+    ensures few { length text.new ≤ length text.old + 60 }
+{
+    let [code] = bytes else { unreachable!() };
+    push_unit(text, *code);
+}
+
+/// Appends the code of a unit, and its name in parentheses, if it has one.
+#[tactic(auto, unfolding(crate::specs::explain::Values::unit_words))]
+fn push_unit(text: &mut Kept, code: u8)
+    requires { length text.old + 51 ≤ 32768 }
+    ensures words { text.new ≡ text.old ++ unit_words code }
+    ensures few { length text.new ≤ length text.old + 51 }
+{
+    push_text(text, Buffer::new().format(code));
+    push_in_parentheses(text, unit_name(code));
+}
+
+/// Appends a name in parentheses after a space, if there is one.
+fn push_in_parentheses(text: &mut Kept, name: Option<&str>)
+    requires room { length text.old + 48 ≤ 32768 }
+    requires short { IfSome name (λ name. length name.now ≤ 45) }
+    ensures words { text.new ≡ text.old ++ in_parentheses (option_map (λ name. name.now) name.entry) }
+    ensures few { length text.new ≤ length text.old + 48 }
+{
+    if let Some(name) = name {
+        push_text(text, " (");
+        push_text(text, name);
+        push_text(text, ")");
+    }
 }
 
 /// Adds a packed text in double quotes.
@@ -169,9 +207,9 @@ fn push_two_digits(text: &mut Kept, number: u8)
 
 /// Adds device variables, eight bytes each.
 fn push_variables(text: &mut Kept, pairs: &Pairs, bytes: &[u8])
-    requires { length text.old + 9 * length bytes.now ≤ 32768 }
+    requires { length text.old + 15 * length bytes.now ≤ 32768 }
     ensures words { text.new ≡ text.old ++ variables_words bytes.now }
-    ensures few { length text.new ≤ length text.old + 9 * length bytes.now }
+    ensures few { length text.new ≤ length text.old + 15 * length bytes.now }
 {
     let (groups, _) = bytes.as_chunks::<8>();
     for (index, group) in groups.iter().enumerate() {
@@ -185,14 +223,15 @@ fn push_variables(text: &mut Kept, pairs: &Pairs, bytes: &[u8])
 /// Adds a device variable.
 #[tactic(auto, unfolding(crate::specs::explain::Values::variable_words))]
 fn push_variable(text: &mut Kept, pairs: &Pairs, variable: &[u8; 8])
-    requires { length text.old + 70 ≤ 32768 }
+    requires { length text.old + 118 ≤ 32768 }
     ensures words { text.new ≡ text.old ++ variable_words variable.now }
-    ensures few { length text.new ≤ length text.old + 70 }
+    ensures few { length text.new ≤ length text.old + 118 }
 {
     let [code, classification, unit, .., status] = variable;
     push_counted(text, "code ", *code);
     push_counted(text, ", classification ", *classification);
-    push_counted(text, ", unit ", *unit);
+    push_text(text, ", unit ");
+    push_unit(text, *unit);
     push_text(text, ", value ");
     push_hex_value(text, pairs, &variable[3..7]);
     push_text(text, ", status ");

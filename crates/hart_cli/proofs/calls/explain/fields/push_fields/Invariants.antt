@@ -9,5 +9,5 @@ invariant-loop-row l = record {
       ≡ l.initial.text ++ field_lines (fields_of (map seen l.rows) l.bytes);
   rest : drop (length (bytes_of (fields_of (map seen (drop l.row-index l.rows)) l.rest))) l.rest
       ≡ drop (length (bytes_of (fields_of (map seen l.rows) l.bytes))) l.bytes;
-  few : length l.text + 12 * length l.rest ≤ length l.initial.text + 12 * length l.bytes + 77 * l.row-index;
+  few : length l.text + 15 * length l.rest ≤ length l.initial.text + 15 * length l.bytes + 107 * l.row-index;
 }

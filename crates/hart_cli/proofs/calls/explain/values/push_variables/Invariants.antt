@@ -6,5 +6,5 @@ use Rattle.hart_cli.proofs.calls.explain.values.push_variables.Given as goal
 abbrev pub invariant-loop-index : goal.invariant-loop-index
 invariant-loop-index l = record {
   written : l.text ≡ l.initial.text ++ join_by variable_words (codes "; ") (take l.index l.groups);
-  few : length l.text ≤ length l.initial.text + 72 * l.index;
+  few : length l.text ≤ length l.initial.text + 120 * l.index;
 }
