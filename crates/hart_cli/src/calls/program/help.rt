@@ -141,8 +141,9 @@ line for each thing that the message says:
                     of a reply: what its two status bytes say, by names, or
                     none if no bit with a name is set
   fields            of the data that the command takes, each by its name:
-                    numbers in decimal, texts in double quotes, dates, and
-                    everything else, floats among it, as bytes in hex
+                    numbers in decimal, units also by name, texts in double
+                    quotes, dates, and everything else, floats among it, as
+                    bytes in hex
   ignored           what comes after those, in hex; all data of a reply with
                     communication faults
   not read (code N) data after another response code than 0, in hex
