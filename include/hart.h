@@ -1,15 +1,15 @@
-/* HART messages (HART Protocol Revision 7) from proved code.
+/* HART messages (HART Protocol Revision 7), by proved code. docs/LIBRARY.md shows how a program is built around these calls.
  *
- * Link libhart.a or libhart.so. No call keeps a pointer that it was passed, holds a state of its own, takes memory or waits: each is
- * a function of its arguments, and two threads may call at once, each on its own memory.
+ * Link libhart.a or libhart.so. No call keeps a pointer or a state, allocates or waits. Each is a function of its arguments, and two threads
+ * may call at once, each on its own memory.
  *
- * The caller upholds, at each call:
- *   - each pointer is not null, also for a length of 0, is aligned for its type, and points to as many elements as the length that
- *     follows it says (one where none follows); a length is below 2^63;
- *   - what a pointer to non-const points to is not written or read by anybody else until the call returns, and overlaps nothing
- *     else that is passed; what a pointer to const points to is not written until then;
- *   - a bool is 0 or 1, and all that is passed is initialised, also frames and bytes that are to be written.
- * All else is tested by the call.
+ * Duties of the caller, at each call:
+ *   - No pointer is null, even with length 0. It is aligned for its type and points to as many elements as the length after it says, or to
+ *     one if no length follows. Lengths are below 2^63.
+ *   - Nobody else reads or writes what a non-const pointer points to until the call returns, and it overlaps nothing else that is passed.
+ *     Nobody writes what a const pointer points to until then.
+ *   - Each bool is 0 or 1. Everything that is passed is initialised, including frames and bytes that are to be written.
+ * The call checks everything else. If it returns a fault, what it would have written is unchanged.
  */
 #ifndef HART_H
 #define HART_H
@@ -22,7 +22,7 @@
 extern "C" {
 #endif
 
-/* A frame, and where it stands in what was passed. A frame that a call shows may be passed to hart_encode as it is. */
+/* A frame and its place in what was passed. A frame that a call has written may be passed to hart_encode as it is. */
 typedef struct hart_frame {
     uint64_t start;          /* the place of the delimiter, from 0 */
     uint64_t stop;           /* the place after the check byte */
@@ -36,11 +36,11 @@ typedef struct hart_frame {
     uint8_t command;         /* the command number */
     uint8_t expansion_len;   /* 0 to 3 */
     uint8_t payload_len;     /* 0 to 255; of a reply 2 at least */
-    uint8_t expansion[3];    /* the expansion bytes; those after expansion_len of them mean nothing */
-    uint8_t payload[255];    /* the payload, of a reply from its two status bytes on; bytes after payload_len of them mean nothing */
+    uint8_t expansion[3];    /* the first expansion_len bytes count */
+    uint8_t payload[255];    /* the first payload_len bytes count; a reply begins with its two status bytes */
 } hart_frame;
 
-/* Why a call did nothing. docs/LIBRARY.md says which call gives which. */
+/* Why a call did nothing. */
 enum {
     HART_OK = 0,
     HART_TOO_SHORT_REPLY = 1, /* a reply with a payload below its two status bytes */
@@ -72,49 +72,44 @@ typedef struct hart_char {
     uint8_t faults; /* 0, or fault bits: 0x40 vertical parity, 0x20 overrun, 0x10 framing, 0x02 buffer overflow */
 } hart_char;
 
-/* What a search came to. */
+/* The result of a search. */
 typedef struct hart_search {
-    size_t used;   /* how many of what was passed are used up; the rest is to be passed again, with what comes after it */
-    size_t count;  /* how many frames were found: they stand in frames[0] to frames[count - 1], and the others are as they were */
+    size_t used;   /* how many elements are used up; pass the rest again, followed by what comes next */
+    size_t count;  /* how many frames were found: frames[0] to frames[count - 1]; the others are unchanged */
     uint8_t fault; /* HART_OK, or why nothing was done */
 } hart_search;
 
-/* Finds the next frames of bytes that were heard without faults, each after two preamble bytes FF, as many as there is room for; whoever
- * has room for none is given none and comes to no end. `ended` says that no more is to come: without it the frames that a false start
- * holds back are never given. What is not used up is passed again, with what comes after it, and places are then counted from its front:
- * in all that was heard they are those and the sum of what was used up before. Each frame stops within what is used up, so a call that
- * shows a frame uses something up. If there are fewer frames than room, none is left if it ended, and otherwise at most 268 bytes are, in
- * which nothing is decided yet: 269 bytes are room enough for what is kept and a byte more. Each call looks again at what is kept, so that
- * larger pieces cost less. Whoever goes on so until the end is given all frames of all that was heard, and no others, in whatever pieces
- * it came. */
+/* Finds the next frames in bytes without faults, as many as there is room for, none with no room. `ended` says that nothing more comes.
+ * Returns how much is used up: pass the rest again, followed by what comes next; places then count from its front. With room left, at
+ * most 268 bytes remain, and none if it ended. Going on so finds exactly the frames of all that was heard, in whatever pieces it comes.
+ * A buffer of 269 bytes is enough. No fault. */
 hart_search hart_find_in_bytes(const uint8_t *bytes, size_t bytes_len, bool ended, hart_frame *frames, size_t frames_len);
 
-/* The same for characters that were heard with fault bits or without. At HART_BAD_FAULT_BITS nothing is found or used up. */
+/* Like hart_find_in_bytes, for characters with fault bits. Fault: HART_BAD_FAULT_BITS, and then nothing is found or used up. */
 hart_search hart_find(const hart_char *heard, size_t heard_len, bool ended, hart_frame *frames, size_t frames_len);
 
-/* How many bytes were written or read. */
+/* The number of bytes that were written or read. */
 typedef struct hart_outcome {
     size_t len;    /* 0 if there is a fault */
-    uint8_t fault; /* HART_OK, or why nothing was done: what was to be written is as it was */
+    uint8_t fault; /* HART_OK, or why nothing was done */
 } hart_outcome;
 
-/* Reads the frame whose body bytes begin with, from the delimiter on, and tells the length of that body. `frame` then shows it, from
- * place 0 on. Preamble bytes are not passed, and further bytes may follow. The fault is the first in the order of the bytes:
- * HART_TRUNCATED for none, HART_BAD_DELIMITER, HART_TRUNCATED for an end before the byte count, HART_SHORT_REPLY, HART_TRUNCATED for an
- * end before the check byte, HART_BAD_CHECK. */
+/* Reads the frame whose body the bytes begin with, from the delimiter on; bytes may follow it. Returns the length of the body.
+ * Faults, in the order of the bytes: HART_TRUNCATED (no bytes), HART_BAD_DELIMITER, HART_TRUNCATED (before the byte count),
+ * HART_SHORT_REPLY, HART_TRUNCATED (before the check byte), HART_BAD_CHECK. */
 hart_outcome hart_decode(const uint8_t *bytes, size_t bytes_len, hart_frame *frame);
 
-/* Writes a frame as a message at the front of `output`: so many preamble bytes and its body. 287 bytes are room for any. `start`, `stop`,
- * the numbers of the other kind of address, and bytes after those that count are not looked at. The fault is the first of these that
- * holds: HART_BAD_ADDRESS, HART_LONG_EXPANSION, HART_TOO_SHORT_REPLY, HART_BAD_PREAMBLE, HART_NO_ROOM. */
+/* Writes a frame as a message to the front of `output`: this number of preamble bytes, then its body. Returns the length; 287 bytes are room
+ * for any message. Ignores `start`, `stop` and the numbers of the other kind of address.
+ * Faults: HART_BAD_ADDRESS, HART_LONG_EXPANSION, HART_TOO_SHORT_REPLY, HART_BAD_PREAMBLE, HART_NO_ROOM. */
 hart_outcome hart_encode(const hart_frame *frame, uint8_t preambles, uint8_t *output, size_t output_len);
 
-/* The check byte of some bytes: their exclusive or. */
+/* Returns the check byte of some bytes: their exclusive or. */
 uint8_t hart_check_byte(const uint8_t *bytes, size_t bytes_len);
 
-/* How the bytes of a field are meant, and how many there are. Numbers and floats have the most significant byte first. */
+/* The kind of a field, and its number of bytes. Numbers and floats have the most significant byte first. */
 enum {
-    HART_BYTES = 0,       /* as they are, at least one: an id, flags, a status, codes of device variables, a time stamp */
+    HART_BYTES = 0,       /* plain bytes, at least one: an id, flags, a status, codes of device variables, a time stamp */
     HART_NUMBER = 1,      /* a number or a code of one or two bytes */
     HART_PACKED_TEXT = 2, /* packed text in 6, 12 or 24 bytes, four characters in three bytes */
     HART_DATE = 3,        /* a date in three bytes: the day, the month, the year after 1900 */
@@ -124,7 +119,7 @@ enum {
     HART_UNIT_CODE = 7    /* the code of a unit in one byte (HCF_SPEC-183, table 2) */
 };
 
-/* A field of data: where it stands in what was passed, and how its bytes are meant. */
+/* A field of data: its place in what was passed, and its kind. */
 typedef struct hart_field {
     uint8_t start; /* the place of its first byte, from 0 */
     uint8_t len;   /* how many bytes it has */
@@ -133,42 +128,38 @@ typedef struct hart_field {
 
 /* What was read of the data of a message. */
 typedef struct hart_reading {
-    size_t count;   /* how many fields there are; as many as there is room for stand in fields, and what comes after them is as it was */
-    size_t taken;   /* how many bytes are taken; what comes after them is ignored */
+    size_t count;   /* how many fields there are; those with room are written, the elements after them are unchanged */
+    size_t taken;   /* how many bytes are taken; later bytes are ignored */
     uint8_t code;   /* of a reply its response code; of a request the response code that refuses it, or 0 */
     uint8_t status; /* of a reply its device status; of a request 0 */
     uint8_t fault;  /* HART_OK, or why nothing is told */
 } hart_reading;
 
-/* Reads the data of a request of this command, and shows where its fields stand. 16 fields are room for any request or reply. A request
- * that is refused has no fields, and of it nothing is taken; its code is the first of these that holds: 64, the command is not known; 5,
- * too few bytes; 2, Command 6 with an address above 63; 12, Command 6 with a mode above 1; 9, Command 18 with a bad date. There is no
- * fault. */
+/* Reads the data of a request of this command, and writes where its fields stand; 16 fields are room for any. A refused request has no fields
+ * and takes nothing. Its code is the first of: 64 unknown command, 5 too few bytes, 2 Command 6 with an address above 63, 12 Command 6 with
+ * a mode above 1, 9 Command 18 with a bad date. No fault. */
 hart_reading hart_read_request(uint8_t command, const uint8_t *data, size_t data_len, hart_field *fields, size_t fields_len);
 
-/* Reads the payload of a reply to this command, from its two status bytes on, and shows where its fields stand, counted from the first
- * status byte: so the first field starts at 2, and two bytes at least are taken. A reply with another code than 0 has no fields. It is
- * HART_NO_REPLY, and nothing is told or shown, if the payload has fewer than two bytes, if bit 7 of the first is set, if the command is
- * not known, or if with code 0 its data are not those of the command. */
+/* Reads the payload of a reply to this command, from its status bytes on, and writes where its fields stand; the first one starts at 2.
+ * A reply with another code than 0 has no fields. Fault: HART_NO_REPLY if the payload has fewer than two bytes, bit 7 of the first is set,
+ * the command is unknown, or with code 0 the data are not those of the command. */
 hart_reading hart_read_reply(uint8_t command, const uint8_t *payload, size_t payload_len, hart_field *fields, size_t fields_len);
 
-/* Writes the name of a command at the front of `output`, with no 0 after it. 64 bytes are room for any name. It is HART_UNKNOWN for a
- * command that is not known, and HART_NO_ROOM if the name does not fit. */
+/* Writes the name of a command to the front of `output`, without a final 0. Returns its length; 64 bytes are room for any name.
+ * Faults: HART_UNKNOWN, HART_NO_ROOM. */
 hart_outcome hart_command_name(uint8_t command, uint8_t *output, size_t output_len);
 
-/* Writes the name of a field of a command at the front of `output`, with no 0 after it: of its replies or of its requests, the field that
- * hart_read_reply or hart_read_request shows at this index. It is HART_UNKNOWN if there is no such command or field, and HART_NO_ROOM if
- * the name does not fit. */
+/* Writes the name of the field that hart_read_reply or hart_read_request writes at this index, without a final 0. Returns its length.
+ * Faults: HART_UNKNOWN for no such command or field, HART_NO_ROOM. */
 hart_outcome hart_field_name(bool is_reply, uint8_t command, size_t index, uint8_t *output, size_t output_len);
 
-/* Devices: a field device that answers what it hears. Who it is and what it measures is handed in at each call; what it holds is kept by
- * the caller between the calls, in a hart_device, which may be stored and read again as any bytes are. A float is four bytes, the most
- * significant first. docs/COMMANDS.md says what each field is to a master. */
+/* Devices. The caller passes who the device is and what it measures at each call, and keeps what it holds in a hart_device, which can be
+ * stored as bytes. A float is four bytes, the most significant first. docs/COMMANDS.md describes each field. */
 
 /* Who a device is. */
 typedef struct hart_identity {
     uint32_t device_id;                  /* at most 0xFFFFFF */
-    uint16_t expanded_device_type;       /* of which the lower 14 bits stand in the unique address */
+    uint16_t expanded_device_type;       /* its lower 14 bits are in the unique address */
     uint16_t manufacturer;
     uint16_t private_label_distributor;
     uint8_t request_preambles;           /* the least number of preamble bytes of a request, 5 to 20 */
@@ -190,7 +181,7 @@ typedef struct hart_variable {
     uint8_t status;
 } hart_variable;
 
-/* What a device says of its sensor, Command 14. The limits and the span are floats. */
+/* The sensor of a device, Command 14. Limits and span are floats. */
 typedef struct hart_sensor {
     uint8_t serial_number[3];
     uint8_t unit; /* of the limits and of the span */
@@ -199,7 +190,7 @@ typedef struct hart_sensor {
     uint8_t minimum_span[4];
 } hart_sensor;
 
-/* The loop current output, Command 15. The range values and the damping are floats. */
+/* The loop current output, Command 15. Range values and damping are floats. */
 typedef struct hart_output {
     uint8_t alarm_code;
     uint8_t transfer_function;
@@ -210,20 +201,20 @@ typedef struct hart_output {
     uint8_t channel_flags;
 } hart_output;
 
-/* What a device measures, and what it knows of its parts. */
+/* What a device measures, and its parts. */
 typedef struct hart_process {
     uint8_t loop_current[4];       /* in milliampere, a float */
     uint8_t percent_of_range[4];   /* a float */
-    hart_variable variables[4];    /* the dynamic variables, the primary one first; those after variables_len of them mean nothing */
+    hart_variable variables[4];    /* the dynamic variables, the primary one first; the first variables_len count */
     uint8_t variables_len;         /* 1 to 4 */
     uint8_t time_stamp[4];         /* when the variables were measured */
-    uint8_t status;                /* the bits 0x80, 0x04, 0x02 and 0x01 of the device status; others are not looked at */
+    uint8_t status;                /* bits 0x80, 0x04, 0x02 and 0x01 of the device status; others are ignored */
     uint8_t additional_status[25]; /* byte 6, counted from 0, is the extended device status */
     hart_sensor sensor;
     hart_output output;
 } hart_process;
 
-/* What the registers of a new device hold. */
+/* The registers of a new device. */
 typedef struct hart_registers {
     uint8_t polling_address;   /* at most 63 */
     uint8_t loop_current_mode; /* 1 if the loop current follows the process, 0 if it is held */
@@ -235,43 +226,36 @@ typedef struct hart_registers {
     uint8_t long_tag[32];
 } hart_registers;
 
-/* What is kept of a device from call to call: all that it holds, but not who it is, in 89 bytes without padding. An image of `hart sim
- * --image` may be put in, with both bits false. hart_hear without a fault leaves an image of version 2, also if it is silent; after
- * silence the device is in the state in which it was. hart_restart leaves the image as it is. In an image that a call left, or would
- * take, image[1] is the polling address and image[2] the loop current mode, and bit 0x04 of image[image_len - 1] is write protection,
- * which the caller may set and clear; docs/COMMANDS.md has every byte. Of what was kept in a file hart_hear tests the image; that both
- * bools are 0 or 1 is for the caller to test. */
+/* What a device holds, in 89 bytes without padding. An image that `hart sim` has written may be put in, with both bools false. hart_hear
+ * writes images of version 2. image[1] is the polling address, image[2] the loop current mode, and bit 0x04 of image[image_len - 1] write
+ * protection, which the caller may set and clear. hart_hear checks a stored image; the caller checks that both bools are 0 or 1. */
 typedef struct hart_device {
-    uint8_t image[86];        /* of version 2 (86 bytes) or of version 1 (54); bytes after image_len of them mean nothing */
+    uint8_t image[86];        /* version 2 (86 bytes) or version 1 (54); the first image_len bytes count */
     uint8_t image_len;
-    bool primary_cold_start;  /* the next reply with a response code to the primary master shows it a cold start */
+    bool primary_cold_start;  /* the next reply with a response code to this master shows a cold start */
     bool secondary_cold_start;
 } hart_device;
 
-/* The bench device, which the program `hart` has: who it is, what it measures, and what its registers begin with. */
+/* Write the identity, the process values and the first registers of the bench device of the program `hart`. */
 void hart_bench_identity(hart_identity *identity);
 void hart_bench_process(hart_process *process);
 void hart_bench_registers(hart_registers *registers);
 
-/* Makes a new device with these registers, whose counter is 0 and whose bits are all clear, and tells the length of its image, 86.
- * HART_BAD_FIELD for a polling address above 63, a loop current mode above 1 or a date that is none: `device` is then as it was. */
+/* Makes a new device with these registers, counter 0 and all bits clear. Returns the length of its image, 86.
+ * Fault: HART_BAD_FIELD for a polling address above 63, a loop current mode above 1 or a bad date. */
 hart_outcome hart_new_device(const hart_registers *registers, hart_device *device);
 
-/* The device was without power: sets both cold start bits, and nothing else. */
+/* Records that the device was without power: sets both cold start bits, and nothing else. */
 void hart_restart(hart_device *device);
 
-/* A device hears these characters at once, all of what came between two silences. If they have exactly one frame, and that is a request
- * for the device, it carries it out or refuses it with a response code, and replies; a request to its own unique address that came with
- * all its characters, damaged only after that address, is not carried out, and the reply says how it was damaged; to all else it keeps
- * silent. `reply` then begins with the whole message to send, its preamble bytes first, of which the length is told, 0 for silence; 287
- * bytes are room for any. `device` is the device after it. The fault is the first of these that holds: HART_OUT_OF_RANGE,
- * HART_BROADCAST_ADDRESS (the identity); HART_BAD_LENGTH for an image_len of 0 or above 86, HART_BAD_VERSION, HART_BAD_LENGTH,
- * HART_BAD_FIELD (the image); HART_BAD_VARIABLES; HART_BAD_FAULT_BITS, HART_TOO_LONG (the characters); HART_NO_ROOM. Nothing is then
- * carried out: device and reply are as they were. A device that heard too much at once keeps silent. */
+/* Lets a device hear a delivery, all that came between two silences. Writes its reply, a whole message, to the front of `reply`, and updates
+ * the device. Returns the length of the reply, 0 for silence; 287 bytes are room for any. A damaged request gets communication faults.
+ * Faults: HART_OUT_OF_RANGE, HART_BROADCAST_ADDRESS; HART_BAD_LENGTH (0 or above 86), HART_BAD_VERSION, HART_BAD_LENGTH, HART_BAD_FIELD;
+ * HART_BAD_VARIABLES; HART_BAD_FAULT_BITS, HART_TOO_LONG (stay silent then); HART_NO_ROOM. Then nothing is carried out. */
 hart_outcome hart_hear(const hart_identity *identity, const hart_process *process, const hart_char *heard, size_t heard_len,
                        hart_device *device, uint8_t *reply, size_t reply_len);
 
-/* What became of a request that was sent. */
+/* Whether a request was answered. */
 typedef struct hart_acceptance {
     bool is_accepted; /* its reply was heard */
     uint8_t code;     /* the response code of the reply, 0 being success; 0 if none was heard */
@@ -279,25 +263,21 @@ typedef struct hart_acceptance {
     uint8_t fault;    /* HART_OK, or why nothing was done */
 } hart_acceptance;
 
-/* Whether these characters, heard at once after a request was sent, are its reply, as a master accepts it: they have exactly one frame, and
- * that is a reply to this master, from this address, to this command, without expansion bytes, whose payload is one of the command or a
- * refusal. `reply` then shows that frame and where it stands; its data come after the two status bytes. Otherwise `reply` is as it was.
- * The fault is the first of these that holds: HART_BAD_ADDRESS, HART_LONG_EXPANSION, HART_TOO_SHORT_REPLY; HART_NO_REQUEST for a reply,
- * expansion bytes, the burst bit, a command that is not known or data for which hart_read_request tells another code than 0;
- * HART_WRONG_ADDRESS for another command than 0 at a polling address, and than 11 and 21 at the broadcast address; HART_BAD_FAULT_BITS,
- * HART_TOO_LONG. A reply with communication faults, bit 0x80 of its first status byte, is not accepted: hart_find shows it. When to send a
- * request again is for the caller to decide. `reply` may not be `request`. */
+/* Tells whether a delivery is the reply to a request, as a master accepts it, and writes that frame. `reply` may not be `request`. A reply with
+ * communication faults is not accepted; hart_find finds it. Faults: HART_BAD_ADDRESS, HART_LONG_EXPANSION, HART_TOO_SHORT_REPLY;
+ * HART_NO_REQUEST (a reply, expansion bytes, the burst bit, or data that hart_read_request refuses); HART_WRONG_ADDRESS (another command
+ * than 0 at a polling address, or than 11 and 21 by broadcast); HART_BAD_FAULT_BITS, HART_TOO_LONG. */
 hart_acceptance hart_accept(const hart_frame *request, const hart_char *heard, size_t heard_len, hart_frame *reply);
 
-/* The unique address that a reply gives. */
+/* The unique address in a reply. */
 typedef struct hart_unique {
-    bool is_given;          /* it gives one; otherwise both numbers are 0 */
+    bool is_given;          /* there is one; otherwise both numbers are 0 */
     uint16_t expanded_type; /* at most 0x3FFF */
     uint32_t device_id;     /* at most 0xFFFFFF */
 } hart_unique;
 
-/* The unique address at which to go on, from the payload of a reply to Command 0, 11 or 21, from its two status bytes on. A reply to
- * another command, one with another code than 0, an identity of the broadcast address, and what is no reply give none. */
+/* Returns the unique address in the payload of a reply to Command 0, 11 or 21 with code 0, from its status bytes on. There is none in any other
+ * reply, in what is no reply, or if the address is broadcast. No fault. */
 hart_unique hart_unique_of(uint8_t command, const uint8_t *payload, size_t payload_len);
 
 #ifdef __cplusplus
