@@ -57,6 +57,7 @@ test: hart
 	sh tools/held-view.sh
 	sh tools/library-examples.sh
 	python3 tools/links.py
+	python3 tools/doc_examples.py
 
 mistakes:
 	python3 tools/mistakes.py

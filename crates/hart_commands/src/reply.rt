@@ -24,6 +24,11 @@ impl Reply {
     ///
     /// Data after the content are ignored, except that the data of Command 9 must end with the time stamp. With another code than 0 all
     /// data are ignored.
+    ///
+    /// ```rust
+    /// let reply = Reply::read(16, &[0x00, 0x40, 0x01, 0x23, 0x45]).ok_or("no reply")?;
+    /// assert_eq!(rt; reply.content, ReplyContent::Assembly([0x01, 0x23, 0x45]));
+    /// ```
     pub fn read(command: u8, payload: &[u8]) -> Option<Self>
         ensures read { result ≡ reply_reading command payload.now }
         ensures well_made { IfSome result IsReply }

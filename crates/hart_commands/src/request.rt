@@ -68,6 +68,11 @@ pub enum Request {
 impl Request {
     /// Reads the data bytes of a request of this command. Bytes after those that the command needs are ignored.
     ///
+    /// ```rust
+    /// let request = Request::read(19, &[0x01, 0x23, 0x45, 0x67])?;
+    /// assert_eq!(rt; request, Request::WriteAssembly([0x01, 0x23, 0x45]));
+    /// ```
+    ///
     /// # Errors
     ///
     /// The first response code that applies and needs no device to decide: 64 if no request has this command; 5 if there are too few

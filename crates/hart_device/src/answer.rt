@@ -29,6 +29,16 @@ impl<S: RegisterStore> Device<S> {
     /// Hears a delivery, which is what was heard at once, and returns the reply. If the delivery has exactly one frame, the device
     /// receives it as by [`Device::receive`]. If it has no frame but a garbled request, the reply has its communication faults, and
     /// the device is unchanged. To any other delivery the device is silent (`None`) and unchanged.
+    ///
+    /// ```rust
+    /// let mut device: Device<FieldRegisters> = Device::new(
+    ///     bench::identity(),
+    ///     &bench::register_values(),
+    /// );
+    /// // FF FF 02 80 00 00 82 was heard: Command 0 at polling address 0.
+    /// let reply = device.hear(delivery, &bench::process()).ok_or("silence")?;
+    /// assert_eq!(rt; (reply.command(), reply.payload().len()), (0, 24));
+    /// ```
     pub fn hear(&mut self, delivery: &[Char], process: &Process) -> Option<Frame>
         ensures answer { (brought : Brought) → Brings self.old.identity delivery.now brought
             → result ≡ answer_to self.old process.now brought }

@@ -5,10 +5,15 @@
 //! a cold start bit for each master, and write protection. What the device measures is passed with each request, as a [`Process`].
 //!
 //! ```rust
-//! let mut device: Device<FieldRegisters> = Device::new(bench::identity(), &bench::register_values());
+//! let mut device: Device<FieldRegisters> = Device::new(
+//!     bench::identity(),
+//!     &bench::register_values(),
+//! );
 //! let own = Address::Unique(bench::identity().unique_address());
 //! let request = Frame::request(MasterId::Primary, own, 7, Payload::new());
-//! let reply = device.receive(&request, &bench::process()).ok_or("silence")?;
+//! let reply = device
+//!     .receive(&request, &bench::process())
+//!     .ok_or("silence")?;
 //! assert_eq!(rt; reply.payload(), [0, 0, 0, 1].as_slice());
 //! ```
 //!

@@ -12,6 +12,8 @@ mod commands;
 #[cfg(test)]
 mod device;
 #[cfg(test)]
+mod examples;
+#[cfg(test)]
 mod frame;
 #[cfg(test)]
 mod line;

@@ -11,7 +11,10 @@
 //! assert_eq!(rt; bytes.as_slice(), [0xB7, 0x42, 0x0A, 0x1B, 0x2C].as_slice());
 //!
 //! let tag = PackedText::<6>::from_text("PUMP-101".as_bytes())?;
-//! assert_eq!(rt; tag.as_bytes(), [0x41, 0x53, 0x50, 0xB7, 0x1C, 0x31].as_slice());
+//! assert_eq!(rt;
+//!     tag.as_bytes(),
+//!     [0x41, 0x53, 0x50, 0xB7, 0x1C, 0x31].as_slice()
+//! );
 //! ```
 //!
 //! The program `hart` itself calls neither [`Status::read`], nor [`HartDate::is_set`], nor [`PackedText::from_text`]: these are
