@@ -62,7 +62,7 @@ def of_pages():
         yield Case(image.upper(), heard, reply)
     yield from of_rows()
     yield from (Case(new_device(), heard) for heard, _, fault in worked.DUMPED if not fault)
-    yield from (Case(new_device(), heard) for heard, _ in worked.HEARD.findall(explain.SECTION))
+    yield from (Case(new_device(), heard) for heard, _ in worked.HEARD.findall(explain.EXAMPLES))
 
 
 def message(frame, preambles=PREAMBLES):

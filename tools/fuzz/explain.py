@@ -11,8 +11,7 @@ from .frames import BROADCAST, Polling, frames_of
 from .misses import missed
 from .texts import NO_LIMIT, told
 
-PAGE = pathlib.Path(__file__).parents[2] / "docs" / "FORMATS.md"
-SECTION = PAGE.read_text(encoding="utf-8").split("\n## Explained messages\n")[1]
+EXAMPLES = (pathlib.Path(__file__).parents[2] / "docs" / "explained.txt").read_text(encoding="utf-8")
 
 MASTERS = {"P": "the primary master", "S": "the secondary master"}
 FAULT_NAMES = {0x40: "vertical parity", 0x20: "overrun", 0x10: "framing", 0x08: "longitudinal parity", 0x02: "buffer overflow"}

@@ -3,7 +3,7 @@
 import re
 
 from .commands import PAGE
-from .explain import SECTION
+from .explain import EXAMPLES
 
 REGISTERS = "010001" + "820820" * 14 + "000000"
 LONG_TAG = "20" * 32
@@ -64,17 +64,21 @@ def said_text(shown):
     return shown.replace(GOES_ON, " ").replace(INDENT, "\n") + "\n"
 
 
-# What `hart explain` hears and says, as docs/FORMATS.md shows it; what is heard may be wrapped.
+# What `hart explain` hears and says, as docs/explained.txt shows it; what is heard may be wrapped.
 HEARD = re.compile(r"^heard    (.+(?:\n {9}.+)*)\n" + SAID, re.MULTILINE)
 
 # What the bench device as it is new hears and replies, as docs/COMMANDS.md shows it, and what is said of both, one after the other.
 SHOWN = re.compile(r"^```\nrequest  ([0-9A-F\s]+)^(?:reply    ([0-9A-F\s]+)|silence\n)(?:" + SAID + ")?^```$", re.MULTILINE)
 ON_PAGE = SHOWN.findall(PAGE.read_text(encoding="utf-8"))
 
+# A request and its reply, as docs/explained.txt shows them, and what is said of both.
+SAID_OF_BOTH = re.compile(r"^request  ([0-9A-F\s]+)^reply    ([0-9A-F\s]+)^" + SAID, re.MULTILINE)
+
 # The input of `hart explain`, its text, and its fault.
 EXPLAINED = (
-    *((heard, said_text(said), "") for heard, said in HEARD.findall(SECTION)),
+    *((heard, said_text(said), "") for heard, said in HEARD.findall(EXAMPLES)),
     *((request + reply, said_text(said), "") for request, reply, said in ON_PAGE if said),
+    *((request + reply, said_text(said), "") for request, reply, said in SAID_OF_BOTH.findall(EXAMPLES)),
     ("FF FF!40 02 80 00 00 82", "", ""),
     ("FF FF 02 80 00 00 82 FF FF 06 80 0G", f"2-7: {IDENTIFIED}\n9: no message: it ends before its byte count\n", "bad hex at 33"),
     ("FF FF", "", ""),
