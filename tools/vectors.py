@@ -1,9 +1,10 @@
 #!/usr/bin/env python3
 """Makes docs/vectors.tsv: what a device hears, and what it replies, a case a row.
 
-The cases are those of docs/COMMANDS.md, docs/WIRE.md, docs/FORMATS.md and docs/explained.txt, and of what the model is held against (tools/fuzz/worked.py);
-and after them those that rules make: each refusal in the table of the commands, each communication fault, each kind of address, both
-tags. The reply is the program's. It has to be the one that the page shows, if it shows one, and that of the plain model in tools/fuzz.
+The cases are those of docs/COMMANDS.md, docs/WIRE.md, docs/FORMATS.md and docs/explained.txt, and of what the model is held against
+(tools/fuzz/worked.py); and after them those that rules make: each refusal in the table of the commands, each communication fault, each kind
+of address, both tags. The reply is the program's. It has to be the one that the page shows, if it shows one, and that of the plain model in
+tools/fuzz.
 
 A row has the image of the device, or - for the bench device as it is new; what it hears; its reply, or - for silence; and a note, which
 `hart explain` says of both. In some rows the device is restarted and hears something after it: these have parts, with "; " between.
