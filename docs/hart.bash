@@ -5,6 +5,7 @@ _hart() {
     1:*) words='answer dump explain serve sim encode help --help --version' ;;
     *:help) words='answer dump explain serve sim encode help' ;;
     *:answer | *:serve | *:sim) words='--image --help' ;;
+    *:explain) words='--raw --help' ;;
     *:encode) words='--preambles --help' ;;
     *) words='--help' ;;
     esac

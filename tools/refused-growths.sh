@@ -188,6 +188,7 @@ read_script 0
 run 0
 dump 0 58
 explain 0 240
+explain_raw 0 0
 answer 0 102
 answer with an image 0 102
 serve 0 102

@@ -29,6 +29,7 @@ CALLS = (
     (["answer"], IDENTIFY, answer.REPLY_TO_PRIMARY),
     (["dump"], dump.TWO_MESSAGES, dump.TWO_LINES),
     (["explain"], IDENTIFY, explain.IDENTIFY),
+    (["explain", "--raw"], bytes.fromhex(IDENTIFY), explain.IDENTIFY),
     (["serve"], serve.LINES, serve.SAID),
     (["sim"], "turn P ok ok", sim.AS_IT_WAS),
     (["encode", "P", "@0", "0"], "", encode.IDENTIFY),
@@ -72,6 +73,11 @@ class Run(NamedTuple):
         return (self.status, self.output, self.errors) == (status, output.encode(), errors.encode())
 
 
+def bytes_of(text):
+    """The bytes of an input that is a text, or of one that is bytes already."""
+    return text if isinstance(text, bytes) else text.encode()
+
+
 class Runner:
     """Runs the program, and holds what comes of it to what is wanted."""
 
@@ -85,7 +91,7 @@ class Runner:
     def run(self, call, text, **limits):
         """Runs the program on these words and this input, under limits that tools/cut_streams.c names; None is no limit."""
         self.runs += 1
-        self.input.write_bytes(text.encode())
+        self.input.write_bytes(bytes_of(text))
         self.counts.write_bytes(bytes(24))
         named = {name.upper(): str(limit) for name, limit in limits.items() if limit is not None}
         cut = {"LD_PRELOAD": str(self.library), "COUNTS": str(self.counts)}
@@ -104,7 +110,7 @@ class Runner:
         another fault they are not counted."""
         text, wanted, fault = row
         run = self.run(call, text, most_read=portion, after=after, most_written=1)
-        size = len(text.encode())
+        size = len(bytes_of(text))
         is_read = fault not in ("", "read fault\n") or run.reads == -(-size // portion) + 1
         self.hold(run.gave(FAULT if fault else DONE, wanted, fault) and is_read, call, f"on {text!r}, {portion} a read: {run}")
 
@@ -139,6 +145,11 @@ def frames_in_noise_have_a_line_each(runner):
 def what_was_heard_is_said_in_words(runner):
     runner.check_rows(["explain"], explain.ROWS)
     runner.check_rows(["explain"], explain.FAILED_READS, "failure")
+
+
+def raw_bytes_are_said_in_words(runner):
+    runner.check_rows(["explain", "--raw"], explain.RAW_ROWS)
+    runner.check_rows(["explain", "--raw"], explain.RAW_FAILED_READS, "failure")
 
 
 def scripts_are_carried_out(runner):

@@ -17,8 +17,18 @@ def dump_given(rng):
 def explain_given(rng):
     """What `hart explain` is given."""
     make = weighted(rng, (5, misheard.misheard), (3, misheard.spoken), (2, heard.random_heard))
-    text = inputs.input_text(rng, make(rng))
-    return Given([], None if rng.random() < 0.002 else text)
+    chars = make(rng)
+    kind = weighted(rng, (60, "items"), (20, "raw"), (1, "bad words"))
+    if kind == "raw":
+        words, text = [b"--raw"], bytes(char.byte for char in chars)
+    else:
+        words, text = bad_explain_words(rng) if kind == "bad words" else [], inputs.input_text(rng, chars)
+    return Given(words, None if rng.random() < 0.002 else text)
+
+
+def bad_explain_words(rng):
+    """Words that `hart explain` does not take."""
+    return rng.choice(([b"--raw", b"--raw"], [b"--raw=true"], [b"--image", b"00"], [b"extra"], [b"--help"], [b"--raw", b"extra"]))
 
 
 def encode_given(rng):

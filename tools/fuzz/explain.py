@@ -7,9 +7,9 @@ from . import commands
 from .commands import COMMANDS
 from .device import COMMUNICATION_FAULTS
 from .fields import bytes_text, said_of_fields
-from .frames import BROADCAST, Polling, frames_of
+from .frames import BROADCAST, Polling, faultless, frames_of
 from .misses import missed
-from .texts import NO_LIMIT, told
+from .texts import NO_LIMIT, READ_FAULT, USAGE, done, failed, told
 
 EXAMPLES = (pathlib.Path(__file__).parents[2] / "docs" / "explained.txt").read_text(encoding="utf-8")
 
@@ -164,5 +164,14 @@ def explained(heard):
 
 
 def explain(given):
-    """What `hart explain` does with an input."""
-    return told(given, explained, NO_LIMIT)
+    """What `hart explain` does with an input, which is bytes that were heard if its one word says so, and otherwise hex."""
+    if given.words == [b"--raw"]:
+        return explain_raw(given.text)
+    return USAGE if given.words else told(given, explained, NO_LIMIT)
+
+
+def explain_raw(text):
+    """What `hart explain --raw` does with an input, each byte of which is a character."""
+    if text is None:
+        return failed(READ_FAULT)
+    return done(explained(faultless(text)))

@@ -156,6 +156,26 @@ FAILED_READS = (
     ("FF FF 02 80 00 00 82 8", IDENTIFY, "read fault\n"),
 )
 
+# What was heard as raw bytes, what is said of it, and the line of its fault, if it has one: no byte is bad hex, and none a separator.
+RAW_ROWS = (
+    (b"", "", ""),
+    (b"\xFF\xFF\x02\x80\x00\x00\x82", IDENTIFY, ""),
+    (
+        b"FF FF 02 80 00 00 82\n\xFF\xFF\x02\x80\x00\x00\x83",
+        "23: no message: the check byte is 0x83 at 27, and 0x82 would fit\n",
+        "",
+    ),
+    (b"\xFF\xFF\x02\x80\x00\x00", "2: no message: it lacks 1 character, its check byte\n", ""),
+    (b"0G!@/\xFF\xFF\x20", "7: no message: 0x20 is no delimiter\n", ""),
+)
+
+# An input of raw bytes that cannot be read further, what is said of it, and its fault.
+RAW_FAILED_READS = (
+    (b"", "", "read fault\n"),
+    (b"\xFF\xFF\x02\x80\x00\x00\x82", IDENTIFY, "read fault\n"),
+    (b"\xFF\xFF\x02\x80\x00\x00", "2: no message: it lacks 1 character, its check byte\n", "read fault\n"),
+)
+
 ONE_PREAMBLE = "8: no message: only one 0xFF stands before it\n"
 
 # Two messages, the second with one preamble byte alone. What follows the last digits of an item makes it whole.

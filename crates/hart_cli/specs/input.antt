@@ -1,5 +1,6 @@
 -- Reading an input.
 pub mod Input
 pub mod WholeInput
+pub mod Decoding
 pub mod LiveInput
 pub mod Ahead

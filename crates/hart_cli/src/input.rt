@@ -1,6 +1,6 @@
 //! Reading an input, portion by portion or whole.
 ghost use Rattle.std.specs.Prelude.{◌≡◌, ◌<◌, ◌≤◌, [], IfErr, IfOk, length, take};
-ghost use Rattle.hart_cli.specs.input.Input.{IsReadingFault, Reads, ReadsPortion, input_room, most_at_once};
+ghost use Rattle.hart_cli.specs.input.Input.{IsReadingFault, Reads, ReadsPortion, fault_of_end, input_room, most_at_once};
 ghost use Rattle.hart_cli.specs.declared.input.InputEnd.TheVariants.{Ended};
 
 use crate::fault::CliFault;
@@ -28,6 +28,19 @@ pub enum InputEnd {
     ReadFailed,
     /// A further byte was there after the last one within the limit, which is [`INPUT_LIMIT`] but for `explain` and `serve`.
     TooLong,
+}
+
+impl InputEnd {
+    /// Returns the fault of an input that came to this end, if it is one whatever the input holds.
+    pub fn fault(self) -> Option<CliFault>
+        ensures { result ≡ fault_of_end self }
+    {
+        match self {
+            InputEnd::Ended => None,
+            InputEnd::ReadFailed => Some(CliFault::Read),
+            InputEnd::TooLong => Some(CliFault::TooLong),
+        }
+    }
 }
 
 /// What one read gave: bytes at the beginning of its buffer, and how the input came to its end with them, if it did.

@@ -39,7 +39,7 @@ pub use calls::explain::laws::{
     every_start_outside_messages_has_one_line, explanations_grow,
     explanations_name_the_messages_of_dump, hints_of_explanations_are_right,
 };
-pub use calls::explain::{explain, one_explanation};
+pub use calls::explain::{explain, explain_raw, one_explanation};
 pub use calls::program::command_line::{one_call, words_are_calls};
 pub use calls::program::{DONE, FAULT, NO_CALL, program};
 pub use calls::serve::{one_service, serve};

@@ -7,3 +7,4 @@ pub mod Sightings
 pub mod Decided
 pub mod Telling
 pub mod TellInput
+pub mod TellRaw

@@ -1,2 +1,3 @@
 -- Reading an input.
 pub mod Decoded
+pub mod Raw

@@ -6,6 +6,7 @@ use Rattle.hart_frame.specs.declared.heard.found.Found.{Found}
 use Rattle.hart_cli.specs.declared.fault.CliFault.{CliFault}
 use Rattle.hart_cli.specs.dump.Text.{dump_text}
 use Rattle.hart_cli.specs.ImageWord.{OutcomeRelation}
+use Rattle.hart_cli.specs.input.Decoding.{item_decoding}
 use Rattle.hart_cli.specs.input.Input.{Ending, input_limit}
 use Rattle.hart_cli.specs.input.LiveInput.{HasText, LiveOutcome}
 
@@ -17,7 +18,7 @@ pub record AreFrameLines (chars : List Character) (lines : List ℕ) : Type 0 wh
 
 -- An input that was read so far has this fault, if any, and these lines: those of its characters before the fault.
 abbrev pub IsDump : List ℕ → Ending → Option CliFault → List ℕ → Type 0
-IsDump = HasText AreFrameLines
+IsDump = HasText item_decoding AreFrameLines
 
 -- These frames of some characters are decided: whatever is heard next, they come first, and in the characters after them nothing is
 -- decided.
@@ -37,4 +38,4 @@ pub record AreDecidedLines (chars : List Character) (lines : List ℕ) : Type 0 
 
 -- A call of `dump` reads an input of at most 1,048,576 bytes, and writes the lines of its frames as soon as they are decided.
 abbrev pub DumpOutcome : OutcomeRelation
-DumpOutcome = LiveOutcome input_limit AreFrameLines AreDecidedLines
+DumpOutcome = LiveOutcome item_decoding input_limit AreFrameLines AreDecidedLines

@@ -10,6 +10,7 @@ use Rattle.hart_cli.specs.declared.stream.Failed.{Failed}
 use Rattle.hart_cli.specs.dump.Dump.{AreDecidedLines, AreFrameLines}
 use Rattle.hart_cli.specs.dump.Text.{dump_text}
 use Rattle.hart_cli.specs.input.Ahead.{DecodesAll}
+use Rattle.hart_cli.specs.input.Decoding.{item_decoding}
 use Rattle.hart_cli.specs.input.Input.{input_limit}
 use Rattle.hart_cli.specs.input.LiveInput.{IsDecidedText, StopsWriting, WroteInTime}
 use Rattle.hart_cli.specs.stream.Stream.{Stream, WritesAll}
@@ -53,16 +54,16 @@ pub record ScansAll (reader reader_after writer writer_after : Stream) (frames :
   pub input : List ℕ
   pub chars : List Character
   pub text : List ℕ
-  pub decodes : DecodesAll input_limit reader reader_after fault input chars
+  pub decodes : DecodesAll item_decoding input_limit reader reader_after fault input chars
   pub scans : KeepsLines (hearing new_scan chars) frames.scanner [] text
   pub waiting : IsWaiting frames.scanner
   pub none_kept : frames.lines ≡ []
   pub wrote : WritesAll writer writer_after text
-  pub in_time : WroteInTime (IsDecidedText AreDecidedLines) input writer writer_after
+  pub in_time : WroteInTime (IsDecidedText item_decoding AreDecidedLines) input writer writer_after
 
 -- An input was scanned up to its first fault or its end, or until a write failed.
 abbrev pub ScansInput : Stream → Stream → Stream → Stream → FrameLines → Result (Option CliFault) Failed → Type 0
 ScansInput reader reader_after writer writer_after frames (Ok fault) =
     ScansAll reader reader_after writer writer_after frames fault
 ScansInput reader reader_after writer writer_after frames (Err failed) =
-    StopsWriting input_limit AreFrameLines AreDecidedLines reader reader_after writer writer_after
+    StopsWriting item_decoding input_limit AreFrameLines AreDecidedLines reader reader_after writer writer_after

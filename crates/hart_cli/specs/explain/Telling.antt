@@ -15,7 +15,7 @@ use Rattle.hart_cli.specs.declared.fault.CliFault.{CliFault}
 use Rattle.hart_cli.specs.declared.stream.Failed.{Failed}
 use Rattle.hart_cli.specs.explain.Explanation.{IsDecidedExplanation, IsExplanationOf, explanation}
 use Rattle.hart_cli.specs.input.Ahead.{DecodesAll}
-use Rattle.hart_cli.specs.input.Input.{stream_limit}
+use Rattle.hart_cli.specs.input.Decoding.{Decoding}
 use Rattle.hart_cli.specs.input.LiveInput.{IsDecidedText, StopsWriting, WroteInTime}
 use Rattle.hart_cli.specs.stream.Kept.{AddsText}
 use Rattle.hart_cli.specs.stream.Stream.{FailsToWrite, Stream, WritesAll}
@@ -120,22 +120,25 @@ pub record IsNew (telling : Telling) : Type 0 where
   pub held : telling.held ≡ []
   pub quiet : telling.kept ≡ []
 
--- An input was read and told of up to its end or its first fault.
-pub record TellsAll (reader reader_after writer writer_after : Stream) (old new : Telling) (fault : Option CliFault) : Type 0 where
+-- An input with a limit, decoded in one way, was read and told of up to its end or its first fault.
+pub record TellsAll (decoding : Decoding (List Character)) (limit : ℕ) (reader reader_after writer writer_after : Stream)
+    (old new : Telling) (fault : Option CliFault) : Type 0 where
   pub input : List ℕ
   pub chars : List Character
-  pub decodes : DecodesAll stream_limit reader reader_after fault input chars
+  pub decodes : DecodesAll decoding limit reader reader_after fault input chars
+  pub few : length chars < 2 ^ 64 - 1
   pub hears : Hears old new chars false writer writer_after
   pub waiting : IsWaiting new
   pub quiet : new.kept ≡ []
-  pub in_time : WroteInTime (IsDecidedText IsDecidedExplanation) input writer writer_after
+  pub in_time : WroteInTime (IsDecidedText decoding IsDecidedExplanation) input writer writer_after
 
 -- An input was read and told of, or a write failed.
-abbrev pub TellsInput : Stream → Stream → Stream → Stream → Telling → Telling → Result (Option CliFault) Failed → Type 0
-TellsInput reader reader_after writer writer_after old new (Ok fault) =
-    TellsAll reader reader_after writer writer_after old new fault
-TellsInput reader reader_after writer writer_after old new (Err failed) =
-    StopsWriting stream_limit IsExplanationOf IsDecidedExplanation reader reader_after writer writer_after
+abbrev pub TellsInput : Decoding (List Character) → ℕ → Stream → Stream → Stream → Stream → Telling → Telling
+    → Result (Option CliFault) Failed → Type 0
+TellsInput decoding limit reader reader_after writer writer_after old new (Ok fault) =
+    TellsAll decoding limit reader reader_after writer writer_after old new fault
+TellsInput decoding limit reader reader_after writer writer_after old new (Err failed) =
+    StopsWriting decoding limit IsExplanationOf IsDecidedExplanation reader reader_after writer writer_after
 
 -- The sightings of what was held were told to their end.
 pub record TellsRest (old : Telling) (writer writer_after : Stream) : Type 0 where

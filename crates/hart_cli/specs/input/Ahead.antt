@@ -1,6 +1,5 @@
 -- For private calls alone: what is read of an input and not yet decoded (own profile).
 use Rattle.std.specs.Prelude.{◌≡◌, ◌≢◌, ◌⊎◌, ◌+◌, ◌≤◌, ℕ, List, [], ◌++◌, length, Option, None, Some}
-use Rattle.hart_frame.specs.heard.Character.{Character}
 use Rattle.hart_cli.specs.declared.fault.CliFault.{CliFault}
 use Rattle.hart_cli.specs.declared.fault.CliFault.TheVariants as faults
 use Rattle.hart_cli.specs.declared.input.InputEnd.{InputEnd}
@@ -8,10 +7,10 @@ use Rattle.hart_cli.specs.declared.input.InputEnd.TheVariants as ends
 use Rattle.hart_cli.specs.declared.input.Portion.{Portion}
 use Rattle.hart_cli.specs.declared.input.ahead.NextStep.{NextStep}
 use Rattle.hart_cli.specs.declared.input.ahead.NextStep.TheVariants.{ReadOn, Stop}
+use Rattle.hart_cli.specs.input.Decoding.{Decoding, ended_text}
 use Rattle.hart_cli.specs.input.Input.{Ending, ReadsPortion, ReadsToWithin, ending_of, most_at_once}
-use Rattle.hart_cli.specs.input.LiveInput.{AreDecoded, StopsSoon, ended_text}
+use Rattle.hart_cli.specs.input.LiveInput.{StopsSoon}
 use Rattle.hart_cli.specs.stream.Stream.{Stream}
-use Rattle.hart_cli.specs.text.InputChars.{HasChars}
 use Rattle.hart_cli.specs.text.Items.{MayBegin}
 
 -- One read gave bytes that were added to those ahead, with a space after them if the input ended there.
@@ -43,10 +42,10 @@ IsNextStep (Some ends.TooLong) rest place (Stop fault) =
     (MayBegin rest × (fault ≡ Some faults.TooLong)) ⊎ ((MayBegin rest → ⊥) × (fault ≡ Some (faults.BadHex place)))
 
 -- An input with a limit was read and decoded to its end or up to its first fault.
-pub record DecodesAll (limit : ℕ) (reader reader_after : Stream) (fault : Option CliFault) (input : List ℕ) (chars : List Character)
-    : Type 0 where
+pub record DecodesAll {Heard : Type 0} (decoding : Decoding Heard) (limit : ℕ) (reader reader_after : Stream) (fault : Option CliFault)
+    (input : List ℕ) (heard : Heard) : Type 0 where
   pub ending : Ending
   pub reads : ReadsToWithin limit reader reader_after input ending
-  pub has_chars : HasChars input ending chars fault
-  pub decoded : AreDecoded input ending chars
-  pub soon : StopsSoon input fault
+  pub has : decoding.Has input ending heard fault
+  pub decoded : decoding.Decoded input ending heard
+  pub soon : StopsSoon decoding.most_ahead input fault

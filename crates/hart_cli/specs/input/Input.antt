@@ -75,6 +75,12 @@ IsReadingFault old new _ = ⊥
 
 -- For private calls alone: what one read gives of an input.
 
+-- A failed read and the limit are faults of an input whatever it holds.
+abbrev pub fault_of_end : InputEnd → Option CliFault
+fault_of_end Ended = None
+fault_of_end ReadFailed = Some faults.Read
+fault_of_end TooLong = Some faults.TooLong
+
 -- The input came to this end, or was left.
 abbrev pub ending_of : Option InputEnd → Ending
 ending_of None = Left

@@ -5,10 +5,11 @@ use Rattle.std.specs.Option.{option_and_then}
 use Rattle.std.specs.Str.{all_ascii_digits, bytes_eq}
 use Rattle.std.specs.Str.Parse.{digits_value, without_leading_plus}
 use Rattle.clap.specs.Words.{App, Row, Rule, Text, fault_of, first_of, new_app, new_rule, subcommand_of, with_rule, with_subcommand}
+use Rattle.clap.specs.declared.builder.action.ArgAction.TheVariants.{SetTrue}
 use Rattle.clap.specs.declared.builder.value_parser.ValueParser.TheVariants.{Signed}
 use Rattle.hart_cli.specs.encode.MessageWords.{MessageWords}
 use Rattle.hart_cli.specs.declared.calls.program.command_line.Call.{Call}
-use Rattle.hart_cli.specs.declared.calls.program.command_line.Call.TheVariants.{Answer, Dump, Encode, Explain, Serve, Sim}
+use Rattle.hart_cli.specs.declared.calls.program.command_line.Call.TheVariants.{Answer, Dump, Encode, Explain, ExplainRaw, Serve, Sim}
 
 -- The rule of a required word has its name, and the word has to be there.
 abbrev pub required_rule : Text → Rule
@@ -26,6 +27,14 @@ preambles_rule = record (new_rule (codes "preambles")) {
 -- The image is given by `--image`.
 abbrev pub image_rule : Rule
 image_rule = record (new_rule (codes "image")) { long = Some (codes "image"); value_names = 1 }
+
+-- That an input is raw is said by the flag `--raw`.
+abbrev pub raw_rule : Rule
+raw_rule = record (new_rule (codes "raw")) { long = Some (codes "raw"); action = Some SetTrue }
+
+-- The command `explain` takes that flag, and no words.
+abbrev pub explain_app : App
+explain_app = with_rule (new_app (codes "explain")) raw_rule
 
 -- The commands `answer`, `serve` and `sim` take an image, and no words.
 abbrev pub image_app : Text → App
@@ -57,12 +66,12 @@ hart_alone =
     } in
     record plain { top = top }
 
--- Its subcommands that read what was heard are `answer`, `dump` and `explain`; `dump` and `explain` take no words.
+-- Its subcommands that read what was heard are `answer`, `dump` and `explain`; `dump` takes no words.
 abbrev pub hearing_app : App
 hearing_app =
     let answer = with_subcommand hart_alone (image_app (codes "answer")).top in
     let dump = with_subcommand answer (new_app (codes "dump")).top in
-    with_subcommand dump (new_app (codes "explain")).top
+    with_subcommand dump explain_app.top
 
 -- Those that read an input are these three, `serve` and `sim`.
 abbrev pub reading_app : App
@@ -94,13 +103,18 @@ words_of rows = message_words
     (first_of (codes "WHO") rows) (first_of (codes "ADDRESS") rows) (first_of (codes "COMMAND") rows)
     (unwrap_or (first_of (codes "DATA") rows) [])
 
+-- The call of `explain` is of a raw input if its flag is set.
+abbrev pub explain_call : Option Text → Call
+explain_call (Some word) = if bytes_eq word (codes "true") then ExplainRaw else Explain
+explain_call None = Explain
+
 -- The call of a subcommand by its name: `answer`, `serve` and `sim` with the word of the image, or none; `dump`; `explain`; `encode`
 -- with its words, if the matches give them. No other name has one.
 abbrev pub call_named : Text → List Row → Option Call
 call_named name rows =
     if bytes_eq name (codes "answer") then Some (Answer (first_of (codes "image") rows))
     else if bytes_eq name (codes "dump") then Some Dump
-    else if bytes_eq name (codes "explain") then Some Explain
+    else if bytes_eq name (codes "explain") then Some (explain_call (first_of (codes "raw") rows))
     else if bytes_eq name (codes "serve") then Some (Serve (first_of (codes "image") rows))
     else if bytes_eq name (codes "sim") then Some (Sim (first_of (codes "image") rows))
     else if bytes_eq name (codes "encode") then option_map (λ words. Encode words) (words_of rows)

@@ -6,14 +6,14 @@ use Rattle.hart_cli.specs.Answer.{AnswerOutcome}
 use Rattle.hart_cli.specs.program.CommandLine.{Calls}
 use Rattle.hart_cli.specs.dump.Dump.{DumpOutcome}
 use Rattle.hart_cli.specs.encode.Encode.{EncodeOutcome}
-use Rattle.hart_cli.specs.explain.Explain.{ExplainOutcome}
+use Rattle.hart_cli.specs.explain.Explain.{ExplainOutcome, RawExplainOutcome}
 use Rattle.hart_cli.specs.FaultText.{fault_line}
 use Rattle.hart_cli.specs.serve.Serve.{ServeOutcome}
 use Rattle.hart_cli.specs.sim.Sim.{SimOutcome}
 use Rattle.hart_cli.specs.stream.Stream.{Stream, WritesUnlessFailed}
 use Rattle.hart_cli.specs.declared.fault.CliFault.{CliFault}
 use Rattle.hart_cli.specs.declared.calls.program.command_line.Call.{Call}
-use Rattle.hart_cli.specs.declared.calls.program.command_line.Call.TheVariants.{Answer, Dump, Encode, Explain, Serve, Sim}
+use Rattle.hart_cli.specs.declared.calls.program.command_line.Call.TheVariants.{Answer, Dump, Encode, Explain, ExplainRaw, Serve, Sim}
 
 -- A call with this result had the outcome of its own kind on the reader and the writer; that of `encode` leaves the reader.
 abbrev pub CallOutcome : Call → Stream → Stream → Stream → Stream → Result (Unit {0}) CliFault → Type 0
@@ -23,6 +23,8 @@ CallOutcome Dump reader reader_after writer writer_after result =
     DumpOutcome reader reader_after writer writer_after result
 CallOutcome Explain reader reader_after writer writer_after result =
     ExplainOutcome reader reader_after writer writer_after result
+CallOutcome ExplainRaw reader reader_after writer writer_after result =
+    RawExplainOutcome reader reader_after writer writer_after result
 CallOutcome (Serve image) reader reader_after writer writer_after result =
     ServeOutcome image reader reader_after writer writer_after result
 CallOutcome (Sim image) reader reader_after writer writer_after result =

@@ -1,15 +1,17 @@
 //! `hart explain`: what was heard, in words.
 ghost use Rattle.std.specs.Prelude.{◌≡◌, ℕ, List, Option};
 ghost use Rattle.hart_cli.specs.declared.fault.CliFault.{CliFault};
-ghost use Rattle.hart_cli.specs.explain.Explain.{ExplainOutcome, IsExplanation};
+ghost use Rattle.hart_cli.specs.explain.Explain.{ExplainOutcome, IsExplanation, IsRawExplanation, RawExplainOutcome};
 ghost use Rattle.hart_cli.specs.explain.Telling.{IsNew, TellsInput};
-ghost use Rattle.hart_cli.specs.input.Input.{Ending};
+ghost use Rattle.hart_cli.specs.input.Decoding.{item_decoding, raw_decoding, raw_limit};
+ghost use Rattle.hart_cli.specs.input.Input.{Ending, stream_limit};
 
 use crate::calls::explain::telling::Telling;
 use crate::fault::CliFault;
-use crate::input::PORTION_LEN;
 use crate::input::ahead::{Ahead, NextStep, Open, next_step, read_ahead};
+use crate::input::{PORTION_LEN, read_portion};
 use crate::stream::{Failed, Sink, Source};
+use crate::text::chunk::CHUNK_LEN;
 use hart_line::Digits;
 use std::alloc::Global;
 
@@ -23,6 +25,9 @@ mod status;
 mod telling;
 mod values;
 mod words;
+
+/// The most bytes that a raw input may have, so that each place is a number of 64 bits.
+const RAW_LIMIT: usize = usize::MAX - 1;
 
 /// Reads what was heard on a line as hex items, and writes in words what each message in it says, and why no message stands where
 /// one seems to start, as soon as it is decided.
@@ -54,10 +59,39 @@ pub fn explain<R: Source, W: Sink>(
     }
 }
 
-/// An input that was read so far has no two faults and no two texts: unless a write fails, what `explain` writes is determined by what it
-/// reads.
+/// Reads what was heard on a line as the bytes themselves, and writes in words what [`explain`] writes of them.
+///
+/// It reads a portion at a time, and before each read all is written that is decided by then. It takes no memory.
+///
+/// # Errors
+///
+/// [`CliFault::Read`], or [`CliFault::TooLong`] after 2^64 - 2 bytes. What is said of the bytes before it is written first. At the
+/// first write that fails the fault is [`CliFault::Write`], with a prefix of what is said of the bytes that were read by then written.
+pub fn explain_raw<R: Source, W: Sink>(
+    _alloc: Global,
+    reader: &mut R,
+    writer: &mut W,
+) -> Result<(), CliFault>
+    ensures { RawExplainOutcome
+        (R.stream reader.old) (R.stream reader.new)
+        (W.stream writer.old) (W.stream writer.new)
+        result }
+{
+    let mut telling = Telling::new();
+    let fault = tell_raw_input(reader, writer, &mut telling)?;
+    telling.finish(writer)?;
+    match fault {
+        Some(fault) => Err(fault),
+        None => Ok(()),
+    }
+}
+
+/// An input that was read so far, of items or raw, has no two faults and no two texts: unless a write fails, what `explain` writes is
+/// determined by what it reads.
 pub fn one_explanation()
-    ensures { (input : List ℕ) (ending : Ending) (f g : Option CliFault) (xs ys : List ℕ)
+    ensures raw { (input : List ℕ) (ending : Ending) (f g : Option CliFault) (xs ys : List ℕ)
+        → IsRawExplanation input ending f xs → IsRawExplanation input ending g ys → (f ≡ g) × (xs ≡ ys) }
+    ensures items { (input : List ℕ) (ending : Ending) (f g : Option CliFault) (xs ys : List ℕ)
         → IsExplanation input ending f xs → IsExplanation input ending g ys → (f ≡ g) × (xs ≡ ys) }
 {}
 
@@ -72,7 +106,7 @@ fn tell_input<R: Source, W: Sink>(
     telling: &mut Telling,
 ) -> Result<Option<CliFault>, Failed>
     requires { IsNew telling.old }
-    ensures { TellsInput
+    ensures { TellsInput item_decoding stream_limit
         (R.stream reader.old) (R.stream reader.new)
         (W.stream writer.old) (W.stream writer.new)
         telling.old telling.new result }
@@ -93,6 +127,34 @@ fn tell_input<R: Source, W: Sink>(
                 ahead.clear();
                 ahead.extend_from_slice(open.as_slice());
             }
+        }
+    }
+}
+
+/// Reads a raw input to its end or its first fault, and tells of its bytes what is decided.
+///
+/// # Errors
+///
+/// `Failed` at the first write that fails.
+fn tell_raw_input<R: Source, W: Sink>(
+    reader: &mut R,
+    writer: &mut W,
+    telling: &mut Telling,
+) -> Result<Option<CliFault>, Failed>
+    requires { IsNew telling.old }
+    ensures { TellsInput raw_decoding raw_limit
+        (R.stream reader.old) (R.stream reader.new)
+        (W.stream writer.old) (W.stream writer.new)
+        telling.old telling.new result }
+{
+    let mut buffer = [0; CHUNK_LEN];
+    let mut read = 0;
+    loop {
+        let portion = read_portion(reader, &mut buffer, RAW_LIMIT - read);
+        read += portion.len;
+        telling.tell_bytes(writer, &buffer[..portion.len])?;
+        if let Some(end) = portion.end {
+            return Ok(end.fault());
         }
     }
 }

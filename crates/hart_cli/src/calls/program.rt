@@ -11,7 +11,7 @@ mod help;
 use crate::calls::answer::answer;
 use crate::calls::dump::dump;
 use crate::calls::encode::{EncodeWords, encode_text};
-use crate::calls::explain::explain;
+use crate::calls::explain::{explain, explain_raw};
 use crate::calls::serve::serve;
 use crate::calls::sim::simulate;
 use crate::fault::CliFault;
@@ -79,6 +79,7 @@ fn make_call<R: Source, W: Sink>(
         Call::Answer(image) => answer(alloc, image.word, reader, writer),
         Call::Dump => dump(alloc, reader, writer),
         Call::Explain => explain(alloc, reader, writer),
+        Call::ExplainRaw => explain_raw(alloc, reader, writer),
         Call::Serve(image) => serve(alloc, image.word, reader, writer),
         Call::Sim(image) => simulate(alloc, image.word, reader, writer),
         Call::Encode(words) => {

@@ -1,6 +1,8 @@
 //! A call of hart_cli, which is made by its name or by words.
 
-use hart_cli::{CliFault, Sink, Source, answer, dump, encode_text, explain, serve, simulate};
+use hart_cli::{
+    CliFault, Sink, Source, answer, dump, encode_text, explain, explain_raw, serve, simulate,
+};
 use hart_frame::{LEAST_PREAMBLES, is_preamble_count};
 use std::alloc::{AllocError, Global};
 use std::test::Fail;
@@ -20,6 +22,8 @@ pub struct Words<'a> {
 pub enum Call<'a> {
     Dump,
     Explain,
+    /// `explain --raw`.
+    ExplainRaw,
     /// With an image.
     Answer(Option<&'a str>),
     /// With an image.
@@ -92,7 +96,7 @@ impl Call<'_> {
     pub fn subcommand(self) -> &'static str {
         match self {
             Call::Dump => "dump",
-            Call::Explain => "explain",
+            Call::Explain | Call::ExplainRaw => "explain",
             Call::Answer(_) => "answer",
             Call::Serve(_) => "serve",
             Call::Simulate(_) => "sim",
@@ -114,6 +118,7 @@ impl Call<'_> {
                 push_words(alloc, words, &["--image", image])
             }
             Call::Encode(message) => message.push_to(alloc, words),
+            Call::ExplainRaw => push_word(alloc, words, "--raw"),
             Call::Dump
             | Call::Explain
             | Call::Answer(None)
@@ -132,6 +137,7 @@ impl Call<'_> {
         match self {
             Call::Dump => Ok(make_dump(alloc, reader, writer)),
             Call::Explain => Ok(make_explain(alloc, reader, writer)),
+            Call::ExplainRaw => Ok(make_explain_raw(alloc, reader, writer)),
             Call::Answer(image) => Ok(make_answer(alloc, image, reader, writer)),
             Call::Serve(image) => Ok(make_serve(alloc, image, reader, writer)),
             Call::Simulate(image) => Ok(make_simulate(alloc, image, reader, writer)),
@@ -158,6 +164,15 @@ fn make_explain<R: Source, W: Sink>(
     writer: &mut W,
 ) -> Result<(), CliFault> {
     explain(alloc, reader, writer)
+}
+
+/// Makes the call of `explain_raw`.
+fn make_explain_raw<R: Source, W: Sink>(
+    alloc: Global,
+    reader: &mut R,
+    writer: &mut W,
+) -> Result<(), CliFault> {
+    explain_raw(alloc, reader, writer)
 }
 
 /// Makes the call of `answer`.

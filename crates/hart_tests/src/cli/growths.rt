@@ -29,6 +29,7 @@ const IDENTIFY: &str = "FF FF 02 80 00 00 82";
 const CALLS: &[(Call, &str, &str)] = &[
     (Call::Dump, "dump", HEARD),
     (Call::Explain, "explain", HEARD),
+    (Call::ExplainRaw, "explain_raw", HEARD),
     (Call::Answer(None), "answer", IDENTIFY),
     (Call::Answer(Some(NEW)), "answer with an image", IDENTIFY),
     (Call::Serve(None), "serve", IDENTIFY),

@@ -5,6 +5,7 @@ use super::calls::{EMPTY, Given, NONE, READ, Row, Wanted, does, does_as, hold_ro
 use super::fakes::After;
 use crate::device::worked::{HEARD, OWN, OwnRow, REPLY, REQUEST};
 use crate::rows::{hold_ok, text_of};
+use hart_cli::{Plain, explain_raw};
 use std::alloc::Global;
 use std::test::Fail;
 
@@ -190,6 +191,35 @@ const EXPLAINED: &[Row] = &[
 #[test]
 fn what_was_heard_is_said_in_words(rt: HostRuntime) {
     hold_rows(&rt, rt.alloc(), Call::Explain, After::End, "row", EXPLAINED);
+}
+
+/// Texts without a preamble byte, none of which is bad hex as raw bytes.
+const SILENT: &[Row] = &[("", "", NONE), (IDENTIFY, "", NONE), ("0G!@/", "", NONE)];
+
+/// Texts that cannot be read further.
+const RAW_BROKEN_OFF: &[Row] = &[(IDENTIFY, "", READ)];
+
+/// Whether a message that is heard as raw bytes is said in words.
+fn is_said_of_raw_bytes(alloc: Global) -> Result<bool, Fail> {
+    let mut reader = Plain::new(b"\xFF\xFF\x02\x80\x00\x00\x82".as_slice());
+    let mut writer = Plain::new(Vec::new(alloc));
+    explain_raw(alloc, &mut reader, &mut writer)?;
+    Ok(writer.into_inner().as_slice() == IDENTIFY_SAID.as_bytes())
+}
+
+#[test]
+fn raw_bytes_are_said_in_words(rt: HostRuntime) {
+    let alloc = rt.alloc();
+    hold_ok(&rt, is_said_of_raw_bytes(alloc), "raw message", 0);
+    hold_rows(&rt, alloc, Call::ExplainRaw, After::End, "row", SILENT);
+    hold_rows(
+        &rt,
+        alloc,
+        Call::ExplainRaw,
+        After::Failure,
+        "row broken off",
+        RAW_BROKEN_OFF,
+    );
 }
 
 /// Deliveries that are no list of items.

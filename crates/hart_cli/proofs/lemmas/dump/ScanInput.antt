@@ -13,8 +13,9 @@ use Rattle.hart_cli.specs.dump.Dump.{AreDecidedLines, AreFrameLines}
 use Rattle.hart_cli.specs.dump.FrameLines.{IsWaiting, KeepsLines, ScansAll, ScansText}
 use Rattle.hart_cli.specs.dump.Text.{dump_text}
 use Rattle.hart_cli.specs.input.Ahead.{IsNextStep, ReadsAhead, ended_length}
+use Rattle.hart_cli.specs.input.Decoding.{item_decoding, most_ahead}
 use Rattle.hart_cli.specs.input.Input.{ending_of, input_limit}
-use Rattle.hart_cli.specs.input.LiveInput.{IsDecidedText, StopsWriting, WroteInTime, most_ahead}
+use Rattle.hart_cli.specs.input.LiveInput.{IsDecidedText, StopsWriting, WroteInTime}
 use Rattle.hart_cli.specs.stream.Stream.{FailsToWrite, Stream, WritesAll}
 use Rattle.hart_cli.specs.text.Items.{MayBegin, NoPieceBegins}
 use Rattle.hart_cli.proofs.lemmas.Writes.{FailsToWrite-longer, FailsToWrite-on}
@@ -36,7 +37,7 @@ pub scanned_step : (r r1 r2 w w1 : Stream) (old new : FrameLines) (read : ℕ) (
     → MayBegin ahead → ReadsAhead r1 r2 ahead after (input_limit - read) portion → length after ≤ most_ahead
     → NoPieceBegins rest → ScansText old new after rest → IsWaiting new.scanner
     → (now : ScannedUpTo r r2 new.scanner portion.end rest (read + portion.len) (text ++ new.lines))
-    × WroteInTime (IsDecidedText AreDecidedLines) now.input w w1
+    × WroteInTime (IsDecidedText item_decoding AreDecidedLines) now.input w w1
 scanned_step r r1 r2 w w1 old new read ahead after rest text portion due none wrote may more few stops scans waiting =
     let keeps : KeepsLines (hearing old.scanner scans.chars) new.scanner text (text ++ new.lines) = grind (arith, common_steps) in (
       record {
@@ -58,13 +59,13 @@ scanned_step r r1 r2 w w1 old new read ahead after rest text portion due none wr
 -- a write failed in the lines that were kept
 pub stopped_writing : (r r2 w w1 w2 : Stream) (scan : Scan) (end : Option InputEnd) (rest : List ℕ) (read : ℕ) (text lines : List ℕ)
     (scanned : ScannedUpTo r r2 scan end rest read (text ++ lines)) → WritesAll w w1 text
-    → WroteInTime (IsDecidedText AreDecidedLines) scanned.input w w1 → FailsToWrite w1 w2 lines
-    → StopsWriting input_limit AreFrameLines AreDecidedLines r r2 w w2
+    → WroteInTime (IsDecidedText item_decoding AreDecidedLines) scanned.input w w1 → FailsToWrite w1 w2 lines
+    → StopsWriting item_decoding input_limit AreFrameLines AreDecidedLines r r2 w w2
 stopped_writing r r2 w w1 w2 scan end rest read text lines scanned wrote in_time fails =
     let later = every_list_has_frames (scanned.chars ++ []) scan.first in
     let are = first_frames scanned.chars [] scan scanned.scans.given later.0 scanned.scans.moves later.1 in
     let all = FailsToWrite-longer _ w2 (text ++ lines) (dump_text later.0) (FailsToWrite-on _ _ w2 text lines wrote fails) in
-    stops_in input_limit AreFrameLines AreDecidedLines r r2 w w1 w2 scanned.input (ending_of end) scanned.chars
+    stops_in item_decoding input_limit AreFrameLines AreDecidedLines r r2 w w1 w2 scanned.input (ending_of end) scanned.chars
     ((text ++ lines) ++ dump_text later.0) lines (read_to r r2 scanned.input input_limit end scanned.decoded.came)
     (are_decoded input_limit r r2 end rest read scanned.input scanned.chars scanned.decoded)
     (grind (arith, common_steps)) in_time all fails
@@ -72,7 +73,7 @@ stopped_writing r r2 w w1 w2 scan end rest read text lines scanned wrote in_time
 -- the last step says the fault of an input that is read no further
 pub scans_all : (r r2 w w1 : Stream) (frames : FrameLines) (end : Option InputEnd) (rest : List ℕ) (read : ℕ) (text : List ℕ)
     (fault : Option CliFault) (scanned : ScannedUpTo r r2 frames.scanner end rest read text) → frames.lines ≡ []
-    → WritesAll w w1 text → WroteInTime (IsDecidedText AreDecidedLines) scanned.input w w1
+    → WritesAll w w1 text → WroteInTime (IsDecidedText item_decoding AreDecidedLines) scanned.input w w1
     → IsNextStep end rest (ended_length end read - length rest) (Stop fault) → ScansAll r r2 w w1 frames fault
 scans_all r r2 w w1 frames end rest read text fault scanned none wrote in_time step = record {
   input = scanned.input;

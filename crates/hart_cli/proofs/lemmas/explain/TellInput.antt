@@ -17,8 +17,9 @@ use Rattle.hart_cli.specs.explain.Explanation.{IsDecidedExplanation, IsExplanati
 use Rattle.hart_cli.specs.explain.Telling.{FailsInText, FailsToHear, Hears, HearsText, IsNew, IsWaiting, TellsAll, TellsRest, text_from}
 use Rattle.hart_cli.specs.input.Ahead.{IsNextStep, ReadsAhead, ended_length}
 use Rattle.hart_cli.specs.declared.input.InputEnd.TheVariants.{Ended, ReadFailed, TooLong}
+use Rattle.hart_cli.specs.input.Decoding.{Decoding, ended_text, item_decoding, most_ahead}
 use Rattle.hart_cli.specs.input.Input.{CameTo, Ending, Left, ReadsToWithin, stream_limit}
-use Rattle.hart_cli.specs.input.LiveInput.{AreDecoded, IsDecidedText, ReadsText, StopsWriting, WroteInTime, ended_text, most_ahead}
+use Rattle.hart_cli.specs.input.LiveInput.{IsDecidedText, ReadsText, StopsWriting, WroteInTime}
 use Rattle.hart_cli.specs.stream.Stream.{FailsToWrite, Stream, WritesAll}
 use Rattle.hart_cli.specs.text.Items.{MayBegin, NoPieceBegins, ReadsUpTo, nothing}
 use Rattle.hart_cli.proofs.lemmas.Writes.{FailsToWrite-longer, WritesAll-on, in_time_on}
@@ -161,7 +162,7 @@ pub told_step : (r r1 r2 w w1 w2 : Stream) (start old new : Telling) (ahead afte
     → ReadsAhead r1 r2 ahead after (stream_limit - read) portion
     → length after ≤ most_ahead → NoPieceBegins (drop place after) → HearsText old new after place w1 w2 → IsWaiting new → new.kept ≡ []
     → (now : ToldUpTo r r2 start new portion.end (drop place after) (read + portion.len) w w2)
-    × WroteInTime (IsDecidedText IsDecidedExplanation) now.input w w1
+    × WroteInTime (IsDecidedText item_decoding IsDecidedExplanation) now.input w w1
 told_step r r1 r2 w w1 w2 start old new ahead after read place portion begun due may one few stops text waiting quiet =
     let decided = told_is_decided start old due.chars w w1 begun due.hears due.waiting due.quiet in (
       record {
@@ -178,61 +179,66 @@ told_step r r1 r2 w w1 w2 start old new ahead after read place portion begun due
     )
 
 -- a write failed in the explanation of characters
-stops_explaining : (r r2 w w1 w2 : Stream) (start : Telling) (input : List ℕ) (ending : Ending) (chars : List Character) (ended : Bool)
-    (last : List ℕ) → IsNew start → ReadsToWithin stream_limit r r2 input ending → AreDecoded input ending chars
-    → WroteInTime (IsDecidedText IsDecidedExplanation) input w w1 → FailsToHear start chars ended w w2 → FailsToWrite w1 w2 last
-    → StopsWriting stream_limit IsExplanationOf IsDecidedExplanation r r2 w w2
-stops_explaining r r2 w w1 w2 start input ending chars ended last new reads decoded in_time k last_fails =
+pub stops_explaining : (decoding : Decoding (List Character)) (limit : ℕ) (r r2 w w1 w2 : Stream) (start : Telling) (input : List ℕ)
+    (ending : Ending) (chars : List Character) (ended : Bool) (last : List ℕ) → IsNew start → ReadsToWithin limit r r2 input ending
+    → decoding.Decoded input ending chars → WroteInTime (IsDecidedText decoding IsDecidedExplanation) input w w1
+    → FailsToHear start chars ended w w2 → FailsToWrite w1 w2 last
+    → StopsWriting decoding limit IsExplanationOf IsDecidedExplanation r r2 w w2
+stops_explaining decoding limit r r2 w w1 w2 start input ending chars ended last new reads decoded in_time k last_fails =
     let (more, is) = said_first chars ended k.seen k.used (rw new.held at k.sees) in
     let text : start.kept ++ text_from start.first k.seen ≡ explanation k.seen =
     rw (new.quiet, new.first) (from_none k.seen) in
     let fails = FailsToWrite-longer w w2 (explanation k.seen) more (rw text at k.fails) in
-    stops_in stream_limit IsExplanationOf IsDecidedExplanation r r2 w w1 w2 input ending chars (explanation k.seen ++ more) last reads
+    stops_in decoding limit IsExplanationOf IsDecidedExplanation r r2 w w1 w2 input ending chars (explanation k.seen ++ more) last reads
     decoded is in_time fails last_fails
 
 -- in a part of what one read gave
 pub stopped_telling : (r r1 r2 w w1 w2 : Stream) (start old : Telling) (ahead after : List ℕ) (read : ℕ) (portion : Portion) → IsNew start
     → ToldUpTo r r1 start old None ahead read w w1 → MayBegin ahead → ReadsAhead r1 r2 ahead after (stream_limit - read) portion
     → length after ≤ most_ahead → FailsInText old after w1 w2
-    → StopsWriting stream_limit IsExplanationOf IsDecidedExplanation r r2 w w2
+    → StopsWriting item_decoding stream_limit IsExplanationOf IsDecidedExplanation r r2 w w2
 stopped_telling r r1 r2 w w1 w2 start old ahead after read portion new due may one few k =
     let decided = told_is_decided start old due.chars w w1 new due.hears due.waiting due.quiet in
     let in_time = in_time_before IsDecidedExplanation stream_limit r r1 w w1 ahead read due.input due.chars (explanation due.hears.seen)
     one.bytes due.decoded may one.few decided.0 decided.1.0 in
     let part = decoded_part stream_limit r r1 r2 ahead after k.rest read portion due.input due.chars k.chars due.decoded one few k.reads in
     let fails = fails_later start old due.chars k.chars false w w1 w2 due.hears k.fails in
-    stops_explaining r r2 w w1 w2 start (due.input ++ one.bytes) _ (due.chars ++ k.chars) false _ new part.0 part.1 in_time fails
-    k.fails.fails
+    stops_explaining item_decoding stream_limit r r2 w w1 w2 start (due.input ++ one.bytes) _ (due.chars ++ k.chars) false _ new part.0
+    part.1 in_time fails k.fails.fails
 
 -- the last step says the fault of an input that is read no further
 pub tells_all : (r r2 w w1 w2 : Stream) (start telling : Telling) (end : Option InputEnd) (rest : List ℕ) (read : ℕ)
     (fault : Option CliFault) → IsNew start → (told : ToldUpTo r r2 start telling end rest read w w2)
-    → WroteInTime (IsDecidedText IsDecidedExplanation) told.input w w1 → (text : List ℕ) → WritesAll w1 w2 text
-    → IsNextStep end rest (ended_length end read - length rest) (Stop fault) → TellsAll r r2 w w2 start telling fault
-tells_all r r2 w w1 w2 start telling end rest read fault new told in_time text wrote step = record {
-  input = told.input;
-  chars = told.chars;
-  decodes = decodes_all stream_limit r r2 end rest read told.input told.chars fault told.decoded step;
-  hears = told.hears;
-  waiting = told.waiting;
-  quiet = told.quiet;
-  in_time = in_time_on (IsDecidedText IsDecidedExplanation) told.input w w1 w2 text in_time wrote.0;
-}
+    → WroteInTime (IsDecidedText item_decoding IsDecidedExplanation) told.input w w1 → (text : List ℕ) → WritesAll w1 w2 text
+    → IsNextStep end rest (ended_length end read - length rest) (Stop fault)
+    → TellsAll item_decoding stream_limit r r2 w w2 start telling fault
+tells_all r r2 w w1 w2 start telling end rest read fault new told in_time text wrote step =
+    let all = decodes_all stream_limit r r2 end rest read told.input told.chars fault told.decoded step in
+    let few = ReadsUpTo-few _ told.chars all.decoded.rest all.decoded.reads in
+    let within = input_within told.input all.ending r r2 all.reads in
+    record {
+      input = told.input;
+      chars = told.chars;
+      decodes = all;
+      few = omega (arith, few, within);
+      hears = told.hears;
+      waiting = told.waiting;
+      quiet = told.quiet;
+      in_time = in_time_on (IsDecidedText item_decoding IsDecidedExplanation) told.input w w1 w2 text in_time wrote.0;
+    }
 
 -- the places of what is held fit in 64 bits
-pub all_fits : (r r2 w w1 : Stream) (start telling : Telling) (fault : Option CliFault) → IsNew start
-    → TellsAll r r2 w w1 start telling fault → telling.first + length telling.held < 2 ^ 64 - 1
-all_fits r r2 w w1 start telling fault new all =
-    let long = held_within start telling all.chars w w1 new all.hears in
-    let few = ReadsUpTo-few _ all.chars all.decodes.decoded.rest all.decodes.decoded.reads in
-    let within = input_within all.input all.decodes.ending r r2 all.decodes.reads in
-    omega (arith, long, few, within)
+pub all_fits : (decoding : Decoding (List Character)) (limit : ℕ) (r r2 w w1 : Stream) (start telling : Telling)
+    (fault : Option CliFault) → IsNew start → TellsAll decoding limit r r2 w w1 start telling fault
+    → telling.first + length telling.held < 2 ^ 64 - 1
+all_fits decoding limit r r2 w w1 start telling fault new all =
+    omega (arith, held_within start telling all.chars w w1 new all.hears, all.few)
 
 -- all that was heard is told
-pub explains_all : (r r2 w w1 w2 : Stream) (start telling : Telling) (fault : Option CliFault) → IsNew start
-    → TellsAll r r2 w w1 start telling fault → TellsRest telling w1 w2
-    → (text : List ℕ) × ReadsText stream_limit IsExplanationOf r r2 fault text × WritesAll w w2 text
-explains_all r r2 w w1 w2 start telling fault new all k =
+pub explains_all : (decoding : Decoding (List Character)) (limit : ℕ) (r r2 w w1 w2 : Stream) (start telling : Telling)
+    (fault : Option CliFault) → IsNew start → TellsAll decoding limit r r2 w w1 start telling fault → TellsRest telling w1 w2
+    → (text : List ℕ) × ReadsText decoding limit IsExplanationOf r r2 fault text × WritesAll w w2 text
+explains_all decoding limit r r2 w w1 w2 start telling fault new all k =
     let h = all.hears in
     let sees = rw new.held at h.sees in
     let within : h.used ≤ length all.chars = rw new.held at h.within in
@@ -253,8 +259,8 @@ explains_all r r2 w w1 w2 start telling fault new all k =
         ending = all.decodes.ending;
         reads = all.decodes.reads;
         has_text = record {
-          chars = all.chars;
-          has_chars = all.decodes.has_chars;
+          heard = all.chars;
+          has = all.decodes.has;
           is_text = record { seen = seen; are_sightings = seen_to_the_end all.chars true seen (rw end at whole); text_is = refl };
         };
         soon = all.decodes.soon;
@@ -263,11 +269,11 @@ explains_all r r2 w w1 w2 start telling fault new all k =
     )
 
 -- a write failed in the rest
-pub stops_at_rest : (r r2 w w1 w2 : Stream) (start telling : Telling) (fault : Option CliFault) → IsNew start
-    → TellsAll r r2 w w1 start telling fault → FailsToHear telling [] true w1 w2
-    → StopsWriting stream_limit IsExplanationOf IsDecidedExplanation r r2 w w2
-stops_at_rest r r2 w w1 w2 start telling fault new all k =
+pub stops_at_rest : (decoding : Decoding (List Character)) (limit : ℕ) (r r2 w w1 w2 : Stream) (start telling : Telling)
+    (fault : Option CliFault) → IsNew start → TellsAll decoding limit r r2 w w1 start telling fault
+    → FailsToHear telling [] true w1 w2 → StopsWriting decoding limit IsExplanationOf IsDecidedExplanation r r2 w w2
+stops_at_rest decoding limit r r2 w w1 w2 start telling fault new all k =
     let fails : FailsToHear start all.chars true w w2 =
     rw append-nil at (fails_later start telling all.chars [] true w w1 w2 all.hears k) in
-    stops_explaining r r2 w w1 w2 start all.input all.decodes.ending all.chars true _ new all.decodes.reads all.decodes.decoded all.in_time
-    fails k.fails
+    stops_explaining decoding limit r r2 w w1 w2 start all.input all.decodes.ending all.chars true _ new all.decodes.reads
+    all.decodes.decoded all.in_time fails k.fails

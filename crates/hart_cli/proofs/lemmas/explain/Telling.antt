@@ -25,7 +25,7 @@ use Rattle.hart_cli.proofs.lemmas.Writes.{FailsToWrite-on, WritesAll-on}
 use Rattle.hart_cli.proofs.lemmas.explain.Sightings.{sees_later, text_on, undecided_nothing}
 
 -- there are as many characters as bytes
-long_is : (bytes : List ℕ) → length (faultless bytes) ≡ length bytes
+pub long_is : (bytes : List ℕ) → length (faultless bytes) ≡ length bytes
 long_is bytes = length-map bytes _
 
 -- nothing more was heard

@@ -12,8 +12,8 @@ use Rattle.hart_cli.specs.declared.input.Portion.{Portion}
 use Rattle.hart_cli.specs.declared.input.ahead.NextStep.TheVariants.{ReadOn, Stop}
 use Rattle.hart_cli.specs.input.Ahead.{DecodesAll, IsNextStep, ReadsAhead, ended_length}
 use Rattle.hart_cli.specs.input.Input.{CameTo, Ending, Left, ReadsPortion, ReadsToWithin, ReadsWell, ReadsWithin, ending_of, most_at_once}
-use Rattle.hart_cli.specs.input.LiveInput.{AreDecoded, IsDecidedText, LiveOutcome, ReadsText, StopsSoon, StopsWriting, TextRelation}
-use Rattle.hart_cli.specs.input.LiveInput.{WroteInTime, ended_text, most_ahead}
+use Rattle.hart_cli.specs.input.Decoding.{AreDecoded, Decoding, ended_text, item_decoding, most_ahead}
+use Rattle.hart_cli.specs.input.LiveInput.{IsDecidedText, LiveOutcome, ReadsText, StopsSoon, StopsWriting, TextRelation, WroteInTime}
 use Rattle.hart_cli.specs.stream.Stream.{FailsToWrite, Stream, WritesAll}
 use Rattle.hart_cli.specs.text.InputChars.{HasChars}
 use Rattle.hart_cli.specs.text.Items.{MayBegin, NoPieceBegins, ReadsUpTo}
@@ -111,10 +111,10 @@ decoded_part limit r r1 r2 ahead after rest read portion input chars more due on
 )
 
 -- what was decided before it was written in time
-pub in_time_before : (IsDecided : TextRelation) (limit : ℕ) (r r1 w w1 : Stream) (ahead : List ℕ) (read : ℕ) (input : List ℕ)
+pub in_time_before : (IsDecided : TextRelation (List Character)) (limit : ℕ) (r r1 w w1 : Stream) (ahead : List ℕ) (read : ℕ) (input : List ℕ)
     (chars : List Character) (text bytes : List ℕ) → DecodedUpTo limit r r1 None ahead read input chars → MayBegin ahead
     → length bytes ≤ most_at_once → IsDecided chars text → Appends w.bytes w1.bytes text
-    → WroteInTime (IsDecidedText IsDecided) (input ++ bytes) w w1
+    → WroteInTime (IsDecidedText item_decoding IsDecided) (input ++ bytes) w w1
 in_time_before IsDecided limit r r1 w w1 ahead read input chars text bytes due may few decided written = record {
   before = input;
   last = bytes;
@@ -122,7 +122,7 @@ in_time_before IsDecided limit r r1 w w1 ahead read input chars text bytes due m
   few = few;
   text = text;
   decided = record {
-    chars = chars;
+    heard = chars;
     reads = record { rest = ahead; reads = due.reads; no_piece = due.no_piece; open_end = may };
     decided = decided;
   };
@@ -138,11 +138,11 @@ are_decoded limit old new end rest read input chars h = record { rest = rest; re
 -- an input that is read no further was decoded with its fault, or none
 decodes_to : (limit : ℕ) (r r2 : Stream) (rest input : List ℕ) (chars : List Character) (fault : Option CliFault) (ending : Ending)
     → ReadsToWithin limit r r2 input ending → ReadsUpTo (ended_text input ending) chars rest → length rest ≤ most_ahead
-    → HasChars input ending chars fault × StopsSoon input fault → DecodesAll limit r r2 fault input chars
+    → HasChars input ending chars fault × StopsSoon most_ahead input fault → DecodesAll item_decoding limit r r2 fault input chars
 decodes_to limit r r2 rest input chars fault ending came reads few is = record {
   ending = ending;
   reads = came;
-  has_chars = is.0;
+  has = is.0;
   decoded = record { rest = rest; reads = reads; few = few };
   soon = is.1;
 }
@@ -151,7 +151,7 @@ decodes_to limit r r2 rest input chars fault ending came reads few is = record {
 decodes_at : (limit : ℕ) (r r2 : Stream) (end : Option InputEnd) (rest : List ℕ) (place read : ℕ) (input : List ℕ)
     (chars : List Character) (fault : Option CliFault) → DecodedUpTo limit r r2 end rest read input chars
     → place + length rest ≡ length (ended_text input (ending_of end)) → IsNextStep end rest place (Stop fault)
-    → DecodesAll limit r r2 fault input chars
+    → DecodesAll item_decoding limit r r2 fault input chars
 decodes_at limit r r2 None rest place read input chars fault h placed step =
     decodes_to limit r r2 rest input chars fault Left (inl h.came) h.reads h.few
     (grind (arith, common_steps, h.few, decided_rest, HasChars.decided_bad_hex))
@@ -170,7 +170,8 @@ decodes_at limit r r2 (Some TooLong) rest place read input chars fault h placed 
 
 pub decodes_all : (limit : ℕ) (r r2 : Stream) (end : Option InputEnd) (rest : List ℕ) (read : ℕ) (input : List ℕ)
     (chars : List Character) (fault : Option CliFault) → DecodedUpTo limit r r2 end rest read input chars
-    → IsNextStep end rest (ended_length end read - length rest) (Stop fault) → DecodesAll limit r r2 fault input chars
+    → IsNextStep end rest (ended_length end read - length rest) (Stop fault)
+    → DecodesAll item_decoding limit r r2 fault input chars
 decodes_all limit r r2 end rest read input chars fault h step =
     let within = rest_within limit r r2 end rest read input chars h in
     let same : ended_length end read ≡ length (ended_text input (ending_of end)) = rw h.count (sym (ended_long input end)) in
@@ -184,7 +185,7 @@ read_on (Some ReadFailed) rest place step = absurd step
 read_on (Some TooLong) rest place step = absurd step
 
 -- then some bytes were read, within the limit
-some_long : (bytes : List ℕ) → bytes ≢ [] → 0 < length bytes
+pub some_long : (bytes : List ℕ) → bytes ≢ [] → 0 < length bytes
 some_long [] some = absurd (some refl)
 some_long (byte ∷ bytes) some = omega arith
 
@@ -194,34 +195,35 @@ more_read old new before after room portion one on =
     let reads = rw on at one.reads in
     (omega (arith, one.count, some_long one.bytes reads.1), omega (arith, one.count, reads.2))
 
--- a write failed in the last of the text of the characters that were decoded
-pub stops_in : (limit : ℕ) (IsText IsDecided : TextRelation) (r r2 w w1 w2 : Stream) (input : List ℕ) (ending : Ending)
-    (chars : List Character) (text last : List ℕ) → ReadsToWithin limit r r2 input ending → AreDecoded input ending chars
-    → IsText chars text → WroteInTime (IsDecidedText IsDecided) input w w1 → FailsToWrite w w2 text → FailsToWrite w1 w2 last
-    → StopsWriting limit IsText IsDecided r r2 w w2
-stops_in limit IsText IsDecided r r2 w w1 w2 input ending chars text last reads decoded is in_time fails last_fails = record {
+-- a write failed in the last of the text of what was decoded
+pub stops_in : {Heard : Type 0} (decoding : Decoding Heard) (limit : ℕ) (IsText IsDecided : TextRelation Heard) (r r2 w w1 w2 : Stream)
+    (input : List ℕ) (ending : Ending) (heard : Heard) (text last : List ℕ) → ReadsToWithin limit r r2 input ending
+    → decoding.Decoded input ending heard → IsText heard text → WroteInTime (IsDecidedText decoding IsDecided) input w w1
+    → FailsToWrite w w2 text → FailsToWrite w1 w2 last → StopsWriting decoding limit IsText IsDecided r r2 w w2
+stops_in decoding limit IsText IsDecided r r2 w w1 w2 input ending heard text last reads decoded is in_time fails last_fails = record {
   input = input;
   ending = ending;
   reads = reads;
-  chars = chars;
+  heard = heard;
   decoded = decoded;
   text = text;
   is_text = is;
   fails = fails;
-  in_time = in_time_on (IsDecidedText IsDecided) input w w1 w2 last_fails.0.prefix in_time last_fails.0.written;
+  in_time = in_time_on (IsDecidedText decoding IsDecided) input w w1 w2 last_fails.0.prefix in_time last_fails.0.written;
 }
 
--- only these faults end an input
-fault_ends : (limit : ℕ) (IsText IsDecided : TextRelation) (r r' w w' : Stream) (input : List ℕ) (ending : Ending) (chars : List Character)
-    (fault : CliFault) → HasChars input ending chars (Some fault)
-    → (text : List ℕ) × ReadsText limit IsText r r' (Some fault) text × WritesAll w w' text
-    → LiveOutcome limit IsText IsDecided r r' w w' (Err fault)
+-- only these faults end an input of items
+fault_ends : (limit : ℕ) (IsText IsDecided : TextRelation (List Character)) (r r' w w' : Stream) (input : List ℕ) (ending : Ending)
+    (chars : List Character) (fault : CliFault) → HasChars input ending chars (Some fault)
+    → (text : List ℕ) × ReadsText item_decoding limit IsText r r' (Some fault) text × WritesAll w w' text
+    → LiveOutcome item_decoding limit IsText IsDecided r r' w w' (Err fault)
 fault_ends limit IsText IsDecided r r' w w' input _ _ _ (HasChars.bad_hex _ place bad) wrote = wrote
 fault_ends limit IsText IsDecided r r' w w' input _ _ _ _ wrote = wrote
 
--- an input came to a fault
-pub ends_with : (limit : ℕ) (IsText IsDecided : TextRelation) (r r' w w' : Stream) (fault : CliFault) (text : List ℕ)
-    → ReadsText limit IsText r r' (Some fault) text → WritesAll w w' text → LiveOutcome limit IsText IsDecided r r' w w' (Err fault)
+-- an input of items came to a fault
+pub ends_with : (limit : ℕ) (IsText IsDecided : TextRelation (List Character)) (r r' w w' : Stream) (fault : CliFault) (text : List ℕ)
+    → ReadsText item_decoding limit IsText r r' (Some fault) text → WritesAll w w' text
+    → LiveOutcome item_decoding limit IsText IsDecided r r' w w' (Err fault)
 ends_with limit IsText IsDecided r r' w w' fault text reads wrote =
-    fault_ends limit IsText IsDecided r r' w w' reads.input reads.ending reads.has_text.chars fault reads.has_text.has_chars
+    fault_ends limit IsText IsDecided r r' w w' reads.input reads.ending reads.has_text.heard fault reads.has_text.has
     (text, reads, wrote)

@@ -4,7 +4,7 @@ ghost use Rattle.std.specs.Option.{option_to_list};
 ghost use Rattle.hart_frame.specs.heard.Character.{faultless};
 ghost use Rattle.hart_frame.specs.scan.Scanner.{finishing, hearing, new_scan};
 ghost use Rattle.hart_cli.specs.dump.FrameLines.{GivesAll, HasRoomFor, IsWaiting, KeepsLines, ScansText};
-ghost use Rattle.hart_cli.specs.input.LiveInput.{most_ahead};
+ghost use Rattle.hart_cli.specs.input.Decoding.{most_ahead};
 ghost use Rattle.hart_cli.specs.text.Items.{NoPieceBegins};
 
 use crate::calls::dump::text::push_frame_line;

@@ -15,12 +15,13 @@ ghost use Rattle.hart_frame.specs.wire.Parity.{IsCheckByte};
 ghost use Rattle.hart_cli.specs.declared.fault.CliFault.{CliFault};
 ghost use Rattle.hart_cli.specs.dump.Dump.{IsDump};
 ghost use Rattle.hart_cli.specs.explain.Dumped.{AreOfOneHearing};
-ghost use Rattle.hart_cli.specs.explain.Explain.{IsExplanation};
+ghost use Rattle.hart_cli.specs.explain.Explain.{IsExplanation, IsRawExplanation};
 ghost use Rattle.hart_cli.specs.explain.Explanation.{IsDecidedExplanation, IsExplanationOf, explanation};
 ghost use Rattle.hart_cli.specs.explain.Gaps.{IsGap, IsOneLine, seen_place};
 ghost use Rattle.hart_cli.specs.explain.Message.{paragraph};
 ghost use Rattle.hart_cli.specs.explain.Misses.{miss_line};
 ghost use Rattle.hart_cli.specs.input.Input.{Ending, Left};
+ghost use Rattle.hart_cli.specs.input.Decoding.{item_decoding, raw_decoding};
 ghost use Rattle.hart_cli.specs.input.LiveInput.{IsDecidedText};
 
 use hart_frame::laws::{
@@ -34,7 +35,10 @@ pub fn explanations_grow()
     ensures heard { (chars more : List Character) (told whole : List ℕ) → IsDecidedExplanation chars told
         → IsExplanationOf (chars ++ more) whole → (rest : List ℕ) × (whole ≡ told ++ rest) }
     ensures read { (input more : List ℕ) (ending : Ending) (fault : Option CliFault) (told whole : List ℕ)
-        → IsDecidedText IsDecidedExplanation input told → IsExplanation (input ++ more) ending fault whole
+        → IsDecidedText item_decoding IsDecidedExplanation input told → IsExplanation (input ++ more) ending fault whole
+        → (rest : List ℕ) × (whole ≡ told ++ rest) }
+    ensures raw { (input more : List ℕ) (ending : Ending) (fault : Option CliFault) (told whole : List ℕ)
+        → IsDecidedText raw_decoding IsDecidedExplanation input told → IsRawExplanation (input ++ more) ending fault whole
         → (rest : List ℕ) × (whole ≡ told ++ rest) }
 {}
 

@@ -8,7 +8,7 @@ ghost use Rattle.hart_frame.specs.scan.Sighting.{AfterIsValid, heard_with, is_en
 ghost use Rattle.hart_cli.specs.explain.Explanation.{seen_text};
 ghost use Rattle.hart_cli.specs.explain.Telling.{FailsToHear, FailsToTell, FitsFrom, HearsOrFails, HearsTextOrFails, IsNextSighting};
 ghost use Rattle.hart_cli.specs.explain.Telling.{IsNew, IsWaiting, TellsDecided, TellsRest, chars_after};
-ghost use Rattle.hart_cli.specs.input.LiveInput.{most_ahead};
+ghost use Rattle.hart_cli.specs.input.Decoding.{most_ahead};
 ghost use Rattle.hart_cli.specs.text.Items.{NoPieceBegins};
 
 use crate::calls::explain::message::push_paragraph;
@@ -83,6 +83,26 @@ impl Telling {
         write_all(writer, self.kept.as_slice())?;
         self.kept.clear();
         Ok(place)
+    }
+
+    /// Hears bytes without faults, and writes what is decided.
+    ///
+    /// # Errors
+    ///
+    /// `Failed` at the first write that fails.
+    pub fn tell_bytes<W: Sink>(&mut self, writer: &mut W, bytes: &[u8]) -> Result<(), Failed>
+        requires waiting { IsWaiting self.old }
+        requires quiet { self.old.kept ≡ [] }
+        requires few { length bytes.now ≤ 8192 }
+        requires places { self.old.first + length self.old.held + length bytes.now < 2 ^ 64 - 1 }
+        ensures hears { HearsOrFails self.old self.new (faultless bytes.now) false (W.stream writer.old) (W.stream writer.new) result }
+        ensures waiting { OnOk result (IsWaiting self.new) }
+        ensures quiet { OnOk result (self.new.kept ≡ []) }
+    {
+        self.hear_bytes(writer, bytes)?;
+        write_all(writer, self.kept.as_slice())?;
+        self.kept.clear();
+        Ok(())
     }
 
     /// Hears the characters of the items that a text begins with. Returns the place of the rest of the text, at whose beginning no piece

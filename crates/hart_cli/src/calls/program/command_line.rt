@@ -4,17 +4,17 @@ ghost use Rattle.std.specs.Prelude.{◌≡◌, ◌∷◌, [], ℕ, IfErr, IfOk, 
 ghost use Rattle.clap.specs.Words.{HasKind, app_of, fault_of, first_of, found_of, new_app, new_rule, rows_of, rule_of, subcommand_rows_of};
 ghost use Rattle.clap.specs.Words.{with_rule, with_subcommand};
 ghost use Rattle.std.specs.Option.{option_map};
-ghost use Rattle.hart_cli.specs.program.CommandLine.{Calls, call_of, encode_app, encode_with_required_words, hart_alone, hart_app};
-ghost use Rattle.hart_cli.specs.program.CommandLine.{hearing_app, image_app, image_rule, preambles_of, preambles_rule, reading_app, required_rule};
+ghost use Rattle.hart_cli.specs.program.CommandLine.{Calls, call_of, encode_app, encode_with_required_words, explain_app, explain_call, hart_alone, hart_app};
+ghost use Rattle.hart_cli.specs.program.CommandLine.{hearing_app, image_app, image_rule, preambles_of, preambles_rule, raw_rule, reading_app, required_rule};
 ghost use Rattle.hart_cli.specs.program.CommandLine.{words_of};
 ghost use Rattle.hart_cli.specs.declared.calls.program.command_line.Call.{Call};
-ghost use Rattle.hart_cli.specs.declared.calls.program.command_line.Call.TheVariants.{Answer, Dump, Encode, Explain, Serve, Sim};
+ghost use Rattle.hart_cli.specs.declared.calls.program.command_line.Call.TheVariants.{Answer, Dump, Encode, Explain, ExplainRaw, Serve, Sim};
 
 use super::help;
 use super::help::Page;
 use crate::calls::encode::EncodeWords;
 use crate::image_word::ImageWord;
-use clap::{Arg, ArgMatches, Command, value_parser};
+use clap::{Arg, ArgAction, ArgMatches, Command, value_parser};
 use hart_frame::{LEAST_PREAMBLES, MOST_PREAMBLES, is_preamble_count};
 use std::alloc::{AllocError, Global};
 
@@ -22,12 +22,13 @@ use std::alloc::{AllocError, Global};
 const VERSION: &str = "0.1.0";
 
 /// The word `answer`, `dump`, `explain`, `serve` or `sim` alone is a call of it, without an image; `--image 01` after `answer`, `serve` or
-/// `sim` gives it the image `01`. `encode P @0 0` is a call with no data and 5 preamble bytes, and with 20 if `--preambles 20` follows.
+/// `sim` gives it the image `01`, and `--raw` after `explain` makes its input raw. `encode P @0 0` is a call with no data and 5 preamble bytes, and with 20 if `--preambles 20` follows.
 pub fn words_are_calls()
     ensures answer { Calls (Answer None) (codes "answer" ∷ []) }
     ensures answer_image { Calls (Answer (Some (codes "01"))) (codes "answer" ∷ codes "--image" ∷ codes "01" ∷ []) }
     ensures dump { Calls Dump (codes "dump" ∷ []) }
     ensures explain { Calls Explain (codes "explain" ∷ []) }
+    ensures explain_raw { Calls ExplainRaw (codes "explain" ∷ codes "--raw" ∷ []) }
     ensures serve { Calls (Serve None) (codes "serve" ∷ []) }
     ensures serve_image { Calls (Serve (Some (codes "01"))) (codes "serve" ∷ codes "--image" ∷ codes "01" ∷ []) }
     ensures sim { Calls (Sim None) (codes "sim" ∷ []) }
@@ -54,6 +55,8 @@ pub enum Call<'a> {
     Dump,
     /// `hart explain`.
     Explain,
+    /// `hart explain --raw`.
+    ExplainRaw,
     /// `hart serve`.
     Serve(ImageWord<'a>),
     /// `hart sim`.
@@ -88,11 +91,21 @@ fn call_of<'a>(matches: &ArgMatches<'a>) -> Option<Call<'a>>
     match name {
         "answer" => Some(Call::Answer(image_word(given))),
         "dump" => Some(Call::Dump),
-        "explain" => Some(Call::Explain),
+        "explain" => Some(explain_call(given)),
         "serve" => Some(Call::Serve(image_word(given))),
         "sim" => Some(Call::Sim(image_word(given))),
         "encode" => Some(Call::Encode(encode_words(given)?)),
         _ => None,
+    }
+}
+
+/// The call of `hart explain`, with its flag or without.
+fn explain_call<'a>(given: &ArgMatches<'a>) -> Call<'a>
+    ensures { result ≡ explain_call (first_of (codes "raw") (rows_of (found_of given.now))) }
+{
+    match word_of(given, "raw") {
+        Some("true") => Call::ExplainRaw,
+        _ => Call::Explain,
     }
 }
 
@@ -163,7 +176,14 @@ fn hearing_command<'a>(alloc: Global) -> Result<Command<'a>, AllocError>
 {
     let hart = with_image_command(alloc, hart_alone(alloc), "answer", help::ANSWER)?;
     let hart = hart.subcommand(plain_command(alloc, "dump", help::DUMP))?;
-    hart.subcommand(plain_command(alloc, "explain", help::EXPLAIN))
+    hart.subcommand(explain_command(alloc)?)
+}
+
+/// `hart explain` with its flag.
+fn explain_command<'a>(alloc: Global) -> Result<Command<'a>, AllocError>
+    ensures { IfOk result (λ command. app_of command ≡ explain_app) }
+{
+    plain_command(alloc, "explain", help::EXPLAIN).arg(raw_flag(alloc))
 }
 
 /// `hart` before it has its subcommands.
@@ -266,6 +286,17 @@ fn image_option<'a>(alloc: Global) -> Arg<'a>
         .long("image")
         .value_name("HEX")
         .help(help::IMAGE_HELP)
+}
+
+/// That the input is the bytes themselves.
+fn raw_flag<'a>(alloc: Global) -> Arg<'a>
+    ensures rule { rule_of result ≡ raw_rule }
+    ensures local { result.global ≡ false }
+{
+    Arg::new(alloc, "raw")
+        .long("raw")
+        .action(ArgAction::SetTrue)
+        .help(help::RAW_HELP)
 }
 
 /// How many preamble bytes a message begins with.

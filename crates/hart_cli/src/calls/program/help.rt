@@ -124,13 +124,14 @@ writes
 
 pub(super) const EXPLAIN: Page = Page {
     about: "Say in words what was heard, in hex, from standard input",
-    usage: "hart explain < FILE",
+    usage: "hart explain [--raw] < FILE",
     help: "\
 Say in words what was heard on a line, and why a message is missing.
 
 Input (stdin): the bytes that were heard, noise among them, as hart dump reads
 them (see hart dump --help), but of any length. What is decided is written
-before more is read, also while a line is being heard.
+before more is read, also while a line is being heard. With --raw the input is
+the bytes themselves, and not hex.
 
 Output (stdout): for each message that hart dump lists, a line with its two
 places, who speaks to whom, and the command; and under it, after four spaces, a
@@ -327,6 +328,8 @@ and with data, a write of the final assembly number 012345,
 writes
   FF FF FF FF FF 82 B7 42 0A 1B 2C 13 03 01 23 45 3D",
 };
+
+pub(super) const RAW_HELP: &str = "Read bytes as they are, and not as hex";
 
 pub(super) const WHO_HELP: &str = "The master that asks: P for the primary, S for the secondary";
 

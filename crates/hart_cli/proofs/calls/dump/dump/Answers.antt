@@ -5,6 +5,7 @@ use Rattle.hart_cli.specs.declared.calls.dump.frame_lines.FrameLines.{FrameLines
 use Rattle.hart_cli.specs.declared.fault.CliFault.{CliFault}
 use Rattle.hart_cli.specs.dump.Dump.{AreDecidedLines, AreFrameLines}
 use Rattle.hart_cli.specs.dump.FrameLines.{GivesAll, ScansAll}
+use Rattle.hart_cli.specs.input.Decoding.{item_decoding}
 use Rattle.hart_cli.specs.input.Input.{input_limit}
 use Rattle.hart_cli.specs.input.LiveInput.{ReadsText}
 use Rattle.hart_cli.specs.stream.Stream.{Stream, WritesAll}
@@ -16,7 +17,7 @@ use Rattle.hart_cli.proofs.calls.dump.dump.Goals as goal
 -- an input was dumped up to its end or its first fault
 has_dump : {r r' w w1 : Stream} {frames : FrameLines} {fault : Option CliFault} {new : Scan} {lines : List ℕ} (w' : Stream)
     → ScansAll r r' w w1 frames fault → GivesAll (finishing frames.scanner) new [] lines → WritesAll w1 w' lines
-    → (all : List ℕ) × ReadsText input_limit AreFrameLines r r' fault all × WritesAll w w' all
+    → (all : List ℕ) × ReadsText item_decoding input_limit AreFrameLines r r' fault all × WritesAll w w' all
 has_dump w' all gives wrote =
     (_, grind (arith, all_lines all.chars _ _ all.text _ all.scans gives), WritesAll-on _ _ w' all.text _ all.wrote wrote)
 
@@ -26,7 +27,7 @@ returns-in_err-write_all g c =
     let fails = rw c.as_slice.ensures.value at c.in_err-write_all.ensures in
     let stop = err_from_is_err_and c.from_residual-in_err-write_all.result c.from_residual-in_err-write_all.ensures.1 in
     rw (stop.1, stop.2)
-    (stops_in input_limit AreFrameLines AreDecidedLines _ _ _ _ _ all.input all.decodes.ending all.chars _ _ all.decodes.reads
+    (stops_in item_decoding input_limit AreFrameLines AreDecidedLines _ _ _ _ _ all.input all.decodes.ending all.chars _ _ all.decodes.reads
     all.decodes.decoded (all_lines all.chars _ _ all.text _ all.scans c.finish.ensures) all.in_time
     (FailsToWrite-on _ _ _ all.text _ all.wrote fails) fails)
 

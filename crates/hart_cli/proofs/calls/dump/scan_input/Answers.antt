@@ -5,6 +5,7 @@ use Rattle.std.proofs.lemmas.Result.{err_from_is_err_and}
 use Rattle.hart_frame.specs.scan.Scanner.{new_scan}
 use Rattle.hart_cli.specs.dump.Dump.{AreDecidedLines}
 use Rattle.hart_cli.specs.input.Input.{input_limit}
+use Rattle.hart_cli.specs.input.Decoding.{item_decoding}
 use Rattle.hart_cli.specs.input.LiveInput.{IsDecidedText, WroteInTime}
 use Rattle.hart_cli.specs.text.Items.{nothing}
 use Rattle.hart_cli.proofs.calls.dump.scan_input.Given.{Over}
@@ -55,7 +56,7 @@ scanned : (g : Over) (c : After-scan_text-rest g)
     c.scan_text-rest.new.self.scanner c.read_ahead-portion.result.end c.scan_text-rest.result.now
     (c.loop-frames.read + c.read_ahead-portion.result.len)
     (c.loop-frames.invariant.text ++ c.scan_text-rest.new.self.lines))
-    × WroteInTime (IsDecidedText AreDecidedLines) now.input (g.W.Sink.stream c.args.writer.now) (g.W.Sink.stream c.loop-frames.writer)
+    × WroteInTime (IsDecidedText item_decoding AreDecidedLines) now.input (g.W.Sink.stream c.args.writer.now) (g.W.Sink.stream c.loop-frames.writer)
 scanned g c =
     let loop = c.loop-frames.invariant in
     let scan = rw c.as_slice.ensures.value at c.scan_text-rest.ensures in

@@ -3,6 +3,7 @@ use Rattle.std.proofs.lemmas.Grind.{common_steps}
 use Rattle.std.proofs.lemmas.List.{take_rest}
 use Rattle.std.proofs.lemmas.Result.{err_from_is_err_and}
 use Rattle.hart_cli.specs.explain.Explanation.{IsDecidedExplanation}
+use Rattle.hart_cli.specs.input.Decoding.{item_decoding}
 use Rattle.hart_cli.specs.input.Input.{stream_limit}
 use Rattle.hart_cli.specs.input.LiveInput.{IsDecidedText, WroteInTime}
 use Rattle.hart_cli.proofs.calls.explain.tell_input.Given.{Over}
@@ -34,7 +35,7 @@ told : (g : Over) (c : In_ok-place g)
     c.tell_text.new.self c.read_ahead-portion.result.end (drop c.in_ok-place.place c.read_ahead-portion.new.ahead)
     (c.loop-place.read + c.read_ahead-portion.result.len)
     (g.W.Sink.stream c.args.writer.now) (g.W.Sink.stream c.tell_text.new.writer))
-    × WroteInTime (IsDecidedText IsDecidedExplanation) now.input (g.W.Sink.stream c.args.writer.now) (g.W.Sink.stream c.loop-place.writer)
+    × WroteInTime (IsDecidedText item_decoding IsDecidedExplanation) now.input (g.W.Sink.stream c.args.writer.now) (g.W.Sink.stream c.loop-place.writer)
 told g c =
     let loop = c.loop-place.invariant in
     let text = rw c.as_slice.ensures.value at c.in_ok-place.ensures in

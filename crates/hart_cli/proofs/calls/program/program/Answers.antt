@@ -5,9 +5,9 @@ use Rattle.std.specs.Option.{option_and_then}
 use Rattle.clap.specs.Words.{Row, Text, subcommand_of}
 use Rattle.hart_frame.specs.wire.Message.{IsPreambleCount}
 use Rattle.hart_cli.specs.declared.calls.program.command_line.Call.{Call}
-use Rattle.hart_cli.specs.declared.calls.program.command_line.Call.TheVariants.{Answer, Dump, Encode, Explain, Serve, Sim}
+use Rattle.hart_cli.specs.declared.calls.program.command_line.Call.TheVariants.{Answer, Dump, Encode, Serve, Sim}
 use Rattle.hart_cli.specs.encode.MessageWords.{MessageWords}
-use Rattle.hart_cli.specs.program.CommandLine.{call_of, hart_app, message_words, preambles_of}
+use Rattle.hart_cli.specs.program.CommandLine.{call_of, explain_call, hart_app, message_words, preambles_of}
 use Rattle.hart_cli.specs.program.Program.{HasPreambleCount}
 use Rattle.hart_cli.proofs.calls.program.program.Goals as goal
 
@@ -17,12 +17,12 @@ words_counted : (word : Option Text) (who address command : Option Text) (payloa
 words_counted word who address command payload words h = grind (arith, common_steps, nat_tests)
 
 -- a call of `encode` has the words that the matches give
-words_called : (answer dump explain serve sim encode : Bool) (image : Option Text) (given : Option MessageWords) (words : MessageWords)
-    → (if answer then Some (Answer image) else if dump then Some Dump else if explain then Some Explain
+words_called : (answer dump explain serve sim encode : Bool) (image raw : Option Text) (given : Option MessageWords) (words : MessageWords)
+    → (if answer then Some (Answer image) else if dump then Some Dump else if explain then Some (explain_call raw)
     else if serve then Some (Serve image)
     else if sim then Some (Sim image)
     else if encode then option_map (λ w. Encode w) given else None) ≡ Some (Encode words) → given ≡ Some words
-words_called answer dump explain serve sim encode image given words h = grind (arith, common_steps)
+words_called answer dump explain serve sim encode image raw given words h = grind (arith, common_steps)
 
 -- a call of `encode` that words make has a number of preamble bytes that a sender puts
 call_counted : (met : Option (Text × List Row)) (call : Call) → call_of met ≡ Some call → HasPreambleCount call

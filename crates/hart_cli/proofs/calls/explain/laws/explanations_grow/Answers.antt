@@ -1,9 +1,11 @@
 use Rattle.std.proofs.Common.{◌≡◌, ◌++◌, ◌∙◌, [], ap, inl, inr, sym}
 use Rattle.std.proofs.lemmas.Grind.{flat_map-append}
+use Rattle.hart_frame.specs.heard.Character.{faultless}
 use Rattle.hart_frame.proofs.lemmas.scan.SightingLaws.{one as one_list, some as some_list}
 use Rattle.hart_cli.specs.explain.Explanation.{explanation, seen_text}
 use Rattle.hart_cli.proofs.lemmas.explain.Heard.{chars_grow}
 use Rattle.hart_cli.proofs.lemmas.explain.Decided.{compare, not_longer}
+use Rattle.hart_cli.proofs.lemmas.input.Raw.{faultless_on, raw_chars}
 use Rattle.hart_cli.proofs.calls.explain.laws.explanations_grow.Goals as goal
 
 pub returns-clause-one : goal.returns-clause-one
@@ -32,5 +34,11 @@ returns-clause-heard c chars more told whole decided is =
 
 pub returns-clause-read : goal.returns-clause-read
 returns-clause-read c input more ending fault told whole decided is =
-    let (between, grown) = chars_grow input more ending decided.chars is.chars fault decided.reads.rest decided.reads.reads is.has_chars in
-    returns-clause-heard c decided.chars between told whole decided.decided (rw grown at is.is_text)
+    let (between, grown) = chars_grow input more ending decided.heard is.heard fault decided.reads.rest decided.reads.reads is.has in
+    returns-clause-heard c decided.heard between told whole decided.decided (rw grown at is.is_text)
+
+pub returns-clause-raw : goal.returns-clause-raw
+returns-clause-raw c input more ending fault told whole decided is =
+    let all : is.heard ≡ faultless input ++ faultless more =
+    raw_chars (input ++ more) ending is.heard fault is.has ∙ faultless_on input more in
+    returns-clause-heard c (faultless input) (faultless more) told whole (rw decided.reads at decided.decided) (rw all at is.is_text)

@@ -30,22 +30,22 @@ of_one_hearing input ending xs ys fault lines text same dump said has =
 
 pub returns-clause-whole : goal.returns-clause-whole
 returns-clause-whole c input ending f g lines text dump said =
-    let same = one_input input ending dump.chars said.chars f g dump.has_chars said.has_chars in
-    (same.1, of_one_hearing input ending dump.chars said.chars g lines text same.0 dump.is_text said.is_text said.has_chars)
+    let same = one_input input ending dump.heard said.heard f g dump.has said.has in
+    (same.1, of_one_hearing input ending dump.heard said.heard g lines text same.0 dump.is_text said.is_text said.has)
 
 pub returns-clause-dump_left : goal.returns-clause-dump_left
 returns-clause-dump_left c input more ending f g lines text dump said =
-    let left = left_more input more dump.chars f dump.has_chars in
-    let same = one_left (input ++ more) ending said.chars dump.chars g f said.has_chars left in (
+    let left = left_more input more dump.heard f dump.has in
+    let same = one_left (input ++ more) ending said.heard dump.heard g f said.has left in (
       sym same.1,
-      of_one_hearing (input ++ more) ending dump.chars said.chars g lines text (sym same.0) dump.is_text said.is_text said.has_chars,
+      of_one_hearing (input ++ more) ending dump.heard said.heard g lines text (sym same.0) dump.is_text said.is_text said.has,
     )
 
 pub returns-clause-explain_left : goal.returns-clause-explain_left
 returns-clause-explain_left c input more ending f g lines text dump said =
-    let left = left_more input more said.chars g said.has_chars in
-    let same = one_left (input ++ more) ending dump.chars said.chars f g dump.has_chars left in (
+    let left = left_more input more said.heard g said.has in
+    let same = one_left (input ++ more) ending dump.heard said.heard f g dump.has left in (
       same.1,
-      of_one_hearing (input ++ more) ending dump.chars said.chars f lines text same.0 dump.is_text said.is_text
-          (rw same.0 at dump.has_chars),
+      of_one_hearing (input ++ more) ending dump.heard said.heard f lines text same.0 dump.is_text said.is_text
+          (rw same.0 at dump.has),
     )
