@@ -14,4 +14,5 @@ pub mod Registers
 pub mod ReplyData
 pub mod Fields
 pub mod FieldWidths
+pub mod Units
 pub mod Parts

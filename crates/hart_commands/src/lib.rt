@@ -38,6 +38,7 @@ mod request;
 mod sensor;
 mod short_list;
 mod tag_bytes;
+mod units;
 mod value;
 
 pub use code_list::CodeList;
@@ -55,4 +56,5 @@ pub use request::code::request_code;
 pub use request::{Request, mode_bytes};
 pub use sensor::SensorContent;
 pub use short_list::ShortList;
+pub use units::unit_name;
 pub use value::{UnitValue, VariableReading};

@@ -1,0 +1,19 @@
+use Rattle.std.proofs.Common.{◌≡◌, arith, rules}
+use Rattle.std.proofs.lemmas.Bool.Decides.{nat_tests}
+use Rattle.std.proofs.lemmas.Iterator.{YieldsList-from_slice}
+use Rattle.std.proofs.lemmas.Iterator.Search.{find_from_yields_List}
+use Rattle.std.specs.Bool.{◌==◌}
+use Rattle.std.specs.List.{find}
+use Rattle.std.specs.Option.{option_map}
+use Rattle.hart_commands.specs.Units.{seen_unit}
+use Rattle.hart_commands.proofs.lemmas.Rows.{find-map}
+use Rattle.hart_commands.proofs.units.find_unit.Goals as goal
+
+-- The first row with the code is the first of them that is seen to have it.
+pub returns : goal.returns
+returns c =
+    let first : option_map (λ row. row.now) c.find.result ≡ find (λ row. row.code == c.args.code) c.args.rows.now =
+    find_from_yields_List (λ row. row.code == c.args.code) _ _ c.find.result c.find.ensures.ran
+    (YieldsList-from_slice _ c.iter.ensures.rest) (λ x b q k. search (rules, nat_tests)) in
+    let others = find-map seen_unit (λ row. row.code == c.args.code) c.args.rows.now in
+    grind (arith, first, others)

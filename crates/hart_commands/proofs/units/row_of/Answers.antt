@@ -1,0 +1,9 @@
+use Rattle.std.proofs.Common.{◌==◌}
+use Rattle.hart_commands.specs.Fields.{text}
+use Rattle.hart_commands.specs.Units.{unit_row}
+use Rattle.hart_commands.proofs.units.row_of.Goals as goal
+
+-- The table of the code is seen as the units of the table.
+pub returns : goal.returns
+unfolding text unit_row
+returns c = c.find_unit.ensures
