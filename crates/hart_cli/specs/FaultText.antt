@@ -5,18 +5,30 @@ use Rattle.hart_line.specs.FaultText.{line_fault_text}
 use Rattle.hart_line.specs.declared.fault.LineFault.{LineFault}
 use Rattle.hart_line.specs.declared.fault.LineFault.TheVariants as line_faults
 use Rattle.hart_cli.specs.declared.fault.CliFault.{CliFault}
-use Rattle.hart_cli.specs.declared.fault.CliFault.TheVariants.{Read, Write, TooLong, BadHex, Line, Image, Memory, BadWord}
+use Rattle.hart_cli.specs.declared.fault.CliFault.TheVariants.{Read, Write, TooLong, BadHex, Line, Image, Memory, BadWord, BadField}
+use Rattle.hart_cli.specs.request.FaultText.{reason_text}
 
--- A fault has this text; the place of bad hex and the number of a bad word are in decimal.
+-- A fault has this text, before the reason why the word of a field is bad; the place of bad hex and the number of a bad word are in
+-- decimal.
+abbrev pub text_before_reason : CliFault → List ℕ
+text_before_reason Read = codes "read fault"
+text_before_reason Write = codes "write fault"
+text_before_reason TooLong = codes "input too long"
+text_before_reason (BadHex place) = codes "bad hex at " ++ decimal place
+text_before_reason (Line fault) = line_fault_text fault
+text_before_reason (Image fault) = device_fault_text fault
+text_before_reason (Memory none) = codes "out of memory"
+text_before_reason (BadWord number) = codes "bad word " ++ decimal number
+text_before_reason (BadField bad) = codes "bad word " ++ decimal bad.number ++ codes ": "
+
+-- The word of a field is bad for a reason; no other fault has one.
+abbrev pub reason_of : CliFault → List ℕ
+reason_of (BadField bad) = reason_text bad.fault
+reason_of _ = []
+
+-- A fault has this text.
 abbrev pub fault_text : CliFault → List ℕ
-fault_text Read = codes "read fault"
-fault_text Write = codes "write fault"
-fault_text TooLong = codes "input too long"
-fault_text (BadHex place) = codes "bad hex at " ++ decimal place
-fault_text (Line fault) = line_fault_text fault
-fault_text (Image fault) = device_fault_text fault
-fault_text (Memory none) = codes "out of memory"
-fault_text (BadWord number) = codes "bad word " ++ decimal number
+fault_text fault = text_before_reason fault ++ reason_of fault
 
 -- The line of a fault is its text and a line feed.
 abbrev pub fault_line : CliFault → List ℕ

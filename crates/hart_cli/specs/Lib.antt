@@ -2,6 +2,7 @@ pub mod stream
 pub mod input
 pub mod text
 pub mod encode
+pub mod request
 pub mod ImageWord
 pub mod Answer
 pub mod dump

@@ -5,5 +5,6 @@ pub mod dump;
 pub mod encode;
 pub mod explain;
 pub mod program;
+pub mod request;
 pub mod serve;
 pub mod sim;

@@ -1,11 +1,14 @@
 //! Why a call of the command line ended early.
 
-ghost use Rattle.std.specs.Prelude.{◌≡◌, Some};
+ghost use Rattle.std.specs.Prelude.{◌≡◌, ◌++◌, ◌≤◌, [], length, Some};
 ghost use Rattle.hart_line.specs.FaultText.{joined};
 ghost use Rattle.hart_cli.specs.FaultNumbers.{cli_fault_number};
-ghost use Rattle.hart_cli.specs.FaultText.{fault_line, fault_text};
-ghost use Rattle.hart_cli.specs.declared.fault.CliFault.TheVariants.{Image, Memory, Write};
+ghost use Rattle.hart_cli.specs.FaultText.{fault_line, fault_text, reason_of, text_before_reason};
+ghost use Rattle.hart_cli.specs.request.Reason.{reasoned};
+ghost use Rattle.hart_cli.specs.declared.fault.CliFault.TheVariants.{BadField as FaultOfField, Image, Memory, Write};
 
+use crate::calls::request::fault::BadField;
+use crate::calls::request::reason::Reason;
 use crate::stream::Failed;
 use arrayvec::ArrayString;
 use hart_device::DeviceFault;
@@ -34,10 +37,12 @@ pub enum CliFault {
     Memory(NoRoom),
     /// This word of a message to send is bad: 1 is WHO, 2 ADDRESS, 3 COMMAND and 4 DATA.
     BadWord { number: u8 },
+    /// The words of a request do not give the fields of its command.
+    BadField(BadField),
 }
 
-/// The longest line is of noise at the last event: 27 characters, 20 digits, 7 characters and a line feed.
-const LONGEST_LINE: usize = 55;
+/// The longest text that may be made: 54 characters of a fault, 80 of a reason, and a line feed.
+const LONGEST_LINE: usize = 135;
 
 impl CliFault {
     /// Returns the number of the fault, 1 to 8.
@@ -52,7 +57,7 @@ impl CliFault {
             CliFault::Line(_) => 5,
             CliFault::Image(_) => 6,
             CliFault::Memory(_) => 7,
-            CliFault::BadWord { .. } => 8,
+            CliFault::BadWord { .. } | CliFault::BadField(_) => 8,
         }
     }
 
@@ -61,21 +66,16 @@ impl CliFault {
     pub fn text_line(self) -> ArrayString<LONGEST_LINE>
         ensures { result.bytes ≡ fault_line self }
     {
-        let text = self.text();
         let mut line = ArrayString::new();
-        line.push_str(text.before);
-        if let Some(number) = text.number {
-            line.push_str(Buffer::new().format(number));
-        }
-        line.push_str(text.comma);
-        line.push_str(text.word);
+        push_text(&mut line, self.text());
+        push_reason(&mut line, self.reason());
         line.push_str("\n");
         line
     }
 
-    /// The text of the fault.
+    /// The text of the fault, before the reason why the word of a field is bad.
     fn text(self) -> FaultText
-        ensures { joined result ≡ fault_text self }
+        ensures { joined result ≡ text_before_reason self }
     {
         match self {
             CliFault::Read => FaultText::plain("read fault"),
@@ -86,15 +86,59 @@ impl CliFault {
             CliFault::Image(fault) => FaultText::plain(fault.text()),
             CliFault::Memory(none) => LineFault::Memory(none).text(),
             CliFault::BadWord { number } => FaultText::numbered("bad word ", usize::from(number)),
+            CliFault::BadField(bad) => FaultText {
+                before: "bad word ",
+                number: Some(bad.number),
+                comma: ": ",
+                word: "",
+            },
         }
     }
+
+    /// The reason why the word of a field is bad; no other fault has one.
+    fn reason(self) -> Reason
+        ensures { reasoned result ≡ reason_of self }
+    {
+        match self {
+            CliFault::BadField(bad) => bad.fault.reason(),
+            _ => Reason::none(),
+        }
+    }
+}
+
+/// Adds the text of a fault to a line.
+fn push_text(line: &mut ArrayString<LONGEST_LINE>, text: FaultText)
+    requires { line.old.bytes ≡ [] }
+    ensures text { line.new.bytes ≡ joined text }
+    ensures few { length line.new.bytes ≤ 54 }
+{
+    line.push_str(text.before);
+    if let Some(number) = text.number {
+        line.push_str(Buffer::new().format(number));
+    }
+    line.push_str(text.comma);
+    line.push_str(text.word);
+}
+
+/// Adds a reason to a line.
+fn push_reason(line: &mut ArrayString<LONGEST_LINE>, reason: Reason)
+    requires { length line.old.bytes ≤ 54 }
+    ensures reason { line.new.bytes ≡ line.old.bytes ++ reasoned reason }
+    ensures few { length line.new.bytes ≤ 134 }
+{
+    line.push_str(reason.before);
+    if let Some(number) = reason.number {
+        line.push_str(Buffer::new().format(number));
+    }
+    line.push_str(reason.after);
 }
 
 impl fmt::Display for CliFault {
     ghost output = { λ fault. Some (fault_text fault) };
 
     fn fmt<W: fmt::Write>(&self, f: &mut fmt::Formatter<W>) -> fmt::Result {
-        self.text().fmt(f)
+        self.text().fmt(f)?;
+        self.reason().fmt(f)
     }
 }
 
@@ -104,6 +148,14 @@ impl From<Failed> for CliFault {
     /// What a writer answers is a fault of the writer: a reader's failure is an end of the input.
     fn from(_failed: Failed) -> CliFault {
         CliFault::Write
+    }
+}
+
+impl From<BadField> for CliFault {
+    ghost from_gives = { λ bad e. e ≡ FaultOfField bad };
+
+    fn from(bad: BadField) -> CliFault {
+        CliFault::BadField(bad)
     }
 }
 

@@ -4,12 +4,13 @@ use Rattle.std.specs.Prelude.{option_map, pos, unwrap_or}
 use Rattle.std.specs.Option.{option_and_then}
 use Rattle.std.specs.Str.{all_ascii_digits, bytes_eq}
 use Rattle.std.specs.Str.Parse.{digits_value, without_leading_plus}
-use Rattle.clap.specs.Words.{App, Row, Rule, Text, fault_of, first_of, new_app, new_rule, subcommand_of, with_rule, with_subcommand}
-use Rattle.clap.specs.declared.builder.action.ArgAction.TheVariants.{SetTrue}
+use Rattle.clap.specs.Words.{App, Row, Rule, Text, all_of, fault_of, first_of, new_app, new_rule, subcommand_of, with_rule, with_subcommand}
+use Rattle.clap.specs.declared.builder.action.ArgAction.TheVariants.{Append, SetTrue}
 use Rattle.clap.specs.declared.builder.value_parser.ValueParser.TheVariants.{Signed}
 use Rattle.hart_cli.specs.encode.MessageWords.{MessageWords}
+use Rattle.hart_cli.specs.request.RequestWords.{RequestWords}
 use Rattle.hart_cli.specs.declared.calls.program.command_line.Call.{Call}
-use Rattle.hart_cli.specs.declared.calls.program.command_line.Call.TheVariants.{Answer, Dump, Encode, Explain, ExplainRaw, Serve, Sim}
+use Rattle.hart_cli.specs.declared.calls.program.command_line.Call.TheVariants.{Answer, Dump, Encode, Explain, ExplainRaw, Request, Serve, Sim}
 
 -- The rule of a required word has its name, and the word has to be there.
 abbrev pub required_rule : Text → Rule
@@ -40,18 +41,26 @@ explain_app = with_rule (new_app (codes "explain")) raw_rule
 abbrev pub image_app : Text → App
 image_app name = with_rule (new_app name) image_rule
 
--- The command `encode`, before it has what may be left out, takes three words that have to be there.
-abbrev pub encode_with_required_words : App
-encode_with_required_words =
-    let who = with_rule (new_app (codes "encode")) (required_rule (codes "WHO")) in
+-- The commands `encode` and `request`, before they have what may be left out, take three words that have to be there.
+abbrev pub app_with_required_words : Text → App
+app_with_required_words name =
+    let who = with_rule (new_app name) (required_rule (codes "WHO")) in
     let address = with_rule who (required_rule (codes "ADDRESS")) in
     with_rule address (required_rule (codes "COMMAND"))
 
 -- The command `encode` takes the three required words, a fourth if it is given, and the number of preamble bytes.
 abbrev pub encode_app : App
 encode_app =
-    let payload = with_rule encode_with_required_words (new_rule (codes "DATA")) in
+    let payload = with_rule (app_with_required_words (codes "encode")) (new_rule (codes "DATA")) in
     with_rule payload preambles_rule
+
+-- Any number of words give fields.
+abbrev pub fields_rule : Rule
+fields_rule = record (new_rule (codes "FIELD")) { action = Some Append }
+
+-- The command `request` takes the three required words, those of fields, and the number of preamble bytes.
+abbrev pub request_app : App
+request_app = with_rule (with_rule (app_with_required_words (codes "request")) fields_rule) preambles_rule
 
 -- The command `hart`, before it has subcommands, takes words without the program's name, has a version, wants a subcommand named,
 -- and shows its help if there is no word at all.
@@ -79,9 +88,13 @@ reading_app =
     let serve = with_subcommand hearing_app (image_app (codes "serve")).top in
     with_subcommand serve (image_app (codes "sim")).top
 
--- The command `hart` has six subcommands: these five, and `encode`.
+-- The subcommands without `encode` are these five and `request`.
+abbrev pub asking_app : App
+asking_app = with_subcommand reading_app request_app.top
+
+-- The command `hart` has seven subcommands: these six, and `encode`.
 abbrev pub hart_app : App
-hart_app = with_subcommand reading_app encode_app.top
+hart_app = with_subcommand asking_app encode_app.top
 
 -- A number of preamble bytes is written in decimal digits, after a plus sign at most, and lies between 5 and 20.
 abbrev pub preambles_of : Text → Option ℕ
@@ -108,8 +121,21 @@ abbrev pub explain_call : Option Text → Call
 explain_call (Some word) = if bytes_eq word (codes "true") then ExplainRaw else Explain
 explain_call None = Explain
 
--- The call of a subcommand by its name: `answer`, `serve` and `sim` with the word of the image, or none; `dump`; `explain`; `encode`
--- with its words, if the matches give them. No other name has one.
+-- A number of preamble bytes and three words with those of the fields are what `request` is given, if none of the first four is missing.
+abbrev pub request_words : Option ℕ → Option Text → Option Text → Option Text → List Text → Option RequestWords
+request_words (Some preambles) (Some who) (Some address) (Some command) fields =
+    Some (record { who = who; address = address; command = command; fields = fields; preambles = preambles })
+request_words _ _ _ _ fields = None
+
+-- The matches of `request` give these words.
+abbrev pub request_words_of : List Row → Option RequestWords
+request_words_of rows = request_words
+    (option_and_then preambles_of (first_of (codes "preambles") rows))
+    (first_of (codes "WHO") rows) (first_of (codes "ADDRESS") rows) (first_of (codes "COMMAND") rows)
+    (unwrap_or (all_of (codes "FIELD") rows) [])
+
+-- The call of a subcommand by its name: `answer`, `serve` and `sim` with the word of the image, or none; `dump`; `explain`; `encode` and
+-- `request` with their words, if the matches give them. No other name has one.
 abbrev pub call_named : Text → List Row → Option Call
 call_named name rows =
     if bytes_eq name (codes "answer") then Some (Answer (first_of (codes "image") rows))
@@ -118,6 +144,7 @@ call_named name rows =
     else if bytes_eq name (codes "serve") then Some (Serve (first_of (codes "image") rows))
     else if bytes_eq name (codes "sim") then Some (Sim (first_of (codes "image") rows))
     else if bytes_eq name (codes "encode") then option_map (λ words. Encode words) (words_of rows)
+    else if bytes_eq name (codes "request") then option_map (λ words. Request words) (request_words_of rows)
     else None
 
 -- A subcommand that was met, with its matches, gives the call of its name; if none was met there is no call.

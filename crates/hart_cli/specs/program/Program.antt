@@ -1,21 +1,23 @@
 -- What the program does with the call that its words make (own profile).
-use Rattle.std.specs.Prelude.{◌≡◌, ℕ, IfErr, List, Result, Ok, Err}
-use Rattle.clap.specs.Words.{Text}
+use Rattle.std.specs.Prelude.{◌≡◌, ℕ, IfErr, List, Option, Some, Result, Ok, Err}
+use Rattle.clap.specs.Words.{Row, Text}
 use Rattle.hart_frame.specs.wire.Message.{IsPreambleCount}
 use Rattle.hart_cli.specs.Answer.{AnswerOutcome}
-use Rattle.hart_cli.specs.program.CommandLine.{Calls}
+use Rattle.hart_cli.specs.program.CommandLine.{Calls, call_of}
 use Rattle.hart_cli.specs.dump.Dump.{DumpOutcome}
 use Rattle.hart_cli.specs.encode.Encode.{EncodeOutcome}
 use Rattle.hart_cli.specs.explain.Explain.{ExplainOutcome, RawExplainOutcome}
 use Rattle.hart_cli.specs.FaultText.{fault_line}
+use Rattle.hart_cli.specs.request.Request.{RequestOutcome}
 use Rattle.hart_cli.specs.serve.Serve.{ServeOutcome}
 use Rattle.hart_cli.specs.sim.Sim.{SimOutcome}
 use Rattle.hart_cli.specs.stream.Stream.{Stream, WritesUnlessFailed}
 use Rattle.hart_cli.specs.declared.fault.CliFault.{CliFault}
 use Rattle.hart_cli.specs.declared.calls.program.command_line.Call.{Call}
-use Rattle.hart_cli.specs.declared.calls.program.command_line.Call.TheVariants.{Answer, Dump, Encode, Explain, ExplainRaw, Serve, Sim}
+use Rattle.hart_cli.specs.declared.calls.program.command_line.Call.TheVariants.{Answer, Dump, Encode, Explain, ExplainRaw, Request, Serve, Sim}
 
--- A call with this result had the outcome of its own kind on the reader and the writer; that of `encode` leaves the reader.
+-- A call with this result had the outcome of its own kind on the reader and the writer; those of `encode` and `request`
+-- leave the reader.
 abbrev pub CallOutcome : Call → Stream → Stream → Stream → Stream → Result (Unit {0}) CliFault → Type 0
 CallOutcome (Answer image) reader reader_after writer writer_after result =
     AnswerOutcome image reader reader_after writer writer_after result
@@ -31,6 +33,8 @@ CallOutcome (Sim image) reader reader_after writer writer_after result =
     SimOutcome image reader reader_after writer writer_after result
 CallOutcome (Encode words) reader reader_after writer writer_after result =
     (reader_after ≡ reader) × EncodeOutcome words writer writer_after result
+CallOutcome (Request words) reader reader_after writer writer_after result =
+    (reader_after ≡ reader) × RequestOutcome words writer writer_after result
 
 -- The status is 0 after a call that did its work, and 1 after a fault.
 abbrev pub status_of : Result (Unit {0}) CliFault → ℕ
@@ -48,7 +52,18 @@ pub record Ran (words : List Text) (reader reader_after writer writer_after erro
 
 -- For private calls alone:
 
--- If the call is one of `encode`, its number of preamble bytes is one that a sender puts; nothing is asked of any other.
+-- The call that a subcommand with its matches gives was made, and its fault reported, as by `Ran`.
+pub record Made (met : Option (Text × List Row)) (reader reader_after writer writer_after errors errors_after : Stream)
+    (status : ℕ) : Type 0 where
+  pub call : Call
+  pub gives : call_of met ≡ Some call
+  pub result : Result (Unit {0}) CliFault
+  pub outcome : CallOutcome call reader reader_after writer writer_after result
+  pub ends : status ≡ status_of result
+  pub reports : IfErr result (λ fault. WritesUnlessFailed errors errors_after (fault_line fault))
+
+-- If the call is one of `encode` or `request`, its number of preamble bytes is one that a sender puts; nothing is asked of any other.
 abbrev pub HasPreambleCount : Call → Type 0
 HasPreambleCount (Encode words) = IsPreambleCount words.preambles
+HasPreambleCount (Request words) = IsPreambleCount words.preambles
 HasPreambleCount _ = Unit {0}

@@ -1,7 +1,8 @@
 //! The program: which call the words make, and with which number it ends.
 
 ghost use Rattle.std.specs.Prelude.{◌≡◌, ◌≢◌, IfErr, map, string_bytes};
-ghost use Rattle.hart_cli.specs.program.Program.{CallOutcome, HasPreambleCount, Ran, status_of};
+ghost use Rattle.clap.specs.Words.{subcommand_rows_of};
+ghost use Rattle.hart_cli.specs.program.Program.{CallOutcome, HasPreambleCount, Made, Ran, status_of};
 ghost use Rattle.hart_cli.specs.FaultText.{fault_line};
 ghost use Rattle.hart_cli.specs.stream.Stream.{WritesUnlessFailed};
 
@@ -12,12 +13,14 @@ use crate::calls::answer::answer;
 use crate::calls::dump::dump;
 use crate::calls::encode::{EncodeWords, encode_text};
 use crate::calls::explain::{explain, explain_raw};
+use crate::calls::request::request;
 use crate::calls::serve::serve;
 use crate::calls::sim::simulate;
 use crate::fault::CliFault;
 use crate::output::write_all;
 use crate::stream::{Sink, Source};
-use command_line::{Call, requested_call};
+use clap::ArgMatches;
+use command_line::{Call, call_of, matches_of};
 use std::alloc::Global;
 use std::fmt;
 use std::fmt::Write;
@@ -33,7 +36,8 @@ pub const NO_CALL: u8 = 2;
 
 /// Makes the call that the words after the program's name ask for, and gives the program's status.
 ///
-/// `answer`, `dump`, `explain`, `serve` and `sim` read from `reader` and write to `writer`; `encode` reads its words alone. At status 0
+/// `answer`, `dump`, `explain`, `serve` and `sim` read from `reader` and write to `writer`; `encode` and `request` read
+/// their words alone. At status 0
 /// nothing goes to `errors`; at status 1 the line of the call's fault does, or a beginning of it if `errors` failed. Status 2 says that
 /// clap found no matches for the words: reader and writer are not touched, and clap's own text, help among it, goes to `errors`. No
 /// clause says which. A failed write to `errors` ends the text there, and the status stays what it was.
@@ -53,8 +57,8 @@ pub fn program<R: Source, W: Sink, E: Sink>(
     ensures unwritten { result ≡ 2 → writer.new ≡ writer.old }
     ensures quiet { result ≡ 0 → errors.new ≡ errors.old }
 {
-    match requested_call(alloc, words) {
-        Ok(call) => finish(make_call(alloc, call, reader, writer), errors),
+    match matches_of(alloc, words) {
+        Ok(matches) => make_matched_call(alloc, &matches, reader, writer, errors),
         Err(error) => {
             show(&error, errors);
             NO_CALL
@@ -62,10 +66,34 @@ pub fn program<R: Source, W: Sink, E: Sink>(
     }
 }
 
+/// Makes the call that the matches give, and gives the program's status.
+fn make_matched_call<R: Source, W: Sink, E: Sink>(
+    alloc: Global,
+    matches: &ArgMatches<'_>,
+    reader: &mut R,
+    writer: &mut W,
+    errors: &mut E,
+) -> u8
+    ensures ran { result ≢ 2 → Made (subcommand_rows_of matches.now)
+        (R.stream reader.old) (R.stream reader.new)
+        (W.stream writer.old) (W.stream writer.new)
+        (E.stream errors.old) (E.stream errors.new)
+        result }
+    ensures unread { result ≡ 2 → reader.new ≡ reader.old }
+    ensures unwritten { result ≡ 2 → writer.new ≡ writer.old }
+    ensures quiet { result ≡ 0 → errors.new ≡ errors.old }
+{
+    match call_of(matches) {
+        Some(call) => finish(make_call(alloc, call, reader, writer), errors),
+        // clap's contract leaves this case open. It does not come about.
+        None => NO_CALL,
+    }
+}
+
 /// Makes the call on the reader and the writer, and gives its result.
 fn make_call<R: Source, W: Sink>(
     alloc: Global,
-    call: Call<'_>,
+    call: Call<'_, '_>,
     reader: &mut R,
     writer: &mut W,
 ) -> Result<(), CliFault>
@@ -82,6 +110,7 @@ fn make_call<R: Source, W: Sink>(
         Call::ExplainRaw => explain_raw(alloc, reader, writer),
         Call::Serve(image) => serve(alloc, image.word, reader, writer),
         Call::Sim(image) => simulate(alloc, image.word, reader, writer),
+        Call::Request(words) => request(alloc, &words, writer),
         Call::Encode(words) => {
             let EncodeWords {
                 who,

@@ -1,18 +1,22 @@
 //! The call that the words after the program's name ask for.
 
-ghost use Rattle.std.specs.Prelude.{◌≡◌, ◌∷◌, [], ℕ, IfErr, IfOk, List, None, Some, codes, false, map, string_bytes};
-ghost use Rattle.clap.specs.Words.{HasKind, app_of, fault_of, first_of, found_of, new_app, new_rule, rows_of, rule_of, subcommand_rows_of};
+ghost use Rattle.std.specs.Prelude.{◌≡◌, ◌∷◌, [], ℕ, IfErr, IfOk, List, None, OnOk, Some, codes, false, map, string_bytes};
+ghost use Rattle.clap.specs.Words.{HasKind, all_of, app_of, fault_of, first_of, found_of, new_app, new_rule, rows_of, rule_of};
+ghost use Rattle.clap.specs.Words.{subcommand_of, subcommand_rows_of};
 ghost use Rattle.clap.specs.Words.{with_rule, with_subcommand};
 ghost use Rattle.std.specs.Option.{option_map};
-ghost use Rattle.hart_cli.specs.program.CommandLine.{Calls, call_of, encode_app, encode_with_required_words, explain_app, explain_call, hart_alone, hart_app};
-ghost use Rattle.hart_cli.specs.program.CommandLine.{hearing_app, image_app, image_rule, preambles_of, preambles_rule, raw_rule, reading_app, required_rule};
-ghost use Rattle.hart_cli.specs.program.CommandLine.{words_of};
+ghost use Rattle.hart_cli.specs.program.CommandLine.{Calls, app_with_required_words, asking_app, call_of, encode_app, explain_app};
+ghost use Rattle.hart_cli.specs.program.CommandLine.{explain_call, fields_rule, hart_alone, hart_app, hearing_app, image_app, image_rule};
+ghost use Rattle.hart_cli.specs.program.CommandLine.{preambles_of, preambles_rule, raw_rule, reading_app, request_app, request_words_of};
+ghost use Rattle.hart_cli.specs.program.CommandLine.{required_rule, words_of};
 ghost use Rattle.hart_cli.specs.declared.calls.program.command_line.Call.{Call};
-ghost use Rattle.hart_cli.specs.declared.calls.program.command_line.Call.TheVariants.{Answer, Dump, Encode, Explain, ExplainRaw, Serve, Sim};
+ghost use Rattle.hart_cli.specs.declared.calls.program.command_line.Call.TheVariants.{Answer, Dump, Encode, Explain, ExplainRaw};
+ghost use Rattle.hart_cli.specs.declared.calls.program.command_line.Call.TheVariants.{Request, Serve, Sim};
 
 use super::help;
 use super::help::Page;
 use crate::calls::encode::EncodeWords;
+use crate::calls::request::RequestWords;
 use crate::image_word::ImageWord;
 use clap::{Arg, ArgAction, ArgMatches, Command, value_parser};
 use hart_frame::{LEAST_PREAMBLES, MOST_PREAMBLES, is_preamble_count};
@@ -22,7 +26,8 @@ use std::alloc::{AllocError, Global};
 const VERSION: &str = "0.1.0";
 
 /// The word `answer`, `dump`, `explain`, `serve` or `sim` alone is a call of it, without an image; `--image 01` after `answer`, `serve` or
-/// `sim` gives it the image `01`, and `--raw` after `explain` makes its input raw. `encode P @0 0` is a call with no data and 5 preamble bytes, and with 20 if `--preambles 20` follows.
+/// `sim` gives it the image `01`, and `--raw` after `explain` makes its input raw. `encode P @0 0` is a call with no data and 5 preamble
+/// bytes, and with 20 if `--preambles 20` follows. `request P @0 0` is a call with no fields, and `request P @0 6 a=1 b=2` one with two.
 pub fn words_are_calls()
     ensures answer { Calls (Answer None) (codes "answer" ∷ []) }
     ensures answer_image { Calls (Answer (Some (codes "01"))) (codes "answer" ∷ codes "--image" ∷ codes "01" ∷ []) }
@@ -39,6 +44,18 @@ pub fn words_are_calls()
     ensures preambles { Calls
         (Encode (record { who = codes "P"; address = codes "@0"; command = codes "0"; payload = []; preambles = 20 }))
         (codes "encode" ∷ codes "P" ∷ codes "@0" ∷ codes "0" ∷ codes "--preambles" ∷ codes "20" ∷ []) }
+    ensures request { Calls
+        (Request (record { who = codes "P"; address = codes "@0"; command = codes "0"; fields = []; preambles = 5 }))
+        (codes "request" ∷ codes "P" ∷ codes "@0" ∷ codes "0" ∷ []) }
+    ensures request_fields { Calls
+        (Request (record {
+          who = codes "P";
+          address = codes "@0";
+          command = codes "6";
+          fields = codes "a=1" ∷ codes "b=2" ∷ [];
+          preambles = 5;
+        }))
+        (codes "request" ∷ codes "P" ∷ codes "@0" ∷ codes "6" ∷ codes "a=1" ∷ codes "b=2" ∷ []) }
 {}
 
 /// Words make one call at most, so that what the program does is determined by them.
@@ -48,7 +65,7 @@ pub fn one_call()
 
 /// The calls that a command line can make.
 #[derive(Drop)]
-pub enum Call<'a> {
+pub enum Call<'w, 'a: 'w> {
     /// `hart answer`.
     Answer(ImageWord<'a>),
     /// `hart dump`.
@@ -63,28 +80,27 @@ pub enum Call<'a> {
     Sim(ImageWord<'a>),
     /// `hart encode`.
     Encode(EncodeWords<'a>),
+    /// `hart request`.
+    Request(RequestWords<'w, 'a>),
 }
 
-/// The call that the words make.
+/// The matches of the words.
 ///
 /// # Errors
 ///
 /// What clap gives if it finds no matches for them, help among it, or if memory is refused.
-pub fn requested_call<'a>(alloc: Global, words: &'a [String]) -> Result<Call<'a>, clap::Error>
-    ensures call { IfOk result (λ call. Calls call (map string_bytes words.entry.now)) }
-    ensures refused { IfErr result (HasKind (fault_of hart_app (map string_bytes words.entry.now))) }
+pub fn matches_of<'a>(alloc: Global, words: &'a [String]) -> Result<ArgMatches<'a>, clap::Error>
+    ensures fits { OnOk result (fault_of hart_app (map string_bytes words.now) ≡ []) }
+    ensures matches { IfOk result (λ matches. subcommand_rows_of matches ≡ subcommand_of hart_app (map string_bytes words.now)) }
+    ensures refused { IfErr result (HasKind (fault_of hart_app (map string_bytes words.now))) }
 {
     let matches = hart_command(alloc)?.try_get_matches_from(words)?;
-    match call_of(&matches) {
-        Some(call) => Ok(call),
-        // clap's contract leaves this case open. It does not come about, and would end as refused memory does.
-        None => Err(AllocError.into()),
-    }
+    Ok(matches)
 }
 
-/// The call of the subcommand that the words named, or `None` if they named none of the six, or if `encode_words` gives `None`.
-/// clap lets neither pass.
-fn call_of<'a>(matches: &ArgMatches<'a>) -> Option<Call<'a>>
+/// The call of the subcommand that the words named, or `None` if they named none of the seven, or if `encode_words` or `request_words`
+/// gives `None`. clap lets neither pass.
+pub fn call_of<'w, 'a: 'w>(matches: &'w ArgMatches<'a>) -> Option<Call<'w, 'a>>
     ensures { result ≡ call_of (subcommand_rows_of matches.now) }
 {
     let (name, given) = matches.subcommand()?;
@@ -95,12 +111,13 @@ fn call_of<'a>(matches: &ArgMatches<'a>) -> Option<Call<'a>>
         "serve" => Some(Call::Serve(image_word(given))),
         "sim" => Some(Call::Sim(image_word(given))),
         "encode" => Some(Call::Encode(encode_words(given)?)),
+        "request" => Some(Call::Request(request_words(given)?)),
         _ => None,
     }
 }
 
 /// The call of `hart explain`, with its flag or without.
-fn explain_call<'a>(given: &ArgMatches<'a>) -> Call<'a>
+fn explain_call<'w, 'a: 'w>(given: &'w ArgMatches<'a>) -> Call<'w, 'a>
     ensures { result ≡ explain_call (first_of (codes "raw") (rows_of (found_of given.now))) }
 {
     match word_of(given, "raw") {
@@ -140,6 +157,31 @@ fn encode_words<'a>(given: &ArgMatches<'a>) -> Option<EncodeWords<'a>>
     })
 }
 
+/// The words of `hart request`, or `None` if WHO, ADDRESS or COMMAND is missing, or if the number of preamble bytes is not from 5 to
+/// 20. clap lets neither pass.
+fn request_words<'w, 'a: 'w>(given: &'w ArgMatches<'a>) -> Option<RequestWords<'w, 'a>>
+    ensures { result ≡ request_words_of (rows_of (found_of given.now)) }
+{
+    let preambles = preambles_of(word_of(given, "preambles")?)?;
+    let who = word_of(given, "WHO")?;
+    let address = word_of(given, "ADDRESS")?;
+    let command = word_of(given, "COMMAND")?;
+    Some(RequestWords {
+        who,
+        address,
+        command,
+        fields: words_of(given, "FIELD"),
+        preambles,
+    })
+}
+
+/// The words that were given under a name, if any were.
+fn words_of<'w, 'a: 'w>(given: &'w ArgMatches<'a>, id: &str) -> Option<&'w [&'a str]>
+    ensures { option_map (λ words. map (λ word. word.now) words.now) result ≡ all_of id.now (rows_of (found_of given.now)) }
+{
+    given.get_strs(id)
+}
+
 /// The number of preamble bytes that a word writes, or `None` if it writes none from 5 to 20.
 fn preambles_of(word: &str) -> Option<u8>
     ensures { result ≡ preambles_of word.now }
@@ -155,10 +197,18 @@ fn preambles_of(word: &str) -> Option<u8>
 fn hart_command<'a>(alloc: Global) -> Result<Command<'a>, AllocError>
     ensures { IfOk result (λ command. app_of command ≡ hart_app) }
 {
-    let hart = reading_command(alloc)?;
+    let hart = asking_command(alloc)?;
     let encode = encode_command(alloc)?;
     // The words do not give clap the program's name, which the usage of `hart help` shows.
     hart.subcommand(encode)?.bin_name("hart")
+}
+
+/// `hart` with the subcommands that read an input, and `request`.
+fn asking_command<'a>(alloc: Global) -> Result<Command<'a>, AllocError>
+    ensures { IfOk result (λ command. app_of command ≡ asking_app) }
+{
+    let hart = reading_command(alloc)?;
+    hart.subcommand(request_command(alloc)?)
 }
 
 /// `hart` with the subcommands that read an input.
@@ -203,17 +253,41 @@ fn hart_alone<'a>(alloc: Global) -> Command<'a>
 fn encode_command<'a>(alloc: Global) -> Result<Command<'a>, AllocError>
     ensures { IfOk result (λ command. app_of command ≡ encode_app) }
 {
-    with_options(alloc, encode_with_required_words(alloc)?)
+    with_options(alloc, with_required_words(alloc, "encode", help::ENCODE)?)
 }
 
-/// `hart encode` with the words that have to be there.
-fn encode_with_required_words<'a>(alloc: Global) -> Result<Command<'a>, AllocError>
-    ensures { IfOk result (λ command. app_of command ≡ encode_with_required_words) }
+/// `hart request` with its words and its option.
+fn request_command<'a>(alloc: Global) -> Result<Command<'a>, AllocError>
+    ensures { IfOk result (λ command. app_of command ≡ request_app) }
 {
-    let encode = plain_command(alloc, "encode", help::ENCODE);
-    let encode = with_word(alloc, encode, "WHO", help::WHO_HELP)?;
-    let encode = with_word(alloc, encode, "ADDRESS", help::ADDRESS_HELP)?;
-    with_word(alloc, encode, "COMMAND", help::COMMAND_HELP)
+    let request = with_required_words(alloc, "request", help::REQUEST)?;
+    request
+        .arg(field_words(alloc))?
+        .arg(preambles_option(alloc))
+}
+
+/// The words of fields, which may be left out.
+fn field_words<'a>(alloc: Global) -> Arg<'a>
+    ensures rule { rule_of result ≡ fields_rule }
+    ensures local { result.global ≡ false }
+{
+    Arg::new(alloc, "FIELD")
+        .action(ArgAction::Append)
+        .help(help::FIELD_HELP)
+}
+
+/// A subcommand with the words that have to be there.
+fn with_required_words<'a>(
+    alloc: Global,
+    name: &'a str,
+    page: Page<'a>,
+) -> Result<Command<'a>, AllocError>
+    ensures { IfOk result (λ command. app_of command ≡ app_with_required_words name.entry.now) }
+{
+    let plain = plain_command(alloc, name, page);
+    let plain = with_word(alloc, plain, "WHO", help::WHO_HELP)?;
+    let plain = with_word(alloc, plain, "ADDRESS", help::ADDRESS_HELP)?;
+    with_word(alloc, plain, "COMMAND", help::COMMAND_HELP)
 }
 
 /// The command with a word more, which has to be there.

@@ -331,6 +331,36 @@ writes
 
 pub(super) const RAW_HELP: &str = "Read bytes as they are, and not as hex";
 
+pub(super) const REQUEST: Page = Page {
+    about: "Write a request by the names of its fields, in hex",
+    usage: "hart request [OPTIONS] <WHO> <ADDRESS> <COMMAND> [NAME=VALUE]...",
+    help: "\
+Write a request of a master to a device, ready to be sent, by the names and
+values of its fields, as hart explain shows them.
+
+Input: the words of the command line say who asks, which device, with which
+command, and then each field of the command's request once, in any order, as
+NAME=VALUE with _ for each space of the name. Standard input is not read.
+
+  number       in decimal
+  bytes        0x and two hex digits for each byte
+  packed text  capital letters, digits, spaces and signs; spaces are added
+  long tag     any characters of Latin-1, spaces are added; or 0x and digits
+  date         2026-11-27, or \"not set\"
+
+Output (stdout): the message in upper case hex, with its preamble bytes FF and
+its check byte. If a word cannot be read nothing is written, and standard error
+gives its number and why, as in bad word 4: unknown field: 1 is WHO, 2 ADDRESS,
+3 COMMAND, 4 the first field.",
+    example: "\
+Examples:
+  hart request P @0 0
+writes
+  FF FF FF FF FF 02 80 00 00 82",
+};
+
+pub(super) const FIELD_HELP: &str = "A field of the request, as date=2026-11-27";
+
 pub(super) const WHO_HELP: &str = "The master that asks: P for the primary, S for the secondary";
 
 pub(super) const ADDRESS_HELP: &str = "\

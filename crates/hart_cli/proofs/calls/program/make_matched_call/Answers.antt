@@ -1,0 +1,50 @@
+use Rattle.std.proofs.Common.{◌≡◌, sym, arith, List, None, Option, option_map, Bool, Some, if◌then◌else◌}
+use Rattle.std.proofs.lemmas.Bool.Decides.{nat_tests}
+use Rattle.std.proofs.lemmas.Grind.{common_steps}
+use Rattle.std.specs.Option.{option_and_then}
+use Rattle.clap.specs.Words.{Row, Text, subcommand_rows_of}
+use Rattle.hart_frame.specs.wire.Message.{IsPreambleCount}
+use Rattle.hart_cli.specs.declared.calls.program.command_line.Call.{Call}
+use Rattle.hart_cli.specs.declared.calls.program.command_line.Call.TheVariants.{Answer, Dump, Encode, Request, Serve, Sim}
+use Rattle.hart_cli.specs.encode.MessageWords.{MessageWords}
+use Rattle.hart_cli.specs.request.RequestWords.{RequestWords}
+use Rattle.hart_cli.specs.program.CommandLine.{call_of, explain_call, message_words, preambles_of, request_words}
+use Rattle.hart_cli.specs.program.Program.{HasPreambleCount}
+use Rattle.hart_cli.proofs.calls.program.make_matched_call.Goals as goal
+
+-- the number of preamble bytes of the words of `encode` is one that a sender may put
+words_counted : (word : Option Text) (who address command : Option Text) (payload : Text) (words : MessageWords)
+    → message_words (option_and_then preambles_of word) who address command payload ≡ Some words → IsPreambleCount words.preambles
+words_counted word who address command payload words h = grind (arith, common_steps, nat_tests)
+
+-- so is that of the words of `request`
+request_counted : (word : Option Text) (who address command : Option Text) (fields : List Text) (words : RequestWords)
+    → request_words (option_and_then preambles_of word) who address command fields ≡ Some words → IsPreambleCount words.preambles
+request_counted word who address command fields words h = grind (arith, common_steps, nat_tests)
+
+-- a call of `encode` has the words that the matches give
+words_called : (answer dump explain serve sim encode request : Bool) (image raw : Option Text) (given : Option MessageWords)
+    (named : Option RequestWords) (words : MessageWords)
+    → (if answer then Some (Answer image) else if dump then Some Dump else if explain then Some (explain_call raw)
+    else if serve then Some (Serve image)
+    else if sim then Some (Sim image)
+    else if encode then option_map (λ w. Encode w) given
+    else if request then option_map (λ w. Request w) named else None) ≡ Some (Encode words) → given ≡ Some words
+words_called answer dump explain serve sim encode request image raw given named words h = grind (arith, common_steps)
+
+-- and one of `request` those that they give it
+request_called : (answer dump explain serve sim encode request : Bool) (image raw : Option Text) (given : Option MessageWords)
+    (named : Option RequestWords) (words : RequestWords)
+    → (if answer then Some (Answer image) else if dump then Some Dump else if explain then Some (explain_call raw)
+    else if serve then Some (Serve image)
+    else if sim then Some (Sim image)
+    else if encode then option_map (λ w. Encode w) given
+    else if request then option_map (λ w. Request w) named else None) ≡ Some (Request words) → named ≡ Some words
+request_called answer dump explain serve sim encode request image raw given named words h = grind (arith, common_steps)
+
+-- a call of `encode` or `request` that words make has a number of preamble bytes that a sender puts
+call_counted : (met : Option (Text × List Row)) (call : Call) → call_of met ≡ Some call → HasPreambleCount call
+call_counted met call gives = grind (arith, words_counted, words_called, request_counted, request_called)
+
+pub make_call-requires : goal.make_call-requires
+make_call-requires g c = call_counted (subcommand_rows_of c.args.matches.now) _ (sym c.in-Some.ensures)

@@ -1,0 +1,27 @@
+-- The reasons of faults of fields (own profile).
+use Rattle.std.specs.Prelude.{◌++◌, ℕ, List, [], codes, decimal, slice_get}
+use Rattle.std.specs.Option.{option_map_or}
+use Rattle.hart_commands.specs.Commands.{request_rows}
+use Rattle.hart_cli.specs.declared.calls.request.fault.FieldFault.{FieldFault}
+use Rattle.hart_cli.specs.declared.calls.request.fault.FieldFault.TheVariants.{BadCharacter, GivenTwice, Missing, NoBytes, NoCodes, NoDate}
+use Rattle.hart_cli.specs.declared.calls.request.fault.FieldFault.TheVariants.{NoNumber, NotNamed, Refused, TooLong, UnknownCommand}
+use Rattle.hart_cli.specs.declared.calls.request.fault.FieldFault.TheVariants.{UnknownField}
+
+-- The name of the field at a place of the requests of a command.
+abbrev pub name_at : ℕ → ℕ → List ℕ
+name_at command field = option_map_or (λ row. row.name) (slice_get (request_rows command) field) []
+
+-- A fault of a field has this text. The place of a character, counted from 0, and other numbers are in decimal.
+abbrev pub reason_text : FieldFault → List ℕ
+reason_text UnknownCommand = codes "unknown command"
+reason_text NotNamed = codes "no NAME=VALUE"
+reason_text UnknownField = codes "unknown field"
+reason_text GivenTwice = codes "given twice"
+reason_text (Missing command field) = codes "missing field " ++ name_at command field
+reason_text (BadCharacter place) = codes "bad character at " ++ decimal place
+reason_text (TooLong most) = codes "too long: at most " ++ decimal most ++ codes " characters"
+reason_text (NoNumber greatest) = codes "no number from 0 to " ++ decimal greatest
+reason_text NoDate = codes "no date"
+reason_text (NoBytes count) = codes "not 0x and " ++ decimal count ++ codes " bytes in hex"
+reason_text NoCodes = codes "not 0x and 1 to 8 bytes in hex"
+reason_text (Refused code) = codes "refused with code " ++ decimal code

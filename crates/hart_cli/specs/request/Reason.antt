@@ -1,0 +1,8 @@
+-- The parts of the text of a reason (own profile).
+use Rattle.std.specs.Prelude.{◌++◌, ℕ, List}
+use Rattle.hart_line.specs.FaultText.{number_text}
+use Rattle.hart_cli.specs.declared.calls.request.reason.Reason.{Reason}
+
+-- The parts of a reason are written in this order.
+abbrev pub reasoned : Reason → List ℕ
+reasoned reason = reason.before.now ++ number_text reason.number ++ reason.after.now

@@ -1,0 +1,133 @@
+-- The bytes that the value of a field writes, by how they are meant (own profile).
+use Rattle.std.specs.Prelude.{ℕ, ℤ, ◌+◌, ◌-◌, ◌*◌, ◌/◌, ◌%◌, ◌==◌, ◌&&◌, nat_le, nat_lt, if◌then◌else◌, Bool, List, [], ◌∷◌, ◌++◌, pos}
+use Rattle.std.specs.Prelude.{codes, is_some, length, replicate, take, Result, Ok, Err, Option, None, Some}
+use Rattle.std.specs.List.{prefix_len}
+use Rattle.std.specs.Option.{option_map_or}
+use Rattle.std.specs.Result.{result_ok}
+use Rattle.std.specs.Str.{all_ascii_digits, bytes_eq, chars}
+use Rattle.std.specs.Str.Parse.{digits_value, without_leading_plus}
+use Rattle.jiff.specs.Words.{parse_date}
+use Rattle.hart_values.specs.hart_date.Calendar.{not_set}
+use Rattle.hart_commands.specs.declared.fields.FieldKind.{FieldKind}
+use Rattle.hart_commands.specs.declared.fields.FieldKind.TheVariants.{Bytes, Number, PackedText, LatinText, Date, Float, Variables}
+use Rattle.hart_commands.specs.declared.fields.FieldSize.{FieldSize}
+use Rattle.hart_commands.specs.declared.fields.FieldSize.TheVariants.{Exactly, AllBut}
+use Rattle.hart_line.specs.script.Words.{data_of}
+use Rattle.hart_cli.specs.declared.calls.request.fault.FieldFault.{FieldFault}
+use Rattle.hart_cli.specs.declared.calls.request.fault.FieldFault.TheVariants.{BadCharacter, NoBytes, NoCodes, NoDate, NoNumber, TooLong}
+use Rattle.hart_cli.specs.explain.Values.{is_printable}
+
+-- A number is written in decimal digits, after a plus sign at most, and is one from 0 to the greatest.
+abbrev pub number_up_to : ℕ → List ℕ → Option ℕ
+number_up_to greatest word =
+    let digits = without_leading_plus word in
+    let number = digits_value 10 digits in
+    if all_ascii_digits digits && nat_lt 0 (length digits) && nat_le number greatest then Some number else None
+
+-- A field of one byte has numbers up to 255, and one of two bytes up to 65535.
+abbrev pub greatest_of : ℕ → ℕ
+greatest_of size = if size == 1 then 255 else 65535
+
+-- A number has one byte, or two with the most significant first.
+abbrev pub number_bytes : ℕ → ℕ → List ℕ
+number_bytes size number = if size == 1 then number ∷ [] else (number / 256) ∷ (number % 256) ∷ []
+
+-- The bytes of a number field are those of the number, if there is one.
+abbrev pub number_or_fault : ℕ → Option ℕ → Result (List ℕ) FieldFault
+number_or_fault size None = Err (NoNumber (greatest_of size))
+number_or_fault size (Some number) = Ok (number_bytes size number)
+
+-- A word writes the bytes of the number that it writes.
+abbrev pub number_value : ℕ → List ℕ → Result (List ℕ) FieldFault
+number_value size word = number_or_fault size (number_up_to (greatest_of size) word)
+
+-- Bytes are written `0x`, which are the bytes 48 and 120, and then as DATA is.
+abbrev pub hex_of : List ℕ → Option (List ℕ)
+hex_of (first ∷ second ∷ digits) = if (first == 48) && (second == 120) then data_of digits else None
+hex_of _ = None
+
+-- Bytes that were read are at least and at most so many.
+abbrev pub sized : FieldFault → (least most : ℕ) → Option (List ℕ) → Result (List ℕ) FieldFault
+sized fault least most None = Err fault
+sized fault least most (Some bytes) =
+    if nat_le least (length bytes) && nat_le (length bytes) most then Ok bytes else Err fault
+
+-- The bytes of a field whose bytes are written one by one.
+abbrev pub bytes_value : ℕ → List ℕ → Result (List ℕ) FieldFault
+bytes_value size word = sized (NoBytes size) size size (hex_of word)
+
+-- The bytes of a field that has all bytes that are left: one to eight, as the codes of Command 9.
+abbrev pub codes_value : List ℕ → Result (List ℕ) FieldFault
+codes_value word = sized NoCodes 1 8 (hex_of word)
+
+-- A text, and spaces after it up to this number of characters.
+abbrev pub padded : ℕ → List ℕ → List ℕ
+padded count text = text ++ replicate (count - length text) 32
+
+-- The characters of a text that a field of this number of characters has room for are `take most text`. The first of them that does not
+-- pass a test is bad; otherwise a longer text is too long; otherwise the text is padded.
+abbrev pub text_value : (ℕ → Bool) → ℕ → List ℕ → Result (List ℕ) FieldFault
+text_value passes most text =
+    let place = prefix_len passes (take most text) in
+    if nat_lt place (length (take most text)) then Err (BadCharacter place)
+    else if nat_lt most (length text) then Err (TooLong most)
+    else Ok (padded most text)
+
+-- The characters of packed text have the codes hex 20 to 5F; those of ISO Latin-1 can be printed, and have codes of one byte.
+abbrev pub can_have : FieldKind → ℕ → Bool
+can_have PackedText code = nat_le 32 code && nat_lt code 96
+can_have _ code = is_printable code && nat_lt code 256
+
+-- Four characters are packed into three bytes: those of a number of 24 bits, six for each character, the first on top.
+abbrev pub group_number : (w x y z : ℕ) → ℕ
+group_number w x y z = 262144 * (w % 64) + 4096 * (x % 64) + 64 * (y % 64) + z % 64
+
+abbrev pub packed_group : (w x y z : ℕ) → List ℕ
+packed_group w x y z =
+    (group_number w x y z / 65536) ∷ (group_number w x y z / 256 % 256) ∷ (group_number w x y z % 256) ∷ []
+
+-- A text is packed by each four of its characters.
+abbrev pub packed : List ℕ → List ℕ
+packed (w ∷ x ∷ y ∷ z ∷ text) = packed_group w x y z ++ packed text
+packed _ = []
+
+-- A text in packed form, if it is one.
+abbrev pub pack : Result (List ℕ) FieldFault → Result (List ℕ) FieldFault
+pack (Ok text) = Ok (packed text)
+pack (Err fault) = Err fault
+
+-- The bytes of a packed text, four characters for each three of them.
+abbrev pub packed_value : ℕ → List ℕ → Result (List ℕ) FieldFault
+packed_value size word = pack (text_value (can_have PackedText) (4 * size / 3) (chars word))
+
+-- The bytes of a text in ISO Latin-1 are written `0x`, or else as the characters whose codes they are.
+abbrev pub latin_value : ℕ → List ℕ → Result (List ℕ) FieldFault
+latin_value size word =
+    if is_some (hex_of word) then bytes_value size word else text_value (can_have LatinText) size (chars word)
+
+-- A year from 1900 to 2155 is written as a byte.
+abbrev pub year_byte : ℤ → Option ℕ
+year_byte (pos year) = if nat_le 1900 year && nat_le year 2155 then Some (year - 1900) else None
+year_byte _ = None
+
+-- The bytes of a date with this year.
+abbrev pub dated : (day month : ℕ) → Option ℕ → Result (List ℕ) FieldFault
+dated day month None = Err NoDate
+dated day month (Some year) = Ok (day ∷ month ∷ year ∷ [])
+
+-- The bytes of a date are those of a day, as jiff reads it, or of `not set`.
+abbrev pub date_value : List ℕ → Result (List ℕ) FieldFault
+date_value word =
+    if bytes_eq word (codes "not set") then Ok not_set
+    else option_map_or (λ date. dated date.day date.month (year_byte date.year)) (result_ok (parse_date word)) (Err NoDate)
+
+-- The bytes that a word writes as the value of a field of a kind and a size, or why it writes none.
+abbrev pub value_of : FieldKind → FieldSize → List ℕ → Result (List ℕ) FieldFault
+value_of kind (AllBut after) word = codes_value word
+value_of Number (Exactly size) word = number_value size word
+value_of PackedText (Exactly size) word = packed_value size word
+value_of LatinText (Exactly size) word = latin_value size word
+value_of Date (Exactly size) word = date_value word
+value_of Bytes (Exactly size) word = bytes_value size word
+value_of Float (Exactly size) word = bytes_value size word
+value_of Variables (Exactly size) word = bytes_value size word

@@ -1,0 +1,113 @@
+//! `hart request`: a message to send, by the names of its fields.
+ghost use Rattle.std.specs.Prelude.{◌≡◌, ℕ, List, [], map};
+ghost use Rattle.std.specs.Option.{option_map_or};
+ghost use Rattle.hart_frame.specs.wire.Message.{IsPreambleCount};
+ghost use Rattle.hart_cli.specs.request.Request.{IsRequestText, ReadOutcome, RequestOutcome};
+ghost use Rattle.hart_cli.specs.request.Fields.{payload_of};
+ghost use Rattle.hart_cli.specs.request.RequestWords.{RequestWords as Given};
+
+use crate::calls::request::fault::BadField;
+use crate::calls::request::fields::payload_of;
+use crate::fault::CliFault;
+use crate::output::write_all;
+use crate::stream::Sink;
+use crate::text::message_line::message_line;
+use hart_frame::{Frame, Payload};
+use hart_line::{read_address, read_command, read_who};
+use std::alloc::Global;
+use std::marker::Model;
+
+pub mod fault;
+mod fields;
+pub mod laws;
+pub mod reason;
+mod values;
+
+/// What `hart request` was given.
+#[derive(Drop)]
+pub struct RequestWords<'w, 'a: 'w> {
+    /// WHO, the master that asks.
+    pub who: &'a str,
+    /// ADDRESS, the device that is asked.
+    pub address: &'a str,
+    /// COMMAND, the number of the command.
+    pub command: &'a str,
+    /// NAME=VALUE, once for each field of the command; `None` if there are none.
+    pub fields: Option<&'w [&'a str]>,
+    /// How many preamble bytes the message begins with, from 5 to 20.
+    pub preambles: u8,
+}
+
+impl<'w, 'a: 'w> Model for RequestWords<'w, 'a> {
+    ghost use Rattle.std.specs.Prelude.{[], map};
+    ghost use Rattle.std.specs.Option.{option_map_or};
+    ghost use Rattle.hart_cli.specs.request.RequestWords.{RequestWords};
+
+    ghost Value = { RequestWords };
+
+    ghost view = { λ words. record {
+      who = words.who.now;
+      address = words.address.now;
+      command = words.command.now;
+      fields = option_map_or (λ fields. map (λ word. word.now) fields.now) words.fields [];
+      preambles = words.preambles;
+    } };
+}
+
+/// Writes the request of a command whose fields have the values that words give, with so many preamble bytes, as one line of hex.
+///
+/// Each field of the command is given once, in any order, as NAME=VALUE; the name is the one that [`explain`](crate::explain) shows, with
+/// `_` for each space. The request is an STX with burst bit 0 and no expansion bytes.
+///
+/// # Errors
+///
+/// [`CliFault::BadWord`] with the number of the first bad word: 1 is WHO, 2 ADDRESS, 3 COMMAND; then [`CliFault::BadField`]; then
+/// [`CliFault::Write`]. At a bad word nothing is written, and at `Write` a prefix of the line, short of its end. No memory is taken.
+pub fn request<W: Sink>(
+    _alloc: Global,
+    words: &RequestWords<'_, '_>,
+    writer: &mut W,
+) -> Result<(), CliFault>
+    requires { IsPreambleCount words.now.preambles }
+    ensures { RequestOutcome words.now (W.stream writer.old) (W.stream writer.new) result }
+{
+    let request = read_request(words)?;
+    write_all(writer, message_line(&request, words.preambles).as_slice())?;
+    Ok(())
+}
+
+/// Words have one text at most, so that what `request` writes is determined by them.
+pub fn one_request()
+    ensures { (words : Given) (xs ys : List ℕ) → IsRequestText words xs → IsRequestText words ys → xs ≡ ys }
+{}
+
+/// The request that the words write.
+///
+/// # Errors
+///
+/// [`CliFault::BadWord`] with the number of the first bad word, or [`CliFault::BadField`].
+fn read_request(words: &RequestWords<'_, '_>) -> Result<Frame, CliFault>
+    ensures { ReadOutcome words.now result }
+{
+    let Some(master) = read_who(words.who.as_bytes()) else {
+        return Err(CliFault::BadWord { number: 1 });
+    };
+    let Some(address) = read_address(words.address.as_bytes()) else {
+        return Err(CliFault::BadWord { number: 2 });
+    };
+    let Some(command) = read_command(words.command.as_bytes()) else {
+        return Err(CliFault::BadWord { number: 3 });
+    };
+    let payload = payload_of_any(command, words.fields)?;
+    Ok(Frame::request(master, address, command, payload))
+}
+
+/// The data of a request of this command whose fields the words give, if there are any.
+fn payload_of_any(command: u8, fields: Option<&[&str]>) -> Result<Payload, BadField>
+    ensures { result ≡ payload_of command (option_map_or (λ words. map (λ word. word.now) words.now) fields.entry []) }
+{
+    match fields {
+        Some(words) => payload_of(command, words),
+        None => payload_of(command, &[]),
+    }
+}

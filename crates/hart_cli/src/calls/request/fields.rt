@@ -1,0 +1,216 @@
+//! The data of a request, of words that give its fields.
+ghost use Rattle.std.specs.Prelude.{◌≡◌, ◌<◌, ◌≤◌, ◌^◌, [], length, map, option_map, true};
+ghost use Rattle.std.specs.List.{list_any};
+ghost use Rattle.std.specs.Str.{bytes_eq};
+ghost use Rattle.hart_commands.specs.Fields.{seen};
+ghost use Rattle.hart_cli.specs.request.Fields.{are_writable, bad_at, data_of_fields, field_value, first_bad_name, has_name, in_word};
+ghost use Rattle.hart_cli.specs.request.Fields.{is_for, is_writable, name_fault, name_word, named, payload_of, place_for, value_in};
+
+use crate::calls::request::fault::{BadField, FieldFault};
+use crate::calls::request::values::{FieldBytes, value_of};
+use hart_commands::{FieldRow, Request, command_name, request_rows};
+use hart_values::Payload;
+
+/// The number of the word COMMAND.
+const COMMAND: usize = 3;
+
+/// The number of the first word that gives a field.
+const FIRST_FIELD: usize = 4;
+
+/// Returns the data of a request of this command whose fields the words give.
+///
+/// # Errors
+///
+/// [`BadField`] if the command is not known; then for the first word with a bad name; then for the first field of the command that is
+/// missing or whose value is bad; then if the command refuses the data.
+pub fn payload_of(command: u8, words: &[&str]) -> Result<Payload, BadField>
+    ensures { result ≡ payload_of command (map (λ word. word.now) words.now) }
+{
+    if command_name(command).is_none() {
+        return Err(BadField {
+            number: COMMAND,
+            fault: FieldFault::UnknownCommand,
+        });
+    }
+    let rows = request_rows(command);
+    if let Some(bad) = first_bad_name(rows, words) {
+        return Err(bad);
+    }
+    let data = data_of_fields(command, rows, words)?;
+    match Request::read(command, data.as_slice()) {
+        Ok(_) => Ok(data),
+        Err(code) => Err(BadField {
+            number: COMMAND,
+            fault: FieldFault::Refused { code: code.value() },
+        }),
+    }
+}
+
+/// Returns the first word that has a bad name, if there is one.
+fn first_bad_name(rows: &[FieldRow], words: &[&str]) -> Option<BadField>
+    ensures { result ≡ first_bad_name (map seen rows.now) [] (map (λ word. word.now) words.now) }
+{
+    for (place, word) in words.iter().enumerate() {
+        if let Some(fault) = name_fault(rows, &words[..place], word) {
+            return Some(bad_at(place, fault));
+        }
+    }
+    None
+}
+
+/// Returns what is wrong with the name that a word gives, after earlier words, if something is.
+fn name_fault(rows: &[FieldRow], earlier: &[&str], word: &str) -> Option<FieldFault>
+    ensures { result ≡ name_fault (map seen rows.now) (map (λ word. word.now) earlier.now) word.now }
+{
+    let Some((name, _)) = named(word) else {
+        return Some(FieldFault::NotNamed);
+    };
+    if !is_field(rows, name) {
+        return Some(FieldFault::UnknownField);
+    }
+    if is_given(earlier, name) {
+        return Some(FieldFault::GivenTwice);
+    }
+    None
+}
+
+/// Whether a field has this name.
+fn is_field(rows: &[FieldRow], name: &str) -> bool
+    ensures { result ≡ list_any (λ row. bytes_eq name.now (name_word row.name)) (map seen rows.now) }
+{
+    for row in rows {
+        if is_name(row.name, name) {
+            return true;
+        }
+    }
+    false
+}
+
+/// Whether one of some words gives a value to this name.
+fn is_given(words: &[&str], name: &str) -> bool
+    ensures { result ≡ list_any (has_name name.now) (map (λ word. word.now) words.now) }
+{
+    for word in words {
+        if has_name(word, name) {
+            return true;
+        }
+    }
+    false
+}
+
+/// Whether a word gives a value to this name.
+fn has_name(word: &str, name: &str) -> bool
+    ensures { result ≡ has_name name.now word.now }
+{
+    match named(word) {
+        Some((given, _)) => given == name,
+        None => false,
+    }
+}
+
+/// Returns the name and the value that a word gives.
+fn named(word: &str) -> Option<(&str, &str)>
+    ensures { option_map (λ parts. (parts.0.now, parts.1.now)) result ≡ named word.now }
+{
+    word.split_once('=')
+}
+
+/// Returns the data of the fields that words give.
+fn data_of_fields(command: u8, rows: &[FieldRow], words: &[&str]) -> Result<Payload, BadField>
+    requires { are_writable (map seen rows.now) ≡ true }
+    ensures { result ≡ data_of_fields command 0 (map (λ word. word.now) words.now) (map seen rows.now) }
+{
+    let mut data = Payload::new();
+    for (field, row) in rows.iter().enumerate() {
+        let bytes = field_value(command, field, row, words)?;
+        data.extend_from_slice(bytes.as_slice());
+    }
+    Ok(data)
+}
+
+/// Returns the bytes that words give the field of a row.
+fn field_value(
+    command: u8,
+    field: usize,
+    row: &FieldRow,
+    words: &[&str],
+) -> Result<FieldBytes, BadField>
+    requires { is_writable row.now.kind row.now.size ≡ true }
+    ensures { result ≡ field_value command field (map (λ word. word.now) words.now) (seen row.now) }
+{
+    let place = place_for(row, words);
+    if place == words.len() {
+        return Err(bad_at(place, FieldFault::Missing { command, field }));
+    }
+    match value_of(row, value_in(words[place])) {
+        Ok(bytes) => Ok(bytes),
+        Err(fault) => Err(bad_at(place, fault)),
+    }
+}
+
+/// Returns the fault of the word of fields at a place, counted from 0.
+fn bad_at(place: usize, fault: FieldFault) -> BadField
+    requires { place < 2 ^ 63 }
+    ensures { result ≡ bad_at place fault }
+{
+    BadField {
+        number: FIRST_FIELD + place,
+        fault,
+    }
+}
+
+/// Returns the place of the first word that gives the field of a row a value, or the number of words.
+fn place_for(row: &FieldRow, words: &[&str]) -> usize
+    ensures place { result ≡ place_for (map (λ word. word.now) words.now) (seen row.now) }
+    ensures within { result ≤ length words.now }
+{
+    for (place, word) in words.iter().enumerate() {
+        if is_for(row, word) {
+            return place;
+        }
+    }
+    words.len()
+}
+
+/// Whether a word gives the field of a row a value.
+fn is_for(row: &FieldRow, word: &str) -> bool
+    ensures { result ≡ is_for (seen row.now) word.now }
+{
+    match named(word) {
+        Some((name, _)) => is_name(row.name, name),
+        None => false,
+    }
+}
+
+/// Returns the value that a word gives.
+fn value_in(word: &str) -> &str
+    ensures { result.now ≡ value_in word.now }
+{
+    match named(word) {
+        Some((_, value)) => value,
+        None => "",
+    }
+}
+
+/// Whether a word is the name of a field, with `_` for each space.
+fn is_name(name: &str, word: &str) -> bool
+    ensures { result ≡ bytes_eq word.now (name_word name.now) }
+{
+    let (name, word) = (name.as_bytes(), word.as_bytes());
+    if name.len() != word.len() {
+        return false;
+    }
+    for (index, code) in name.iter().enumerate() {
+        if in_word(*code) != word[index] {
+            return false;
+        }
+    }
+    true
+}
+
+/// Returns what stands in a word for a character of a name.
+fn in_word(code: u8) -> u8
+    ensures { result ≡ in_word code }
+{
+    if code == b' ' { b'_' } else { code }
+}

@@ -1,0 +1,79 @@
+//! The text of a reason, made without memory.
+ghost use Rattle.std.specs.Prelude.{◌≡◌, ◌+◌, ◌++◌, ◌≤◌, [], decimal, length};
+
+use std::fmt;
+
+/// The text of a reason, in the parts that it is written of, so that it can be written without memory too.
+#[derive(Clone, Copy, Debug)]
+pub struct Reason {
+    /// The whole text, or what stands before its last part.
+    pub before: &'static str,
+    /// The number, which is written in decimal.
+    pub number: Option<usize>,
+    /// What stands after the number.
+    pub after: &'static str,
+    /// With a number, a reason is 80 bytes long at most.
+    pub ghost short: { length before.now + length after.now ≤ 60 },
+}
+
+impl Reason {
+    ghost use Rattle.hart_cli.specs.request.Reason.{reasoned};
+
+    /// No text.
+    pub fn none() -> Reason
+        ensures { reasoned result ≡ [] }
+    {
+        Reason::plain("")
+    }
+
+    /// The text with no number in it.
+    pub fn plain(text: &'static str) -> Reason
+        requires { length text.now ≤ 60 }
+        ensures { reasoned result ≡ text.now }
+    {
+        Reason {
+            before: text,
+            number: None,
+            after: "",
+        }
+    }
+
+    /// The text that ends in a word.
+    pub fn worded(before: &'static str, word: &'static str) -> Reason
+        requires { length before.now + length word.now ≤ 60 }
+        ensures { reasoned result ≡ before.now ++ word.now }
+    {
+        Reason {
+            before,
+            number: None,
+            after: word,
+        }
+    }
+
+    /// The text with a number in it.
+    pub fn numbered(before: &'static str, number: usize, after: &'static str) -> Reason
+        requires { length before.now + length after.now ≤ 60 }
+        ensures { reasoned result ≡ before.now ++ decimal number ++ after.now }
+    {
+        Reason {
+            before,
+            number: Some(number),
+            after,
+        }
+    }
+}
+
+impl fmt::Display for Reason {
+    ghost use Rattle.std.specs.Prelude.{Some};
+    ghost use Rattle.hart_cli.specs.request.Reason.{reasoned};
+
+    ghost output = { λ reason. Some (reasoned reason) };
+
+    fn fmt<W: fmt::Write>(&self, f: &mut fmt::Formatter<W>) -> fmt::Result {
+        f.write_str(self.before)?;
+        if let Some(number) = self.number {
+            write!(f, "{number}")?;
+        }
+        f.write_str(self.after)
+    }
+}
