@@ -9,7 +9,7 @@ use Rattle.hart_commands.specs.Commands.{command_name, request_rows}
 use Rattle.hart_commands.specs.Fields.{Row}
 use Rattle.hart_commands.specs.RequestData.{Reading, request_reading}
 use Rattle.hart_commands.specs.declared.fields.FieldKind.{FieldKind}
-use Rattle.hart_commands.specs.declared.fields.FieldKind.TheVariants.{Number, PackedText, LatinText, Date}
+use Rattle.hart_commands.specs.declared.fields.FieldKind.TheVariants.{Number, UnitCode, PackedText, LatinText, Date}
 use Rattle.hart_commands.specs.declared.fields.FieldSize.{FieldSize}
 use Rattle.hart_commands.specs.declared.fields.FieldSize.TheVariants.{Exactly, AllBut}
 use Rattle.hart_cli.specs.declared.calls.request.fault.BadField.{BadField}
@@ -129,6 +129,7 @@ payload_of command words =
 abbrev pub is_writable : FieldKind → FieldSize → Bool
 is_writable kind (AllBut after) = true
 is_writable Number (Exactly size) = (size == 1) || (size == 2)
+is_writable UnitCode (Exactly size) = size == 1
 is_writable PackedText (Exactly size) = (size == 6) || (size == 12) || (size == 24)
 is_writable LatinText (Exactly size) = size == 32
 is_writable Date (Exactly size) = size == 3

@@ -9,7 +9,7 @@ use Rattle.std.specs.Str.Parse.{digits_value, without_leading_plus}
 use Rattle.jiff.specs.Words.{parse_date}
 use Rattle.hart_values.specs.hart_date.Calendar.{not_set}
 use Rattle.hart_commands.specs.declared.fields.FieldKind.{FieldKind}
-use Rattle.hart_commands.specs.declared.fields.FieldKind.TheVariants.{Bytes, Number, PackedText, LatinText, Date, Float, Variables}
+use Rattle.hart_commands.specs.declared.fields.FieldKind.TheVariants.{Bytes, Number, UnitCode, PackedText, LatinText, Date, Float, Variables}
 use Rattle.hart_commands.specs.declared.fields.FieldSize.{FieldSize}
 use Rattle.hart_commands.specs.declared.fields.FieldSize.TheVariants.{Exactly, AllBut}
 use Rattle.hart_line.specs.script.Words.{data_of}
@@ -125,6 +125,7 @@ date_value word =
 abbrev pub value_of : FieldKind → FieldSize → List ℕ → Result (List ℕ) FieldFault
 value_of kind (AllBut after) word = codes_value word
 value_of Number (Exactly size) word = number_value size word
+value_of UnitCode (Exactly size) word = number_value size word
 value_of PackedText (Exactly size) word = packed_value size word
 value_of LatinText (Exactly size) word = latin_value size word
 value_of Date (Exactly size) word = date_value word

@@ -36,7 +36,7 @@ pub fn value_of(row: &FieldRow, word: &str) -> Result<FieldBytes, FieldFault>
         return sized(hex_bytes(word), 1, 8, FieldFault::NoCodes);
     };
     match row.kind {
-        FieldKind::Number => number_value(size, word),
+        FieldKind::Number | FieldKind::UnitCode => number_value(size, word),
         FieldKind::PackedText => packed_value(size, word),
         FieldKind::LatinText => latin_value(word),
         FieldKind::Date => date_value(word),

@@ -10,7 +10,7 @@ use Rattle.std.specs.Str.{chars}
 use Rattle.hart_commands.specs.Commands.{command_name, commands, known, request_rows}
 use Rattle.hart_commands.specs.Fields.{Row, bytes_of, fields_of, text}
 use Rattle.hart_commands.specs.declared.fields.FieldKind.{FieldKind}
-use Rattle.hart_commands.specs.declared.fields.FieldKind.TheVariants.{Bytes, Number, PackedText, LatinText, Date, Float, Variables}
+use Rattle.hart_commands.specs.declared.fields.FieldKind.TheVariants.{Bytes, Number, UnitCode, PackedText, LatinText, Date, Float, Variables}
 use Rattle.hart_commands.specs.declared.fields.FieldSize.{FieldSize}
 use Rattle.hart_commands.specs.declared.fields.FieldSize.TheVariants.{AllBut, Exactly}
 use Rattle.hart_commands.proofs.lemmas.Rows.{of_known}
@@ -69,6 +69,7 @@ length-value : (kind : FieldKind) (size : ℕ) (word bytes : List ℕ) → is_wr
     → value_of kind (Exactly size) word ≡ Ok bytes → length bytes ≡ size
 length-value Bytes size word bytes suits is = grind (arith, common_steps, nat_tests)
 length-value Number size word bytes suits is = grind (arith, common_steps, nat_tests)
+length-value UnitCode size word bytes suits is = grind (arith, common_steps, nat_tests)
 length-value PackedText size word bytes suits is = length-packed_value size (chars word) bytes suits is
 length-value LatinText size word bytes suits is = grind (arith, common_steps, nat_tests, length-text)
 length-value Date size word bytes suits is = grind (arith, common_steps, nat_tests)
