@@ -3,12 +3,11 @@ ghost use Rattle.std.specs.Prelude.{◌≡◌, ◌<◌, [], ◌∷◌, Any, IfEr
 ghost use Rattle.std.specs.Option.{option_copied};
 ghost use Rattle.hart_commands.specs.RequestData.{IsRequest};
 ghost use Rattle.hart_device.specs.Device.{IsDevice};
-ghost use Rattle.hart_device.specs.declared.process.Process.{Process};
+ghost use Rattle.hart_line.specs.Types.{Process, Noise, Submit, Turn};
 ghost use Rattle.hart_line.specs.line.Room.{HasRoomFor, LeavesRoom};
 ghost use Rattle.hart_line.specs.line.Line.{StepsOn, StopsAt};
 ghost use Rattle.hart_line.specs.world.Promises.{AreWellMade};
 ghost use Rattle.hart_line.specs.world.Spoken.{frame_if, party_of};
-ghost use Rattle.hart_line.specs.declared.event.LineEvent.TheVariants.{Noise, Submit, Turn};
 
 use crate::line::event_frames::EventFrames;
 use crate::line::leg::{answer_among, answer_in, arrived_in};

@@ -1,12 +1,8 @@
 -- The laws of scripts and of their worlds, for the proofs of this crate and of those above.
 use Rattle.hart_line.proofs.Common.{arith, length, take, refl, ◌≡◌, ◌<◌, ◌^◌, ℕ, List, mod-eq_of_lt, common_steps, take_all}
-use Rattle.hart_line.proofs.Common.{slice_get_within, registers_of_lists-none, LineEvent, Leg, Undetected, Spoken}
-use Rattle.hart_line.proofs.Common.{Outcome, DeviceState}
-use Rattle.hart_line.specs.world.Faults.{IsFault}
+use Rattle.hart_line.proofs.Common.{slice_get_within, registers_of_lists-none, LineEvent, Leg, Undetected, Spoken, Outcome, DeviceState}
+use Rattle.hart_line.proofs.Common.{IsFault, AreWellMade, IsWellMadeStart, IsLast, Start, World, first_world, state_of, Led}
 use Rattle.hart_line.specs.world.Kept.{KeepsPromises}
-use Rattle.hart_line.specs.world.Promises.{AreWellMade, IsWellMadeStart}
-use Rattle.hart_line.specs.world.Step.{IsLast}
-use Rattle.hart_line.specs.world.World.{Start, World, first_world, state_of}
 use Rattle.hart_line.proofs.lemmas.world.Answered.{answered_last}
 use Rattle.hart_line.proofs.lemmas.world.Leads.{fault_before, leads_one, undetected_one}
 use Rattle.hart_line.proofs.lemmas.world.Reset.{refused_last, refused_step, unseen}
@@ -17,7 +13,6 @@ pub use Rattle.hart_line.proofs.lemmas.script.Items.{words_have_one_value-items}
 pub use Rattle.hart_line.proofs.lemmas.script.Rows.{texts_have_one_script-no_bad_line, texts_have_one_script-one_bad_line}
 pub use Rattle.hart_line.proofs.lemmas.script.Rows.{texts_have_one_script-one_script}
 pub use Rattle.hart_line.proofs.lemmas.world.Leads.{fault_not_detectable as scripts_keep_their_promises-detected}
-use Rattle.hart_line.specs.world.Led.{Led}
 
 pub scripts_have_one_last_world-one_world : (start : Start) (events : List LineEvent) (a b : World)
     → IsLast start events a → IsLast start events b → a ≡ b

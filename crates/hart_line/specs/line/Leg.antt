@@ -1,10 +1,8 @@
 -- What was sent in a leg, and what the device answers to what that brings it, for private calls alone (own profile).
 use Rattle.std.specs.Prelude.{◌≡◌, ℕ, ◌≤◌, List, Option, None, Some}
 use Rattle.hart_frame.specs.wire.Body.{IsBody}
-use Rattle.hart_frame.specs.wire.FrameParts.{FrameParts}
-use Rattle.hart_device.specs.answer.Delivery.{Brought, answer_to, state_after_delivery}
-use Rattle.hart_device.specs.Device.{DeviceState}
-use Rattle.hart_device.specs.declared.process.Process.{Process}
+use Rattle.hart_line.specs.Types.{FrameParts, Brought, DeviceState, Process}
+use Rattle.hart_device.specs.answer.Delivery.{answer_to, state_after_delivery}
 use Rattle.hart_line.specs.world.Spoken.{SpokenFrame, frame_of}
 
 -- The device gave this answer, and is in this state, after something that it was brought, of which this holds.

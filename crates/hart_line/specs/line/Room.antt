@@ -2,7 +2,7 @@
 use Rattle.std.specs.Prelude.{◌≡◌, ◌≤◌, ◌+◌, List, [], ◌∷◌, count_by, length}
 use Rattle.hart_line.specs.line.Line.{LineState}
 use Rattle.hart_line.specs.world.Needs.{is_submission}
-use Rattle.hart_line.specs.declared.event.LineEvent.{LineEvent}
+use Rattle.hart_line.specs.Types.{LineEvent}
 
 -- A line that keeps nothing of what was spoken has room for the outcomes of these events.
 pub record HasRoomFor (events : List LineEvent) (line : LineState) : Type 0 where

@@ -1,21 +1,13 @@
 -- Why a script is not carried out (own profile).
 use Rattle.std.specs.Prelude.{◌≡◌, List, ◌∷◌, ◌++◌, take, slice_get, Option, None, Some}
-use Rattle.hart_frame.specs.wire.FrameParts.{FrameParts}
+use Rattle.hart_line.specs.Types.{FrameParts, Brought, Heard, Chars, LineEvent, Turn, Noise, Leg, LineFault, BadLine, Memory, Undetected}
 use Rattle.hart_values.specs.EachMaster.{of_master}
-use Rattle.hart_device.specs.answer.Delivery.{Brought}
 use Rattle.hart_line.specs.world.Damage.{Arrives, IsDetectable, IsUndetected, Reaches}
 use Rattle.hart_line.specs.world.Needs.{IsNeededBy}
 use Rattle.hart_line.specs.world.Spoken.{SpokenFrame}
 use Rattle.hart_line.specs.world.Step.{IsLast, LeadsTo, sent_back, sent_by}
 use Rattle.hart_line.specs.world.World.{Start, World}
-use Rattle.hart_line.specs.declared.event.Heard.{Heard}
-use Rattle.hart_line.specs.declared.event.Heard.TheVariants.{Chars}
-use Rattle.hart_line.specs.declared.event.LineEvent.{LineEvent}
-use Rattle.hart_line.specs.declared.event.LineEvent.TheVariants.{Turn, Noise}
-use Rattle.hart_line.specs.declared.fault.Leg.{Leg}
 use Rattle.hart_line.specs.declared.fault.Leg.TheVariants as legs
-use Rattle.hart_line.specs.declared.fault.LineFault.{LineFault}
-use Rattle.hart_line.specs.declared.fault.LineFault.TheVariants.{BadLine, Memory, Undetected}
 
 -- What is heard in a leg of an event, and what was sent in it. Up, in a turn, the master sends the request in its hand. Down, the device
 -- sends back its answer to what the leg up brought it. At noise nothing is sent. No other event has a leg.

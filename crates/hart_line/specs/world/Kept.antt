@@ -1,24 +1,16 @@
 -- What is promised of a script, beside `Led`: of its worlds, and of the device and the outcomes that are given back (own profile).
 use Rattle.std.specs.Prelude.{◌≡◌, ◌≤◌, ◌+◌, ◌%◌, ◌^◌, List, [], ℕ, Option, Some, IfSome, IsTrue, false, length, slice_get}
 use Rattle.hart_values.specs.EachMaster.{of_master}
-use Rattle.hart_values.specs.declared.master_id.MasterId.{MasterId}
+use Rattle.hart_line.specs.Types.{MasterId, Reply, Request, DeviceState, Heard, LineEvent, Turn, Outcome, Answered}
 use Rattle.hart_commands.specs.Registers.{registers_of}
 use Rattle.hart_commands.specs.RequestCode.{is_write}
 use Rattle.hart_commands.specs.RequestData.{command_of}
-use Rattle.hart_commands.specs.declared.reply.Reply.{Reply}
-use Rattle.hart_commands.specs.declared.request.Request.{Request}
-use Rattle.hart_device.specs.Device.{DeviceState}
 use Rattle.hart_device.specs.answer.Answer.{after_refusal}
 use Rattle.hart_line.specs.world.Executions.{last_executions, times_executed}
 use Rattle.hart_line.specs.world.Promises.{AnswersLastSending, AreWellMade, IsExecutedFromHand, IsExecutedInItsTurn, IsLastReset}
 use Rattle.hart_line.specs.world.Promises.{IsRefusedByDevice, IsStepOf, IsUnrefusedWrite, brought_in_step, requests_of, sendings_in}
 use Rattle.hart_line.specs.world.Step.{IsLast}
 use Rattle.hart_line.specs.world.World.{Start, World, first_world, overwrites_of, state_of}
-use Rattle.hart_line.specs.declared.event.Heard.{Heard}
-use Rattle.hart_line.specs.declared.event.LineEvent.{LineEvent}
-use Rattle.hart_line.specs.declared.event.LineEvent.TheVariants.{Turn}
-use Rattle.hart_line.specs.declared.line.report.Outcome.{Outcome}
-use Rattle.hart_line.specs.declared.line.report.Outcome.TheVariants.{Answered}
 
 -- What is promised if a script was carried out, and this device and these outcomes are given back.
 pub record KeepsPromises (start : Start) (events : List LineEvent) (device : DeviceState) (outcomes : List Outcome) : Type 0 where

@@ -2,31 +2,21 @@
 use Rattle.std.specs.Prelude.{◌≡◌, Bool, true, false, ℕ, ◌+◌, nat_le, if◌then◌else◌, List, [], ◌∷◌, ◌++◌, length, slice_set, Option, None}
 use Rattle.std.specs.Prelude.{Some}
 use Rattle.std.specs.Option.{option_to_list}
-use Rattle.hart_values.specs.declared.address.Address.{Address}
-use Rattle.hart_values.specs.declared.master_id.MasterId.{MasterId}
-use Rattle.hart_frame.specs.heard.Character.{Character}
-use Rattle.hart_frame.specs.wire.FrameParts.{FrameParts, request_parts}
+use Rattle.hart_line.specs.Types.{Address, MasterId, Character, FrameParts, EachMaster, Reply, Request, Brought, Garbled, NoMessage}
+use Rattle.hart_line.specs.Types.{OneFrame, DeviceState, Effect, Nothing, Executes, Resets, MasterFault, Heard, Chars, LineEvent, Submit}
+use Rattle.hart_line.specs.Types.{Turn, Protect, Noise, Restart, Outcome, Answered, NoReply, Unfinished, Refused}
+use Rattle.hart_frame.specs.wire.FrameParts.{request_parts}
 use Rattle.hart_values.specs.EachMaster.{of_master, with_master}
-use Rattle.hart_values.specs.declared.each_master.EachMaster.{EachMaster}
 use Rattle.hart_commands.specs.RequestData.{command_of, request_data}
-use Rattle.hart_commands.specs.declared.reply.Reply.{Reply}
-use Rattle.hart_commands.specs.declared.request.Request.{Request}
 use Rattle.hart_device.specs.answer.Answer.{effect_of, is_answered}
-use Rattle.hart_device.specs.answer.Delivery.{Brought, Garbled, NoMessage, OneFrame, answer_to}
-use Rattle.hart_device.specs.Device.{DeviceState, Effect, Nothing, Executes, Resets, for_both}
+use Rattle.hart_device.specs.answer.Delivery.{answer_to}
+use Rattle.hart_device.specs.Device.{for_both}
 use Rattle.hart_master.specs.Acceptance.{IsReplyTo}
 use Rattle.hart_master.specs.Pairing.{may_ask}
-use Rattle.hart_master.specs.declared.fault.MasterFault.{MasterFault}
 use Rattle.hart_master.specs.declared.fault.MasterFault.TheVariants.{Pending, WrongAddress}
 use Rattle.hart_line.specs.world.Damage.{Arrives, Reaches}
 use Rattle.hart_line.specs.world.Spoken.{SpokenFrame, master_preambles, spoken_by, party_of}
 use Rattle.hart_line.specs.world.World.{Execution, InHand, Start, World, first_world, state_of}
-use Rattle.hart_line.specs.declared.event.Heard.{Heard}
-use Rattle.hart_line.specs.declared.event.Heard.TheVariants.{Chars}
-use Rattle.hart_line.specs.declared.event.LineEvent.{LineEvent}
-use Rattle.hart_line.specs.declared.event.LineEvent.TheVariants.{Submit, Turn, Protect, Noise, Restart}
-use Rattle.hart_line.specs.declared.line.report.Outcome.{Outcome}
-use Rattle.hart_line.specs.declared.line.report.Outcome.TheVariants.{Answered, NoReply, Unfinished, Refused}
 use Rattle.hart_line.specs.declared.line.report.Party.TheVariants.{Device}
 
 -- A submission is refused if a request is in the master's hand, whatever the address, and otherwise if the request may not

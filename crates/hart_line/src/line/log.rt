@@ -1,6 +1,6 @@
 //! What is spoken on a line is noted while it is spoken.
 ghost use Rattle.std.specs.Prelude.{◌<◌, [], ◌∷◌, ◌++◌, ℕ, IfErr, List, OnOk};
-ghost use Rattle.hart_line.specs.declared.line.report.Spoken.{Spoken};
+ghost use Rattle.hart_line.specs.Types.{Spoken};
 
 use crate::{Filling, NoRoom, Spoken};
 

@@ -1,10 +1,8 @@
 //! The two masters of a line, each with the place of its request in hand among the outcomes.
 ghost use Rattle.std.specs.Prelude.{◌≡◌, ℕ, ◌+◌, Option, None, length};
 ghost use Rattle.std.specs.Option.{option_copied};
-ghost use Rattle.hart_values.specs.declared.master_id.MasterId.{MasterId};
-ghost use Rattle.hart_values.specs.declared.each_master.EachMaster.{EachMaster};
+ghost use Rattle.hart_line.specs.Types.{MasterId, EachMaster, FrameParts};
 ghost use Rattle.hart_values.specs.EachMaster.{of_master, with_master};
-ghost use Rattle.hart_frame.specs.wire.FrameParts.{FrameParts};
 ghost use Rattle.hart_commands.specs.RequestData.{IsRequest};
 ghost use Rattle.hart_line.specs.line.Masters.{AreHeld, AreInTurn, Awaits, Concludes, Ends, Hears, Holds, Sends, Submits};
 ghost use Rattle.hart_line.specs.world.Spoken.{frame_if};

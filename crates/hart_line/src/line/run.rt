@@ -1,6 +1,6 @@
 //! Scripts are carried out.
 ghost use Rattle.std.specs.Prelude.{◌≡◌, IfErr, IfOk};
-ghost use Rattle.hart_values.specs.declared.master_id.MasterId.TheVariants.{Primary, Secondary};
+ghost use Rattle.hart_line.specs.Types.{Primary, Secondary};
 ghost use Rattle.hart_master.specs.declared.hand.Hand.TheVariants.{Empty};
 ghost use Rattle.hart_line.specs.world.Faults.{IsFault, IsNotDetectable};
 ghost use Rattle.hart_line.specs.world.Kept.{KeepsPromises};

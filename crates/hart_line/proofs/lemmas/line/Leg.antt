@@ -1,19 +1,14 @@
 -- What arrives in a leg, what it brings the device, and what is spoken.
 use Rattle.hart_line.proofs.Common.{◌≡◌, ℕ, ◌≤◌, ap, refl, arith, Option, None, Some, List, [], ◌∷◌, ◌++◌, replicate, common_steps}
 use Rattle.hart_line.proofs.Common.{MatchOption, option_to_list, MasterId, Character, FrameParts, DeviceState, Brought, BringsBy, Garbled}
-use Rattle.hart_line.proofs.Common.{NoMessage, OneFrame, IdentityParts, Process, Heard, Chars, Clean, Spoken}
-use Rattle.std.proofs.Common.{length-append}
+use Rattle.hart_line.proofs.Common.{NoMessage, OneFrame, IdentityParts, Process, Heard, Chars, Clean, Spoken, length-append, Party}
+use Rattle.hart_line.proofs.Common.{AnswersTo, IsSent, IsSpeakable, AreHeard, Arrives, ArrivesAmong, Reaches, ReachesAmong, SpokenFrame}
+use Rattle.hart_line.proofs.Common.{Speaks, frame_of, master_preambles, party_of, spoken_by, AreSpoken, sent_by, InHand}
 use Rattle.hart_frame.specs.wire.Message.{IsMessage}
 use Rattle.hart_frame.proofs.lemmas.Laws.{messages_have_their_frame_alone-message, messages_have_their_frame_alone-nothing}
 use Rattle.hart_device.specs.answer.Garbled.{HasGarbled, garbled_reply}
 use Rattle.hart_device.specs.declared.answer.garbled.GarbledRequest.{GarbledRequest}
-use Rattle.hart_line.specs.declared.line.report.Party.{Party}
-use Rattle.hart_line.specs.line.Leg.{AnswersTo, IsSent, IsSpeakable}
 use Rattle.hart_line.specs.line.Masters.{Sends}
-use Rattle.hart_line.specs.world.Damage.{AreHeard, Arrives, ArrivesAmong, Reaches, ReachesAmong}
-use Rattle.hart_line.specs.world.Spoken.{SpokenFrame, Speaks, frame_of, master_preambles, party_of, spoken_by, AreSpoken}
-use Rattle.hart_line.specs.world.Step.{sent_by}
-use Rattle.hart_line.specs.world.World.{InHand}
 
 -- WHAT CHARACTERS BRING
 -- A frame that arrives is brought.

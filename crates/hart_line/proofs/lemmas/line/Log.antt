@@ -1,9 +1,7 @@
 -- There is room for all that is spoken.
 use Rattle.hart_line.proofs.Common.{◌≡◌, ◌≤◌, ◌+◌, List, [], ◌∷◌, ◌++◌, length, inl, inr, arith, sum_by-append, LineEvent, Turn}
-use Rattle.std.proofs.lemmas.List.{length-append}
+use Rattle.hart_line.proofs.Common.{length-append, IsLast, Step, Start, World, first_world}
 use Rattle.hart_line.specs.world.Needs.{most_spoken}
-use Rattle.hart_line.specs.world.Step.{IsLast, Step}
-use Rattle.hart_line.specs.world.World.{Start, World, first_world}
 use Rattle.hart_line.proofs.lemmas.world.Steps.{along, turn_cases}
 
 -- An event adds the most that is spoken in it to what was spoken, or less.

@@ -1,6 +1,5 @@
 -- The room for what a script leads to is enough for each of its events.
-use Rattle.hart_line.proofs.Common.{◌∷◌, arith, ℕ, ◌+◌, ◌<◌, List, [], length, drop, get_or, common_steps, drop_more, LineEvent}
-use Rattle.hart_line.specs.line.Line.{LineState}
+use Rattle.hart_line.proofs.Common.{◌∷◌, arith, ℕ, ◌+◌, ◌<◌, List, [], length, drop, get_or, common_steps, drop_more, LineEvent, LineState}
 use Rattle.hart_line.specs.line.Room.{HasRoomFor, LeavesRoom}
 
 -- Where there is room for the events from this one on, there is room for this one, and then for those after it.

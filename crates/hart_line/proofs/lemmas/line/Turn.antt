@@ -1,16 +1,13 @@
 -- A turn of the line is a turn of the world, and noise on it is noise there.
 use Rattle.hart_line.proofs.Common.{◌≡◌, Bool, false, ◌∙◌, refl, Option, None, Some, List, [], ◌∷◌, ◌++◌, ◌⊎◌, arith, common_steps}
 use Rattle.hart_line.proofs.Common.{option_to_list, of_master, with_master, MasterId, FrameParts, DeviceState, Effect, Nothing, after}
-use Rattle.hart_line.proofs.Common.{after_reply, Brought, OneFrame, state_after_delivery, Process, Heard, LineEvent, Turn, Spoken}
-use Rattle.std.proofs.Common.{◌&&◌, if◌then◌else◌, append-nil}
+use Rattle.hart_line.proofs.Common.{after_reply, Brought, OneFrame, state_after_delivery, Process, Heard, LineEvent, Turn, Spoken, ◌&&◌}
+use Rattle.hart_line.proofs.Common.{if◌then◌else◌, append-nil, AnswersTo, IsSent, LineState, Stands, Stepped, AreHeld, Arrives, Reaches}
+use Rattle.hart_line.proofs.Common.{AreSpoken, SpokenFrame, Speaks, master_preambles, party_of, spoken_by, Step, cold_start_after}
+use Rattle.hart_line.proofs.Common.{effect_on, replied, spoken_request, sent_back, sent_by, turned, InHand, Start, World, state_of}
+use Rattle.hart_line.proofs.Common.{MarksWithin}
 use Rattle.hart_frame.specs.wire.Message.{IsPreambleCount}
-use Rattle.hart_line.specs.line.Leg.{AnswersTo, IsSent}
-use Rattle.hart_line.specs.line.Line.{LineState, Stands, Stepped}
-use Rattle.hart_line.specs.line.Masters.{AreHeld, Ends, Sends}
-use Rattle.hart_line.specs.world.Damage.{Arrives, Reaches}
-use Rattle.hart_line.specs.world.Spoken.{AreSpoken, SpokenFrame, Speaks, master_preambles, party_of, spoken_by}
-use Rattle.hart_line.specs.world.Step.{Step, cold_start_after, effect_on, replied, spoken_request, sent_back, sent_by, turned}
-use Rattle.hart_line.specs.world.World.{InHand, Start, World, state_of, MarksWithin}
+use Rattle.hart_line.specs.line.Masters.{Ends, Sends}
 use Rattle.hart_line.proofs.lemmas.line.Leg.{AreSpoken-two, says_request, speaks_sent}
 use Rattle.hart_line.proofs.lemmas.world.Steps.{frame_in, none_reaches, reaches_sent, state-after}
 use Rattle.hart_line.specs.declared.line.report.Party.TheVariants as parties

@@ -1,19 +1,18 @@
 -- Every text is a script or has a first bad line: what its lines say is decided word by word.
 use Rattle.hart_line.proofs.Common.{◌≡◌, ◌<◌, ◌≤◌, ◌⊎◌, ℕ, ◌+◌, suc, List, [], ◌∷◌, length, take, Option, None, Some, Bool, true, false}
-use Rattle.hart_line.proofs.Common.{inl, inr, refl, arith, codes, slice_get, AreFaultBits, Heard, Chars, Clean, Lost}
-use Rattle.hart_line.proofs.Common.{LineEvent, Noise, Protect, Restart, Submit, Turn, Request, Address, MasterId}
+use Rattle.hart_line.proofs.Common.{inl, inr, refl, arith, codes, slice_get, AreFaultBits, Heard, Chars, Clean, Lost, LineEvent, Noise}
+use Rattle.hart_line.proofs.Common.{Protect, Restart, Submit, Turn, Request, Address, MasterId, cases_eq, AreDigits, AreItems}
+use Rattle.hart_line.proofs.Common.{BeginsWithItem, Faulty, IsItemsWord, Item, NoItemBegins, Plain, byte_of, item_meaning, AreEvents}
+use Rattle.hart_line.proofs.Common.{HasFirstBadLine, IsBadLine, IsLegWord, IsScript, Says, is_skipped, lines_in_words, request_of}
+use Rattle.hart_line.proofs.Common.{HasNoValue, address_of, who_of}
 use Rattle.std.proofs.Common.{zero}
-use Rattle.std.proofs.lemmas.Bool.{cases_eq, cases_lt}
+use Rattle.std.proofs.lemmas.Bool.{cases_lt}
 use Rattle.std.proofs.lemmas.Slice.Eq.{bytes_eq-Decides}
 use Rattle.std.specs.Bool.{Decides}
 use Rattle.std.specs.Int.{bit_at}
 use Rattle.std.specs.Str.{bytes_eq}
 use Rattle.hart_frame.specs.heard.Character.{IsFaultBit}
-use Rattle.hart_line.specs.script.Items.{AreDigits, AreItems, BeginsWithItem, Faulty, IsItemsWord, Item, NoItemBegins, Plain, byte_of}
-use Rattle.hart_line.specs.script.Items.{item_meaning}
-use Rattle.hart_line.specs.script.Rows.{AreEvents, HasFirstBadLine, IsBadLine, IsLegWord, IsScript, Says, is_skipped, lines_in_words}
-use Rattle.hart_line.specs.script.Rows.{request_of}
-use Rattle.hart_line.specs.script.Words.{HasNoValue, IsAddressWord, IsWho, address_of, who_of}
+use Rattle.hart_line.specs.script.Words.{IsAddressWord, IsWho}
 use Rattle.hart_line.proofs.lemmas.script.Items.{after_item, before_items, items_begin}
 use Rattle.hart_line.proofs.lemmas.script.Rows.{no_leg, no_noise, says_none}
 

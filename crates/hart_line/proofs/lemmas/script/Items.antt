@@ -1,10 +1,8 @@
 -- Texts that are items end to end.
-use Rattle.hart_line.proofs.Common.{◌≡◌, ◌≢◌, ℕ, ◌≤◌, List, [], ◌∷◌, ◌++◌, get_or, length, map, IsTrue, refl, arith, ap}
-use Rattle.hart_line.proofs.Common.{common_steps, AllByRecursion, flat_map, Character}
-use Rattle.std.proofs.lemmas.List.{append-nil, append_assoc}
+use Rattle.hart_line.proofs.Common.{◌≡◌, ◌≢◌, ℕ, ◌≤◌, List, [], ◌∷◌, ◌++◌, get_or, length, map, IsTrue, refl, arith, ap, common_steps}
+use Rattle.hart_line.proofs.Common.{AllByRecursion, flat_map, Character, append-nil, append_assoc, AreDigits, AreItems, BeginsAsItem}
+use Rattle.hart_line.proofs.Common.{BeginsWithItem, byte_of, EndsBefore, Faulty, IsValidItem, Item, item_meaning, item_spelling, Plain}
 use Rattle.hex.specs.Hex.{is_hex_digit}
-use Rattle.hart_line.specs.script.Items.{AreDigits, AreItems, BeginsAsItem, BeginsWithItem, byte_of, EndsBefore, Faulty, IsValidItem, Item}
-use Rattle.hart_line.specs.script.Items.{item_meaning, item_spelling, Plain}
 
 -- What items spell does not begin with a `!`.
 items_end : (item : Item) (items : List Item) → AllByRecursion IsValidItem items → EndsBefore (flat_map item_spelling items) item

@@ -4,17 +4,12 @@ use Rattle.hart_line.proofs.Common.{subst, nat_tests, common_steps, slice_get, A
 use Rattle.hart_line.proofs.Common.{Contents, Overwrite, registers_of, IsRequest, MasterFault, DeviceState, Effect, Executes, answer_of}
 use Rattle.hart_line.proofs.Common.{reply_of, Brought, Garbled, OneFrame, answer_to, Process, answers_are_replies-read}
 use Rattle.hart_line.proofs.Common.{registers_of_lists-none, writes_execute_their_overwrite-well_made, Heard, LineEvent, Submit, Turn}
-use Rattle.hart_line.proofs.Common.{Answered}
+use Rattle.hart_line.proofs.Common.{Answered, Party, Arrives, AnswersLastSending, IsWellMadeStart, IsStepOf, submissions_of}
+use Rattle.hart_line.proofs.Common.{brought_in_step, spoken_by, submitted, Accepts, IsLast, spoken_request, outcome_of, LeadsTo, effect_on}
+use Rattle.hart_line.proofs.Common.{executions_after, InHand, Start, World, first_world, state_of, Execution, overwrites_of}
 use Rattle.hart_master.specs.Acceptance.{IsReplyTo}
 use Rattle.hart_master.proofs.lemmas.Laws.{communication_faults_are_no_reply-frame}
 use Rattle.hart_commands.proofs.lemmas.Laws.{overwrites_are_valid}
-use Rattle.hart_line.specs.declared.line.report.Party.{Party}
-use Rattle.hart_line.specs.world.Damage.{Arrives}
-use Rattle.hart_line.specs.world.Promises.{AnswersLastSending, IsWellMadeStart, IsStepOf, submissions_of}
-use Rattle.hart_line.specs.world.Promises.{brought_in_step}
-use Rattle.hart_line.specs.world.Spoken.{spoken_by}
-use Rattle.hart_line.specs.world.Step.{submitted, Accepts, IsLast, spoken_request, outcome_of, LeadsTo, effect_on, executions_after}
-use Rattle.hart_line.specs.world.World.{InHand, Start, World, first_world, state_of, Execution, overwrites_of}
 use Rattle.hart_line.proofs.lemmas.world.Basics.{slice_get-append, slice_get-set, some_one}
 use Rattle.hart_line.proofs.lemmas.world.Steps.{along, turn_cases, entered, frame_in, contents-more}
 use Rattle.hart_line.proofs.lemmas.world.Submitted.{held_in}

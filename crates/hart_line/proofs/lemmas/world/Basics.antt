@@ -1,7 +1,7 @@
 -- What an option and a list hold, and what one of two masters has.
 use Rattle.hart_line.proofs.Common.{◌≡◌, ◌≢◌, ℕ, arith, Option, None, Some, inl, inr, refl, List, [], ◌∷◌, ◌++◌, length, slice_set, ◌⊎◌}
 use Rattle.hart_line.proofs.Common.{◌-◌, IsSome, nat_tests, slice_get, option_or, option_map, of_master, with_master, EachMaster, MasterId}
-use Rattle.std.proofs.Common.{◌==◌, if◌then◌else◌}
+use Rattle.hart_line.proofs.Common.{◌==◌, if◌then◌else◌}
 
 -- Options that are one hold one thing.
 pub some_one : {A : Type 0} {x y : A} → Some x ≡ Some y → x ≡ y

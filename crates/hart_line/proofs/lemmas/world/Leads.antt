@@ -2,19 +2,16 @@
 use Rattle.hart_line.proofs.Common.{ap, ◌≡◌, ℕ, ◌<◌, ◌∙◌, sym, arith, Option, None, Some, List, [], ◌∷◌, ◌++◌, suc, pred, take, drop, ◌≤◌}
 use Rattle.hart_line.proofs.Common.{refl, inl, inr, common_steps, slice_get, of_master, MasterId, Character, FrameParts, Reply, Brings}
 use Rattle.hart_line.proofs.Common.{Brought, IdentityParts, deliveries_bring_one-one, deliveries_bring_one-brings, Heard, Clean, Chars}
-use Rattle.hart_line.proofs.Common.{LineEvent, Turn, Noise, Leg, Undetected, LineFault}
-use Rattle.std.proofs.Common.{append-nil}
+use Rattle.hart_line.proofs.Common.{LineEvent, Turn, Noise, Leg, Undetected, LineFault, append-nil, AreHeard, Arrives, ArrivesAmong}
+use Rattle.hart_line.proofs.Common.{IsUndetected, Reaches, ReachesAmong, IsDetectable, IsDetected, IsFault, SpokenFrame, frame_of, Accepts}
+use Rattle.hart_line.proofs.Common.{IsLast, LeadsTo, Step, sent_back, sent_by, InHand, Start, World, first_world}
 use Rattle.hart_frame.specs.declared.heard.found.Found.{Found}
 use Rattle.hart_frame.specs.heard.Frames.{AreFrames}
 use Rattle.hart_frame.proofs.lemmas.Laws.{bodies_are_unambiguous-one_body, frames_are_unambiguous-one_list}
 use Rattle.hart_frame.proofs.lemmas.Laws.{damaged_messages_have_no_other_frame-check, damaged_messages_have_no_other_frame-marked}
 use Rattle.hart_frame.proofs.lemmas.Laws.{messages_have_their_frame_alone-message, messages_have_their_frame_alone-nothing}
 use Rattle.hart_master.proofs.lemmas.Laws.{replies_are_decided-one_reply, replies_are_decided-decided}
-use Rattle.hart_line.specs.world.Damage.{AreHeard, Arrives, ArrivesAmong, IsUndetected, Reaches, ReachesAmong, IsDetectable, IsDetected}
-use Rattle.hart_line.specs.world.Faults.{HasUndetected, HeardIn, IsFault, AreAllDetected, HasDetectable, IsNotDetectable, LegsAreDetected}
-use Rattle.hart_line.specs.world.Spoken.{SpokenFrame, frame_of}
-use Rattle.hart_line.specs.world.Step.{Accepts, IsLast, LeadsTo, Step, sent_back, sent_by}
-use Rattle.hart_line.specs.world.World.{InHand, Start, World, first_world}
+use Rattle.hart_line.specs.world.Faults.{HasUndetected, HeardIn, AreAllDetected, HasDetectable, IsNotDetectable, LegsAreDetected}
 use Rattle.hart_line.specs.declared.fault.Leg.TheVariants as legs
 
 AreHeard-one : (heard : Heard) (sent : Option SpokenFrame) (a b : List Character) → AreHeard heard sent a

@@ -3,12 +3,10 @@ use Rattle.hart_line.proofs.Common.{◌≤◌, ◌≡◌, ◌≢◌, ℕ, refl, 
 use Rattle.hart_line.proofs.Common.{nat_tests, common_steps, of_master, EachMaster, MasterId, FrameParts, DeviceState, Effect, Nothing}
 use Rattle.hart_line.proofs.Common.{Resets, after_refusal, code_of, effect_of, is_answered, reading_of}
 use Rattle.hart_line.proofs.Common.{refused_commands_change_nothing-refused, refused_commands_change_nothing-silent}
-use Rattle.hart_line.proofs.Common.{resets_name_this_counter-only, LineEvent, Turn}
-use Rattle.std.proofs.Common.{append_assoc}
+use Rattle.hart_line.proofs.Common.{resets_name_this_counter-only, LineEvent, Turn, append_assoc, brought_in_step, IsStepOf, IsLast}
+use Rattle.hart_line.proofs.Common.{LeadsTo, effect_on, executions_after, marks_after, Execution, Start, World, first_world, state_of}
 use Rattle.hart_commands.specs.declared.request.Request.TheVariants.{ResetChanged}
-use Rattle.hart_line.specs.world.Promises.{brought_in_step, HasNoReset, IsLastReset, IsRefusedByDevice, IsStepOf}
-use Rattle.hart_line.specs.world.Step.{IsLast, LeadsTo, effect_on, executions_after, marks_after}
-use Rattle.hart_line.specs.world.World.{Execution, Start, World, first_world, state_of}
+use Rattle.hart_line.specs.world.Promises.{HasNoReset, IsLastReset, IsRefusedByDevice}
 use Rattle.hart_line.proofs.lemmas.world.Leads.{leads_on}
 use Rattle.hart_line.proofs.lemmas.world.Steps.{along, entered, leads_more, master_in, turn_cases}
 

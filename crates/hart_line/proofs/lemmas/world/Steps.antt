@@ -3,14 +3,10 @@ use Rattle.hart_line.proofs.Common.{arith, ◌≡◌, Bool, ap, refl, subst, Opt
 use Rattle.hart_line.proofs.Common.{common_steps, map-append, mod-add-mod, nat_tests, of_master, EachMaster, MasterId, Primary, Secondary}
 use Rattle.hart_line.proofs.Common.{Reply, Contents, registers_of, overwritten, Brought, OneFrame, Garbled, NoMessage, Effect, DeviceState}
 use Rattle.hart_line.proofs.Common.{Executes, after, IdentityParts, MasterFault, FrameParts, registers_of_lists-last, Heard, LineEvent}
-use Rattle.hart_line.proofs.Common.{Submit, Turn, Protect, Noise, Restart}
-use Rattle.std.proofs.lemmas.List.{length-append}
-use Rattle.hart_line.specs.world.Promises.{IsStepOf, Submission, brought_in_step, submissions_of}
-use Rattle.hart_line.specs.world.Spoken.{SpokenFrame}
-use Rattle.hart_line.specs.world.Step.{IsTurn, LeadsTo, Step, replied, spoken_request, submitted, turned, effect_on, executions_after}
-use Rattle.hart_line.specs.world.Step.{marks_after}
-use Rattle.hart_line.specs.world.World.{state_of, InHand, Start, World, Execution, MarksWithin, overwrites_of}
-use Rattle.hart_line.specs.world.Damage.{Reaches}
+use Rattle.hart_line.proofs.Common.{Submit, Turn, Protect, Noise, Restart, length-append, IsStepOf, Submission, brought_in_step}
+use Rattle.hart_line.proofs.Common.{submissions_of, SpokenFrame, IsTurn, LeadsTo, Step, replied, spoken_request, submitted, turned}
+use Rattle.hart_line.proofs.Common.{effect_on, executions_after, marks_after, state_of, InHand, Start, World, Execution, MarksWithin}
+use Rattle.hart_line.proofs.Common.{overwrites_of, Reaches}
 use Rattle.hart_line.proofs.lemmas.world.Basics.{none_or_some, with_master-cases}
 
 -- WHAT IS BROUGHT

@@ -3,13 +3,10 @@
 use Rattle.hart_line.proofs.Common.{◌≡◌, ℕ, ◌+◌, ◌<◌, refl, Some, List, [], ◌∷◌, ◌++◌, get_or, length, slice_set, take, arith, ◌≤◌}
 use Rattle.hart_line.proofs.Common.{common_steps, map-append, take_more, All-append, get_or_from_slice_get, slice_get-map, slice_get_past}
 use Rattle.hart_line.proofs.Common.{slice_get_within, nat_tests, sum_by-append, slice_get, of_master, MasterId, IsRequest, Effect}
-use Rattle.hart_line.proofs.Common.{LineEvent, Outcome, Unfinished}
-use Rattle.std.proofs.Common.{◌==◌, if◌then◌else◌}
-use Rattle.std.proofs.lemmas.List.{append-nil}
-use Rattle.hart_line.specs.world.Promises.{AreWellMade, IsStepOf, Submission, requests_of, submission_in, submissions_of, sendings_in}
-use Rattle.hart_line.specs.world.Step.{IsLast, effect_on, executions_after}
-use Rattle.hart_line.specs.world.World.{InHand, Start, World, first_world, Execution, state_of}
-use Rattle.hart_line.specs.world.Executions.{times_executed}
+use Rattle.hart_line.proofs.Common.{LineEvent, Outcome, Unfinished, ◌==◌, if◌then◌else◌, append-nil, AreWellMade, IsStepOf, Submission}
+use Rattle.hart_line.proofs.Common.{requests_of, submissions_of, IsLast, effect_on, executions_after, InHand, Start, World, first_world}
+use Rattle.hart_line.proofs.Common.{Execution, state_of, times_executed}
+use Rattle.hart_line.specs.world.Promises.{submission_in, sendings_in}
 use Rattle.hart_line.proofs.lemmas.world.Basics.{slice_get-append, slice_get-set, some_one, with_master-cases}
 use Rattle.hart_line.proofs.lemmas.world.Steps.{StepCases, Submits, Sends, Stays, along, step_cases}
 

@@ -5,17 +5,14 @@ use Rattle.hart_line.proofs.Common.{Contains, option_and_then, MasterId, command
 use Rattle.hart_line.proofs.Common.{overwritten, registers_of, DeviceState, Effect, Executes, code_of, reading_of, Brought, OneFrame}
 use Rattle.hart_line.proofs.Common.{answers_give_their_code-answered, writes_execute_their_overwrite-executes}
 use Rattle.hart_line.proofs.Common.{writes_execute_their_overwrite-only, registers_of_lists-again, registers_of_lists-first, Heard}
-use Rattle.hart_line.proofs.Common.{LineEvent, Turn}
-use Rattle.std.proofs.Common.{if◌then◌else◌, ◌==◌}
+use Rattle.hart_line.proofs.Common.{LineEvent, Turn, if◌then◌else◌, ◌==◌, AnswersLastSending, AreWellMade, IsStepOf, brought_in_step}
+use Rattle.hart_line.proofs.Common.{requests_of, effect_on, executions_after, spoken_request, submitted, IsLast, Execution, Start, World}
+use Rattle.hart_line.proofs.Common.{first_world, state_of, InHand, overwrites_of, has_execution_of, last_executions}
 use Rattle.std.proofs.lemmas.List.Folds.{Any-from_list_any}
 use Rattle.hart_commands.specs.ReplyData.{reply_reading}
 use Rattle.hart_commands.specs.RequestCode.{is_write}
 use Rattle.hart_commands.proofs.lemmas.Laws.{requests_have_their_command, writes_have_overwrites-exactly, written_data_are_their_request}
-use Rattle.hart_line.specs.world.Promises.{AnswersLastSending, AreWellMade, IsExecutedFromHand, IsExecutedInItsTurn, IsStepOf}
-use Rattle.hart_line.specs.world.Promises.{IsUnrefusedWrite, brought_in_step, requests_of}
-use Rattle.hart_line.specs.world.Step.{effect_on, executions_after, spoken_request, submitted, IsLast}
-use Rattle.hart_line.specs.world.World.{Execution, Start, World, first_world, state_of, InHand, overwrites_of}
-use Rattle.hart_line.specs.world.Executions.{has_execution_of, last_executions}
+use Rattle.hart_line.specs.world.Promises.{IsExecutedFromHand, IsExecutedInItsTurn, IsUnrefusedWrite}
 use Rattle.hart_line.proofs.lemmas.world.Basics.{some_of, some_one}
 use Rattle.hart_line.proofs.lemmas.world.Steps.{entered, turn_cases, Submits, Sends, Stays, along, step_cases, frame_in}
 use Rattle.hart_line.proofs.lemmas.world.Submitted.{held_in, made_of, request_there}

@@ -1,5 +1,4 @@
-use Rattle.hart_line.proofs.Common.{arith, None, refl, Chars, Noise}
-use Rattle.hart_line.specs.world.Step.{replied}
+use Rattle.hart_line.proofs.Common.{arith, None, refl, Chars, Noise, replied}
 use Rattle.hart_line.proofs.lemmas.line.Leg.{noise_answers}
 use Rattle.hart_line.proofs.lemmas.line.Turn.{answered, replied_steps}
 use Rattle.hart_line.proofs.line.Line.hear_noise.Goals as goal

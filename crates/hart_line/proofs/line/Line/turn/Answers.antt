@@ -1,5 +1,4 @@
-use Rattle.hart_line.proofs.Common.{refl}
-use Rattle.hart_line.specs.world.Step.{sent_back}
+use Rattle.hart_line.proofs.Common.{refl, sent_back}
 use Rattle.hart_line.proofs.lemmas.line.Leg.{says_request}
 use Rattle.hart_line.proofs.lemmas.line.Turn.{turn_answered, turn_stands}
 use Rattle.hart_line.proofs.line.Line.turn.Goals as goal

@@ -1,5 +1,4 @@
-use Rattle.hart_line.proofs.Common.{◌≡◌, Bool, Option, IsSome, IfSome, IsTrue, arith, FrameParts}
-use Rattle.hart_line.specs.world.Spoken.{frame_if}
+use Rattle.hart_line.proofs.Common.{◌≡◌, Bool, Option, IsSome, IfSome, IsTrue, arith, FrameParts, frame_if}
 use Rattle.hart_line.proofs.line.leg.answer.Goals as goal
 
 -- a frame that is written if there is an answer is the answer

@@ -1,5 +1,5 @@
 use Rattle.hart_line.proofs.Common.{◌≡◌, ◌≢◌, ◌≤◌, ℕ, List, length, ◌∷◌, get_or, refl, ◌∙◌, subst, arith, AreFaultBits, Character}
-use Rattle.hart_line.specs.script.Items.{AreDigits, BeginsAsItem, byte_of, Faulty}
+use Rattle.hart_line.proofs.Common.{AreDigits, BeginsAsItem, byte_of, Faulty}
 use Rattle.hart_line.proofs.script.items.leading_item.Goals as goal
 
 -- an item with fault bits begins a text

@@ -1,6 +1,5 @@
 use Rattle.hart_line.proofs.Common.{arith, ◌≡◌, ℕ, ◌+◌, suc, Bool, List, [], ◌∷◌, take, drop, refl, common_steps, filter, onto_first}
-use Rattle.hart_line.proofs.Common.{position_or_len, slice_split}
-use Rattle.hart_line.specs.script.Lines.{has_bytes, is_blank}
+use Rattle.hart_line.proofs.Common.{position_or_len, slice_split, has_bytes, is_blank}
 use Rattle.hart_line.proofs.script.lines.next_word.Goals as goal
 
 -- the first part stands before the first element that passes, and the other ones after it
