@@ -4,8 +4,8 @@ ghost use Rattle.std.specs.Option.{option_copied};
 ghost use Rattle.hart_commands.specs.RequestData.{IsRequest};
 ghost use Rattle.hart_device.specs.Device.{IsDevice};
 ghost use Rattle.hart_line.specs.Types.{Process, Noise, Submit, Turn};
-ghost use Rattle.hart_line.specs.line.Room.{HasRoomFor, LeavesRoom};
 ghost use Rattle.hart_line.specs.line.Line.{StepsOn, StopsAt};
+ghost use Rattle.hart_line.specs.line.Room.{HasRoomFor, LeavesRoom};
 ghost use Rattle.hart_line.specs.world.Promises.{AreWellMade};
 ghost use Rattle.hart_line.specs.world.Spoken.{frame_if, party_of};
 
@@ -197,8 +197,7 @@ impl<S: RegisterStore> Line<S> {
         let Ok(returned) = arrived_in(down, sent_back) else {
             return Err(Leg::Down);
         };
-        self.masters
-            .end_turn(who, is_sent, returned, &mut self.outcomes);
+        self.masters.end_turn(who, returned, &mut self.outcomes);
         Ok(())
     }
 

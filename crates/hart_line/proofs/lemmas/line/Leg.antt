@@ -8,7 +8,6 @@ use Rattle.hart_frame.specs.wire.Message.{IsMessage}
 use Rattle.hart_frame.proofs.lemmas.Laws.{messages_have_their_frame_alone-message, messages_have_their_frame_alone-nothing}
 use Rattle.hart_device.specs.answer.Garbled.{HasGarbled, garbled_reply}
 use Rattle.hart_device.specs.declared.answer.garbled.GarbledRequest.{GarbledRequest}
-use Rattle.hart_line.specs.line.Masters.{Sends}
 
 -- WHAT CHARACTERS BRING
 -- A frame that arrives is brought.
@@ -78,10 +77,10 @@ pub speaks_sent : (party : Party) (preambles : ℕ) (sent : Option FrameParts) (
     → Speaks (spoken_by party preambles sent) old new → IsSent sent (spoken_by party preambles sent)
 speaks_sent party preambles sent old new enough speaks = grind arith
 
-pub says_request : (Silent : Type 0) (Sent : InHand → Type 0) (who : MasterId) (hand : Option InHand) (frame : Option FrameParts)
-    (old new : List Spoken) → Sends who hand frame Silent Sent → Speaks (spoken_by (party_of who) master_preambles frame) old new
+pub says_request : (who : MasterId) (hand : Option InHand) (frame : Option FrameParts) (old new : List Spoken)
+    → frame ≡ frame_of (sent_by who hand) → Speaks (spoken_by (party_of who) master_preambles frame) old new
     → Speaks (sent_by who hand) old new × IsSent frame (sent_by who hand)
-says_request Silent Sent who hand frame old new sends speaks = grind (arith, common_steps, speaks_sent)
+says_request who hand frame old new sends speaks = grind (arith, common_steps, speaks_sent)
 
 -- Frames that are spoken after others are put down after those.
 pub AreSpoken-append : (frames more : List SpokenFrame) (list others : List Spoken) → AreSpoken frames list → AreSpoken more others
