@@ -43,8 +43,7 @@ HasDetectable = HasDamage IsDetectable
 abbrev pub IsNotDetectable : Start → List LineEvent → LineFault → Type 0
 IsNotDetectable start events (Undetected number leg) = (world : World) (event : LineEvent)
     → IsLast start (take number events) world → slice_get events number ≡ Some event → HasDetectable start world event leg → ⊥
-IsNotDetectable start events (Memory room) = Unit {0}
-IsNotDetectable start events (BadLine line) = Unit {0}
+IsNotDetectable start events fault = Unit {0}
 
 -- The damage of each leg of an event is detected: whatever the leg up brings the device, that of the leg down too.
 abbrev pub LegsAreDetected : Start → World → LineEvent → Type 0

@@ -1,8 +1,7 @@
 -- What is promised of a whole script (own profile).
 use Rattle.std.specs.Prelude.{◌≡◌, ◌≢◌, ◌⊎◌, ℕ, ◌+◌, List, [], ◌∷◌, ◌++◌, map, All, Option, None, Some, IsTrue, Ok, false, true, slice_get}
-use Rattle.hart_line.specs.Types.{Address, MasterId, FrameParts, Overwrite, Reply, Request, Brought, Garbled, NoMessage, OneFrame}
-use Rattle.hart_line.specs.Types.{DeviceState, Resets, Process, Heard, LineEvent, Submit, Turn, Protect, Noise, Restart, Outcome, Answered}
-use Rattle.hart_line.specs.Types.{NoReply, Unfinished, Refused}
+use Rattle.hart_line.specs.Types.{Address, MasterId, FrameParts, Overwrite, Reply, Request, Brought, NoMessage, OneFrame, DeviceState}
+use Rattle.hart_line.specs.Types.{Resets, Process, Heard, LineEvent, Submit, Turn, Outcome, Answered, NoReply, Unfinished, Refused}
 use Rattle.hart_values.specs.EachMaster.{of_master}
 use Rattle.hart_commands.specs.Registers.{overwrite_of}
 use Rattle.hart_commands.specs.RequestCode.{is_write}
@@ -110,18 +109,14 @@ pub record IsExecutedInItsTurn (start : Start) (events : List LineEvent) (number
 -- bring a frame: noise may bring a garbled request, which has no effect.
 abbrev pub brought_in_step : (start : Start) (before : World) (event : LineEvent) (next : World) → Step start before event next
     → Brought
-brought_in_step start before (Submit who address request) next step = NoMessage
 brought_in_step start before (Turn who up down) next step = step.brought
-brought_in_step start before (Protect on) next step = NoMessage
-brought_in_step start before (Noise chars) next step = NoMessage
-brought_in_step start before Restart next step = NoMessage
+brought_in_step start before event next step = NoMessage
 
 -- What was brought is a write that is not refused: a frame of a configuration write that the device answers with code 0.
 abbrev pub IsUnrefusedWrite : DeviceState → Brought → Type 0
 IsUnrefusedWrite state (OneFrame frame) =
     IsTrue (is_write frame.command) × (is_answered state frame ≡ true) × (code_of state frame ≡ 0)
-IsUnrefusedWrite state (Garbled request) = ⊥
-IsUnrefusedWrite state NoMessage = ⊥
+IsUnrefusedWrite state brought = ⊥
 
 -- In a turn of this master one execution is added: that of the submission whose request is in its hand, with the overwrite of this
 -- request, which is the one that was submitted under that number to this master, with its address.

@@ -1,8 +1,8 @@
 -- How far a script has come on a line that lets go what was spoken once it is noted.
 use Rattle.hart_line.proofs.Common.{◌∙◌, ◌∷◌, arith, ◌≡◌, ℕ, ◌+◌, ◌<◌, sym, refl, List, [], length, take, get_or, rules, ◌++◌, Any}
 use Rattle.hart_line.proofs.Common.{common_steps, take_more, Primary, Secondary, DeviceState, IsDevice, Process, MasterState, LineEvent}
-use Rattle.hart_line.proofs.Common.{Outcome, Spoken, LineState, Stands, Stepped, start_from, AreWellMade, IsLast, MarksWithin, Start, World}
-use Rattle.hart_line.proofs.Common.{first_world, Led, AreSpoken}
+use Rattle.hart_line.proofs.Common.{Outcome, Spoken, LineState, Stands, Stepped, Led, start_from, AreWellMade, AreSpoken, IsLast}
+use Rattle.hart_line.proofs.Common.{MarksWithin, Start, World, first_world}
 use Rattle.hart_master.specs.declared.hand.Hand.TheVariants.{Empty}
 use Rattle.hart_line.proofs.lemmas.Laws.{scripts_keep_their_promises-first_world}
 use Rattle.hart_line.proofs.lemmas.world.Steps.{entered, leads_more, marks_kept}

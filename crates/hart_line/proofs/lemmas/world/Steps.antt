@@ -1,20 +1,19 @@
 -- What is brought to the device, the steps of a script and what each keeps, and the device after an effect.
 use Rattle.hart_line.proofs.Common.{arith, ◌≡◌, Bool, ap, refl, subst, Option, None, Some, List, [], ◌∷◌, ◌++◌, ◌⊎◌, inl, inr, ℕ, length}
 use Rattle.hart_line.proofs.Common.{common_steps, map-append, mod-add-mod, nat_tests, of_master, EachMaster, MasterId, Primary, Secondary}
-use Rattle.hart_line.proofs.Common.{Reply, Contents, registers_of, overwritten, Brought, OneFrame, Garbled, NoMessage, Effect, DeviceState}
-use Rattle.hart_line.proofs.Common.{Executes, after, IdentityParts, MasterFault, FrameParts, registers_of_lists-last, Heard, LineEvent}
-use Rattle.hart_line.proofs.Common.{Submit, Turn, Protect, Noise, Restart, length-append, IsStepOf, Submission, brought_in_step}
-use Rattle.hart_line.proofs.Common.{submissions_of, SpokenFrame, IsTurn, LeadsTo, Step, replied, spoken_request, submitted, turned}
-use Rattle.hart_line.proofs.Common.{effect_on, executions_after, marks_after, state_of, InHand, Start, World, Execution, MarksWithin}
-use Rattle.hart_line.proofs.Common.{overwrites_of, Reaches}
+use Rattle.hart_line.proofs.Common.{Reply, Contents, registers_of, overwritten, Brought, OneFrame, Effect, DeviceState, Executes, after}
+use Rattle.hart_line.proofs.Common.{IdentityParts, MasterFault, FrameParts, registers_of_lists-last, Heard, LineEvent, Submit, Turn}
+use Rattle.hart_line.proofs.Common.{Protect, Noise, Restart, length-append, IsStepOf, Submission, brought_in_step, submissions_of}
+use Rattle.hart_line.proofs.Common.{SpokenFrame, IsTurn, LeadsTo, Step, replied, spoken_request, submitted, turned, effect_on}
+use Rattle.hart_line.proofs.Common.{executions_after, marks_after, state_of, InHand, Start, Reaches, World, Execution, MarksWithin}
+use Rattle.hart_line.proofs.Common.{overwrites_of}
 use Rattle.hart_line.proofs.lemmas.world.Basics.{none_or_some, with_master-cases}
 
 -- WHAT IS BROUGHT
 -- A frame that is brought to the device is the one that was sent.
 abbrev pub frame_in : Brought → Option FrameParts
 frame_in (OneFrame frame) = Some frame
-frame_in (Garbled request) = None
-frame_in NoMessage = None
+frame_in brought = None
 
 pub reaches_sent : (identity : IdentityParts) (heard : Heard) (said : SpokenFrame) (brought : Brought)
     → Reaches identity heard (Some said) brought → (frame_in brought ≡ None) ⊎ (brought ≡ OneFrame said.frame)

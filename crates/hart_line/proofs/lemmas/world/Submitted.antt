@@ -4,8 +4,8 @@ use Rattle.hart_line.proofs.Common.{◌≡◌, ℕ, ◌+◌, ◌<◌, refl, Some
 use Rattle.hart_line.proofs.Common.{common_steps, map-append, take_more, All-append, get_or_from_slice_get, slice_get-map, slice_get_past}
 use Rattle.hart_line.proofs.Common.{slice_get_within, nat_tests, sum_by-append, slice_get, of_master, MasterId, IsRequest, Effect}
 use Rattle.hart_line.proofs.Common.{LineEvent, Outcome, Unfinished, ◌==◌, if◌then◌else◌, append-nil, AreWellMade, IsStepOf, Submission}
-use Rattle.hart_line.proofs.Common.{requests_of, submissions_of, IsLast, effect_on, executions_after, InHand, Start, World, first_world}
-use Rattle.hart_line.proofs.Common.{Execution, state_of, times_executed}
+use Rattle.hart_line.proofs.Common.{requests_of, submissions_of, IsLast, times_executed, effect_on, executions_after, InHand, Start, World}
+use Rattle.hart_line.proofs.Common.{first_world, Execution, state_of}
 use Rattle.hart_line.specs.world.Promises.{submission_in, sendings_in}
 use Rattle.hart_line.proofs.lemmas.world.Basics.{slice_get-append, slice_get-set, some_one, with_master-cases}
 use Rattle.hart_line.proofs.lemmas.world.Steps.{StepCases, Submits, Sends, Stays, along, step_cases}

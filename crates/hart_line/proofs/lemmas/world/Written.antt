@@ -6,8 +6,8 @@ use Rattle.hart_line.proofs.Common.{overwritten, registers_of, DeviceState, Effe
 use Rattle.hart_line.proofs.Common.{answers_give_their_code-answered, writes_execute_their_overwrite-executes}
 use Rattle.hart_line.proofs.Common.{writes_execute_their_overwrite-only, registers_of_lists-again, registers_of_lists-first, Heard}
 use Rattle.hart_line.proofs.Common.{LineEvent, Turn, if◌then◌else◌, ◌==◌, AnswersLastSending, AreWellMade, IsStepOf, brought_in_step}
-use Rattle.hart_line.proofs.Common.{requests_of, effect_on, executions_after, spoken_request, submitted, IsLast, Execution, Start, World}
-use Rattle.hart_line.proofs.Common.{first_world, state_of, InHand, overwrites_of, has_execution_of, last_executions}
+use Rattle.hart_line.proofs.Common.{requests_of, effect_on, executions_after, spoken_request, submitted, IsLast, Execution}
+use Rattle.hart_line.proofs.Common.{has_execution_of, last_executions, Start, World, first_world, state_of, InHand, overwrites_of}
 use Rattle.std.proofs.lemmas.List.Folds.{Any-from_list_any}
 use Rattle.hart_commands.specs.ReplyData.{reply_reading}
 use Rattle.hart_commands.specs.RequestCode.{is_write}
