@@ -3,8 +3,8 @@ ghost use Rattle.std.specs.Prelude.{◌≡◌, ◌↔◌, IfErr, IfOk, IsTrue, O
 ghost use Rattle.std.specs.Option.{option_copied};
 ghost use Rattle.hart_device.specs.answer.Answer.{answer_of, state_after};
 ghost use Rattle.hart_line.specs.world.Damage.{Arrives, ArrivesAmong, IsUndetected, IsUndetectedAmong, Reaches, ReachesAmong};
-ghost use Rattle.hart_line.specs.line.Leg.{AnswersTo, IsSent};
 ghost use Rattle.hart_line.specs.world.Spoken.{SpokenFrame, frame_if};
+ghost use Rattle.hart_line.specs.line.Leg.{AnswersTo, IsSent};
 
 use crate::Heard;
 use hart_device::{Device, Process, RegisterStore};
@@ -17,10 +17,6 @@ pub struct Undetected;
 /// The frame that arrives in a leg, if any does: the one that was sent.
 ///
 /// What is heard clean is not looked for in its characters: a message has its frame alone.
-///
-/// # Errors
-///
-/// [`Undetected`], if the damage is.
 #[tactic(auto, using(crate::proofs::lemmas::line::Leg::message_arrives, crate::proofs::lemmas::line::Leg::nothing_arrives))]
 pub fn arrived_in<'a>(
     heard: &Heard,
@@ -39,10 +35,6 @@ pub fn arrived_in<'a>(
 }
 
 /// The frame that arrives among characters, if any does: the one that was sent.
-///
-/// # Errors
-///
-/// [`Undetected`], if the damage is.
 pub fn arrived_among<'a>(
     chars: &[Char],
     sent: Option<&'a Frame>,
@@ -58,10 +50,6 @@ pub fn arrived_among<'a>(
 }
 
 /// Whether the device, which hears what goes up, answers what that brings it; the answer is then in `reply`.
-///
-/// # Errors
-///
-/// [`Undetected`], if the damage is.
 #[tactic(auto, using(crate::proofs::lemmas::line::Leg::nothing_reaches))]
 pub fn answer_in<S: RegisterStore>(
     device: &mut Device<S>,
@@ -86,10 +74,6 @@ pub fn answer_in<S: RegisterStore>(
 }
 
 /// Whether the device, which hears these characters, answers what they bring it; the answer is then in `reply`.
-///
-/// # Errors
-///
-/// [`Undetected`], if the damage is.
 #[tactic(auto, using(crate::proofs::lemmas::line::Leg::answered_among))]
 pub fn answer_among<S: RegisterStore>(
     device: &mut Device<S>,
