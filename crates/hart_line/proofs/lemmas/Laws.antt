@@ -24,9 +24,6 @@ scripts_have_one_last_world-no_fault start events world number leg run f =
     let within = slice_get_within events number f.1 f.3 in
     fault_before start events number (length events) leg world within f (rw (take_all (length events) events (omega arith)) run)
 
-same_number : (m n : ℕ) → (m < n → ⊥) → (n < m → ⊥) → m ≡ n
-same_number m n below above = grind arith
-
 same_leg : (start : Start) (events : List LineEvent) (number : ℕ) (leg another : Leg)
     → IsFault start events (Undetected number leg) → IsFault start events (Undetected number another) → leg ≡ another
 same_leg start events number leg another f g =
@@ -38,8 +35,9 @@ pub scripts_have_one_last_world-one_fault : (start : Start) (events : List LineE
     → IsFault start events (Undetected number leg) → IsFault start events (Undetected other another)
     → (number ≡ other) × (leg ≡ another)
 scripts_have_one_last_world-one_fault start events number other leg another f g =
-    let same = same_number number other
-    (λ h. fault_before start events number other leg g.0 h f g.2) (λ h. fault_before start events other number another f.0 h g f.2) in
+    let below = λ (h : number < other). fault_before start events number other leg g.0 h f g.2 in
+    let above = λ (h : other < number). fault_before start events other number another f.0 h g f.2 in
+    let same : number ≡ other = grind arith in
     (same, same_leg start events other leg another (rw same at f) g)
 
 pub scripts_keep_their_promises-first_world : (start : Start) → start.device.counter < 2 ^ 16

@@ -2,9 +2,9 @@
 use Rattle.hart_line.proofs.Common.{ap, ◌≡◌, ℕ, ◌<◌, ◌∙◌, sym, arith, Option, None, Some, List, [], ◌∷◌, ◌++◌, suc, pred, take, drop, ◌≤◌}
 use Rattle.hart_line.proofs.Common.{refl, inl, inr, common_steps, slice_get, of_master, MasterId, Character, FrameParts, Reply, Brings}
 use Rattle.hart_line.proofs.Common.{Brought, IdentityParts, deliveries_bring_one-one, deliveries_bring_one-brings, Heard, Clean, Chars}
-use Rattle.hart_line.proofs.Common.{LineEvent, Turn, Noise, Leg, Undetected, LineFault, append-nil, AreHeard, Arrives, ArrivesAmong}
-use Rattle.hart_line.proofs.Common.{IsUndetected, Reaches, ReachesAmong, IsDetectable, IsDetected, IsFault, SpokenFrame, frame_of, Accepts}
-use Rattle.hart_line.proofs.Common.{IsLast, LeadsTo, Step, sent_back, sent_by, InHand, Start, World, first_world}
+use Rattle.hart_line.proofs.Common.{LineEvent, Turn, Noise, Leg, Undetected, LineFault, append-nil, AreHeard, Arrives, IsUndetected}
+use Rattle.hart_line.proofs.Common.{Reaches, ReachesAmong, IsDetectable, IsDetected, IsFault, SpokenFrame, frame_of, Accepts, IsLast}
+use Rattle.hart_line.proofs.Common.{LeadsTo, Step, sent_back, sent_by, InHand, Start, World, first_world}
 use Rattle.hart_frame.specs.declared.heard.found.Found.{Found}
 use Rattle.hart_frame.specs.heard.Frames.{AreFrames}
 use Rattle.hart_frame.proofs.lemmas.Laws.{bodies_are_unambiguous-one_body, frames_are_unambiguous-one_list}
@@ -36,9 +36,9 @@ Reaches-one identity heard sent a b s t =
     deliveries_bring_one-one identity t.chars a b (rw same at (brings_among s.among)) (brings_among t.among)
 
 -- Damage that is detected is not undetected.
-pub among_detected : (heard : Heard) (sent : Option SpokenFrame) (chars : List Character) (arrived : Option FrameParts)
-    → AreHeard heard sent chars → ArrivesAmong chars (frame_of sent) arrived → IsUndetected heard sent → ⊥
-among_detected heard sent chars arrived are a u = grind (arith, AreHeard-one, frames_are_unambiguous-one_list)
+arrived_detected : {heard : Heard} {sent : Option SpokenFrame} {arrived : Option FrameParts} → Arrives heard sent arrived
+    → IsUndetected heard sent → ⊥
+arrived_detected a u = grind (arith, AreHeard-one, frames_are_unambiguous-one_list)
 
 Accepts-one : (who : MasterId) (hand : Option InHand) (returned : Option FrameParts) (a b : Option Reply)
     → Accepts who hand returned a → Accepts who hand returned b → a ≡ b
@@ -96,17 +96,14 @@ step_hears start world event next leg heard sent step h = absurd h
 step_detected : (start : Start) (world : World) (event : LineEvent) (next : World) (leg : Leg)
     → Step start world event next → HasUndetected start world event leg → ⊥
 step_detected start world event next leg step u =
-    let a = step_hears start world event next leg u.0 u.1 step u.2 in
-    among_detected u.0 u.1 a.1.chars a.0 a.1.are_heard a.1.among u.3
+    arrived_detected (step_hears start world event next leg u.0 u.1 step u.2).1 u.3
 
 pub undetected_one : (start : Start) (world : World) (event : LineEvent) (leg another : Leg)
     → HasUndetected start world event leg → HasUndetected start world event another → leg ≡ another
 undetected_one start world (Turn who up down) legs.Up legs.Down u v =
-    let up_ = arrived_of v.2.2 in
-    absurd (among_detected up _ up_.1.chars up_.0 up_.1.are_heard up_.1.among (rw (u.2.0, u.2.1) at u.3))
+    absurd (arrived_detected (arrived_of v.2.2).1 (rw (u.2.0, u.2.1) at u.3))
 undetected_one start world (Turn who up down) legs.Down legs.Up u v =
-    let up_ = arrived_of u.2.2 in
-    absurd (among_detected up _ up_.1.chars up_.0 up_.1.are_heard up_.1.among (rw (v.2.0, v.2.1) at v.3))
+    absurd (arrived_detected (arrived_of u.2.2).1 (rw (v.2.0, v.2.1) at v.3))
 undetected_one start world event leg another u v = grind arith
 
 take-past : {A : Type 0} (number other : ℕ) (xs : List A) (x : A) → slice_get xs number ≡ Some x → number < other
