@@ -1,7 +1,6 @@
 //! What arrives in a leg of the line, and what the device answers.
 ghost use Rattle.std.specs.Prelude.{◌≡◌, ◌↔◌, IfErr, IfOk, IsTrue, Option, Some};
 ghost use Rattle.std.specs.Option.{option_copied};
-ghost use Rattle.hart_device.specs.answer.Answer.{answer_of, state_after};
 ghost use Rattle.hart_line.specs.world.Damage.{Arrives, ArrivesAmong, IsUndetected, IsUndetectedAmong, Reaches, ReachesAmong};
 ghost use Rattle.hart_line.specs.world.Spoken.{SpokenFrame, frame_if};
 ghost use Rattle.hart_line.specs.line.Leg.{AnswersTo, IsSent};
@@ -65,7 +64,7 @@ pub fn answer_in<S: RegisterStore>(
 {
     match up {
         Heard::Clean => match sent {
-            Some(frame) => Ok(answer(device, frame, process, reply)),
+            Some(frame) => Ok(device.receive_into(frame, process, reply)),
             None => Ok(false),
         },
         Heard::Lost => Ok(false),
@@ -87,26 +86,13 @@ pub fn answer_among<S: RegisterStore>(
     ensures undetected { IfErr result (λ damage. IsUndetectedAmong chars.now (option_copied sent.entry)) }
 {
     if let Some(frame) = arrived_among(chars, sent)? {
-        return Ok(answer(device, frame, process, reply));
+        return Ok(device.receive_into(frame, process, reply));
     }
     let Some(answer) = device.reply_to_garbled(chars) else {
         return Ok(false);
     };
     *reply = answer;
     Ok(true)
-}
-
-/// Whether a device answers a frame; the answer is then in `reply`.
-fn answer<S: RegisterStore>(
-    device: &mut Device<S>,
-    frame: &Frame,
-    process: &Process,
-    reply: &mut Frame,
-) -> bool
-    ensures answer { frame_if result reply.new ≡ answer_of device.old process.now frame.now }
-    ensures state { device.new ≡ state_after device.old frame.now }
-{
-    device.receive_into(frame, process, reply)
 }
 
 /// Whether this frame was sent.
