@@ -91,8 +91,14 @@ impl<S: RegisterStore> Line<S> {
         Line {
             device,
             masters: Masters {
-                primary: Submitter::new(primary),
-                secondary: Submitter::new(secondary),
+                primary: Submitter {
+                    master: primary,
+                    place: 0,
+                },
+                secondary: Submitter {
+                    master: secondary,
+                    place: 0,
+                },
             },
             outcomes,
             spoken: EventFrames::new(),
@@ -102,18 +108,13 @@ impl<S: RegisterStore> Line<S> {
         }
     }
 
-    /// Notes in a log what the line keeps of what was spoken, and keeps it no longer.
-    ///
-    /// # Errors
-    ///
-    /// [`NoRoom`] at the first frame that the log has no room for.
+    /// Notes in a log what the line keeps of what was spoken, up to the first frame that it has no room for, and keeps it no longer.
     pub fn tell<L: Log>(&mut self, log: &mut L) -> Result<(), NoRoom>
         ensures line { OnOk result (self.new ≡ record self.old { spoken = [] }) }
         ensures noted { OnOk result (L.notes log.old self.old.spoken log.new) }
         ensures refused { IfErr result (λ none. (0 < none.items) × Any (λ said. L.needs said none.items) self.old.spoken) }
     {
         self.spoken.note_in(log)?;
-        self.spoken.clear();
         Ok(())
     }
 
@@ -133,11 +134,7 @@ impl<S: RegisterStore> Line<S> {
         }
     }
 
-    /// Carries out one event, for which there is room.
-    ///
-    /// # Errors
-    ///
-    /// The leg whose damage is undetected, if there is one.
+    /// Carries out one event, for which there is room, or gives the leg whose damage is undetected.
     pub fn step(&mut self, event: &LineEvent, process: &Process) -> Result<(), Leg>
         requires room { HasRoomFor (event.now ∷ []) self.old }
         ensures stepped { OnOk result (StepsOn process.now event.now self.old self.new) }

@@ -1,5 +1,5 @@
 -- The two masters of a line, as the world of a script has them, for private calls alone (own profile).
-use Rattle.std.specs.Prelude.{◌≡◌, ℕ, ◌+◌, List, slice_set, Option, None, Some, option_and_then, option_map}
+use Rattle.std.specs.Prelude.{◌≡◌, ℕ, ◌+◌, List, slice_set, Option, None, Some, IfSome, option_and_then, option_map}
 use Rattle.hart_line.specs.Types.{Address, MasterId, Primary, Secondary, FrameParts, EachMaster, Reply, Request, MasterFault, Outcome}
 use Rattle.hart_line.specs.Types.{Unfinished, Refused}
 use Rattle.hart_master.specs.Master.{hand_sent}
@@ -15,16 +15,11 @@ abbrev pub hand_of : Option InHand → Hand
 hand_of None = Empty
 hand_of (Some held) = ToSend (record { address = held.address; request = held.request; sendings = held.sendings })
 
--- A request in hand has the place of its submission.
-abbrev pub IsPlace : Option InHand → ℕ → Type 0
-IsPlace None place = Unit {0}
-IsPlace (Some held) place = place ≡ held.submission
-
 -- A submitter is this master, which sends again so many times at most, with this hand, and at the place of what it holds.
 pub record IsSubmitter (id : MasterId) (retries : ℕ) (hand : Hand) (held : Option InHand) (submitter : Submitter) : Type 0 where
   pub reply_limit : ℕ
   pub master_is : submitter.master ≡ record { id = id; retries = retries; reply_limit = reply_limit; hand = hand }
-  pub place_is : IsPlace held submitter.place
+  pub place_is : IfSome held (λ request. submitter.place ≡ request.submission)
 
 -- A master has this in its hand.
 abbrev pub Holds : MasterId → ℕ → Option InHand → Submitter → Type 0

@@ -54,11 +54,7 @@ pub fn run_logged<S: RegisterStore + Drop, L: Log>(
     carry_out(outcomes, device, primary, secondary, events, process, log)
 }
 
-/// Carries out a script in room that was reserved for its outcomes, and notes what is spoken after each event.
-///
-/// # Errors
-///
-/// Those of [`run_logged`] while its events are carried out. Memory is refused by the log alone.
+/// Carries out a script in room that was reserved for its outcomes, as [`run_logged`] does. Memory is refused by the log alone.
 pub fn carry_out<S: RegisterStore + Drop, L: Log>(
     outcomes: Filling<Outcome>,
     device: Device<S>,

@@ -27,14 +27,6 @@ pub struct Submitter {
 }
 
 impl Submitter {
-    /// A master with nothing in hand, which has no place yet.
-    pub fn new(master: Master) -> Self
-        ensures master { result.master ≡ master }
-        ensures place { result.place ≡ 0 }
-    {
-        Submitter { master, place: 0 }
-    }
-
     /// Submits a request, whose outcome will have this place, and gives its outcome so far.
     fn submit(&mut self, place: usize, address: Address, request: &Request) -> Outcome
         ensures submits { (id : MasterId) (retries : ℕ) (held : Option InHand) → Holds id retries held self.old
@@ -71,14 +63,6 @@ impl Submitter {
             MasterEvent::Answered(reply, sendings) => Some(Outcome::Answered { reply, sendings }),
             _ => None,
         }
-    }
-
-    /// Hears noise, between two turns.
-    fn hear_noise(&mut self, chars: &[Char])
-        ensures { (id : MasterId) (retries : ℕ) (held : Option InHand) → Holds id retries held self.old
-            → Holds id retries held self.new }
-    {
-        let _event = self.master.hear(chars);
     }
 
     /// Waits no longer for the reply to its request, whose outcome it gives, if it awaits one.
@@ -190,7 +174,7 @@ impl Masters {
         ensures { (retries : EachMaster ℕ) (hands : EachMaster (Option InHand)) → AreHeld retries hands self.old
             → AreHeld retries hands self.new }
     {
-        self.primary.hear_noise(chars);
-        self.secondary.hear_noise(chars);
+        let _event = self.primary.master.hear(chars);
+        let _event = self.secondary.master.hear(chars);
     }
 }

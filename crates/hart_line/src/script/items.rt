@@ -79,12 +79,7 @@ fn gives_faults(text: &[u8]) -> bool
     text.len() > 2 && text[2] == b'!'
 }
 
-/// The characters of a word that is items end to end.
-///
-/// # Errors
-///
-/// [`RowFault::Bad`] if the word is empty or not items end to end; [`RowFault::Memory`] if room for half as many characters as it
-/// has bytes was refused.
+/// The characters of a word that is not empty and items end to end; memory may be refused for half as many as the word has bytes.
 pub(crate) fn read_items(alloc: Global, digits: &Digits, word: &[u8]) -> Result<CharList, RowFault>
     ensures { ReadsWords (word.now ∷ []) (IsItemsWord word.now) result }
 {
