@@ -212,8 +212,7 @@ impl<S: RegisterStore> Line<S> {
         let answer = frame_if(is_answered, &self.reply);
         let preambles = self.response_preambles;
         self.spoken.speak(Party::Device, preambles, answer);
-        self.masters.hear_noise(chars);
-        self.masters.overhear(answer);
+        self.masters.hear_noise(chars, answer);
         Ok(())
     }
 }

@@ -160,21 +160,14 @@ impl Masters {
         }
     }
 
-    /// Both masters hear what comes back while neither awaits a reply.
-    pub fn overhear(&mut self, returned: Option<&Frame>)
-        ensures { (retries : EachMaster ℕ) (hands : EachMaster (Option InHand)) → AreHeld retries hands self.old
-            → AreHeld retries hands self.new }
-    {
-        let _overheard = self.primary.hear(returned);
-        let _overheard = self.secondary.hear(returned);
-    }
-
-    /// Both masters hear noise, between two turns.
-    pub fn hear_noise(&mut self, chars: &[Char])
+    /// Both masters hear noise, between two turns, and what the device answers to it.
+    pub fn hear_noise(&mut self, chars: &[Char], answer: Option<&Frame>)
         ensures { (retries : EachMaster ℕ) (hands : EachMaster (Option InHand)) → AreHeld retries hands self.old
             → AreHeld retries hands self.new }
     {
         let _event = self.primary.master.hear(chars);
         let _event = self.secondary.master.hear(chars);
+        let _overheard = self.primary.hear(answer);
+        let _overheard = self.secondary.hear(answer);
     }
 }
