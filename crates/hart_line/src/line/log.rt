@@ -36,7 +36,7 @@ pub(crate) struct KeptFrames {
 impl Log for KeptFrames {
     ghost use Rattle.std.proofs.Common.{arith};
     ghost use Rattle.std.proofs.lemmas.Grind.{common_steps};
-    ghost use Rattle.hart_line.specs.line.Log.{NotesWithin};
+    ghost use Rattle.hart_line.specs.line.Room.{NotesWithin};
 
     ghost notes = { λ old noted new. NotesWithin old.frames noted new.frames };
 

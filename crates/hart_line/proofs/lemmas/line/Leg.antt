@@ -4,9 +4,8 @@ use Rattle.hart_line.proofs.Common.{◌++◌, replicate, common_steps, MatchOpti
 use Rattle.hart_line.proofs.Common.{DeviceState, Brought, BringsBy, Garbled, NoMessage, OneFrame, IdentityParts, Process, Heard, Chars}
 use Rattle.hart_line.proofs.Common.{Clean, Spoken, length-append, Party, AnswersTo, IsSent, IsSpeakable, AreHeard, Arrives, ArrivesAmong}
 use Rattle.hart_line.proofs.Common.{Reaches, ReachesAmong, SpokenFrame, Speaks, frame_of, master_preambles, party_of, spoken_by, AreSpoken}
-use Rattle.hart_line.proofs.Common.{sent_by, InHand}
+use Rattle.hart_line.proofs.Common.{sent_by, InHand, messages_have_their_frame_alone-message, messages_have_their_frame_alone-nothing}
 use Rattle.hart_frame.specs.wire.Message.{IsMessage}
-use Rattle.hart_frame.proofs.lemmas.Laws.{messages_have_their_frame_alone-message, messages_have_their_frame_alone-nothing}
 use Rattle.hart_device.specs.answer.Garbled.{HasGarbled, garbled_reply}
 use Rattle.hart_device.specs.declared.answer.garbled.GarbledRequest.{GarbledRequest}
 

@@ -1,13 +1,14 @@
 -- A turn of the line is a turn of the world, and noise on it is noise there.
 use Rattle.hart_line.proofs.Common.{◌≡◌, Bool, false, ◌∙◌, refl, Option, None, Some, List, [], ◌∷◌, ◌++◌, ◌⊎◌, arith, common_steps}
-use Rattle.hart_line.proofs.Common.{option_to_list, of_master, with_master, EachMaster, MasterId, FrameParts, DeviceState, Effect, Nothing}
-use Rattle.hart_line.proofs.Common.{after, after_reply, Brought, OneFrame, state_after_delivery, Process, Heard, LineEvent, Turn, Spoken}
-use Rattle.hart_line.proofs.Common.{◌&&◌, if◌then◌else◌, append-nil, AnswersTo, IsSent, LineState, Stands, Stepped, AreHeld, Concludes}
-use Rattle.hart_line.proofs.Common.{Arrives, Reaches, AreSpoken, SpokenFrame, Speaks, frame_of, master_preambles, party_of, spoken_by, Step}
+use Rattle.hart_line.proofs.Common.{option_to_list, of_master, with_master, MasterId, FrameParts, DeviceState, Effect, Nothing, after}
+use Rattle.hart_line.proofs.Common.{after_reply, Brought, OneFrame, state_after_delivery, Process, Heard, LineEvent, Turn, Spoken, ◌&&◌}
+use Rattle.hart_line.proofs.Common.{if◌then◌else◌, append-nil, AnswersTo, IsSent, LineState, Stands, Stepped, AreHeld, Concludes, Arrives}
+use Rattle.hart_line.proofs.Common.{Reaches, AreSpoken, SpokenFrame, Speaks, frame_of, master_preambles, party_of, spoken_by, Step}
 use Rattle.hart_line.proofs.Common.{cold_start_after, effect_on, replied, spoken_request, sent_back, sent_by, turned, InHand, Start, World}
 use Rattle.hart_line.proofs.Common.{state_of, MarksWithin}
 use Rattle.hart_frame.specs.wire.Message.{IsPreambleCount}
 use Rattle.hart_line.proofs.lemmas.line.Leg.{AreSpoken-two, says_request, speaks_sent}
+use Rattle.hart_line.proofs.lemmas.world.Basics.{with_master-same}
 use Rattle.hart_line.proofs.lemmas.world.Steps.{frame_in, none_reaches, reaches_sent, state-after}
 use Rattle.hart_line.specs.declared.line.report.Party.TheVariants as parties
 
@@ -99,10 +100,6 @@ state_after-effect : (state : DeviceState) (id : MasterId) (held : InHand) (brou
     → state_after_delivery state brought
     ≡ record (after id (effect_on state brought) state) { cold_start = cold_start_after state id brought }
 state_after-effect state id held brought known = grind (arith, answer_leaves)
-
--- A master that has what it had leaves both hands.
-with_master-same : {A : Type 0} (id : MasterId) (a : A) (each : EachMaster A) → of_master id each ≡ a → with_master id a each ≡ each
-with_master-same id a each is = grind arith
 
 -- The line stands for the world that the turn leads to.
 pub turn_stands : (start : Start) (world : World) (who : MasterId) (up down : Heard) (hand : Option InHand)
