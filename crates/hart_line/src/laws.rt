@@ -69,6 +69,7 @@ pub fn empty_scripts_need_no_room<L: Log>()
 {}
 
 /// The unique address that a master takes from a reply with code 0 and the identity of a device is the one at which this device is asked.
+#[tactic(auto, using(std::proofs::lemmas::Grind::common_steps, std::proofs::lemmas::Bool::Decides::nat_tests))]
 pub fn identities_give_their_address()
     ensures { (parts : IdentityParts) (counter extended_device_status : ℕ) (reply : Reply) → AreIdentityParts parts
         → reply.code ≡ 0 → reply.content ≡ Identity (identity_content parts counter extended_device_status)

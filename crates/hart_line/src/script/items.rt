@@ -22,7 +22,7 @@ pub struct LeadingItem {
 /// The item that begins a text, or `None` if none does.
 ///
 /// A `!` directly after two digits belongs to them, so that no item begins if no fault bits follow it.
-#[tactic(auto, using(crate::proofs::lemmas::script::Items::begins_as_plain))]
+#[tactic(auto, using(crate::proofs::lemmas::script::Items::begins_as_plain, crate::proofs::lemmas::script::Items::begins_as_faulty))]
 pub fn leading_item(text: &[u8]) -> Option<LeadingItem>
     ensures { MatchOption result (NoItemBegins text.now) (λ lead. BeginsAsItem text.now lead.char lead.len) }
 {
