@@ -1,21 +1,15 @@
 -- The words that many proofs of this crate use: its definitions, the types of the code, and those of std and of the crates below.
 pub use Rattle.hart_commands.specs.Registers.{AreValid, Contents, overwrite_of, overwritten, registers_of}
 pub use Rattle.hart_commands.specs.RequestData.{IsRequest, command_of}
-pub use Rattle.hart_device.proofs.lemmas.Laws.{answers_are_replies-read, answers_give_their_code-answered, deliveries_bring_one-brings}
-pub use Rattle.hart_device.proofs.lemmas.Laws.{deliveries_bring_one-one, refused_commands_change_nothing-refused}
-pub use Rattle.hart_device.proofs.lemmas.Laws.{refused_commands_change_nothing-silent, registers_of_lists-again, registers_of_lists-first}
-pub use Rattle.hart_device.proofs.lemmas.Laws.{registers_of_lists-last, registers_of_lists-none, resets_name_this_counter-only}
-pub use Rattle.hart_device.proofs.lemmas.Laws.{writes_execute_their_overwrite-executes, writes_execute_their_overwrite-only}
-pub use Rattle.hart_device.proofs.lemmas.Laws.{writes_execute_their_overwrite-well_made}
 pub use Rattle.hart_device.specs.Device.{IsDevice, after, after_reply}
 pub use Rattle.hart_device.specs.answer.Answer.{after_refusal, answer_of, code_of, effect_of, is_answered, reading_of, reply_of}
 pub use Rattle.hart_device.specs.answer.Delivery.{Brings, BringsBy, answer_to, state_after_delivery}
 pub use Rattle.hart_device.specs.declared.identity_parts.IdentityParts.{IdentityParts}
-pub use Rattle.hart_frame.specs.heard.Character.{AreFaultBits}
+pub use Rattle.hart_frame.proofs.lemmas.Laws.{messages_have_their_frame_alone-message, messages_have_their_frame_alone-nothing}
 pub use Rattle.hart_line.specs.Types.{Address, Answered, BadLine, Brought, Character, Chars, Clean, DeviceState, EachMaster, Effect}
 pub use Rattle.hart_line.specs.Types.{Executes, FrameParts, Garbled, Heard, Leg, LineEvent, LineFault, Lost, MasterFault, MasterId, Memory}
-pub use Rattle.hart_line.specs.Types.{NoMessage, NoReply, Noise, Nothing, OneFrame, Outcome, Overwrite, Primary, Process, Protect, Refused}
-pub use Rattle.hart_line.specs.Types.{Reply, Request, Resets, Restart, Secondary, Spoken, Submit, Turn, Undetected, Unfinished}
+pub use Rattle.hart_line.specs.Types.{NoMessage, Noise, Nothing, OneFrame, Outcome, Overwrite, Primary, Process, Protect, Refused, Reply}
+pub use Rattle.hart_line.specs.Types.{Request, Resets, Restart, Secondary, Spoken, Submit, Turn, Undetected, Unfinished}
 pub use Rattle.hart_line.specs.declared.line.report.Party.{Party}
 pub use Rattle.hart_line.specs.declared.script.rows.RowFault.{RowFault}
 pub use Rattle.hart_line.specs.line.Leg.{AnswersTo, IsSent, IsSpeakable}
@@ -31,30 +25,34 @@ pub use Rattle.hart_line.specs.world.Damage.{AreHeard, Arrives, ArrivesAmong, Is
 pub use Rattle.hart_line.specs.world.Executions.{has_execution_of, last_executions, times_executed}
 pub use Rattle.hart_line.specs.world.Faults.{IsFault}
 pub use Rattle.hart_line.specs.world.Led.{Led}
-pub use Rattle.hart_line.specs.world.Promises.{AnswersLastSending, AreWellMade, IsStepOf, IsWellMadeStart, Submission, brought_in_step}
-pub use Rattle.hart_line.specs.world.Promises.{requests_of, start_from, submissions_of}
+pub use Rattle.hart_line.specs.world.Promises.{AnswersLastSending, AreWellMade, HasNoReset, IsExecutedFromHand, IsExecutedInItsTurn}
+pub use Rattle.hart_line.specs.world.Promises.{IsLastReset, IsRefusedByDevice, IsStepOf, IsUnrefusedWrite, IsWellMadeStart, Submission}
+pub use Rattle.hart_line.specs.world.Promises.{brought_in_step, requests_of, sendings_in, start_from, submission_in, submissions_of}
 pub use Rattle.hart_line.specs.world.Spoken.{AreSpoken, IsSpoken, Speaks, SpokenFrame, frame_if, frame_of, master_preambles, party_of}
 pub use Rattle.hart_line.specs.world.Spoken.{spoken_by}
 pub use Rattle.hart_line.specs.world.Step.{Accepts, IsLast, IsTurn, LeadsTo, Step, cold_start_after, effect_on, executions_after}
 pub use Rattle.hart_line.specs.world.Step.{marks_after, outcome_of, replied, sent_back, sent_by, spoken_request, submission_fault}
 pub use Rattle.hart_line.specs.world.Step.{submitted, turned}
 pub use Rattle.hart_line.specs.world.World.{Execution, InHand, MarksWithin, Start, World, first_world, overwrites_of, state_of}
-pub use Rattle.hart_master.specs.Master.{FrameBrings, MasterState, hand_submitted, result_submitted}
+pub use Rattle.hart_master.specs.Master.{FrameBrings, MasterState, hand_sent, hand_submitted, result_submitted}
 pub use Rattle.hart_values.specs.EachMaster.{of_master, with_master}
 pub use Rattle.std.proofs.Common.{Bool, Err, IfSome, IsSome, IsTrue, List, None, Ok, Option, Result, Some, [], ap, append-nil, append_assoc}
-pub use Rattle.std.proofs.Common.{arith, codes, drop, false, get_or, if◌then◌else◌, inl, inr, is_some, length, length-append, map, not}
-pub use Rattle.std.proofs.Common.{pred, refl, replicate, rules, slice_index, slice_set, subst, suc, sym, take, tests, true, unwrap_or, ℕ}
+pub use Rattle.std.proofs.Common.{arith, codes, drop, false, get_or, if◌then◌else◌, inl, inr, is_some, length, length-append, map, pred}
+pub use Rattle.std.proofs.Common.{refl, replicate, rules, slice_index, slice_set, subst, suc, sym, take, tests, true, unwrap_or, zero, ℕ}
 pub use Rattle.std.proofs.Common.{◌&&◌, ◌*◌, ◌++◌, ◌+◌, ◌-◌, ◌/◌, ◌<◌, ◌==◌, ◌^◌, ◌∙◌, ◌∷◌, ◌≡◌, ◌≢◌, ◌≤◌, ◌⊎◌}
 pub use Rattle.std.proofs.Math.Nat.{mod-add-mod, mod-eq_of_lt, mul_comm}
-pub use Rattle.std.proofs.lemmas.Bool.{cases_eq}
+pub use Rattle.std.proofs.lemmas.Bool.{cases_eq, cases_lt, false_from_ne_true}
 pub use Rattle.std.proofs.lemmas.Bool.Decides.{nat_tests}
 pub use Rattle.std.proofs.lemmas.Grind.{common_steps, elements, get_or-set_at}
 pub use Rattle.std.proofs.lemmas.List.{drop_more, get_or-map, get_or-set_other, length-map, length_push, map-append, take_all, take_more}
 pub use Rattle.std.proofs.lemmas.List.{take_rest}
 pub use Rattle.std.proofs.lemmas.List.Elements.{All-append, All-push, filter-append}
 pub use Rattle.std.proofs.lemmas.List.Sums.{prefix_len-le-length, sum_by-append}
-pub use Rattle.std.proofs.lemmas.Option.{get_or_from_slice_get, slice_get-get_or, slice_get-map, slice_get_past, slice_get_within}
+pub use Rattle.std.proofs.lemmas.Option.{same_Some, slice_get-get_or}
 pub use Rattle.std.proofs.lemmas.Result.{err_from_is_err_and}
+pub use Rattle.std.proofs.lemmas.Slice.Eq.{bytes_eq-Decides, text_from_reads}
+pub use Rattle.std.proofs.lemmas.Slice.Zip.{AllZip-long, all_zipped_more}
 pub use Rattle.std.specs.List.{All, AllByRecursion, AllZip, Any, Contains, filter, flat_map, onto_first, position_or_len, slice_get}
 pub use Rattle.std.specs.List.{slice_split}
 pub use Rattle.std.specs.Option.{MatchOption, ok_or, option_and_then, option_map, option_or, option_to_list}
+pub use Rattle.std.specs.Str.{all_ascii_digits, bytes_eq}

@@ -1,7 +1,9 @@
 -- The laws of scripts and of their worlds, for the proofs of this crate and of those above.
-use Rattle.hart_line.proofs.Common.{arith, length, take, refl, ◌≡◌, ◌<◌, ◌^◌, ℕ, List, mod-eq_of_lt, common_steps, take_all}
-use Rattle.hart_line.proofs.Common.{slice_get_within, registers_of_lists-none, LineEvent, Leg, Undetected, Spoken, Outcome, DeviceState}
-use Rattle.hart_line.proofs.Common.{IsFault, Led, AreWellMade, IsWellMadeStart, IsLast, Start, World, first_world, state_of}
+use Rattle.hart_line.proofs.Common.{DeviceState, Outcome, Spoken, Led, arith, length, take, refl, ◌≡◌, ◌<◌, ◌^◌, ℕ, List, mod-eq_of_lt}
+use Rattle.hart_line.proofs.Common.{common_steps, take_all, LineEvent, Leg, Undetected, IsFault, AreWellMade, IsWellMadeStart, IsLast}
+use Rattle.hart_line.proofs.Common.{Start, World, first_world, state_of}
+use Rattle.std.proofs.lemmas.Option.{slice_get_within}
+use Rattle.hart_device.proofs.lemmas.Laws.{registers_of_lists-none}
 use Rattle.hart_line.specs.world.Kept.{KeepsPromises}
 use Rattle.hart_line.proofs.lemmas.world.Answered.{answered_last}
 use Rattle.hart_line.proofs.lemmas.world.Leads.{fault_before, leads_one, undetected_one}

@@ -35,8 +35,7 @@ submitted world who address request None = record world {
 }
 submitted world who address request (Some fault) = record world { outcomes = world.outcomes ++ Refused fault ∷ [] }
 
--- In its turn a master sends the request in its hand: after the preamble bytes of a master an STX with the written data of the
--- request.
+-- In its turn a master sends the request in its hand: after the preamble bytes of a master an STX with the written data of the request.
 abbrev pub spoken_request : MasterId → InHand → SpokenFrame
 spoken_request who held = record {
   party = party_of who;
@@ -117,8 +116,7 @@ turned start world who (Some held) brought accepted =
       spoken = world.spoken ++ spoken_request who held ∷ option_to_list (sent_back start world brought);
     }
 
--- A turn leads to the next world by what it brings the device, what comes back of the answer to that, and the reply that is
--- accepted then.
+-- A turn leads to the next world by what it brings the device, what comes back of the answer to that, and the reply that is accepted then.
 pub record IsTurn (start : Start) (world : World) (who : MasterId) (up down : Heard) (next : World) : Type 0 where
   pub brought : Brought
   pub arrives : Reaches start.device.identity up (sent_by who (of_master who world.hands)) brought

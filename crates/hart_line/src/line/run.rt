@@ -22,15 +22,13 @@ use std::alloc::Global;
 /// masters hear what comes down; and a master that still awaits its reply waits no longer. Noise is heard by all three, and both
 /// masters hear without damage what the device answers to it. At a restart both cold start bits of the device are set.
 ///
-/// The masters are the primary and the secondary one, with no request in hand. The process values are those that the device
-/// is handed.
+/// The masters are the primary and the secondary one, with no request in hand. The process values are those that the device is handed.
 ///
 /// # Errors
 ///
-/// [`LineFault::Memory`] if room was refused, which is reserved before the first event: for an outcome of each submission, for
-/// two spoken frames of each turn and for one of each noise; otherwise [`LineFault::Undetected`] at the first leg in which a frame
-/// was heard that was not the one sent, or more than one frame, with the number of its event, counted from 0. Only the fault is
-/// given back.
+/// [`LineFault::Memory`] if room was refused, which is reserved before the first event: for an outcome of each submission, for two spoken
+/// frames of each turn and for one of each noise; otherwise [`LineFault::Undetected`] at the first leg in which a frame was heard that was
+/// not the one sent, or more than one frame, with the number of its event, counted from 0. Only the fault is given back.
 pub fn run<S: RegisterStore + Drop>(
     alloc: Global,
     device: Device<S>,

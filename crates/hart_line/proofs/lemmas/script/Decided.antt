@@ -1,16 +1,13 @@
 -- Every text is a script or has a first bad line: what its lines say is decided word by word.
 use Rattle.hart_line.proofs.Common.{◌≡◌, ◌<◌, ◌≤◌, ◌⊎◌, ℕ, ◌+◌, suc, List, [], ◌∷◌, length, take, Option, None, Some, Bool, true, false}
-use Rattle.hart_line.proofs.Common.{AreDigits, inl, inr, refl, arith, codes, slice_get, AreFaultBits, Chars, Clean, Lost, LineEvent, Noise}
-use Rattle.hart_line.proofs.Common.{Protect, Restart, Submit, Turn, Request, Address, MasterId, cases_eq, AreItems, BeginsWithItem, Faulty}
+use Rattle.hart_line.proofs.Common.{AreDigits, inl, inr, refl, arith, codes, slice_get, Chars, Clean, Lost, LineEvent, Noise, Protect}
+use Rattle.hart_line.proofs.Common.{Restart, Submit, Turn, Request, Address, MasterId, cases_eq, AreItems, BeginsWithItem, Faulty}
 use Rattle.hart_line.proofs.Common.{IsItemsWord, Item, NoItemBegins, Plain, byte_of, item_meaning, AreEvents, HasFirstBadLine, IsBadLine}
-use Rattle.hart_line.proofs.Common.{IsLegWord, IsScript, Says, is_skipped, lines_in_words, request_of, HasNoValue, address_of, who_of}
-use Rattle.std.proofs.Common.{zero}
-use Rattle.std.proofs.lemmas.Bool.{cases_lt}
-use Rattle.std.proofs.lemmas.Slice.Eq.{bytes_eq-Decides}
+use Rattle.hart_line.proofs.Common.{IsLegWord, IsScript, Says, is_skipped, lines_in_words, request_of, HasNoValue, address_of, who_of, zero}
+use Rattle.hart_line.proofs.Common.{cases_lt, bytes_eq-Decides, bytes_eq}
+use Rattle.hart_frame.specs.heard.Character.{AreFaultBits, IsFaultBit}
 use Rattle.std.specs.Bool.{Decides}
 use Rattle.std.specs.Int.{bit_at}
-use Rattle.std.specs.Str.{bytes_eq}
-use Rattle.hart_frame.specs.heard.Character.{IsFaultBit}
 use Rattle.hart_line.proofs.lemmas.script.Items.{after_item, before_items, items_begin}
 use Rattle.hart_line.proofs.lemmas.script.Rows.{no_leg, no_noise, no_turn, says_none}
 

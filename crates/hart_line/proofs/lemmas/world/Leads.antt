@@ -1,15 +1,15 @@
 -- A script leads to one world, if all damage is detected, and past no undetected damage; and detectable damage is detected.
 use Rattle.hart_line.proofs.Common.{ap, ◌≡◌, ℕ, ◌<◌, ◌∙◌, sym, arith, Option, None, Some, List, [], ◌∷◌, ◌++◌, suc, pred, take, drop, ◌≤◌}
 use Rattle.hart_line.proofs.Common.{refl, inl, inr, common_steps, slice_get, of_master, MasterId, Character, FrameParts, Reply, Brings}
-use Rattle.hart_line.proofs.Common.{Brought, IdentityParts, deliveries_bring_one-one, deliveries_bring_one-brings, Heard, Clean, Chars}
-use Rattle.hart_line.proofs.Common.{LineEvent, Turn, Noise, Leg, Undetected, LineFault, append-nil, AreHeard, Arrives, IsUndetected}
-use Rattle.hart_line.proofs.Common.{Reaches, ReachesAmong, IsDetectable, IsDetected, IsFault, SpokenFrame, frame_of, Accepts, IsLast}
-use Rattle.hart_line.proofs.Common.{LeadsTo, Step, sent_back, sent_by, InHand, Start, World, first_world}
+use Rattle.hart_line.proofs.Common.{Brought, IdentityParts, Heard, Clean, Chars, LineEvent, Turn, Noise, Leg, Undetected, LineFault}
+use Rattle.hart_line.proofs.Common.{append-nil, AreHeard, Arrives, IsUndetected, Reaches, ReachesAmong, IsDetectable, IsDetected, IsFault}
+use Rattle.hart_line.proofs.Common.{SpokenFrame, frame_of, Accepts, IsLast, LeadsTo, Step, sent_back, sent_by, InHand, Start, World}
+use Rattle.hart_line.proofs.Common.{first_world, messages_have_their_frame_alone-message, messages_have_their_frame_alone-nothing}
+use Rattle.hart_device.proofs.lemmas.Laws.{deliveries_bring_one-one, deliveries_bring_one-brings}
 use Rattle.hart_frame.specs.declared.heard.found.Found.{Found}
 use Rattle.hart_frame.specs.heard.Frames.{AreFrames}
 use Rattle.hart_frame.proofs.lemmas.Laws.{bodies_are_unambiguous-one_body, frames_are_unambiguous-one_list}
 use Rattle.hart_frame.proofs.lemmas.Laws.{damaged_messages_have_no_other_frame-check, damaged_messages_have_no_other_frame-marked}
-use Rattle.hart_frame.proofs.lemmas.Laws.{messages_have_their_frame_alone-message, messages_have_their_frame_alone-nothing}
 use Rattle.hart_master.proofs.lemmas.Laws.{replies_are_decided-one_reply, replies_are_decided-decided}
 use Rattle.hart_line.specs.world.Faults.{HasUndetected, HeardIn, AreAllDetected, HasDetectable, IsNotDetectable, LegsAreDetected}
 use Rattle.hart_line.specs.declared.fault.Leg.TheVariants as legs

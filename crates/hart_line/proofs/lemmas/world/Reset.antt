@@ -1,12 +1,12 @@
 -- What holds since a master's last reset, and after a refused command.
 use Rattle.hart_line.proofs.Common.{◌≤◌, ◌≡◌, ◌≢◌, ℕ, refl, arith, Option, IfSome, Ok, false, List, [], ◌∷◌, ◌++◌, length, ◌⊎◌, inl, inr}
 use Rattle.hart_line.proofs.Common.{nat_tests, common_steps, of_master, EachMaster, MasterId, FrameParts, DeviceState, Effect, Nothing}
-use Rattle.hart_line.proofs.Common.{Resets, after_refusal, code_of, effect_of, is_answered, reading_of}
-use Rattle.hart_line.proofs.Common.{refused_commands_change_nothing-refused, refused_commands_change_nothing-silent}
-use Rattle.hart_line.proofs.Common.{resets_name_this_counter-only, LineEvent, Turn, append_assoc, brought_in_step, IsStepOf, IsLast}
-use Rattle.hart_line.proofs.Common.{LeadsTo, effect_on, executions_after, marks_after, Execution, Start, World, first_world, state_of}
+use Rattle.hart_line.proofs.Common.{Resets, after_refusal, code_of, effect_of, is_answered, reading_of, LineEvent, Turn, append_assoc}
+use Rattle.hart_line.proofs.Common.{brought_in_step, IsStepOf, IsLast, LeadsTo, effect_on, executions_after, marks_after, Execution, Start}
+use Rattle.hart_line.proofs.Common.{World, first_world, state_of, HasNoReset, IsLastReset, IsRefusedByDevice}
+use Rattle.hart_device.proofs.lemmas.Laws.{refused_commands_change_nothing-refused, refused_commands_change_nothing-silent}
+use Rattle.hart_device.proofs.lemmas.Laws.{resets_name_this_counter-only}
 use Rattle.hart_commands.specs.declared.request.Request.TheVariants.{ResetChanged}
-use Rattle.hart_line.specs.world.Promises.{HasNoReset, IsLastReset, IsRefusedByDevice}
 use Rattle.hart_line.proofs.lemmas.world.Leads.{leads_on}
 use Rattle.hart_line.proofs.lemmas.world.Steps.{along, entered, leads_more, master_in, turn_cases}
 

@@ -2,11 +2,11 @@
 use Rattle.hart_line.proofs.Common.{arith, ◌≡◌, Bool, ap, refl, subst, Option, None, Some, List, [], ◌∷◌, ◌++◌, ◌⊎◌, inl, inr, ℕ, length}
 use Rattle.hart_line.proofs.Common.{common_steps, map-append, mod-add-mod, nat_tests, of_master, EachMaster, MasterId, Primary, Secondary}
 use Rattle.hart_line.proofs.Common.{Reply, Contents, registers_of, overwritten, Brought, OneFrame, Effect, DeviceState, Executes, after}
-use Rattle.hart_line.proofs.Common.{IdentityParts, MasterFault, FrameParts, registers_of_lists-last, Heard, LineEvent, Submit, Turn}
-use Rattle.hart_line.proofs.Common.{Protect, Noise, Restart, length-append, IsStepOf, Submission, brought_in_step, submissions_of}
-use Rattle.hart_line.proofs.Common.{SpokenFrame, IsTurn, LeadsTo, Step, replied, spoken_request, submitted, turned, effect_on}
-use Rattle.hart_line.proofs.Common.{executions_after, marks_after, state_of, InHand, Start, Reaches, World, Execution, MarksWithin}
-use Rattle.hart_line.proofs.Common.{overwrites_of}
+use Rattle.hart_line.proofs.Common.{IdentityParts, MasterFault, FrameParts, Heard, LineEvent, Submit, Turn, Protect, Noise, Restart}
+use Rattle.hart_line.proofs.Common.{length-append, IsStepOf, Submission, brought_in_step, submissions_of, SpokenFrame, IsTurn, LeadsTo}
+use Rattle.hart_line.proofs.Common.{Step, replied, spoken_request, submitted, turned, effect_on, executions_after, marks_after, state_of}
+use Rattle.hart_line.proofs.Common.{InHand, Start, Reaches, World, Execution, MarksWithin, overwrites_of}
+use Rattle.hart_device.proofs.lemmas.Laws.{registers_of_lists-last}
 use Rattle.hart_line.proofs.lemmas.world.Basics.{none_or_some, with_master-cases}
 
 -- WHAT IS BROUGHT

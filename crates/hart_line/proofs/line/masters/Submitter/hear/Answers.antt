@@ -1,6 +1,5 @@
 use Rattle.hart_line.proofs.Common.{arith, ◌≡◌, common_steps, Reply, FrameBrings, Accepts, FrameParts, InHand, MasterId, None, Option, Some}
-use Rattle.hart_line.proofs.Common.{hand_of, refl}
-use Rattle.hart_master.specs.Master.{hand_sent}
+use Rattle.hart_line.proofs.Common.{hand_of, refl, hand_sent}
 use Rattle.hart_line.proofs.line.masters.Submitter.hear.Goals as goal
 
 -- a master that is brought no reply accepts none
