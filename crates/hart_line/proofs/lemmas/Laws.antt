@@ -34,8 +34,7 @@ same_leg start events number leg another f g =
     undetected_one start g.0 g.1 leg another (rw (same, same_event) at f.4) g.4
 
 pub scripts_have_one_last_world-one_fault : (start : Start) (events : List LineEvent) (number other : ℕ) (leg another : Leg)
-    → IsFault start events (Undetected number leg) → IsFault start events (Undetected other another)
-    → (number ≡ other) × (leg ≡ another)
+    → IsFault start events (Undetected number leg) → IsFault start events (Undetected other another) → (number ≡ other) × (leg ≡ another)
 scripts_have_one_last_world-one_fault start events number other leg another f g =
     let below = λ (h : number < other). fault_before start events number other leg g.0 h f g.2 in
     let above = λ (h : other < number). fault_before start events other number another f.0 h g f.2 in

@@ -31,8 +31,7 @@ byte_of high low = 16 * hex_value high + hex_value low
 abbrev pub IsValidItem : Item → Type 0
 IsValidItem (Plain high low) = AreDigits high low
 IsValidItem (Faulty high low fault_high fault_low) =
-    AreDigits high low × AreDigits fault_high fault_low
-    × (byte_of fault_high fault_low ≢ 0) × AreFaultBits (byte_of fault_high fault_low)
+    AreDigits high low × AreDigits fault_high fault_low × (byte_of fault_high fault_low ≢ 0) × AreFaultBits (byte_of fault_high fault_low)
 
 -- An item means the character of its byte and its fault bits.
 abbrev pub item_meaning : Item → Character

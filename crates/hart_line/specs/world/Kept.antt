@@ -18,8 +18,7 @@ pub record KeepsPromises (start : Start) (events : List LineEvent) (device : Dev
   pub well_made : AreWellMade events
   -- Each accepted reply is the device's answer in the turn of its request's last sending.
   pub accepted_reply_answers_last_sending : (number : ℕ) (reply : Reply) (sendings : ℕ)
-      → slice_get outcomes number ≡ Some (Answered reply sendings)
-      → AnswersLastSending start events number reply sendings
+      → slice_get outcomes number ≡ Some (Answered reply sendings) → AnswersLastSending start events number reply sendings
   -- The registers are the initial ones overwritten by the last execution of each submission, in their order.
   pub registers_follow_last_executions : (world : World) → IsLast start events world
       → device.contents ≡ registers_of (overwrites_of (last_executions world.executions)) start.device.contents
@@ -51,7 +50,5 @@ pub record KeepsPromises (start : Start) (events : List LineEvent) (device : Dev
   -- If a master's configuration-changed bit is clear after the script, nothing was written since its last Command 38 with code 0:
   -- the counter is still the one that it named, if it named one, and the registers are those of that turn.
   pub no_change_unseen : (who : MasterId) (before : World) (given : Option ℕ) → IsLastReset start events who before given
-      → of_master who device.changed ≡ false
-      → IfSome given (λ counter. device.counter ≡ counter)
-      × (device.counter ≡ (state_of start.device before).counter)
-      × (device.contents ≡ (state_of start.device before).contents)
+      → of_master who device.changed ≡ false → IfSome given (λ counter. device.counter ≡ counter)
+      × (device.counter ≡ (state_of start.device before).counter) × (device.contents ≡ (state_of start.device before).contents)

@@ -107,8 +107,7 @@ pub record IsExecutedInItsTurn (start : Start) (events : List LineEvent) (number
 
 -- What an event brought the device: a turn what its leg up brought. Every other event is taken to bring no message, as none of them can
 -- bring a frame: noise may bring a garbled request, which has no effect.
-abbrev pub brought_in_step : (start : Start) (before : World) (event : LineEvent) (next : World) → Step start before event next
-    → Brought
+abbrev pub brought_in_step : (start : Start) (before : World) (event : LineEvent) (next : World) → Step start before event next → Brought
 brought_in_step start before (Turn who up down) next step = step.brought
 brought_in_step start before event next step = NoMessage
 
@@ -141,8 +140,7 @@ pub record IsRefusedByDevice (start : Start) (events : List LineEvent) (before n
 -- No turn of a master in these events resets its configuration-changed bit.
 abbrev pub HasNoReset : Start → World → List LineEvent → MasterId → Type 0
 HasNoReset start from events who = (before next : World) (up down : Heard)
-    (turn : IsStepOf start from events before (Turn who up down) next)
-    → effect_on (state_of start.device before) turn.step.brought ≢ Resets
+    (turn : IsStepOf start from events before (Turn who up down) next) → effect_on (state_of start.device before) turn.step.brought ≢ Resets
 
 -- The last turn of a script in which a Command 38 of this master was executed with code 0, the world before that turn, and the
 -- counter that the command named, if any.

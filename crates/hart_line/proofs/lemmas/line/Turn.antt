@@ -96,8 +96,7 @@ answer_leaves : (answered zero : Bool) (asked : Effect) (id : MasterId) (state :
 answer_leaves answered zero asked id state = grind (arith)
 
 state_after-effect : (state : DeviceState) (id : MasterId) (held : InHand) (brought : Brought)
-    → (frame_in brought ≡ None) ⊎ (brought ≡ OneFrame (spoken_request id held).frame)
-    → state_after_delivery state brought
+    → (frame_in brought ≡ None) ⊎ (brought ≡ OneFrame (spoken_request id held).frame) → state_after_delivery state brought
     ≡ record (after id (effect_on state brought) state) { cold_start = cold_start_after state id brought }
 state_after-effect state id held brought known = grind (arith, answer_leaves)
 
@@ -108,8 +107,7 @@ pub turn_stands : (start : Start) (world : World) (who : MasterId) (up down : He
     → ((said : Option SpokenFrame) → IsSent answer said → Arrives down said returned)
     → Concludes who (of_master who start.retries) hand returned world.outcomes line.outcomes
     (λ left. AreHeld start.retries (with_master who left world.hands) line.masters)
-    → line.response_preambles ≡ start.device.identity.response_preambles
-    → Stepped start world (Turn who up down) line
+    → line.response_preambles ≡ start.device.identity.response_preambles → Stepped start world (Turn who up down) line
 turn_stands start world who up down None answer returned line within in_hand a returns ends preambles_are =
     let held = rw (with_master-same who None world.hands in_hand) at ends.left in
     replied_steps start world (Turn who up down) up answer line a (grind (arith, common_steps)) held ends.outcomes_are preambles_are

@@ -92,8 +92,7 @@ items_begin text chars some are = begin are.items are.valid are.spelled
     begin (item ∷ items) valid spelled = (item, flat_map item_spelling items, first_begins text item items spelled valid)
 
 -- So a word of items begins with a digit.
-pub items_begin_with_digit : (byte : ℕ) (word : List ℕ) (chars : List Character) → AreItems (byte ∷ word) chars
-    → IsTrue (is_hex_digit byte)
+pub items_begin_with_digit : (byte : ℕ) (word : List ℕ) (chars : List Character) → AreItems (byte ∷ word) chars → IsTrue (is_hex_digit byte)
 items_begin_with_digit byte word chars are =
     let (item, tail, begins) = items_begin (byte ∷ word) chars (λ is. cc) are in grind arith
 

@@ -49,8 +49,7 @@ slice_get-take : {A : Type 0} (xs : List A) (m n : ℕ) → m < n → slice_get 
 slice_get-take [] m n below = grind (arith, common_steps)
 slice_get-take (x ∷ xs) m n below = grind (arith, common_steps, slice_get-take xs (pred m) (pred n))
 
-not_before : (text : List ℕ) (number other : ℕ) (a : HasFirstBadLine text number) (b : HasFirstBadLine text other)
-    → a.before < b.before → ⊥
+not_before : (text : List ℕ) (number other : ℕ) (a : HasFirstBadLine text number) (b : HasFirstBadLine text other) → a.before < b.before → ⊥
 not_before text number other a b below = none_bad (take b.before (lines_in_words text)) a.before a.words b.events b.good
     (grind (arith, slice_get-take, a.is)) a.bad
 

@@ -76,8 +76,7 @@ came_back party preambles down answer returned back = grind arith
 
 -- A submission answers nothing.
 not_answered : (world : World) (who : MasterId) (address : Address) (request : Request) (fault : Option MasterFault) (number : ℕ)
-    (reply : Reply) (sendings : ℕ)
-    → slice_get (submitted world who address request fault).outcomes number ≡ Some (Answered reply sendings)
+    (reply : Reply) (sendings : ℕ) → slice_get (submitted world who address request fault).outcomes number ≡ Some (Answered reply sendings)
     → slice_get world.outcomes number ≡ Some (Answered reply sendings)
 not_answered world who address request fault number reply sendings is = grind (arith, slice_get-append)
 

@@ -14,8 +14,7 @@ use Rattle.hart_master.proofs.lemmas.Laws.{replies_are_decided-one_reply, replie
 use Rattle.hart_line.specs.world.Faults.{HasUndetected, HeardIn, AreAllDetected, HasDetectable, IsNotDetectable, LegsAreDetected}
 use Rattle.hart_line.specs.declared.fault.Leg.TheVariants as legs
 
-AreHeard-one : (heard : Heard) (sent : Option SpokenFrame) (a b : List Character) → AreHeard heard sent a
-    → AreHeard heard sent b → a ≡ b
+AreHeard-one : (heard : Heard) (sent : Option SpokenFrame) (a b : List Character) → AreHeard heard sent a → AreHeard heard sent b → a ≡ b
 AreHeard-one Clean (Some said) a b x y =
     let body = bodies_are_unambiguous-one_body said.frame x.1.body y.1.body x.1.is_body y.1.is_body in grind (arith, common_steps)
 AreHeard-one heard sent a b x y = grind arith
@@ -63,8 +62,7 @@ leads_on start (event ∷ prefix) suffix from world last run led =
     leads_on start prefix suffix led.0 world last (rw (step_one start from event run.0 led.0 run.1 led.1) at run.2) led.2
 
 -- So a script leads to one world.
-pub leads_one : (start : Start) (events : List LineEvent) (world a b : World)
-    → LeadsTo start world events a → LeadsTo start world events b
+pub leads_one : (start : Start) (events : List LineEvent) (world a b : World) → LeadsTo start world events a → LeadsTo start world events b
     → a ≡ b
 leads_one start events world a b s t = leads_on start events [] world b a (rw append-nil s) t
 

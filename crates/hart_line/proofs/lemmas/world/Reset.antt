@@ -48,8 +48,7 @@ after_step start events last run before next event here =
 -- If the master's bit is clear, nothing was executed since.
 pub unseen : (start : Start) (events : List LineEvent) (last : World) → IsLast start events last
     → (who : MasterId) (before : World) (given : Option ℕ) → IsLastReset start events who before given
-    → of_master who (state_of start.device last).changed ≡ false
-    → IfSome given (λ counter. (state_of start.device last).counter ≡ counter)
+    → of_master who (state_of start.device last).changed ≡ false → IfSome given (λ counter. (state_of start.device last).counter ≡ counter)
     × ((state_of start.device last).counter ≡ (state_of start.device before).counter)
     × ((state_of start.device last).contents ≡ (state_of start.device before).contents)
 unseen start events last run who before given r clear =

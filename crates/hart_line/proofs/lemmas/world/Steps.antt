@@ -97,8 +97,7 @@ marks_kept effect who number world next executions marks within id mark is =
 -- What holds before all events and is kept by each step of a script holds after them.
 pub along : (start : Start) (from : World) (events : List LineEvent) (P : List LineEvent → World → Type 0)
     → ((before next : World) (event : LineEvent) (here : IsStepOf start from events before event next) → P here.prefix before
-    → P (here.prefix ++ event ∷ []) next)
-    → P [] from → (last : World) → LeadsTo start from events last → P events last
+    → P (here.prefix ++ event ∷ []) next) → P [] from → (last : World) → LeadsTo start from events last → P events last
 along start from [] P keeps holds last led = rw led holds
 along start from (event ∷ events) P keeps holds last led = along start led.0 events (λ es. P (event ∷ es)) (λ before next other here.
     keeps before next other (record {
@@ -130,8 +129,7 @@ contents-more executions execution initial = grind (arith, common_steps, map-app
 -- The state after an effect, with other cold start bits, is that of the world that the effect entered, with these bits.
 pub state-after : (initial : DeviceState) (world next : World) (id : MasterId) (number : ℕ) (effect : Effect) → MarksWithin world
     → next.executions ≡ executions_after effect number world.executions
-    → next.marks ≡ marks_after effect id (length world.executions) world.marks
-    → next.protected ≡ world.protected
+    → next.marks ≡ marks_after effect id (length world.executions) world.marks → next.protected ≡ world.protected
     → record (after id effect (state_of initial world)) { cold_start = next.cold_start } ≡ state_of initial next
 state-after initial world next id number (Executes overwrite) within executions marks protected =
     rw (executions, marks, protected) (same_state _ _ refl (contents-more world.executions _ initial.contents)

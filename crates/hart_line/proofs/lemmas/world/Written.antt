@@ -52,8 +52,7 @@ turn_executed start events made before next who up down here write =
 pub answered_executed : (start : Start) (events : List LineEvent) → AreWellMade events → (number : ℕ) (request : Request)
     (reply : Reply) (sendings : ℕ)
     → AnswersLastSending start events number reply sendings → slice_get (requests_of events) number ≡ Some request
-    → IsTrue (is_write (command_of request)) → reply.code ≡ 0
-    → IsExecutedInItsTurn start events number request reply sendings
+    → IsTrue (is_write (command_of request)) → reply.code ≡ 0 → IsExecutedInItsTurn start events number request reply sendings
 answered_executed start events made number request reply sendings a submitted write success =
     let state = state_of start.device a.before in
     let frame = (spoken_request a.who a.held).frame in
