@@ -123,14 +123,9 @@ impl<S: RegisterStore> Line<S> {
         ensures device { result.device ≡ self.device }
         ensures outcomes { result.outcomes ≡ self.outcomes }
     {
-        let Line {
-            device,
-            outcomes,
-            ..
-        } = self;
         Ending {
-            device,
-            outcomes: Outcomes::new(outcomes.finish()),
+            device: self.device,
+            outcomes: Outcomes::new(self.outcomes.finish()),
         }
     }
 

@@ -1,5 +1,5 @@
 //! Hex items, each of which gives a received character.
-ghost use Rattle.std.specs.Prelude.{◌≡◌, ◌↔◌, [], ◌∷◌, IfSome, IsTrue, MatchOption, slice_index};
+ghost use Rattle.std.specs.Prelude.{◌≡◌, ◌↔◌, [], ◌∷◌, IsTrue, MatchOption, slice_index};
 ghost use Rattle.hart_line.specs.script.Items.{AreDigits, BeginsAsItem, byte_of, IsItemsWord, NoItemBegins};
 ghost use Rattle.hart_line.specs.script.Rows.{ReadsWords};
 
@@ -47,27 +47,16 @@ pub fn leading_item(text: &[u8]) -> Option<LeadingItem>
 
 /// The item that begins a text, as [`leading_item`] gives it: without fault bits by what is kept of the digits.
 #[inline(always)]
+#[tactic(auto, using(crate::proofs::lemmas::script::Items::begins_as_plain))]
 fn next_item(digits: &Digits, text: &[u8]) -> Option<LeadingItem>
     ensures { MatchOption result (NoItemBegins text.now) (λ lead. BeginsAsItem text.now lead.char lead.len) }
 {
-    match plain_item(digits, text) {
-        Some(lead) => Some(lead),
-        None => leading_item(text),
+    if gives_faults(text) {
+        return leading_item(text);
     }
-}
-
-/// The item without fault bits that begins a text, if one does and its digits are known.
-#[inline(always)]
-#[tactic(auto, using(crate::proofs::lemmas::script::Items::begins_as_plain))]
-fn plain_item(digits: &Digits, text: &[u8]) -> Option<LeadingItem>
-    ensures { IfSome result (λ lead. BeginsAsItem text.now lead.char lead.len) }
-{
     let [high, low, ..] = text else {
         return None;
     };
-    if gives_faults(text) {
-        return None;
-    }
     let char = Char::new(digits.byte_of(*high, *low)?, 0)?;
     Some(LeadingItem { char, len: 2 })
 }
