@@ -9,7 +9,6 @@ ghost use Rattle.hart_line.specs.world.Promises.{start_from};
 
 use crate::line::log::KeptFrames;
 use crate::line::logged::carry_out;
-use crate::line::report::Ending;
 use crate::line::room::{room_for_all_spoken, room_for_outcomes};
 use crate::{LineEvent, LineFault, Report, SpokenList};
 use hart_device::{Device, Process, RegisterStore};
@@ -56,10 +55,9 @@ pub fn run<S: RegisterStore + Drop>(
     let ending = carry_out(
         outcomes, device, primary, secondary, events, process, &mut kept,
     )?;
-    let Ending { device, outcomes } = ending;
     Ok(Report {
-        device,
-        outcomes,
+        device: ending.device,
+        outcomes: ending.outcomes,
         spoken: SpokenList::new(kept.frames.finish()),
     })
 }
