@@ -61,12 +61,6 @@ outcomes_after_turn retries None accepted outcomes = outcomes
 outcomes_after_turn retries (Some held) accepted outcomes =
     slice_set outcomes held.submission (outcome_of retries (held.sendings + 1) accepted)
 
--- What comes back is no reply to the request that a master awaits, or it is one, by which the request is answered.
-abbrev pub Hears : MasterId → (retries : ℕ) → Option InHand → Option FrameParts → Option Outcome → (Unanswered Done : Type 0) → Type 0
-Hears who retries hand returned None Unanswered Done = Accepts who hand returned None × Unanswered
-Hears who retries hand returned (Some outcome) Unanswered Done = (reply : Reply) × Accepts who hand returned (Some reply)
-    × (Some outcome ≡ outcome_in_turn retries hand (Some reply)) × Done
-
 -- A turn of a master ends with the outcome of its request, if it had one in hand, by the reply that is accepted, if any.
 pub record Concludes (who : MasterId) (retries : ℕ) (hand : Option InHand) (returned : Option FrameParts) (outcomes outcomes' : List Outcome)
     (Left : Option InHand → Type 0) : Type 0 where

@@ -1,13 +1,12 @@
 //! The two masters of a line, each with the place of its request in hand among the outcomes.
-ghost use Rattle.std.specs.Prelude.{◌≡◌, ℕ, Option, None, length};
+ghost use Rattle.std.specs.Prelude.{◌≡◌, ℕ, Option, None, Some, MatchOption, length};
 ghost use Rattle.std.specs.Option.{option_copied};
-ghost use Rattle.hart_line.specs.Types.{MasterId, EachMaster};
+ghost use Rattle.hart_line.specs.Types.{Reply, MasterId, EachMaster};
 ghost use Rattle.hart_values.specs.EachMaster.{of_master, with_master};
 ghost use Rattle.hart_commands.specs.RequestData.{IsRequest};
-ghost use Rattle.hart_line.specs.line.Masters.{AreHeld, AreInTurn, Awaits, Concludes, Hears, Holds, Submits, hand_after_turn};
-ghost use Rattle.hart_line.specs.line.Masters.{outcome_in_turn};
+ghost use Rattle.hart_line.specs.line.Masters.{AreHeld, AreInTurn, Awaits, Concludes, Holds, Submits, hand_after_turn, outcome_in_turn};
 ghost use Rattle.hart_line.specs.world.Spoken.{frame_if, frame_of};
-ghost use Rattle.hart_line.specs.world.Step.{sent_by, submission_fault};
+ghost use Rattle.hart_line.specs.world.Step.{Accepts, sent_by, submission_fault};
 ghost use Rattle.hart_line.specs.world.World.{InHand};
 
 use crate::{Filling, Outcome};
@@ -54,8 +53,9 @@ impl Submitter {
     /// Hears what comes back, and gives the outcome of its request if that is answered by it.
     fn hear(&mut self, returned: Option<&Frame>) -> Option<Outcome>
         ensures awaited { (id : MasterId) (retries : ℕ) (held : Option InHand) → Awaits id retries held self.old
-            → Hears id retries held (option_copied returned.entry) result (Awaits id retries held self.new)
-            (Holds id retries None self.new) }
+            → MatchOption result (Accepts id held (option_copied returned.entry) None × Awaits id retries held self.new)
+            (λ outcome. (reply : Reply) × Accepts id held (option_copied returned.entry) (Some reply)
+            × (Some outcome ≡ outcome_in_turn retries held (Some reply)) × Holds id retries None self.new) }
         ensures overheard { (id : MasterId) (retries : ℕ) (held : Option InHand) → Holds id retries held self.old
             → Holds id retries held self.new }
     {
