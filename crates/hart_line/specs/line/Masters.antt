@@ -62,8 +62,8 @@ outcomes_after_turn retries (Some held) accepted outcomes =
     slice_set outcomes held.submission (outcome_of retries (held.sendings + 1) accepted)
 
 -- A turn of a master ends with the outcome of its request, if it had one in hand, by the reply that is accepted, if any.
-pub record Concludes (who : MasterId) (retries : ℕ) (hand : Option InHand) (returned : Option FrameParts) (outcomes outcomes' : List Outcome)
-    (Left : Option InHand → Type 0) : Type 0 where
+pub record Concludes (who : MasterId) (retries : ℕ) (hand : Option InHand) (returned : Option FrameParts)
+    (outcomes outcomes' : List Outcome) (Left : Option InHand → Type 0) : Type 0 where
   pub accepted : Option Reply
   pub accepts : Accepts who hand returned accepted
   pub outcomes_are : outcomes' ≡ outcomes_after_turn retries hand accepted outcomes

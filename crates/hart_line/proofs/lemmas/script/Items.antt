@@ -110,10 +110,10 @@ begins_as_plain (x ∷ y ∷ tail) char byte some d b n e = record {
 begins_as_plain text char byte some d b n e = absurd (omega arith)
 
 -- An item with fault bits begins a text.
-pub begins_as_faulty : (text : List ℕ) (char : Character) (byte faults : ℕ) → 5 ≤ length text → AreDigits (get_or text 0 0) (get_or text 1 0)
-    → byte ≡ byte_of (get_or text 0 0) (get_or text 1 0) → get_or text 2 0 ≡ 33 → AreDigits (get_or text 3 0) (get_or text 4 0)
-    → faults ≡ byte_of (get_or text 3 0) (get_or text 4 0) → faults ≢ 0 → AreFaultBits faults
-    → char ≡ record { byte = byte; faults = faults } → BeginsAsItem text char 5
+pub begins_as_faulty : (text : List ℕ) (char : Character) (byte faults : ℕ) → 5 ≤ length text
+    → AreDigits (get_or text 0 0) (get_or text 1 0) → byte ≡ byte_of (get_or text 0 0) (get_or text 1 0) → get_or text 2 0 ≡ 33
+    → AreDigits (get_or text 3 0) (get_or text 4 0) → faults ≡ byte_of (get_or text 3 0) (get_or text 4 0) → faults ≢ 0
+    → AreFaultBits faults → char ≡ record { byte = byte; faults = faults } → BeginsAsItem text char 5
 begins_as_faulty (x ∷ y ∷ m ∷ v ∷ w ∷ text) char byte faults some d b n f g z a e = record {
   item = Faulty x y v w;
   tail = text;
