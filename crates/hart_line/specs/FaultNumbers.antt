@@ -1,7 +1,6 @@
 -- The numbers of the faults of a script (own profile).
 use Rattle.std.specs.Prelude.{ℕ}
-use Rattle.hart_line.specs.declared.fault.LineFault.{LineFault}
-use Rattle.hart_line.specs.declared.fault.LineFault.TheVariants.{Undetected, Memory, BadLine}
+use Rattle.hart_line.specs.Types.{LineFault, Undetected, Memory, BadLine}
 
 -- The number of each fault.
 abbrev pub line_fault_number : LineFault → ℕ

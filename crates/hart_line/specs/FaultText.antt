@@ -1,9 +1,7 @@
 -- The texts of the faults of a script (own profile).
 use Rattle.std.specs.Prelude.{ℕ, ◌++◌, List, [], Option, None, Some, codes, decimal}
-use Rattle.hart_line.specs.declared.fault.Leg.{Leg}
+use Rattle.hart_line.specs.Types.{Leg, LineFault, Undetected, Memory, BadLine}
 use Rattle.hart_line.specs.declared.fault.Leg.TheVariants.{Up, Down, Noise}
-use Rattle.hart_line.specs.declared.fault.LineFault.{LineFault}
-use Rattle.hart_line.specs.declared.fault.LineFault.TheVariants.{Undetected, Memory, BadLine}
 use Rattle.hart_line.specs.declared.fault_text.FaultText.{FaultText}
 
 -- The word of a leg is `up` from a master to the device, `down` from the device to the masters, and `noise` at noise.

@@ -1,3 +1,4 @@
+pub mod Types
 pub mod FaultText
 pub mod FaultNumbers
 pub mod Filling

@@ -3,4 +3,3 @@ pub mod Masters
 pub mod Leg
 pub mod Line
 pub mod Room
-pub mod Log

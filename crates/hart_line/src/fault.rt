@@ -42,8 +42,7 @@ impl fmt::Display for Leg {
 /// Why a script was not read or not carried out.
 #[derive(Clone, Copy, Debug, PartialEq, Eq, Error)]
 pub enum LineFault {
-    /// What was heard in this leg of the event with this number, counted from 0, has frames, and they are not just the one that was
-    /// sent.
+    /// What was heard in this leg of the event with this number, counted from 0, has frames, and they are not just the one that was sent.
     Undetected { event: usize, leg: Leg },
     /// Memory was refused.
     Memory(NoRoom),

@@ -113,8 +113,7 @@ impl<T> Filling<T> {
     pub fn finish(self) -> Vec<T>
         ensures { result.items ≡ self.items }
     {
-        let Filling { items, room: _ } = self;
-        items
+        self.items
     }
 }
 

@@ -1,12 +1,9 @@
 //! Laws over the definitions alone, for the crates above.
 ghost use Rattle.std.specs.Prelude.{◌≡◌, ◌⊎◌, ◌<◌, ◌≤◌, ◌^◌, [], List, ℕ, Some};
 ghost use Rattle.std.specs.List.{AllPass};
-ghost use Rattle.hart_values.specs.declared.address.Address.{Address};
+ghost use Rattle.hart_line.specs.Types.{Address, MasterId, Character, Reply, LineEvent, Leg, LineFault, Memory, Undetected};
 ghost use Rattle.hart_values.specs.declared.address.Address.TheVariants.{Unique};
-ghost use Rattle.hart_values.specs.declared.master_id.MasterId.{MasterId};
-ghost use Rattle.hart_frame.specs.heard.Character.{Character};
 ghost use Rattle.hart_commands.specs.declared.content.ReplyContent.TheVariants.{Identity};
-ghost use Rattle.hart_commands.specs.declared.reply.Reply.{Reply};
 ghost use Rattle.hart_device.specs.Identity.{AreIdentityParts, identity_content, own_numbers};
 ghost use Rattle.hart_device.specs.answer.Answer.{after_refusal};
 ghost use Rattle.hart_device.specs.declared.identity_parts.IdentityParts.{IdentityParts};
@@ -20,10 +17,6 @@ ghost use Rattle.hart_line.specs.world.Noted.{IsLoggedFault};
 ghost use Rattle.hart_line.specs.world.Promises.{AreWellMade, IsRefusedByDevice, IsWellMadeStart};
 ghost use Rattle.hart_line.specs.world.Step.{IsLast};
 ghost use Rattle.hart_line.specs.world.World.{Start, World, first_world, state_of};
-ghost use Rattle.hart_line.specs.declared.event.LineEvent.{LineEvent};
-ghost use Rattle.hart_line.specs.declared.fault.Leg.{Leg};
-ghost use Rattle.hart_line.specs.declared.fault.LineFault.{LineFault};
-ghost use Rattle.hart_line.specs.declared.fault.LineFault.TheVariants.{Memory, Undetected};
 ghost use Rattle.hart_line.specs.declared.memory.NoRoom.{NoRoom};
 
 use crate::Log;
@@ -76,6 +69,7 @@ pub fn empty_scripts_need_no_room<L: Log>()
 {}
 
 /// The unique address that a master takes from a reply with code 0 and the identity of a device is the one at which this device is asked.
+#[tactic(auto, using(std::proofs::lemmas::Grind::common_steps, std::proofs::lemmas::Bool::Decides::nat_tests))]
 pub fn identities_give_their_address()
     ensures { (parts : IdentityParts) (counter extended_device_status : ℕ) (reply : Reply) → AreIdentityParts parts
         → reply.code ≡ 0 → reply.content ≡ Identity (identity_content parts counter extended_device_status)

@@ -1,5 +1,4 @@
-//! The HART line between a field device and its two masters: what the events of a script are, how they are written, and what
-//! they lead to.
+//! The HART line between a field device and its two masters: what the events of a script are, how they are written, and what they lead to.
 //!
 //! A script is a text, and each of its own lines has one event but for comments and empty ones: a request that a master is
 //! asked to send, a turn with what is heard in its two legs, a switch of the write protection, noise, or a restart of the device.

@@ -3,12 +3,11 @@ ghost use Rattle.std.specs.Prelude.{◌≡◌, ◌<◌, [], ◌∷◌, Any, IfEr
 ghost use Rattle.std.specs.Option.{option_copied};
 ghost use Rattle.hart_commands.specs.RequestData.{IsRequest};
 ghost use Rattle.hart_device.specs.Device.{IsDevice};
-ghost use Rattle.hart_device.specs.declared.process.Process.{Process};
-ghost use Rattle.hart_line.specs.line.Room.{HasRoomFor, LeavesRoom};
+ghost use Rattle.hart_line.specs.Types.{Process, Noise, Submit, Turn};
 ghost use Rattle.hart_line.specs.line.Line.{StepsOn, StopsAt};
+ghost use Rattle.hart_line.specs.line.Room.{HasRoomFor, LeavesRoom};
 ghost use Rattle.hart_line.specs.world.Promises.{AreWellMade};
 ghost use Rattle.hart_line.specs.world.Spoken.{frame_if, party_of};
-ghost use Rattle.hart_line.specs.declared.event.LineEvent.TheVariants.{Noise, Submit, Turn};
 
 use crate::line::event_frames::EventFrames;
 use crate::line::leg::{answer_among, answer_in, arrived_in};
@@ -92,8 +91,14 @@ impl<S: RegisterStore> Line<S> {
         Line {
             device,
             masters: Masters {
-                primary: Submitter::new(primary),
-                secondary: Submitter::new(secondary),
+                primary: Submitter {
+                    master: primary,
+                    place: 0,
+                },
+                secondary: Submitter {
+                    master: secondary,
+                    place: 0,
+                },
             },
             outcomes,
             spoken: EventFrames::new(),
@@ -103,18 +108,13 @@ impl<S: RegisterStore> Line<S> {
         }
     }
 
-    /// Notes in a log what the line keeps of what was spoken, and keeps it no longer.
-    ///
-    /// # Errors
-    ///
-    /// [`NoRoom`] at the first frame that the log has no room for.
+    /// Notes in a log what the line keeps of what was spoken, up to the first frame that it has no room for, and keeps it no longer.
     pub fn tell<L: Log>(&mut self, log: &mut L) -> Result<(), NoRoom>
         ensures line { OnOk result (self.new ≡ record self.old { spoken = [] }) }
         ensures noted { OnOk result (L.notes log.old self.old.spoken log.new) }
         ensures refused { IfErr result (λ none. (0 < none.items) × Any (λ said. L.needs said none.items) self.old.spoken) }
     {
         self.spoken.note_in(log)?;
-        self.spoken.clear();
         Ok(())
     }
 
@@ -123,22 +123,13 @@ impl<S: RegisterStore> Line<S> {
         ensures device { result.device ≡ self.device }
         ensures outcomes { result.outcomes ≡ self.outcomes }
     {
-        let Line {
-            device,
-            outcomes,
-            ..
-        } = self;
         Ending {
-            device,
-            outcomes: Outcomes::new(outcomes.finish()),
+            device: self.device,
+            outcomes: Outcomes::new(self.outcomes.finish()),
         }
     }
 
-    /// Carries out one event, for which there is room.
-    ///
-    /// # Errors
-    ///
-    /// The leg whose damage is undetected, if there is one.
+    /// Carries out one event, for which there is room, or gives the leg whose damage is undetected.
     pub fn step(&mut self, event: &LineEvent, process: &Process) -> Result<(), Leg>
         requires room { HasRoomFor (event.now ∷ []) self.old }
         ensures stepped { OnOk result (StepsOn process.now event.now self.old self.new) }
@@ -198,8 +189,7 @@ impl<S: RegisterStore> Line<S> {
         let Ok(returned) = arrived_in(down, sent_back) else {
             return Err(Leg::Down);
         };
-        self.masters
-            .end_turn(who, is_sent, returned, &mut self.outcomes);
+        self.masters.end_turn(who, returned, &mut self.outcomes);
         Ok(())
     }
 
@@ -217,8 +207,7 @@ impl<S: RegisterStore> Line<S> {
         let answer = frame_if(is_answered, &self.reply);
         let preambles = self.response_preambles;
         self.spoken.speak(Party::Device, preambles, answer);
-        self.masters.hear_noise(chars);
-        self.masters.overhear(answer);
+        self.masters.hear_noise(chars, answer);
         Ok(())
     }
 }

@@ -1,12 +1,10 @@
 -- The laws of scripts and of their worlds, for the proofs of this crate and of those above.
-use Rattle.hart_line.proofs.Common.{arith, length, take, refl, ◌≡◌, ◌<◌, ◌^◌, ℕ, List, mod-eq_of_lt, common_steps, take_all}
-use Rattle.hart_line.proofs.Common.{slice_get_within, registers_of_lists-none, LineEvent, Leg, Undetected, Spoken}
-use Rattle.hart_line.proofs.Common.{Outcome, DeviceState}
-use Rattle.hart_line.specs.world.Faults.{IsFault}
+use Rattle.hart_line.proofs.Common.{DeviceState, Outcome, Spoken, Led, arith, length, take, refl, ◌≡◌, ◌<◌, ◌^◌, ℕ, List, mod-eq_of_lt}
+use Rattle.hart_line.proofs.Common.{common_steps, take_all, LineEvent, Leg, Undetected, IsFault, AreWellMade, IsWellMadeStart, IsLast}
+use Rattle.hart_line.proofs.Common.{Start, World, first_world, state_of}
+use Rattle.std.proofs.lemmas.Option.{slice_get_within}
+use Rattle.hart_device.proofs.lemmas.Laws.{registers_of_lists-none}
 use Rattle.hart_line.specs.world.Kept.{KeepsPromises}
-use Rattle.hart_line.specs.world.Promises.{AreWellMade, IsWellMadeStart}
-use Rattle.hart_line.specs.world.Step.{IsLast}
-use Rattle.hart_line.specs.world.World.{Start, World, first_world, state_of}
 use Rattle.hart_line.proofs.lemmas.world.Answered.{answered_last}
 use Rattle.hart_line.proofs.lemmas.world.Leads.{fault_before, leads_one, undetected_one}
 use Rattle.hart_line.proofs.lemmas.world.Reset.{refused_last, refused_step, unseen}
@@ -17,7 +15,6 @@ pub use Rattle.hart_line.proofs.lemmas.script.Items.{words_have_one_value-items}
 pub use Rattle.hart_line.proofs.lemmas.script.Rows.{texts_have_one_script-no_bad_line, texts_have_one_script-one_bad_line}
 pub use Rattle.hart_line.proofs.lemmas.script.Rows.{texts_have_one_script-one_script}
 pub use Rattle.hart_line.proofs.lemmas.world.Leads.{fault_not_detectable as scripts_keep_their_promises-detected}
-use Rattle.hart_line.specs.world.Led.{Led}
 
 pub scripts_have_one_last_world-one_world : (start : Start) (events : List LineEvent) (a b : World)
     → IsLast start events a → IsLast start events b → a ≡ b
@@ -29,9 +26,6 @@ scripts_have_one_last_world-no_fault start events world number leg run f =
     let within = slice_get_within events number f.1 f.3 in
     fault_before start events number (length events) leg world within f (rw (take_all (length events) events (omega arith)) run)
 
-same_number : (m n : ℕ) → (m < n → ⊥) → (n < m → ⊥) → m ≡ n
-same_number m n below above = grind arith
-
 same_leg : (start : Start) (events : List LineEvent) (number : ℕ) (leg another : Leg)
     → IsFault start events (Undetected number leg) → IsFault start events (Undetected number another) → leg ≡ another
 same_leg start events number leg another f g =
@@ -40,11 +34,11 @@ same_leg start events number leg another f g =
     undetected_one start g.0 g.1 leg another (rw (same, same_event) at f.4) g.4
 
 pub scripts_have_one_last_world-one_fault : (start : Start) (events : List LineEvent) (number other : ℕ) (leg another : Leg)
-    → IsFault start events (Undetected number leg) → IsFault start events (Undetected other another)
-    → (number ≡ other) × (leg ≡ another)
+    → IsFault start events (Undetected number leg) → IsFault start events (Undetected other another) → (number ≡ other) × (leg ≡ another)
 scripts_have_one_last_world-one_fault start events number other leg another f g =
-    let same = same_number number other
-    (λ h. fault_before start events number other leg g.0 h f g.2) (λ h. fault_before start events other number another f.0 h g f.2) in
+    let below = λ (h : number < other). fault_before start events number other leg g.0 h f g.2 in
+    let above = λ (h : other < number). fault_before start events other number another f.0 h g f.2 in
+    let same : number ≡ other = grind arith in
     (same, same_leg start events other leg another (rw same at f) g)
 
 pub scripts_keep_their_promises-first_world : (start : Start) → start.device.counter < 2 ^ 16

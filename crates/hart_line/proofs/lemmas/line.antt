@@ -3,4 +3,3 @@ pub mod Leg
 pub mod Turn
 pub mod Room
 pub mod Reached
-pub mod Log

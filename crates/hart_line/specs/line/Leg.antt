@@ -1,10 +1,8 @@
 -- What was sent in a leg, and what the device answers to what that brings it, for private calls alone (own profile).
-use Rattle.std.specs.Prelude.{◌≡◌, ℕ, ◌≤◌, List, Option, None, Some}
+use Rattle.std.specs.Prelude.{◌≡◌, ℕ, ◌≤◌, List, Option, IfSome}
 use Rattle.hart_frame.specs.wire.Body.{IsBody}
-use Rattle.hart_frame.specs.wire.FrameParts.{FrameParts}
-use Rattle.hart_device.specs.answer.Delivery.{Brought, answer_to, state_after_delivery}
-use Rattle.hart_device.specs.Device.{DeviceState}
-use Rattle.hart_device.specs.declared.process.Process.{Process}
+use Rattle.hart_line.specs.Types.{FrameParts, Brought, DeviceState, Process}
+use Rattle.hart_device.specs.answer.Delivery.{answer_to, state_after_delivery}
 use Rattle.hart_line.specs.world.Spoken.{SpokenFrame, frame_of}
 
 -- The device gave this answer, and is in this state, after something that it was brought, of which this holds.
@@ -16,11 +14,10 @@ pub record AnswersTo (IsBrought : Brought → Type 0) (device : DeviceState) (pr
   pub after_is : after ≡ state_after_delivery device brought
 
 -- A frame that is spoken has two preamble bytes before it at least, and a body.
-abbrev pub IsSpeakable : Option SpokenFrame → Type 0
-IsSpeakable None = Unit {0}
-IsSpeakable (Some said) = (2 ≤ said.preambles) × (body : List ℕ) × IsBody said.frame body
+abbrev pub IsSpeakable : SpokenFrame → Type 0
+IsSpeakable said = (2 ≤ said.preambles) × (body : List ℕ) × IsBody said.frame body
 
 -- The frame that was sent, if one was, is the one that was spoken, after two preamble bytes at least, and it has a body.
 pub record IsSent (sent : Option FrameParts) (said : Option SpokenFrame) : Type 0 where
   pub frame : frame_of said ≡ sent
-  pub speakable : IsSpeakable said
+  pub speakable : IfSome said IsSpeakable

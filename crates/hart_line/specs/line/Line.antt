@@ -1,17 +1,12 @@
 -- The line as one value, as the world of a script has it, for private calls alone (own profile).
 use Rattle.std.specs.Prelude.{◌≡◌, ◌++◌, ℕ, List}
-use Rattle.hart_device.specs.Device.{DeviceState}
-use Rattle.hart_device.specs.declared.process.Process.{Process}
+use Rattle.hart_line.specs.Types.{DeviceState, Process, LineEvent, Leg, Outcome, Spoken}
 use Rattle.hart_line.specs.line.Masters.{AreHeld}
 use Rattle.hart_line.specs.world.Faults.{HasUndetected}
 use Rattle.hart_line.specs.world.Spoken.{AreSpoken, SpokenFrame}
 use Rattle.hart_line.specs.world.Step.{Step}
 use Rattle.hart_line.specs.world.World.{MarksWithin, Start, World, state_of}
-use Rattle.hart_line.specs.declared.event.LineEvent.{LineEvent}
-use Rattle.hart_line.specs.declared.fault.Leg.{Leg}
 use Rattle.hart_line.specs.declared.line.masters.Masters.{Masters}
-use Rattle.hart_line.specs.declared.line.report.Outcome.{Outcome}
-use Rattle.hart_line.specs.declared.line.report.Spoken.{Spoken}
 
 -- A line is a device, its two masters, what became of each submission so far, what was spoken in the last event, for how many outcomes
 -- there is room in all, and how many preamble bytes the device puts before a reply.

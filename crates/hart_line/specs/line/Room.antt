@@ -1,8 +1,9 @@
--- The room on the line, for private calls alone (own profile).
-use Rattle.std.specs.Prelude.{◌≡◌, ◌≤◌, ◌+◌, List, [], ◌∷◌, count_by, length}
+-- The room on the line, and in the list that is the log of a script, for private calls alone (own profile).
+use Rattle.std.specs.Prelude.{◌≡◌, ◌≤◌, ◌+◌, List, [], ◌∷◌, ◌++◌, count_by, length}
+use Rattle.hart_line.specs.Filling.{Filled}
 use Rattle.hart_line.specs.line.Line.{LineState}
 use Rattle.hart_line.specs.world.Needs.{is_submission}
-use Rattle.hart_line.specs.declared.event.LineEvent.{LineEvent}
+use Rattle.hart_line.specs.Types.{LineEvent, Spoken}
 
 -- A line that keeps nothing of what was spoken has room for the outcomes of these events.
 pub record HasRoomFor (events : List LineEvent) (line : LineState) : Type 0 where
@@ -13,3 +14,8 @@ pub record HasRoomFor (events : List LineEvent) (line : LineState) : Type 0 wher
 pub record LeavesRoom (event : LineEvent) (old new : LineState) : Type 0 where
   pub outcomes : length new.outcomes ≤ length old.outcomes + count_by is_submission (event ∷ [])
   pub outcomes_room : new.outcomes_room ≡ old.outcomes_room
+
+-- A list in which frames were noted has the same room, and has them after what it had if there was room for all of them.
+pub record NotesWithin (old : Filled Spoken) (noted : List Spoken) (new : Filled Spoken) : Type 0 where
+  pub room : new.room ≡ old.room
+  pub items : length old.items + length noted ≤ old.room → new.items ≡ old.items ++ noted

@@ -1,7 +1,8 @@
 -- Texts of hex items (own profile): an item is two hex digits, after which a `!` and two more hex digits may give fault bits.
 use Rattle.std.specs.Prelude.{◌≡◌, ◌≢◌, ℕ, ◌+◌, ◌*◌, List, [], ◌∷◌, ◌++◌, length, map, unwrap_or, IsTrue, ⊤}
 use Rattle.std.specs.List.{AllByRecursion, flat_map}
-use Rattle.hart_frame.specs.heard.Character.{AreFaultBits, Character}
+use Rattle.hart_frame.specs.heard.Character.{AreFaultBits}
+use Rattle.hart_line.specs.Types.{Character}
 use Rattle.hex.specs.Hex.{hex_digit_value, is_hex_digit}
 
 -- An item is a high and a low digit of its byte, alone or with the two digits of its fault bits.
@@ -30,8 +31,7 @@ byte_of high low = 16 * hex_value high + hex_value low
 abbrev pub IsValidItem : Item → Type 0
 IsValidItem (Plain high low) = AreDigits high low
 IsValidItem (Faulty high low fault_high fault_low) =
-    AreDigits high low × AreDigits fault_high fault_low
-    × (byte_of fault_high fault_low ≢ 0) × AreFaultBits (byte_of fault_high fault_low)
+    AreDigits high low × AreDigits fault_high fault_low × (byte_of fault_high fault_low ≢ 0) × AreFaultBits (byte_of fault_high fault_low)
 
 -- An item means the character of its byte and its fault bits.
 abbrev pub item_meaning : Item → Character

@@ -4,16 +4,11 @@ use Rattle.std.specs.Prelude.{slice_get, take, IsTrue, Option, None, Some, Resul
 use Rattle.std.specs.List.{AllZip, starts_with}
 use Rattle.std.specs.Result.{result_ok}
 use Rattle.hart_commands.specs.RequestData.{request_reading}
-use Rattle.hart_commands.specs.declared.request.Request.{Request}
+use Rattle.hart_line.specs.Types.{Request, Heard, Clean, Lost, Chars, LineEvent, Submit, Turn, Protect, Noise, Restart, LineFault, BadLine}
+use Rattle.hart_line.specs.Types.{Memory, Undetected}
 use Rattle.hart_line.specs.script.Items.{IsItemsWord}
 use Rattle.hart_line.specs.script.Lines.{lines_of, words_of}
 use Rattle.hart_line.specs.script.Words.{◌>>=◌, HasNoValue, IsAddressWord, IsWho, command_of, data_of}
-use Rattle.hart_line.specs.declared.event.Heard.{Heard}
-use Rattle.hart_line.specs.declared.event.Heard.TheVariants.{Clean, Lost, Chars}
-use Rattle.hart_line.specs.declared.event.LineEvent.{LineEvent}
-use Rattle.hart_line.specs.declared.event.LineEvent.TheVariants.{Submit, Turn, Protect, Noise, Restart}
-use Rattle.hart_line.specs.declared.fault.LineFault.{LineFault}
-use Rattle.hart_line.specs.declared.fault.LineFault.TheVariants.{BadLine, Memory, Undetected}
 use Rattle.hart_line.specs.declared.script.rows.RowFault.{RowFault}
 use Rattle.hart_line.specs.declared.script.rows.RowFault.TheVariants as rows
 

@@ -9,10 +9,8 @@ use Rattle.std.specs.Str.Parse.{digits_value}
 use Rattle.hex.specs.Hex.{decode_of, decode_sized}
 use Rattle.hart_values.specs.address.AddressBytes.{broadcast}
 use Rattle.hart_values.specs.address.DeviceNumbers.{DeviceNumbers}
-use Rattle.hart_values.specs.declared.address.Address.{Address}
+use Rattle.hart_line.specs.Types.{Address, MasterId, Primary, Secondary}
 use Rattle.hart_values.specs.declared.address.Address.TheVariants.{Polling, Unique}
-use Rattle.hart_values.specs.declared.master_id.MasterId.{MasterId}
-use Rattle.hart_values.specs.declared.master_id.MasterId.TheVariants.{Primary, Secondary}
 
 -- One reading goes on with the next, and gives nothing if one of them does.
 infixl 10 ◌>>=◌

@@ -1,15 +1,13 @@
 -- What arrives of a message that was sent in a leg of the line (HCF_SPEC-081; which damage is detected is of the own profile).
 use Rattle.std.specs.Prelude.{◌≡◌, ◌⊎◌, ℕ, List, [], ◌∷◌, Option, None, Some}
-use Rattle.hart_frame.specs.heard.Character.{Character, faultless}
+use Rattle.hart_line.specs.Types.{Character, FrameParts, Brought, Heard, Clean, Lost, Chars}
+use Rattle.hart_frame.specs.heard.Character.{faultless}
 use Rattle.hart_frame.specs.heard.Damage.{IsCheckDamage, IsMarkedDamage}
-use Rattle.hart_frame.specs.wire.FrameParts.{FrameParts}
 use Rattle.hart_frame.specs.heard.Frames.{AreFrames}
 use Rattle.hart_frame.specs.wire.Message.{IsMessage}
 use Rattle.hart_frame.specs.declared.heard.found.Found.{Found}
-use Rattle.hart_device.specs.answer.Delivery.{BringsBy, Brought}
+use Rattle.hart_device.specs.answer.Delivery.{BringsBy}
 use Rattle.hart_device.specs.declared.identity_parts.IdentityParts.{IdentityParts}
-use Rattle.hart_line.specs.declared.event.Heard.{Heard}
-use Rattle.hart_line.specs.declared.event.Heard.TheVariants.{Clean, Lost, Chars}
 use Rattle.hart_line.specs.world.Spoken.{SpokenFrame, frame_of}
 
 -- In a clean leg the message of what was sent is heard without faults, or nothing if nothing was sent; in a lost leg nothing is

@@ -1,21 +1,13 @@
 -- Why a script is not carried out (own profile).
 use Rattle.std.specs.Prelude.{◌≡◌, List, ◌∷◌, ◌++◌, take, slice_get, Option, None, Some}
-use Rattle.hart_frame.specs.wire.FrameParts.{FrameParts}
+use Rattle.hart_line.specs.Types.{FrameParts, Brought, Heard, Chars, LineEvent, Turn, Noise, Leg, LineFault, BadLine, Memory, Undetected}
 use Rattle.hart_values.specs.EachMaster.{of_master}
-use Rattle.hart_device.specs.answer.Delivery.{Brought}
 use Rattle.hart_line.specs.world.Damage.{Arrives, IsDetectable, IsUndetected, Reaches}
 use Rattle.hart_line.specs.world.Needs.{IsNeededBy}
 use Rattle.hart_line.specs.world.Spoken.{SpokenFrame}
 use Rattle.hart_line.specs.world.Step.{IsLast, LeadsTo, sent_back, sent_by}
 use Rattle.hart_line.specs.world.World.{Start, World}
-use Rattle.hart_line.specs.declared.event.Heard.{Heard}
-use Rattle.hart_line.specs.declared.event.Heard.TheVariants.{Chars}
-use Rattle.hart_line.specs.declared.event.LineEvent.{LineEvent}
-use Rattle.hart_line.specs.declared.event.LineEvent.TheVariants.{Turn, Noise}
-use Rattle.hart_line.specs.declared.fault.Leg.{Leg}
 use Rattle.hart_line.specs.declared.fault.Leg.TheVariants as legs
-use Rattle.hart_line.specs.declared.fault.LineFault.{LineFault}
-use Rattle.hart_line.specs.declared.fault.LineFault.TheVariants.{BadLine, Memory, Undetected}
 
 -- What is heard in a leg of an event, and what was sent in it. Up, in a turn, the master sends the request in its hand. Down, the device
 -- sends back its answer to what the leg up brought it. At noise nothing is sent. No other event has a leg.
@@ -51,8 +43,7 @@ HasDetectable = HasDamage IsDetectable
 abbrev pub IsNotDetectable : Start → List LineEvent → LineFault → Type 0
 IsNotDetectable start events (Undetected number leg) = (world : World) (event : LineEvent)
     → IsLast start (take number events) world → slice_get events number ≡ Some event → HasDetectable start world event leg → ⊥
-IsNotDetectable start events (Memory room) = Unit {0}
-IsNotDetectable start events (BadLine line) = Unit {0}
+IsNotDetectable start events fault = Unit {0}
 
 -- The damage of each leg of an event is detected: whatever the leg up brings the device, that of the leg down too.
 abbrev pub LegsAreDetected : Start → World → LineEvent → Type 0

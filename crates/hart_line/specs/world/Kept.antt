@@ -1,24 +1,16 @@
 -- What is promised of a script, beside `Led`: of its worlds, and of the device and the outcomes that are given back (own profile).
 use Rattle.std.specs.Prelude.{◌≡◌, ◌≤◌, ◌+◌, ◌%◌, ◌^◌, List, [], ℕ, Option, Some, IfSome, IsTrue, false, length, slice_get}
 use Rattle.hart_values.specs.EachMaster.{of_master}
-use Rattle.hart_values.specs.declared.master_id.MasterId.{MasterId}
+use Rattle.hart_line.specs.Types.{MasterId, Reply, Request, DeviceState, Heard, LineEvent, Turn, Outcome, Answered}
 use Rattle.hart_commands.specs.Registers.{registers_of}
 use Rattle.hart_commands.specs.RequestCode.{is_write}
 use Rattle.hart_commands.specs.RequestData.{command_of}
-use Rattle.hart_commands.specs.declared.reply.Reply.{Reply}
-use Rattle.hart_commands.specs.declared.request.Request.{Request}
-use Rattle.hart_device.specs.Device.{DeviceState}
 use Rattle.hart_device.specs.answer.Answer.{after_refusal}
 use Rattle.hart_line.specs.world.Executions.{last_executions, times_executed}
 use Rattle.hart_line.specs.world.Promises.{AnswersLastSending, AreWellMade, IsExecutedFromHand, IsExecutedInItsTurn, IsLastReset}
 use Rattle.hart_line.specs.world.Promises.{IsRefusedByDevice, IsStepOf, IsUnrefusedWrite, brought_in_step, requests_of, sendings_in}
 use Rattle.hart_line.specs.world.Step.{IsLast}
 use Rattle.hart_line.specs.world.World.{Start, World, first_world, overwrites_of, state_of}
-use Rattle.hart_line.specs.declared.event.Heard.{Heard}
-use Rattle.hart_line.specs.declared.event.LineEvent.{LineEvent}
-use Rattle.hart_line.specs.declared.event.LineEvent.TheVariants.{Turn}
-use Rattle.hart_line.specs.declared.line.report.Outcome.{Outcome}
-use Rattle.hart_line.specs.declared.line.report.Outcome.TheVariants.{Answered}
 
 -- What is promised if a script was carried out, and this device and these outcomes are given back.
 pub record KeepsPromises (start : Start) (events : List LineEvent) (device : DeviceState) (outcomes : List Outcome) : Type 0 where
@@ -26,8 +18,7 @@ pub record KeepsPromises (start : Start) (events : List LineEvent) (device : Dev
   pub well_made : AreWellMade events
   -- Each accepted reply is the device's answer in the turn of its request's last sending.
   pub accepted_reply_answers_last_sending : (number : ℕ) (reply : Reply) (sendings : ℕ)
-      → slice_get outcomes number ≡ Some (Answered reply sendings)
-      → AnswersLastSending start events number reply sendings
+      → slice_get outcomes number ≡ Some (Answered reply sendings) → AnswersLastSending start events number reply sendings
   -- The registers are the initial ones overwritten by the last execution of each submission, in their order.
   pub registers_follow_last_executions : (world : World) → IsLast start events world
       → device.contents ≡ registers_of (overwrites_of (last_executions world.executions)) start.device.contents
@@ -59,7 +50,5 @@ pub record KeepsPromises (start : Start) (events : List LineEvent) (device : Dev
   -- If a master's configuration-changed bit is clear after the script, nothing was written since its last Command 38 with code 0:
   -- the counter is still the one that it named, if it named one, and the registers are those of that turn.
   pub no_change_unseen : (who : MasterId) (before : World) (given : Option ℕ) → IsLastReset start events who before given
-      → of_master who device.changed ≡ false
-      → IfSome given (λ counter. device.counter ≡ counter)
-      × (device.counter ≡ (state_of start.device before).counter)
-      × (device.contents ≡ (state_of start.device before).contents)
+      → of_master who device.changed ≡ false → IfSome given (λ counter. device.counter ≡ counter)
+      × (device.counter ≡ (state_of start.device before).counter) × (device.contents ≡ (state_of start.device before).contents)

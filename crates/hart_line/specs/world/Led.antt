@@ -1,12 +1,9 @@
 -- What a script leads to, as it is given back (own profile).
 use Rattle.std.specs.Prelude.{◌≡◌, List}
-use Rattle.hart_device.specs.Device.{DeviceState}
+use Rattle.hart_line.specs.Types.{DeviceState, LineEvent, Outcome, Spoken}
 use Rattle.hart_line.specs.world.Spoken.{AreSpoken}
 use Rattle.hart_line.specs.world.Step.{IsLast}
 use Rattle.hart_line.specs.world.World.{Start, World, state_of}
-use Rattle.hart_line.specs.declared.event.LineEvent.{LineEvent}
-use Rattle.hart_line.specs.declared.line.report.Outcome.{Outcome}
-use Rattle.hart_line.specs.declared.line.report.Spoken.{Spoken}
 
 -- A script has led to a device, to outcomes and to what was spoken if it has a last world and they are those of it.
 pub record Led (start : Start) (events : List LineEvent) (device : DeviceState) (outcomes : List Outcome) (spoken : List Spoken)

@@ -1,7 +1,6 @@
 -- The room that a script needs (own profile).
 use Rattle.std.specs.Prelude.{◌≡◌, ◌⊎◌, ℕ, ◌+◌, ◌*◌, ◌<◌, Bool, true, false, List, count_by}
-use Rattle.hart_line.specs.declared.event.LineEvent.{LineEvent}
-use Rattle.hart_line.specs.declared.event.LineEvent.TheVariants.{Submit, Turn, Noise}
+use Rattle.hart_line.specs.Types.{LineEvent, Submit, Turn, Noise}
 
 -- Whether an event is a submission.
 abbrev pub is_submission : LineEvent → Bool

@@ -5,10 +5,7 @@ use Rattle.hart_line.specs.world.Needs.{IsNeededForOutcomes}
 use Rattle.hart_line.specs.world.Spoken.{AreSpoken}
 use Rattle.hart_line.specs.world.Step.{IsLast}
 use Rattle.hart_line.specs.world.World.{Start, World}
-use Rattle.hart_line.specs.declared.event.LineEvent.{LineEvent}
-use Rattle.hart_line.specs.declared.fault.LineFault.{LineFault}
-use Rattle.hart_line.specs.declared.fault.LineFault.TheVariants.{BadLine, Memory, Undetected}
-use Rattle.hart_line.specs.declared.line.report.Spoken.{Spoken}
+use Rattle.hart_line.specs.Types.{LineEvent, LineFault, BadLine, Memory, Undetected, Spoken}
 
 -- Some first events of a script lead to a world, and noting a frame that was spoken in them needs room for this number of items, 1 at
 -- least.

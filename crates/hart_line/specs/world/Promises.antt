@@ -1,29 +1,19 @@
 -- What is promised of a whole script (own profile).
 use Rattle.std.specs.Prelude.{◌≡◌, ◌≢◌, ◌⊎◌, ℕ, ◌+◌, List, [], ◌∷◌, ◌++◌, map, All, Option, None, Some, IsTrue, Ok, false, true, slice_get}
-use Rattle.hart_values.specs.declared.address.Address.{Address}
-use Rattle.hart_values.specs.declared.master_id.MasterId.{MasterId}
-use Rattle.hart_frame.specs.wire.FrameParts.{FrameParts}
+use Rattle.hart_line.specs.Types.{Address, MasterId, FrameParts, Overwrite, Reply, Request, Brought, NoMessage, OneFrame, DeviceState}
+use Rattle.hart_line.specs.Types.{Resets, Process, Heard, LineEvent, Submit, Turn, Outcome, Answered, NoReply, Unfinished, Refused}
 use Rattle.hart_values.specs.EachMaster.{of_master}
-use Rattle.hart_commands.specs.Registers.{Overwrite, overwrite_of}
+use Rattle.hart_commands.specs.Registers.{overwrite_of}
 use Rattle.hart_commands.specs.RequestCode.{is_write}
 use Rattle.hart_commands.specs.RequestData.{IsRequest}
-use Rattle.hart_commands.specs.declared.reply.Reply.{Reply}
-use Rattle.hart_commands.specs.declared.request.Request.{Request}
 use Rattle.hart_commands.specs.declared.request.Request.TheVariants.{ResetChanged}
 use Rattle.hart_device.specs.answer.Answer.{answer_of, code_of, effect_of, is_answered, reading_of, reply_of}
-use Rattle.hart_device.specs.answer.Delivery.{Brought, Garbled, NoMessage, OneFrame}
-use Rattle.hart_device.specs.Device.{DeviceState, IsDevice, Resets}
+use Rattle.hart_device.specs.Device.{IsDevice}
 use Rattle.hart_device.specs.Process.{IsProcess}
-use Rattle.hart_device.specs.declared.process.Process.{Process}
 use Rattle.hart_master.specs.Acceptance.{IsReplyTo}
 use Rattle.hart_master.specs.Master.{MasterState}
 use Rattle.hart_line.specs.world.Step.{LeadsTo, Step, effect_on, executions_after, spoken_request}
 use Rattle.hart_line.specs.world.World.{InHand, Start, World, first_world, state_of}
-use Rattle.hart_line.specs.declared.event.Heard.{Heard}
-use Rattle.hart_line.specs.declared.event.LineEvent.{LineEvent}
-use Rattle.hart_line.specs.declared.event.LineEvent.TheVariants.{Submit, Turn, Protect, Noise, Restart}
-use Rattle.hart_line.specs.declared.line.report.Outcome.{Outcome}
-use Rattle.hart_line.specs.declared.line.report.Outcome.TheVariants.{Answered, NoReply, Unfinished, Refused}
 
 -- A script starts with a device, the process values that it is handed, and how often each master sends again at most.
 abbrev pub start_from : DeviceState → Process → MasterState → MasterState → Start
@@ -117,20 +107,15 @@ pub record IsExecutedInItsTurn (start : Start) (events : List LineEvent) (number
 
 -- What an event brought the device: a turn what its leg up brought. Every other event is taken to bring no message, as none of them can
 -- bring a frame: noise may bring a garbled request, which has no effect.
-abbrev pub brought_in_step : (start : Start) (before : World) (event : LineEvent) (next : World) → Step start before event next
-    → Brought
-brought_in_step start before (Submit who address request) next step = NoMessage
+abbrev pub brought_in_step : (start : Start) (before : World) (event : LineEvent) (next : World) → Step start before event next → Brought
 brought_in_step start before (Turn who up down) next step = step.brought
-brought_in_step start before (Protect on) next step = NoMessage
-brought_in_step start before (Noise chars) next step = NoMessage
-brought_in_step start before Restart next step = NoMessage
+brought_in_step start before event next step = NoMessage
 
 -- What was brought is a write that is not refused: a frame of a configuration write that the device answers with code 0.
 abbrev pub IsUnrefusedWrite : DeviceState → Brought → Type 0
 IsUnrefusedWrite state (OneFrame frame) =
     IsTrue (is_write frame.command) × (is_answered state frame ≡ true) × (code_of state frame ≡ 0)
-IsUnrefusedWrite state (Garbled request) = ⊥
-IsUnrefusedWrite state NoMessage = ⊥
+IsUnrefusedWrite state brought = ⊥
 
 -- In a turn of this master one execution is added: that of the submission whose request is in its hand, with the overwrite of this
 -- request, which is the one that was submitted under that number to this master, with its address.
@@ -155,8 +140,7 @@ pub record IsRefusedByDevice (start : Start) (events : List LineEvent) (before n
 -- No turn of a master in these events resets its configuration-changed bit.
 abbrev pub HasNoReset : Start → World → List LineEvent → MasterId → Type 0
 HasNoReset start from events who = (before next : World) (up down : Heard)
-    (turn : IsStepOf start from events before (Turn who up down) next)
-    → effect_on (state_of start.device before) turn.step.brought ≢ Resets
+    (turn : IsStepOf start from events before (Turn who up down) next) → effect_on (state_of start.device before) turn.step.brought ≢ Resets
 
 -- The last turn of a script in which a Command 38 of this master was executed with code 0, the world before that turn, and the
 -- counter that the command named, if any.

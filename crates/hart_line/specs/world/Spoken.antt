@@ -1,13 +1,10 @@
 -- What is spoken on the line (HCF_SPEC-081).
 use Rattle.std.specs.Prelude.{◌≡◌, ℕ, Bool, true, false, List, [], ◌∷◌, ◌++◌, Option, None, Some}
 use Rattle.std.specs.List.{AllZip}
-use Rattle.hart_values.specs.declared.master_id.MasterId.{MasterId}
-use Rattle.hart_values.specs.declared.master_id.MasterId.TheVariants.{Primary, Secondary}
+use Rattle.hart_line.specs.Types.{MasterId, Primary, Secondary, FrameParts, Spoken}
 use Rattle.hart_frame.specs.wire.Body.{IsBody}
-use Rattle.hart_frame.specs.wire.FrameParts.{FrameParts}
 use Rattle.hart_line.specs.declared.line.report.Party.{Party}
 use Rattle.hart_line.specs.declared.line.report.Party.TheVariants as parties
-use Rattle.hart_line.specs.declared.line.report.Spoken.{Spoken}
 
 -- A frame is spoken by a party, after so many preamble bytes.
 pub record SpokenFrame : Type 0 where

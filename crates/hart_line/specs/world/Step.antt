@@ -2,31 +2,21 @@
 use Rattle.std.specs.Prelude.{◌≡◌, Bool, true, false, ℕ, ◌+◌, nat_le, if◌then◌else◌, List, [], ◌∷◌, ◌++◌, length, slice_set, Option, None}
 use Rattle.std.specs.Prelude.{Some}
 use Rattle.std.specs.Option.{option_to_list}
-use Rattle.hart_values.specs.declared.address.Address.{Address}
-use Rattle.hart_values.specs.declared.master_id.MasterId.{MasterId}
-use Rattle.hart_frame.specs.heard.Character.{Character}
-use Rattle.hart_frame.specs.wire.FrameParts.{FrameParts, request_parts}
+use Rattle.hart_line.specs.Types.{Address, MasterId, Character, FrameParts, EachMaster, Reply, Request, Brought, OneFrame, DeviceState}
+use Rattle.hart_line.specs.Types.{Effect, Nothing, Executes, Resets, MasterFault, Heard, Chars, LineEvent, Submit, Turn, Protect, Noise}
+use Rattle.hart_line.specs.Types.{Restart, Outcome, Answered, NoReply, Unfinished, Refused}
+use Rattle.hart_frame.specs.wire.FrameParts.{request_parts}
 use Rattle.hart_values.specs.EachMaster.{of_master, with_master}
-use Rattle.hart_values.specs.declared.each_master.EachMaster.{EachMaster}
 use Rattle.hart_commands.specs.RequestData.{command_of, request_data}
-use Rattle.hart_commands.specs.declared.reply.Reply.{Reply}
-use Rattle.hart_commands.specs.declared.request.Request.{Request}
 use Rattle.hart_device.specs.answer.Answer.{effect_of, is_answered}
-use Rattle.hart_device.specs.answer.Delivery.{Brought, Garbled, NoMessage, OneFrame, answer_to}
-use Rattle.hart_device.specs.Device.{DeviceState, Effect, Nothing, Executes, Resets, for_both}
+use Rattle.hart_device.specs.answer.Delivery.{answer_to}
+use Rattle.hart_device.specs.Device.{for_both}
 use Rattle.hart_master.specs.Acceptance.{IsReplyTo}
 use Rattle.hart_master.specs.Pairing.{may_ask}
-use Rattle.hart_master.specs.declared.fault.MasterFault.{MasterFault}
 use Rattle.hart_master.specs.declared.fault.MasterFault.TheVariants.{Pending, WrongAddress}
 use Rattle.hart_line.specs.world.Damage.{Arrives, Reaches}
 use Rattle.hart_line.specs.world.Spoken.{SpokenFrame, master_preambles, spoken_by, party_of}
 use Rattle.hart_line.specs.world.World.{Execution, InHand, Start, World, first_world, state_of}
-use Rattle.hart_line.specs.declared.event.Heard.{Heard}
-use Rattle.hart_line.specs.declared.event.Heard.TheVariants.{Chars}
-use Rattle.hart_line.specs.declared.event.LineEvent.{LineEvent}
-use Rattle.hart_line.specs.declared.event.LineEvent.TheVariants.{Submit, Turn, Protect, Noise, Restart}
-use Rattle.hart_line.specs.declared.line.report.Outcome.{Outcome}
-use Rattle.hart_line.specs.declared.line.report.Outcome.TheVariants.{Answered, NoReply, Unfinished, Refused}
 use Rattle.hart_line.specs.declared.line.report.Party.TheVariants.{Device}
 
 -- A submission is refused if a request is in the master's hand, whatever the address, and otherwise if the request may not
@@ -43,12 +33,9 @@ submitted world who address request None = record world {
       (Some (record { submission = length world.outcomes; address = address; request = request; sendings = 0 })) world.hands;
   outcomes = world.outcomes ++ Unfinished 0 ∷ [];
 }
-submitted world who address request (Some fault) = record world {
-  outcomes = world.outcomes ++ Refused fault ∷ [];
-}
+submitted world who address request (Some fault) = record world { outcomes = world.outcomes ++ Refused fault ∷ [] }
 
--- In its turn a master sends the request in its hand: after the preamble bytes of a master an STX with the written data of the
--- request.
+-- In its turn a master sends the request in its hand: after the preamble bytes of a master an STX with the written data of the request.
 abbrev pub spoken_request : MasterId → InHand → SpokenFrame
 spoken_request who held = record {
   party = party_of who;
@@ -69,28 +56,23 @@ sent_back start world brought = spoken_by Device start.device.identity.response_
 -- A frame that arrives has its effect on the device. A garbled request has no effect, and without a message there is none.
 abbrev pub effect_on : DeviceState → Brought → Effect
 effect_on state (OneFrame frame) = effect_of state frame
-effect_on state (Garbled request) = Nothing
-effect_on state NoMessage = Nothing
+effect_on state brought = Nothing
 
 -- An execution enters the executions, with the number of its submission.
 abbrev pub executions_after : Effect → ℕ → List Execution → List Execution
-executions_after Nothing number executions = executions
-executions_after (Executes overwrite) number executions =
-    executions ++ record { submission = number; overwrite = overwrite } ∷ []
-executions_after Resets number executions = executions
+executions_after (Executes overwrite) number executions = executions ++ record { submission = number; overwrite = overwrite } ∷ []
+executions_after effect number executions = executions
 
 -- A reset sets the mark of its master to the number of executions so far.
 abbrev pub marks_after : Effect → MasterId → ℕ → EachMaster (Option ℕ) → EachMaster (Option ℕ)
-marks_after Nothing who count marks = marks
-marks_after (Executes overwrite) who count marks = marks
 marks_after Resets who count marks = with_master who (Some count) marks
+marks_after effect who count marks = marks
 
 -- If a frame is answered in a master's turn, the reply shows this master's cold start bit and clears it, whatever its response code. A
 -- frame that is not answered, a garbled request and no message leave both masters' bits as they are.
 abbrev pub cold_start_after : DeviceState → MasterId → Brought → EachMaster Bool
 cold_start_after state who (OneFrame frame) = if is_answered state frame then with_master who false state.cold_start else state.cold_start
-cold_start_after state who (Garbled request) = state.cold_start
-cold_start_after state who NoMessage = state.cold_start
+cold_start_after state who brought = state.cold_start
 
 -- A master accepts what comes back as the reply that it is to the request in hand; it accepts nothing if it is no such reply,
 -- if nothing comes back, or if nothing is in hand.
@@ -109,9 +91,7 @@ outcome_of retries sendings None = if nat_le sendings retries then Unfinished se
 -- An unfinished request stays in hand, with its sendings, and every other leaves it.
 abbrev pub hand_left : InHand → Outcome → Option InHand
 hand_left held (Unfinished sendings) = Some (record held { sendings = sendings })
-hand_left held (Answered reply sendings) = None
-hand_left held (NoReply sendings) = None
-hand_left held (Refused fault) = None
+hand_left held outcome = None
 
 -- The device's answer to what it was brought, if any, is spoken, and nothing else changes.
 abbrev pub replied : Start → World → Brought → World
@@ -136,8 +116,7 @@ turned start world who (Some held) brought accepted =
       spoken = world.spoken ++ spoken_request who held ∷ option_to_list (sent_back start world brought);
     }
 
--- A turn leads to the next world by what it brings the device, what comes back of the answer to that, and the reply that is
--- accepted then.
+-- A turn leads to the next world by what it brings the device, what comes back of the answer to that, and the reply that is accepted then.
 pub record IsTurn (start : Start) (world : World) (who : MasterId) (up down : Heard) (next : World) : Type 0 where
   pub brought : Brought
   pub arrives : Reaches start.device.identity up (sent_by who (of_master who world.hands)) brought

@@ -1,16 +1,10 @@
 -- The world of a script (own profile): what has happened on the line, by executions and the numbers of submissions, which a
 -- device and its masters do not know.
 use Rattle.std.specs.Prelude.{◌≡◌, ℕ, ◌≤◌, ◌+◌, ◌%◌, ◌^◌, ◌||◌, nat_lt, Bool, List, [], length, map, Option, None, Some}
-use Rattle.hart_values.specs.declared.address.Address.{Address}
-use Rattle.hart_values.specs.declared.each_master.EachMaster.{EachMaster}
-use Rattle.hart_values.specs.declared.master_id.MasterId.{MasterId}
+use Rattle.hart_line.specs.Types.{Address, EachMaster, MasterId, Overwrite, Request, DeviceState, Process, Outcome}
 use Rattle.hart_values.specs.EachMaster.{of_master}
-use Rattle.hart_commands.specs.Registers.{Overwrite, registers_of}
-use Rattle.hart_commands.specs.declared.request.Request.{Request}
-use Rattle.hart_device.specs.Device.{DeviceState}
-use Rattle.hart_device.specs.declared.process.Process.{Process}
+use Rattle.hart_commands.specs.Registers.{registers_of}
 use Rattle.hart_line.specs.world.Spoken.{SpokenFrame}
-use Rattle.hart_line.specs.declared.line.report.Outcome.{Outcome}
 
 -- An execution of a configuration write has the number of its submission, counted from 0, and the overwrite that was executed.
 pub record Execution : Type 0 where

@@ -59,31 +59,23 @@ impl EventFrames {
         }
     }
 
-    /// Notes these frames in a log, in order.
-    ///
-    /// # Errors
-    ///
-    /// [`NoRoom`] at the first frame that the log has no room for. A frame after it is not noted.
-    pub fn note_in<L: Log>(&self, log: &mut L) -> Result<(), NoRoom>
-        ensures noted { OnOk result (L.notes log.old self.now log.new) }
-        ensures refused { IfErr result (λ none. (0 < none.items) × Any (λ said. L.needs said none.items) self.now) }
+    /// Notes these frames in a log, in order, up to the first one that it has no room for, and keeps none of them.
+    pub fn note_in<L: Log>(&mut self, log: &mut L) -> Result<(), NoRoom>
+        ensures noted { OnOk result (L.notes log.old self.old log.new) }
+        ensures refused { IfErr result (λ none. (0 < none.items) × Any (λ said. L.needs said none.items) self.old) }
+        ensures empty { self.new ≡ [] }
     {
-        if self.count == 0 {
+        let count = self.count;
+        self.count = 0;
+        if count == 0 {
             return Ok(());
         }
         log.note(&self.first)?;
-        if self.count == 1 {
+        if count == 1 {
             return Ok(());
         }
         log.note(&self.second)?;
         Ok(())
-    }
-
-    /// Removes every frame.
-    pub fn clear(&mut self)
-        ensures { self.new ≡ [] }
-    {
-        self.count = 0;
     }
 }
 

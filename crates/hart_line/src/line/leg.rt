@@ -1,10 +1,9 @@
 //! What arrives in a leg of the line, and what the device answers.
 ghost use Rattle.std.specs.Prelude.{◌≡◌, ◌↔◌, IfErr, IfOk, IsTrue, Option, Some};
 ghost use Rattle.std.specs.Option.{option_copied};
-ghost use Rattle.hart_device.specs.answer.Answer.{answer_of, state_after};
 ghost use Rattle.hart_line.specs.world.Damage.{Arrives, ArrivesAmong, IsUndetected, IsUndetectedAmong, Reaches, ReachesAmong};
-ghost use Rattle.hart_line.specs.line.Leg.{AnswersTo, IsSent};
 ghost use Rattle.hart_line.specs.world.Spoken.{SpokenFrame, frame_if};
+ghost use Rattle.hart_line.specs.line.Leg.{AnswersTo, IsSent};
 
 use crate::Heard;
 use hart_device::{Device, Process, RegisterStore};
@@ -17,10 +16,6 @@ pub struct Undetected;
 /// The frame that arrives in a leg, if any does: the one that was sent.
 ///
 /// What is heard clean is not looked for in its characters: a message has its frame alone.
-///
-/// # Errors
-///
-/// [`Undetected`], if the damage is.
 #[tactic(auto, using(crate::proofs::lemmas::line::Leg::message_arrives, crate::proofs::lemmas::line::Leg::nothing_arrives))]
 pub fn arrived_in<'a>(
     heard: &Heard,
@@ -39,10 +34,6 @@ pub fn arrived_in<'a>(
 }
 
 /// The frame that arrives among characters, if any does: the one that was sent.
-///
-/// # Errors
-///
-/// [`Undetected`], if the damage is.
 pub fn arrived_among<'a>(
     chars: &[Char],
     sent: Option<&'a Frame>,
@@ -58,10 +49,6 @@ pub fn arrived_among<'a>(
 }
 
 /// Whether the device, which hears what goes up, answers what that brings it; the answer is then in `reply`.
-///
-/// # Errors
-///
-/// [`Undetected`], if the damage is.
 #[tactic(auto, using(crate::proofs::lemmas::line::Leg::nothing_reaches))]
 pub fn answer_in<S: RegisterStore>(
     device: &mut Device<S>,
@@ -77,7 +64,7 @@ pub fn answer_in<S: RegisterStore>(
 {
     match up {
         Heard::Clean => match sent {
-            Some(frame) => Ok(answer(device, frame, process, reply)),
+            Some(frame) => Ok(device.receive_into(frame, process, reply)),
             None => Ok(false),
         },
         Heard::Lost => Ok(false),
@@ -86,10 +73,6 @@ pub fn answer_in<S: RegisterStore>(
 }
 
 /// Whether the device, which hears these characters, answers what they bring it; the answer is then in `reply`.
-///
-/// # Errors
-///
-/// [`Undetected`], if the damage is.
 #[tactic(auto, using(crate::proofs::lemmas::line::Leg::answered_among))]
 pub fn answer_among<S: RegisterStore>(
     device: &mut Device<S>,
@@ -103,26 +86,13 @@ pub fn answer_among<S: RegisterStore>(
     ensures undetected { IfErr result (λ damage. IsUndetectedAmong chars.now (option_copied sent.entry)) }
 {
     if let Some(frame) = arrived_among(chars, sent)? {
-        return Ok(answer(device, frame, process, reply));
+        return Ok(device.receive_into(frame, process, reply));
     }
     let Some(answer) = device.reply_to_garbled(chars) else {
         return Ok(false);
     };
     *reply = answer;
     Ok(true)
-}
-
-/// Whether a device answers a frame; the answer is then in `reply`.
-fn answer<S: RegisterStore>(
-    device: &mut Device<S>,
-    frame: &Frame,
-    process: &Process,
-    reply: &mut Frame,
-) -> bool
-    ensures answer { frame_if result reply.new ≡ answer_of device.old process.now frame.now }
-    ensures state { device.new ≡ state_after device.old frame.now }
-{
-    device.receive_into(frame, process, reply)
 }
 
 /// Whether this frame was sent.

@@ -1,6 +1,6 @@
 //! What is spoken on a line is noted while it is spoken.
 ghost use Rattle.std.specs.Prelude.{◌<◌, [], ◌∷◌, ◌++◌, ℕ, IfErr, List, OnOk};
-ghost use Rattle.hart_line.specs.declared.line.report.Spoken.{Spoken};
+ghost use Rattle.hart_line.specs.Types.{Spoken};
 
 use crate::{Filling, NoRoom, Spoken};
 
@@ -36,7 +36,7 @@ pub(crate) struct KeptFrames {
 impl Log for KeptFrames {
     ghost use Rattle.std.proofs.Common.{arith};
     ghost use Rattle.std.proofs.lemmas.Grind.{common_steps};
-    ghost use Rattle.hart_line.specs.line.Log.{NotesWithin};
+    ghost use Rattle.hart_line.specs.line.Room.{NotesWithin};
 
     ghost notes = { λ old noted new. NotesWithin old.frames noted new.frames };
 

@@ -1,6 +1,6 @@
 //! Scripts are carried out, and what is spoken is noted while they are.
 ghost use Rattle.std.specs.Prelude.{◌≡◌, ◌≤◌, [], List, IfErr, IfOk, count_by};
-ghost use Rattle.hart_values.specs.declared.master_id.MasterId.TheVariants.{Primary, Secondary};
+ghost use Rattle.hart_line.specs.Types.{Primary, Secondary, Spoken};
 ghost use Rattle.hart_master.specs.declared.hand.Hand.TheVariants.{Empty};
 ghost use Rattle.hart_line.specs.world.Faults.{IsNotDetectable};
 ghost use Rattle.hart_line.specs.world.Kept.{KeepsPromises};
@@ -8,7 +8,6 @@ ghost use Rattle.hart_line.specs.world.Led.{Led};
 ghost use Rattle.hart_line.specs.world.Needs.{is_submission};
 ghost use Rattle.hart_line.specs.world.Noted.{IsLoggedFault, IsNotingFault};
 ghost use Rattle.hart_line.specs.world.Promises.{start_from};
-ghost use Rattle.hart_line.specs.declared.line.report.Spoken.{Spoken};
 
 use crate::line::Line;
 use crate::line::log::Log;
@@ -55,11 +54,7 @@ pub fn run_logged<S: RegisterStore + Drop, L: Log>(
     carry_out(outcomes, device, primary, secondary, events, process, log)
 }
 
-/// Carries out a script in room that was reserved for its outcomes, and notes what is spoken after each event.
-///
-/// # Errors
-///
-/// Those of [`run_logged`] while its events are carried out. Memory is refused by the log alone.
+/// Carries out a script in room that was reserved for its outcomes, as [`run_logged`] does. Memory is refused by the log alone.
 pub fn carry_out<S: RegisterStore + Drop, L: Log>(
     outcomes: Filling<Outcome>,
     device: Device<S>,

@@ -1,14 +1,12 @@
 //! The two masters of a line, each with the place of its request in hand among the outcomes.
-ghost use Rattle.std.specs.Prelude.{◌≡◌, ℕ, ◌+◌, Option, None, length};
+ghost use Rattle.std.specs.Prelude.{◌≡◌, ℕ, Option, None, Some, MatchOption, length};
 ghost use Rattle.std.specs.Option.{option_copied};
-ghost use Rattle.hart_values.specs.declared.master_id.MasterId.{MasterId};
-ghost use Rattle.hart_values.specs.declared.each_master.EachMaster.{EachMaster};
+ghost use Rattle.hart_line.specs.Types.{Reply, MasterId, EachMaster};
 ghost use Rattle.hart_values.specs.EachMaster.{of_master, with_master};
-ghost use Rattle.hart_frame.specs.wire.FrameParts.{FrameParts};
 ghost use Rattle.hart_commands.specs.RequestData.{IsRequest};
-ghost use Rattle.hart_line.specs.line.Masters.{AreHeld, AreInTurn, Awaits, Concludes, Ends, Hears, Holds, Sends, Submits};
-ghost use Rattle.hart_line.specs.world.Spoken.{frame_if};
-ghost use Rattle.hart_line.specs.world.Step.{hand_left, outcome_of, submission_fault};
+ghost use Rattle.hart_line.specs.line.Masters.{AreHeld, AreInTurn, Awaits, Concludes, Holds, Submits, hand_after_turn, outcome_in_turn};
+ghost use Rattle.hart_line.specs.world.Spoken.{frame_if, frame_of};
+ghost use Rattle.hart_line.specs.world.Step.{Accepts, sent_by, submission_fault};
 ghost use Rattle.hart_line.specs.world.World.{InHand};
 
 use crate::{Filling, Outcome};
@@ -28,14 +26,6 @@ pub struct Submitter {
 }
 
 impl Submitter {
-    /// A master with nothing in hand, which has no place yet.
-    pub fn new(master: Master) -> Self
-        ensures master { result.master ≡ master }
-        ensures place { result.place ≡ 0 }
-    {
-        Submitter { master, place: 0 }
-    }
-
     /// Submits a request, whose outcome will have this place, and gives its outcome so far.
     fn submit(&mut self, place: usize, address: Address, request: &Request) -> Outcome
         ensures submits { (id : MasterId) (retries : ℕ) (held : Option InHand) → Holds id retries held self.old
@@ -55,15 +45,17 @@ impl Submitter {
     /// Sends the request in hand, if there is one, whose reply is then awaited, and writes its frame over `frame`.
     fn send(&mut self, frame: &mut Frame) -> bool
         ensures { (id : MasterId) (retries : ℕ) (held : Option InHand) → Holds id retries held self.old
-            → Sends id held (frame_if result frame.new) (Holds id retries held self.new) (λ sent. Awaits id retries sent self.new) }
+            → (frame_if result frame.new ≡ frame_of (sent_by id held)) × Awaits id retries held self.new }
     {
         self.master.send_into(frame)
     }
 
     /// Hears what comes back, and gives the outcome of its request if that is answered by it.
     fn hear(&mut self, returned: Option<&Frame>) -> Option<Outcome>
-        ensures awaited { (id : MasterId) (retries : ℕ) (held : InHand) → Awaits id retries held self.old
-            → Hears id held (option_copied returned.entry) result (Awaits id retries held self.new) (Holds id retries None self.new) }
+        ensures awaited { (id : MasterId) (retries : ℕ) (held : Option InHand) → Awaits id retries held self.old
+            → MatchOption result (Accepts id held (option_copied returned.entry) None × Awaits id retries held self.new)
+            (λ outcome. (reply : Reply) × Accepts id held (option_copied returned.entry) (Some reply)
+            × (Some outcome ≡ outcome_in_turn retries held (Some reply)) × Holds id retries None self.new) }
         ensures overheard { (id : MasterId) (retries : ℕ) (held : Option InHand) → Holds id retries held self.old
             → Holds id retries held self.new }
     {
@@ -73,42 +65,34 @@ impl Submitter {
         }
     }
 
-    /// Hears noise, between two turns.
-    fn hear_noise(&mut self, chars: &[Char])
-        ensures { (id : MasterId) (retries : ℕ) (held : Option InHand) → Holds id retries held self.old
-            → Holds id retries held self.new }
-    {
-        let _event = self.master.hear(chars);
-    }
-
-    /// Waits no longer for the reply to its request, whose outcome it gives.
-    fn stop_waiting(&mut self) -> Outcome
-        ensures { (id : MasterId) (retries : ℕ) (held : InHand) → Awaits id retries held self.old
-            → let outcome = outcome_of retries (held.sendings + 1) None in
-            (result ≡ outcome) × Holds id retries (hand_left held outcome) self.new }
+    /// Waits no longer for the reply to its request, whose outcome it gives, if it awaits one.
+    fn stop_waiting(&mut self) -> Option<Outcome>
+        ensures { (id : MasterId) (retries : ℕ) (held : Option InHand) → Awaits id retries held self.old
+            → (result ≡ outcome_in_turn retries held None) × Holds id retries (hand_after_turn retries held None) self.new }
     {
         match self.master.tick(TURN_TIME) {
-            MasterEvent::NoReply(sendings) => Outcome::NoReply { sendings },
-            _ => Outcome::Unfinished {
+            MasterEvent::NoReply(sendings) => Some(Outcome::NoReply { sendings }),
+            MasterEvent::Retry => Some(Outcome::Unfinished {
                 sendings: self.master.sendings(),
-            },
+            }),
+            _ => None,
         }
     }
 
-    /// Ends the turn of this master: its request gets its outcome, by what comes back.
+    /// Ends the turn of this master: its request, if it has sent one, gets its outcome, by what comes back.
     fn conclude(&mut self, returned: Option<&Frame>, outcomes: &mut Filling<Outcome>)
-        ensures concludes { (id : MasterId) (retries : ℕ) (held : InHand) → Awaits id retries held self.old
+        ensures concludes { (id : MasterId) (retries : ℕ) (held : Option InHand) → Awaits id retries held self.old
             → Concludes id retries held (option_copied returned.entry) outcomes.old.items outcomes.new.items
             (λ left. Holds id retries left self.new) }
         ensures as_many { length outcomes.new.items ≡ length outcomes.old.items }
         ensures room { outcomes.new.room ≡ outcomes.old.room }
     {
         let place = self.place;
-        let outcome = match self.hear(returned) {
-            Some(answered) => answered,
-            None => self.stop_waiting(),
-        };
-        outcomes.replace(place, outcome);
+        if let Some(answered) = self.hear(returned) {
+            outcomes.replace(place, answered);
+        } else if let Some(outcome) = self.stop_waiting() {
+            outcomes.replace(place, outcome);
+        }
     }
 }
 
@@ -143,8 +127,7 @@ impl Masters {
     /// A master sends the request in its hand, if there is one, whose reply is then awaited, and writes its frame over `frame`.
     pub fn send(&mut self, who: MasterId, frame: &mut Frame) -> bool
         ensures { (retries : EachMaster ℕ) (hands : EachMaster (Option InHand)) → AreHeld retries hands self.old
-            → Sends who (of_master who hands) (frame_if result frame.new) (AreHeld retries hands self.new)
-            (λ sent. AreInTurn who retries hands sent self.new) }
+            → (frame_if result frame.new ≡ frame_of (sent_by who (of_master who hands))) × AreInTurn who retries hands self.new }
     {
         match who {
             MasterId::Primary => self.primary.send(frame),
@@ -152,35 +135,16 @@ impl Masters {
         }
     }
 
-    /// Both masters hear what comes back, and the turn of this one ends; `is_sent` says whether it sent a request in it.
+    /// Both masters hear what comes back, and the turn of this one ends.
     pub fn end_turn(
         &mut self,
         who: MasterId,
-        is_sent: bool,
         returned: Option<&Frame>,
         outcomes: &mut Filling<Outcome>,
     )
-        ensures ends { (retries : EachMaster ℕ) (hands : EachMaster (Option InHand)) (frame : FrameParts)
-            → Sends who (of_master who hands) (frame_if is_sent frame) (AreHeld retries hands self.old)
-            (λ sent. AreInTurn who retries hands sent self.old)
-            → Ends who (of_master who retries) (of_master who hands) (option_copied returned.entry) outcomes.old.items
-            outcomes.new.items (AreHeld retries hands self.new) (λ left. AreHeld retries (with_master who left hands) self.new) }
-        ensures as_many { length outcomes.new.items ≡ length outcomes.old.items }
-        ensures room { outcomes.new.room ≡ outcomes.old.room }
-    {
-        if is_sent {
-            self.conclude(who, returned, outcomes);
-        } else {
-            self.overhear(returned);
-        }
-    }
-
-    /// Both masters hear what comes back, and the turn of this one ends, in which it sent a request.
-    fn conclude(&mut self, who: MasterId, returned: Option<&Frame>, outcomes: &mut Filling<Outcome>)
-        ensures concludes { (retries : EachMaster ℕ) (hands : EachMaster (Option InHand)) (held : InHand)
-            → AreInTurn who retries hands held self.old
-            → Concludes who (of_master who retries) held (option_copied returned.entry) outcomes.old.items outcomes.new.items
-            (λ left. AreHeld retries (with_master who left hands) self.new) }
+        ensures ends { (retries : EachMaster ℕ) (hands : EachMaster (Option InHand)) → AreInTurn who retries hands self.old
+            → Concludes who (of_master who retries) (of_master who hands) (option_copied returned.entry) outcomes.old.items
+            outcomes.new.items (λ left. AreHeld retries (with_master who left hands) self.new) }
         ensures as_many { length outcomes.new.items ≡ length outcomes.old.items }
         ensures room { outcomes.new.room ≡ outcomes.old.room }
     {
@@ -196,21 +160,14 @@ impl Masters {
         }
     }
 
-    /// Both masters hear what comes back while neither awaits a reply.
-    pub fn overhear(&mut self, returned: Option<&Frame>)
+    /// Both masters hear noise, between two turns, and what the device answers to it.
+    pub fn hear_noise(&mut self, chars: &[Char], answer: Option<&Frame>)
         ensures { (retries : EachMaster ℕ) (hands : EachMaster (Option InHand)) → AreHeld retries hands self.old
             → AreHeld retries hands self.new }
     {
-        let _overheard = self.primary.hear(returned);
-        let _overheard = self.secondary.hear(returned);
-    }
-
-    /// Both masters hear noise, between two turns.
-    pub fn hear_noise(&mut self, chars: &[Char])
-        ensures { (retries : EachMaster ℕ) (hands : EachMaster (Option InHand)) → AreHeld retries hands self.old
-            → AreHeld retries hands self.new }
-    {
-        self.primary.hear_noise(chars);
-        self.secondary.hear_noise(chars);
+        let _event = self.primary.master.hear(chars);
+        let _event = self.secondary.master.hear(chars);
+        let _overheard = self.primary.hear(answer);
+        let _overheard = self.secondary.hear(answer);
     }
 }

@@ -5,11 +5,7 @@ ghost use Rattle.hart_line.specs.world.Needs.{IsNeededBy, IsNeededForOutcomes, i
 use crate::{Filling, LineEvent, NoRoom, Outcome, Spoken};
 use std::alloc::Global;
 
-/// Reserves room for an outcome of each submission among these events.
-///
-/// # Errors
-///
-/// [`NoRoom`] with the number of them.
+/// Reserves room for an outcome of each submission among these events, or gives their number.
 pub fn room_for_outcomes(alloc: Global, events: &[LineEvent]) -> Result<Filling<Outcome>, NoRoom>
     ensures empty { IfOk result (λ outcomes. outcomes ≡ record { items = []; room = count_by is_submission events.now }) }
     ensures refused { IfErr result (λ none. IsNeededForOutcomes events.now none.items) }
@@ -17,11 +13,7 @@ pub fn room_for_outcomes(alloc: Global, events: &[LineEvent]) -> Result<Filling<
     Filling::with_room(alloc, submissions(events))
 }
 
-/// Reserves room for the most frames that are spoken in all these events.
-///
-/// # Errors
-///
-/// [`NoRoom`] with the number of them.
+/// Reserves room for the most frames that are spoken in all these events, or gives their number.
 pub fn room_for_all_spoken(alloc: Global, events: &[LineEvent]) -> Result<Filling<Spoken>, NoRoom>
     ensures empty { IfOk result (λ spoken. spoken ≡ record { items = []; room = most_spoken events.now }) }
     ensures refused { IfErr result (λ none. IsNeededBy events.now none.items) }

@@ -1,6 +1,6 @@
 //! Scripts are carried out.
 ghost use Rattle.std.specs.Prelude.{◌≡◌, IfErr, IfOk};
-ghost use Rattle.hart_values.specs.declared.master_id.MasterId.TheVariants.{Primary, Secondary};
+ghost use Rattle.hart_line.specs.Types.{Primary, Secondary};
 ghost use Rattle.hart_master.specs.declared.hand.Hand.TheVariants.{Empty};
 ghost use Rattle.hart_line.specs.world.Faults.{IsFault, IsNotDetectable};
 ghost use Rattle.hart_line.specs.world.Kept.{KeepsPromises};
@@ -9,7 +9,6 @@ ghost use Rattle.hart_line.specs.world.Promises.{start_from};
 
 use crate::line::log::KeptFrames;
 use crate::line::logged::carry_out;
-use crate::line::report::Ending;
 use crate::line::room::{room_for_all_spoken, room_for_outcomes};
 use crate::{LineEvent, LineFault, Report, SpokenList};
 use hart_device::{Device, Process, RegisterStore};
@@ -22,15 +21,13 @@ use std::alloc::Global;
 /// masters hear what comes down; and a master that still awaits its reply waits no longer. Noise is heard by all three, and both
 /// masters hear without damage what the device answers to it. At a restart both cold start bits of the device are set.
 ///
-/// The masters are the primary and the secondary one, with no request in hand. The process values are those that the device
-/// is handed.
+/// The masters are the primary and the secondary one, with no request in hand. The process values are those that the device is handed.
 ///
 /// # Errors
 ///
-/// [`LineFault::Memory`] if room was refused, which is reserved before the first event: for an outcome of each submission, for
-/// two spoken frames of each turn and for one of each noise; otherwise [`LineFault::Undetected`] at the first leg in which a frame
-/// was heard that was not the one sent, or more than one frame, with the number of its event, counted from 0. Only the fault is
-/// given back.
+/// [`LineFault::Memory`] if room was refused, which is reserved before the first event: for an outcome of each submission, for two spoken
+/// frames of each turn and for one of each noise; otherwise [`LineFault::Undetected`] at the first leg in which a frame was heard that was
+/// not the one sent, or more than one frame, with the number of its event, counted from 0. Only the fault is given back.
 pub fn run<S: RegisterStore + Drop>(
     alloc: Global,
     device: Device<S>,
@@ -58,10 +55,9 @@ pub fn run<S: RegisterStore + Drop>(
     let ending = carry_out(
         outcomes, device, primary, secondary, events, process, &mut kept,
     )?;
-    let Ending { device, outcomes } = ending;
     Ok(Report {
-        device,
-        outcomes,
+        device: ending.device,
+        outcomes: ending.outcomes,
         spoken: SpokenList::new(kept.frames.finish()),
     })
 }

@@ -1,5 +1,5 @@
 //! Hex items, each of which gives a received character.
-ghost use Rattle.std.specs.Prelude.{◌≡◌, ◌↔◌, [], ◌∷◌, IfSome, IsTrue, MatchOption, slice_index};
+ghost use Rattle.std.specs.Prelude.{◌≡◌, ◌↔◌, [], ◌∷◌, IsTrue, MatchOption, slice_index};
 ghost use Rattle.hart_line.specs.script.Items.{AreDigits, BeginsAsItem, byte_of, IsItemsWord, NoItemBegins};
 ghost use Rattle.hart_line.specs.script.Rows.{ReadsWords};
 
@@ -22,7 +22,7 @@ pub struct LeadingItem {
 /// The item that begins a text, or `None` if none does.
 ///
 /// A `!` directly after two digits belongs to them, so that no item begins if no fault bits follow it.
-#[tactic(auto, using(crate::proofs::lemmas::script::Items::begins_as_plain))]
+#[tactic(auto, using(crate::proofs::lemmas::script::Items::begins_as_plain, crate::proofs::lemmas::script::Items::begins_as_faulty))]
 pub fn leading_item(text: &[u8]) -> Option<LeadingItem>
     ensures { MatchOption result (NoItemBegins text.now) (λ lead. BeginsAsItem text.now lead.char lead.len) }
 {
@@ -47,27 +47,16 @@ pub fn leading_item(text: &[u8]) -> Option<LeadingItem>
 
 /// The item that begins a text, as [`leading_item`] gives it: without fault bits by what is kept of the digits.
 #[inline(always)]
+#[tactic(auto, using(crate::proofs::lemmas::script::Items::begins_as_plain))]
 fn next_item(digits: &Digits, text: &[u8]) -> Option<LeadingItem>
     ensures { MatchOption result (NoItemBegins text.now) (λ lead. BeginsAsItem text.now lead.char lead.len) }
 {
-    match plain_item(digits, text) {
-        Some(lead) => Some(lead),
-        None => leading_item(text),
+    if gives_faults(text) {
+        return leading_item(text);
     }
-}
-
-/// The item without fault bits that begins a text, if one does and its digits are known.
-#[inline(always)]
-#[tactic(auto, using(crate::proofs::lemmas::script::Items::begins_as_plain))]
-fn plain_item(digits: &Digits, text: &[u8]) -> Option<LeadingItem>
-    ensures { IfSome result (λ lead. BeginsAsItem text.now lead.char lead.len) }
-{
     let [high, low, ..] = text else {
         return None;
     };
-    if gives_faults(text) {
-        return None;
-    }
     let char = Char::new(digits.byte_of(*high, *low)?, 0)?;
     Some(LeadingItem { char, len: 2 })
 }
@@ -79,12 +68,7 @@ fn gives_faults(text: &[u8]) -> bool
     text.len() > 2 && text[2] == b'!'
 }
 
-/// The characters of a word that is items end to end.
-///
-/// # Errors
-///
-/// [`RowFault::Bad`] if the word is empty or not items end to end; [`RowFault::Memory`] if room for half as many characters as it
-/// has bytes was refused.
+/// The characters of a word that is not empty and items end to end; memory may be refused for half as many as the word has bytes.
 pub(crate) fn read_items(alloc: Global, digits: &Digits, word: &[u8]) -> Result<CharList, RowFault>
     ensures { ReadsWords (word.now ∷ []) (IsItemsWord word.now) result }
 {

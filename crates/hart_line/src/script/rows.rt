@@ -44,12 +44,8 @@ impl From<NoRoom> for RowFault {
     }
 }
 
-/// The event that the line with this number says, or `None` if it is empty or a comment.
-///
-/// # Errors
-///
-/// [`LineFault::BadLine`] with the number if it says no event and is no such line; [`LineFault::Memory`] if the room for half as
-/// many characters as one of its words has bytes was refused.
+/// The event that the line with this number says, or `None` if it is empty or a comment. It is bad if it says no event and is no such
+/// line; and memory may be refused for half as many characters as one of its words has bytes.
 pub fn read_line(
     alloc: Global,
     digits: &Digits,

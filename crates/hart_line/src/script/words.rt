@@ -1,8 +1,7 @@
 //! The words of messages to send.
 
 ghost use Rattle.std.specs.Prelude.{◌≡◌};
-ghost use Rattle.hart_line.specs.script.Words.{decimal_of, device_of, polling_of};
-ghost use Rattle.hart_line.specs.script.Words.{Finds, IsAddressWord, IsCommandWord, IsDataWord, IsWho};
+ghost use Rattle.hart_line.specs.script.Words.{decimal_of, device_of, polling_of, Finds, IsAddressWord, IsCommandWord, IsDataWord, IsWho};
 
 use hart_frame::Payload;
 use hart_values::{Address, MasterId, PollingAddress, UniqueAddress};

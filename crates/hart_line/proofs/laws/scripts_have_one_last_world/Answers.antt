@@ -1,4 +1,4 @@
-use Rattle.hart_line.specs.world.World.{first_world}
+use Rattle.hart_line.proofs.Common.{first_world}
 use Rattle.hart_line.proofs.lemmas.Laws.{scripts_have_one_last_world-no_fault, scripts_have_one_last_world-one_fault}
 use Rattle.hart_line.proofs.lemmas.Laws.{scripts_have_one_last_world-one_world}
 use Rattle.hart_line.proofs.lemmas.world.Leads.{leads_exists}

@@ -1,19 +1,13 @@
 -- What arrives in a leg, what it brings the device, and what is spoken.
-use Rattle.hart_line.proofs.Common.{◌≡◌, ℕ, ◌≤◌, ap, refl, arith, Option, None, Some, List, [], ◌∷◌, ◌++◌, replicate, common_steps}
-use Rattle.hart_line.proofs.Common.{MatchOption, option_to_list, MasterId, Character, FrameParts, DeviceState, Brought, BringsBy, Garbled}
-use Rattle.hart_line.proofs.Common.{NoMessage, OneFrame, IdentityParts, Process, Heard, Chars, Clean, Spoken}
-use Rattle.std.proofs.Common.{length-append}
+use Rattle.hart_line.proofs.Common.{Bool, IsTrue, IsSome, IfSome, frame_if, ◌≡◌, ℕ, ◌≤◌, ap, refl, arith, Option, None, Some, List, [], ◌∷◌}
+use Rattle.hart_line.proofs.Common.{◌++◌, replicate, common_steps, MatchOption, option_to_list, MasterId, Character, FrameParts}
+use Rattle.hart_line.proofs.Common.{DeviceState, Brought, BringsBy, Garbled, NoMessage, OneFrame, IdentityParts, Process, Heard, Chars}
+use Rattle.hart_line.proofs.Common.{Clean, Spoken, length-append, Party, AnswersTo, IsSent, IsSpeakable, AreHeard, Arrives, ArrivesAmong}
+use Rattle.hart_line.proofs.Common.{Reaches, ReachesAmong, SpokenFrame, Speaks, frame_of, master_preambles, party_of, spoken_by, AreSpoken}
+use Rattle.hart_line.proofs.Common.{sent_by, InHand, messages_have_their_frame_alone-message, messages_have_their_frame_alone-nothing}
 use Rattle.hart_frame.specs.wire.Message.{IsMessage}
-use Rattle.hart_frame.proofs.lemmas.Laws.{messages_have_their_frame_alone-message, messages_have_their_frame_alone-nothing}
 use Rattle.hart_device.specs.answer.Garbled.{HasGarbled, garbled_reply}
 use Rattle.hart_device.specs.declared.answer.garbled.GarbledRequest.{GarbledRequest}
-use Rattle.hart_line.specs.declared.line.report.Party.{Party}
-use Rattle.hart_line.specs.line.Leg.{AnswersTo, IsSent, IsSpeakable}
-use Rattle.hart_line.specs.line.Masters.{Sends}
-use Rattle.hart_line.specs.world.Damage.{AreHeard, Arrives, ArrivesAmong, Reaches, ReachesAmong}
-use Rattle.hart_line.specs.world.Spoken.{SpokenFrame, Speaks, frame_of, master_preambles, party_of, spoken_by, AreSpoken}
-use Rattle.hart_line.specs.world.Step.{sent_by}
-use Rattle.hart_line.specs.world.World.{InHand}
 
 -- WHAT CHARACTERS BRING
 -- A frame that arrives is brought.
@@ -40,6 +34,12 @@ answered_among chars sent device process (Some reply) a is = record {
   after_is = refl;
 }
 
+-- A frame that is written if there is an answer is the answer.
+pub frame_given : (result : Bool) (reply : FrameParts) (answer : Option FrameParts)
+    → (IsTrue result → IsSome answer) × (IsSome answer → IsTrue result) → IfSome answer (λ frame. reply ≡ frame)
+    → frame_if result reply ≡ answer
+frame_given result reply answer same is = grind arith
+
 -- WHAT A LEG BRINGS
 -- In no characters there is no garbled request, so they bring nothing.
 pub nothing_arrives : (sent : Option FrameParts) → ArrivesAmong [] sent None
@@ -52,7 +52,7 @@ nothing_reaches identity heard said are =
     record { chars = []; are_heard = are; among = among }
 
 -- Otherwise the frame that was sent arrives in it, and is brought.
-pub message_arrives : (said : SpokenFrame) → IsSpeakable (Some said) → Arrives Clean (Some said) (Some said.frame)
+pub message_arrives : (said : SpokenFrame) → IsSpeakable said → Arrives Clean (Some said) (Some said.frame)
 message_arrives said is =
     let is_message : IsMessage said.frame said.preambles (replicate said.preambles 255 ++ is.1) =
     record { body = is.1; is_body = is.2; parts = refl } in
@@ -83,10 +83,10 @@ pub speaks_sent : (party : Party) (preambles : ℕ) (sent : Option FrameParts) (
     → Speaks (spoken_by party preambles sent) old new → IsSent sent (spoken_by party preambles sent)
 speaks_sent party preambles sent old new enough speaks = grind arith
 
-pub says_request : (Silent : Type 0) (Sent : InHand → Type 0) (who : MasterId) (hand : Option InHand) (frame : Option FrameParts)
-    (old new : List Spoken) → Sends who hand frame Silent Sent → Speaks (spoken_by (party_of who) master_preambles frame) old new
+pub says_request : (who : MasterId) (hand : Option InHand) (frame : Option FrameParts) (old new : List Spoken)
+    → frame ≡ frame_of (sent_by who hand) → Speaks (spoken_by (party_of who) master_preambles frame) old new
     → Speaks (sent_by who hand) old new × IsSent frame (sent_by who hand)
-says_request Silent Sent who hand frame old new sends speaks = grind (arith, common_steps, speaks_sent)
+says_request who hand frame old new sends speaks = grind (arith, common_steps, speaks_sent)
 
 -- Frames that are spoken after others are put down after those.
 pub AreSpoken-append : (frames more : List SpokenFrame) (list others : List Spoken) → AreSpoken frames list → AreSpoken more others

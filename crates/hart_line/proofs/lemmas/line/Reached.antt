@@ -1,14 +1,9 @@
 -- How far a script has come on a line that lets go what was spoken once it is noted.
 use Rattle.hart_line.proofs.Common.{◌∙◌, ◌∷◌, arith, ◌≡◌, ℕ, ◌+◌, ◌<◌, sym, refl, List, [], length, take, get_or, rules, ◌++◌, Any}
 use Rattle.hart_line.proofs.Common.{common_steps, take_more, Primary, Secondary, DeviceState, IsDevice, Process, MasterState, LineEvent}
-use Rattle.hart_line.proofs.Common.{Outcome, Spoken}
+use Rattle.hart_line.proofs.Common.{Outcome, Spoken, LineState, Stands, Stepped, Led, start_from, AreWellMade, AreSpoken, IsLast}
+use Rattle.hart_line.proofs.Common.{MarksWithin, Start, World, first_world}
 use Rattle.hart_master.specs.declared.hand.Hand.TheVariants.{Empty}
-use Rattle.hart_line.specs.line.Line.{LineState, Stands, Stepped}
-use Rattle.hart_line.specs.world.Promises.{start_from, AreWellMade}
-use Rattle.hart_line.specs.world.Step.{IsLast}
-use Rattle.hart_line.specs.world.World.{MarksWithin, Start, World, first_world}
-use Rattle.hart_line.specs.world.Led.{Led}
-use Rattle.hart_line.specs.world.Spoken.{AreSpoken}
 use Rattle.hart_line.proofs.lemmas.Laws.{scripts_keep_their_promises-first_world}
 use Rattle.hart_line.proofs.lemmas.world.Steps.{entered, leads_more, marks_kept}
 use Rattle.hart_line.proofs.lemmas.world.Submitted.{made_more}

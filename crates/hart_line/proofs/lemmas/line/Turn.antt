@@ -1,17 +1,14 @@
 -- A turn of the line is a turn of the world, and noise on it is noise there.
 use Rattle.hart_line.proofs.Common.{◌≡◌, Bool, false, ◌∙◌, refl, Option, None, Some, List, [], ◌∷◌, ◌++◌, ◌⊎◌, arith, common_steps}
 use Rattle.hart_line.proofs.Common.{option_to_list, of_master, with_master, MasterId, FrameParts, DeviceState, Effect, Nothing, after}
-use Rattle.hart_line.proofs.Common.{after_reply, Brought, OneFrame, state_after_delivery, Process, Heard, LineEvent, Turn, Spoken}
-use Rattle.std.proofs.Common.{◌&&◌, if◌then◌else◌, append-nil}
+use Rattle.hart_line.proofs.Common.{after_reply, Brought, OneFrame, state_after_delivery, Process, Heard, LineEvent, Turn, Spoken, ◌&&◌}
+use Rattle.hart_line.proofs.Common.{if◌then◌else◌, append-nil, AnswersTo, IsSent, LineState, Stands, Stepped, AreHeld, Concludes, Arrives}
+use Rattle.hart_line.proofs.Common.{Reaches, AreSpoken, SpokenFrame, Speaks, frame_of, master_preambles, party_of, spoken_by, Step}
+use Rattle.hart_line.proofs.Common.{cold_start_after, effect_on, replied, spoken_request, sent_back, sent_by, turned, InHand, Start, World}
+use Rattle.hart_line.proofs.Common.{state_of, MarksWithin}
 use Rattle.hart_frame.specs.wire.Message.{IsPreambleCount}
-use Rattle.hart_line.specs.line.Leg.{AnswersTo, IsSent}
-use Rattle.hart_line.specs.line.Line.{LineState, Stands, Stepped}
-use Rattle.hart_line.specs.line.Masters.{AreHeld, Ends, Sends}
-use Rattle.hart_line.specs.world.Damage.{Arrives, Reaches}
-use Rattle.hart_line.specs.world.Spoken.{AreSpoken, SpokenFrame, Speaks, master_preambles, party_of, spoken_by}
-use Rattle.hart_line.specs.world.Step.{Step, cold_start_after, effect_on, replied, spoken_request, sent_back, sent_by, turned}
-use Rattle.hart_line.specs.world.World.{InHand, Start, World, state_of, MarksWithin}
 use Rattle.hart_line.proofs.lemmas.line.Leg.{AreSpoken-two, says_request, speaks_sent}
+use Rattle.hart_line.proofs.lemmas.world.Basics.{with_master-same}
 use Rattle.hart_line.proofs.lemmas.world.Steps.{frame_in, none_reaches, reaches_sent, state-after}
 use Rattle.hart_line.specs.declared.line.report.Party.TheVariants as parties
 
@@ -42,15 +39,14 @@ answered start world heard said answer process line after mid new s same says gi
     }
 
 -- In a turn the request of the master was said, if it has one in hand.
-pub turn_answered : (start : Start) (world : World) (who : MasterId) (up : Heard) (Silent : Type 0) (Sent : InHand → Type 0)
-    (sent answer : Option FrameParts) (process : Process) (line : LineState) (after : DeviceState) (mid new : List Spoken)
-    → Stands start world line → start.process ≡ process → Sends who (of_master who world.hands) sent Silent Sent
-    → Speaks (spoken_by (party_of who) master_preambles sent) [] mid
+pub turn_answered : (start : Start) (world : World) (who : MasterId) (up : Heard) (sent answer : Option FrameParts) (process : Process)
+    (line : LineState) (after : DeviceState) (mid new : List Spoken) → Stands start world line → start.process ≡ process
+    → sent ≡ frame_of (sent_by who (of_master who world.hands)) → Speaks (spoken_by (party_of who) master_preambles sent) [] mid
     → ((said : Option SpokenFrame) → IsSent sent said → AnswersTo (Reaches line.device.identity up said) line.device process answer after)
     → IsPreambleCount line.response_preambles → Speaks (spoken_by parties.Device line.response_preambles answer) mid new
     → IsAnswered start world up (sent_by who (of_master who world.hands)) answer after new
-turn_answered start world who up Silent Sent sent answer process line after mid new s same sends speaks answers count replies =
-    let says = says_request Silent Sent who (of_master who world.hands) sent [] mid sends speaks in
+turn_answered start world who up sent answer process line after mid new s same sends speaks answers count replies =
+    let says = says_request who (of_master who world.hands) sent [] mid sends speaks in
     answered start world up (sent_by who (of_master who world.hands)) answer process line after mid new s same says.0
     (answers (sent_by who (of_master who world.hands)) says.1) count replies
 
@@ -100,8 +96,7 @@ answer_leaves : (answered zero : Bool) (asked : Effect) (id : MasterId) (state :
 answer_leaves answered zero asked id state = grind (arith)
 
 state_after-effect : (state : DeviceState) (id : MasterId) (held : InHand) (brought : Brought)
-    → (frame_in brought ≡ None) ⊎ (brought ≡ OneFrame (spoken_request id held).frame)
-    → state_after_delivery state brought
+    → (frame_in brought ≡ None) ⊎ (brought ≡ OneFrame (spoken_request id held).frame) → state_after_delivery state brought
     ≡ record (after id (effect_on state brought) state) { cold_start = cold_start_after state id brought }
 state_after-effect state id held brought known = grind (arith, answer_leaves)
 
@@ -110,12 +105,12 @@ pub turn_stands : (start : Start) (world : World) (who : MasterId) (up down : He
     (answer returned : Option FrameParts) (line : LineState) → MarksWithin world → of_master who world.hands ≡ hand
     → (a : IsAnswered start world up (sent_by who hand) answer line.device line.spoken)
     → ((said : Option SpokenFrame) → IsSent answer said → Arrives down said returned)
-    → Ends who (of_master who start.retries) hand returned world.outcomes line.outcomes (AreHeld start.retries world.hands line.masters)
+    → Concludes who (of_master who start.retries) hand returned world.outcomes line.outcomes
     (λ left. AreHeld start.retries (with_master who left world.hands) line.masters)
-    → line.response_preambles ≡ start.device.identity.response_preambles
-    → Stepped start world (Turn who up down) line
+    → line.response_preambles ≡ start.device.identity.response_preambles → Stepped start world (Turn who up down) line
 turn_stands start world who up down None answer returned line within in_hand a returns ends preambles_are =
-    replied_steps start world (Turn who up down) up answer line a (grind (arith, common_steps)) ends.0 ends.1 preambles_are
+    let held = rw (with_master-same who None world.hands in_hand) at ends.left in
+    replied_steps start world (Turn who up down) up answer line a (grind (arith, common_steps)) held ends.outcomes_are preambles_are
 turn_stands start world who up down (Some held) answer returned line within in_hand a returns ends preambles_are =
     let next = turned start world who (Some held) a.brought ends.accepted in record {
       next = next;

@@ -1,21 +1,15 @@
 -- Every text is a script or has a first bad line: what its lines say is decided word by word.
 use Rattle.hart_line.proofs.Common.{◌≡◌, ◌<◌, ◌≤◌, ◌⊎◌, ℕ, ◌+◌, suc, List, [], ◌∷◌, length, take, Option, None, Some, Bool, true, false}
-use Rattle.hart_line.proofs.Common.{inl, inr, refl, arith, codes, slice_get, AreFaultBits, Heard, Chars, Clean, Lost}
-use Rattle.hart_line.proofs.Common.{LineEvent, Noise, Protect, Restart, Submit, Turn, Request, Address, MasterId}
-use Rattle.std.proofs.Common.{zero}
-use Rattle.std.proofs.lemmas.Bool.{cases_eq, cases_lt}
-use Rattle.std.proofs.lemmas.Slice.Eq.{bytes_eq-Decides}
+use Rattle.hart_line.proofs.Common.{AreDigits, inl, inr, refl, arith, codes, slice_get, Chars, Clean, Lost, LineEvent, Noise, Protect}
+use Rattle.hart_line.proofs.Common.{Restart, Submit, Turn, Request, Address, MasterId, cases_eq, AreItems, BeginsWithItem, Faulty}
+use Rattle.hart_line.proofs.Common.{IsItemsWord, Item, NoItemBegins, Plain, byte_of, item_meaning, AreEvents, HasFirstBadLine, IsBadLine}
+use Rattle.hart_line.proofs.Common.{IsLegWord, IsScript, Says, is_skipped, lines_in_words, request_of, HasNoValue, address_of, who_of, zero}
+use Rattle.hart_line.proofs.Common.{cases_lt, bytes_eq-Decides, bytes_eq}
+use Rattle.hart_frame.specs.heard.Character.{AreFaultBits, IsFaultBit}
 use Rattle.std.specs.Bool.{Decides}
 use Rattle.std.specs.Int.{bit_at}
-use Rattle.std.specs.Str.{bytes_eq}
-use Rattle.hart_frame.specs.heard.Character.{IsFaultBit}
-use Rattle.hart_line.specs.script.Items.{AreDigits, AreItems, BeginsWithItem, Faulty, IsItemsWord, Item, NoItemBegins, Plain, byte_of}
-use Rattle.hart_line.specs.script.Items.{item_meaning}
-use Rattle.hart_line.specs.script.Rows.{AreEvents, HasFirstBadLine, IsBadLine, IsLegWord, IsScript, Says, is_skipped, lines_in_words}
-use Rattle.hart_line.specs.script.Rows.{request_of}
-use Rattle.hart_line.specs.script.Words.{HasNoValue, IsAddressWord, IsWho, address_of, who_of}
 use Rattle.hart_line.proofs.lemmas.script.Items.{after_item, before_items, items_begin}
-use Rattle.hart_line.proofs.lemmas.script.Rows.{no_leg, no_noise, says_none}
+use Rattle.hart_line.proofs.lemmas.script.Rows.{no_leg, no_noise, no_turn, says_none}
 
 -- A statement is proved or refuted.
 abbrev Decided : Type 0 → Type 0
@@ -24,10 +18,6 @@ Decided P = P ⊎ (P → ⊥)
 -- There is a value with this, or none.
 abbrev OneOrNone : {T : Type 0} → (T → Type 0) → Type 0
 OneOrNone {T} IsValue = ((value : T) × IsValue value) ⊎ HasNoValue IsValue
-
-found_or_none : {T : Type 0} (read : Option T) → OneOrNone (λ (value : T). read ≡ Some value)
-found_or_none None = inr (λ value is. cc)
-found_or_none (Some value) = inl (value, refl)
 
 -- A word is a given one, or another.
 is_or_not : (P : List ℕ → Type 0) (given word : List ℕ) → P given → ((word ≡ given → ⊥) → P word) → P word
@@ -67,20 +57,12 @@ plain_or_not high low (next ∷ tail) = grind (arith, digits_or_not high low, ca
 
 faulty_or_not : (high low mark a b : ℕ) (tail : List ℕ)
     → Decided (BeginsWithItem (high ∷ low ∷ mark ∷ a ∷ b ∷ tail) (Faulty high low a b) tail)
-faulty_or_not high low mark a b tail = grind (
-  arith,
-  digits_or_not high low,
-  cases_eq mark 33,
-  digits_or_not a b,
-  cases_eq (byte_of a b) 0,
-  fault_bits_or_not (byte_of a b),
-)
+faulty_or_not high low mark a b tail =
+    let none = cases_eq (byte_of a b) 0 in let bits = fault_bits_or_not (byte_of a b) in
+    grind (arith, digits_or_not high low, digits_or_not a b, cases_eq mark 33, none, bits)
 
 -- An item begins a text, or none does.
-abbrev ItemOrNone : List ℕ → Type 0
-ItemOrNone text = ((item : Item) × (tail : List ℕ) × BeginsWithItem text item tail) ⊎ NoItemBegins text
-
-item_or_none : (text : List ℕ) → ItemOrNone text
+item_or_none : (text : List ℕ) → ((item : Item) × (tail : List ℕ) × BeginsWithItem text item tail) ⊎ NoItemBegins text
 item_or_none (high ∷ low ∷ mark ∷ a ∷ b ∷ tail) =
     grind (arith, plain_or_not high low (mark ∷ a ∷ b ∷ tail), faulty_or_not high low mark a b tail)
 item_or_none (high ∷ low ∷ tail) = grind (arith, plain_or_not high low tail)
@@ -114,40 +96,24 @@ leg_or_none word =
       | inr none ↦ inr (no_leg word (ok, lost) none)
     ]))
 
--- A row of three parts is decided if they are.
-three_or_none : {A B C : Type 0} {IsA : A → Type 0} {IsB : B → Type 0} {IsC : C → Type 0} (IsSaid : LineEvent → Type 0)
-    → OneOrNone IsA → OneOrNone IsB → OneOrNone IsC
-    → ((a : A) (b : B) (c : C) → IsA a → IsB b → IsC c → (event : LineEvent) × IsSaid event)
-    → ((event : LineEvent) → IsSaid event → ((a : A) × IsA a) × ((b : B) × IsB b) × ((c : C) × IsC c)) → OneOrNone IsSaid
-three_or_none IsSaid (inl a) (inl b) (inl c) made parts = inl (made a.0 b.0 c.0 a.1 b.1 c.1)
-three_or_none IsSaid a b (inr none) made parts = inr (λ event said. let has = (parts event said).2 in none has.0 has.1)
-three_or_none IsSaid a (inr none) c made parts = inr (λ event said. let has = (parts event said).1 in none has.0 has.1)
-three_or_none IsSaid (inr none) b c made parts = inr (λ event said. let has = (parts event said).0 in none has.0 has.1)
-
-submission_parts : (master to command : List ℕ) (payload : List (List ℕ)) (event : LineEvent)
-    → Says (codes "submit" ∷ master ∷ to ∷ command ∷ payload) event → ((who : MasterId) × IsWho master who)
-    × ((address : Address) × IsAddressWord to address) × ((request : Request) × (request_of command payload ≡ Some request))
-submission_parts master to command payload (Submit who address request) said =
-    let are = said.4 in ((who, cc), (address, cc), (request, cc))
-submission_parts master to command payload event said = absurd (grind arith)
-
 submission_or_none : (words : List (List ℕ)) → OneOrNone (Says (codes "submit" ∷ words))
-submission_or_none (master ∷ to ∷ command ∷ payload) = three_or_none _
-    (found_or_none (who_of master)) (found_or_none (address_of to)) (found_or_none (request_of command payload))
-    (λ who address request a b c. (Submit who address request, (master, to, command, payload, refl, a, b, c)))
-    (submission_parts master to command payload)
+submission_or_none (master ∷ to ∷ command ∷ payload) = by (who_of master) (address_of to) (request_of command payload) refl refl refl
+  where
+    by : (who : Option MasterId) (address : Option Address) (request : Option Request) → who_of master ≡ who → address_of to ≡ address
+        → request_of command payload ≡ request → OneOrNone (Says (codes "submit" ∷ master ∷ to ∷ command ∷ payload))
+    by (Some who) (Some address) (Some request) a b c = inl (Submit who address request, (master, to, command, payload, refl, a, b, c))
+    by who address request a b c = inr (λ event said. grind arith)
 submission_or_none words = inr (λ event said. grind arith)
 
-turn_parts : (master first second : List ℕ) (event : LineEvent) → Says (codes "turn" ∷ master ∷ first ∷ second ∷ []) event
-    → ((who : MasterId) × IsWho master who) × ((up : Heard) × IsLegWord first up) × ((down : Heard) × IsLegWord second down)
-turn_parts master first second (Turn who up down) said =
-    let one : said.1 ≡ first = grind arith in let other : said.2 ≡ second = grind arith in
-    let are = said.3 in ((who, cc), (up, rw one at said.5), (down, rw other at said.6))
-turn_parts master first second event said = absurd (grind arith)
-
 turn_or_none : (words : List (List ℕ)) → OneOrNone (Says (codes "turn" ∷ words))
-turn_or_none (master ∷ first ∷ second ∷ []) = three_or_none _ (found_or_none (who_of master)) (leg_or_none first) (leg_or_none second)
-    (λ who up down a b c. (Turn who up down, (master, first, second, refl, a, b, c))) (turn_parts master first second)
+turn_or_none (master ∷ first ∷ second ∷ []) = by (who_of master) refl (leg_or_none first) (leg_or_none second)
+  where
+    by : (who : Option MasterId) → who_of master ≡ who → OneOrNone (IsLegWord first) → OneOrNone (IsLegWord second)
+        → OneOrNone (Says (codes "turn" ∷ master ∷ first ∷ second ∷ []))
+    by (Some who) is (inl up) (inl down) = inl (Turn who up.0 down.0, (master, first, second, refl, is, up.1, down.1))
+    by None is up down = inr (λ event said. grind arith)
+    by who is (inr none) down = inr (no_turn master first second first (inl refl) none)
+    by who is up (inr none) = inr (no_turn master first second second (inr refl) none)
 turn_or_none words = inr (λ event said. grind arith)
 
 switch_or_none : (words : List (List ℕ)) → OneOrNone (Says (codes "protect" ∷ words))
@@ -215,14 +181,6 @@ every_text_is_a_script_or_has_a_first_bad_line text = elim (lines_or_bad (lines_
   | inl said ↦ inl said
   | inr (before, words, events, is, bad, good) ↦ inr (
     before + 1,
-    record {
-      before = before;
-      words = words;
-      events = events;
-      counted = refl;
-      is = is;
-      bad = bad;
-      good = good;
-    },
+    record { before = before; words = words; events = events; counted = refl; is = is; bad = bad; good = good },
   )
 ]

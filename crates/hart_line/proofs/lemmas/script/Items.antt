@@ -1,10 +1,9 @@
 -- Texts that are items end to end.
-use Rattle.hart_line.proofs.Common.{◌≡◌, ◌≢◌, ℕ, ◌≤◌, List, [], ◌∷◌, ◌++◌, get_or, length, map, IsTrue, refl, arith, ap}
-use Rattle.hart_line.proofs.Common.{common_steps, AllByRecursion, flat_map, Character}
-use Rattle.std.proofs.lemmas.List.{append-nil, append_assoc}
+use Rattle.hart_line.proofs.Common.{subst, ◌∙◌, Faulty, BeginsAsItem, ◌≡◌, ◌≢◌, ℕ, ◌≤◌, List, [], ◌∷◌, ◌++◌, get_or, length, map, IsTrue}
+use Rattle.hart_line.proofs.Common.{refl, arith, ap, common_steps, AllByRecursion, flat_map, Character, append-nil, append_assoc, AreDigits}
+use Rattle.hart_line.proofs.Common.{AreItems, BeginsWithItem, byte_of, EndsBefore, IsValidItem, Item, item_meaning, item_spelling, Plain}
+use Rattle.hart_frame.specs.heard.Character.{AreFaultBits}
 use Rattle.hex.specs.Hex.{is_hex_digit}
-use Rattle.hart_line.specs.script.Items.{AreDigits, AreItems, BeginsAsItem, BeginsWithItem, byte_of, EndsBefore, Faulty, IsValidItem, Item}
-use Rattle.hart_line.specs.script.Items.{item_meaning, item_spelling, Plain}
 
 -- What items spell does not begin with a `!`.
 items_end : (item : Item) (items : List Item) → AllByRecursion IsValidItem items → EndsBefore (flat_map item_spelling items) item
@@ -35,16 +34,6 @@ items_one xs ys v w same = absurd (grind arith)
 pub words_have_one_value-items : (word : List ℕ) (xs ys : List Character) → AreItems word xs → AreItems word ys → xs ≡ ys
 words_have_one_value-items word xs ys a b =
     let same = items_one a.items b.items a.valid b.valid (grind arith) in grind arith
-
--- A word of items begins with a digit.
-pub items_begin_with_digit : (byte : ℕ) (word : List ℕ) (chars : List Character) → AreItems (byte ∷ word) chars
-    → IsTrue (is_hex_digit byte)
-items_begin_with_digit byte word chars are = begin are.items are.valid are.spelled
-  where
-    begin : (items : List Item) → AllByRecursion IsValidItem items → byte ∷ word ≡ flat_map item_spelling items → IsTrue (is_hex_digit byte)
-    begin [] valid spelled = cc
-    begin (Plain high low ∷ items) valid spelled = grind arith
-    begin (Faulty high low a b ∷ items) valid spelled = grind arith
 
 -- A text is read as characters up to a rest of it: its characters are these, and then those of the rest.
 pub record ReadsTo (text : List ℕ) (chars : List Character) (rest : List ℕ) : Type 0 where
@@ -102,6 +91,11 @@ items_begin text chars some are = begin are.items are.valid are.spelled
     begin [] valid spelled = absurd (some spelled)
     begin (item ∷ items) valid spelled = (item, flat_map item_spelling items, first_begins text item items spelled valid)
 
+-- So a word of items begins with a digit.
+pub items_begin_with_digit : (byte : ℕ) (word : List ℕ) (chars : List Character) → AreItems (byte ∷ word) chars → IsTrue (is_hex_digit byte)
+items_begin_with_digit byte word chars are =
+    let (item, tail, begins) = items_begin (byte ∷ word) chars (λ is. cc) are in grind arith
+
 -- An item without fault bits begins a text.
 pub begins_as_plain : (text : List ℕ) (char : Character) (byte : ℕ) → 2 ≤ length text → AreDigits (get_or text 0 0) (get_or text 1 0)
     → byte ≡ byte_of (get_or text 0 0) (get_or text 1 0) → (get_or text 2 0 ≡ 33 → ⊥) → char ≡ record { byte = byte; faults = 0 }
@@ -114,3 +108,17 @@ begins_as_plain (x ∷ y ∷ tail) char byte some d b n e = record {
   means = cc;
 }
 begins_as_plain text char byte some d b n e = absurd (omega arith)
+
+-- An item with fault bits begins a text.
+pub begins_as_faulty : (text : List ℕ) (char : Character) (byte faults : ℕ) → 5 ≤ length text
+    → AreDigits (get_or text 0 0) (get_or text 1 0) → byte ≡ byte_of (get_or text 0 0) (get_or text 1 0) → get_or text 2 0 ≡ 33
+    → AreDigits (get_or text 3 0) (get_or text 4 0) → faults ≡ byte_of (get_or text 3 0) (get_or text 4 0) → faults ≢ 0
+    → AreFaultBits faults → char ≡ record { byte = byte; faults = faults } → BeginsAsItem text char 5
+begins_as_faulty (x ∷ y ∷ m ∷ v ∷ w ∷ text) char byte faults some d b n f g z a e = record {
+  item = Faulty x y v w;
+  tail = text;
+  begins = record { valid = (d, f, λ k. z (g ∙ k), subst AreFaultBits g a); spelled = cc; ends = tt };
+  long = refl;
+  means = cc;
+}
+begins_as_faulty text char byte faults some d b n f g z a e = absurd (omega arith)

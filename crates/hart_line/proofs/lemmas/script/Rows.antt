@@ -1,10 +1,8 @@
 -- What lines say is one thing, and no bad line is among those that say events.
 use Rattle.hart_line.proofs.Common.{◌≡◌, ◌<◌, ◌⊎◌, ℕ, List, [], ◌∷◌, Some, Err, ap, arith, codes, subst, suc, sym, refl, take, pred, length}
 use Rattle.hart_line.proofs.Common.{get_or, common_steps, AllZip, slice_get, Heard, Chars, Clean, Lost, LineEvent, Noise, Turn, Character}
-use Rattle.hart_line.proofs.Common.{RowFault}
-use Rattle.hart_line.specs.script.Items.{AreItems, IsItemsWord}
-use Rattle.hart_line.specs.script.Rows.{AreEvents, HasFirstBadLine, IsBadLine, IsLegWord, IsScript, ReadsWords, Says, lines_in_words}
-use Rattle.hart_line.specs.script.Words.{HasNoValue}
+use Rattle.hart_line.proofs.Common.{RowFault, AreItems, IsItemsWord, AreEvents, HasFirstBadLine, IsBadLine, IsLegWord, IsScript, ReadsWords}
+use Rattle.hart_line.proofs.Common.{Says, lines_in_words, HasNoValue}
 use Rattle.hart_line.specs.declared.script.rows.RowFault.TheVariants.{Bad, Memory}
 use Rattle.hart_line.proofs.lemmas.script.Items.{items_begin_with_digit, words_have_one_value-items}
 
@@ -51,8 +49,7 @@ slice_get-take : {A : Type 0} (xs : List A) (m n : ℕ) → m < n → slice_get 
 slice_get-take [] m n below = grind (arith, common_steps)
 slice_get-take (x ∷ xs) m n below = grind (arith, common_steps, slice_get-take xs (pred m) (pred n))
 
-not_before : (text : List ℕ) (number other : ℕ) (a : HasFirstBadLine text number) (b : HasFirstBadLine text other)
-    → a.before < b.before → ⊥
+not_before : (text : List ℕ) (number other : ℕ) (a : HasFirstBadLine text number) (b : HasFirstBadLine text other) → a.before < b.before → ⊥
 not_before text number other a b below = none_bad (take b.before (lines_in_words text)) a.before a.words b.events b.good
     (grind (arith, slice_get-take, a.is)) a.bad
 

@@ -1,21 +1,16 @@
 -- Each accepted reply was accepted in the turn of the last sending, and is the one that the device made.
-use Rattle.hart_line.proofs.Common.{◌≡◌, ℕ, ◌+◌, ap, ◌∙◌, sym, arith, slice_index, Option, None, Some, List, slice_set, ◌⊎◌, inl, inr, refl}
-use Rattle.hart_line.proofs.Common.{subst, nat_tests, common_steps, slice_get, Address, MasterId, FrameParts, Reply, Request, AreValid}
-use Rattle.hart_line.proofs.Common.{Contents, Overwrite, registers_of, IsRequest, MasterFault, DeviceState, Effect, Executes, answer_of}
-use Rattle.hart_line.proofs.Common.{reply_of, Brought, Garbled, OneFrame, answer_to, Process, answers_are_replies-read}
-use Rattle.hart_line.proofs.Common.{registers_of_lists-none, writes_execute_their_overwrite-well_made, Heard, LineEvent, Submit, Turn}
-use Rattle.hart_line.proofs.Common.{Answered}
+use Rattle.hart_line.proofs.Common.{same_Some, ◌≡◌, ℕ, ◌+◌, ap, ◌∙◌, sym, arith, slice_index, Option, None, Some, List, slice_set, ◌⊎◌, inl}
+use Rattle.hart_line.proofs.Common.{inr, refl, subst, nat_tests, common_steps, slice_get, Address, MasterId, FrameParts, Reply, Request}
+use Rattle.hart_line.proofs.Common.{AreValid, Contents, Overwrite, registers_of, IsRequest, MasterFault, DeviceState, Effect, Executes}
+use Rattle.hart_line.proofs.Common.{answer_of, reply_of, Brought, Garbled, OneFrame, answer_to, Process, Heard, LineEvent, Submit, Turn}
+use Rattle.hart_line.proofs.Common.{Answered, Party, Arrives, AnswersLastSending, IsWellMadeStart, IsStepOf, submissions_of}
+use Rattle.hart_line.proofs.Common.{brought_in_step, spoken_by, submitted, Accepts, IsLast, spoken_request, outcome_of, LeadsTo, effect_on}
+use Rattle.hart_line.proofs.Common.{executions_after, InHand, Start, World, first_world, state_of, Execution, overwrites_of}
+use Rattle.hart_device.proofs.lemmas.Laws.{answers_are_replies-read, registers_of_lists-none, writes_execute_their_overwrite-well_made}
 use Rattle.hart_master.specs.Acceptance.{IsReplyTo}
 use Rattle.hart_master.proofs.lemmas.Laws.{communication_faults_are_no_reply-frame}
 use Rattle.hart_commands.proofs.lemmas.Laws.{overwrites_are_valid}
-use Rattle.hart_line.specs.declared.line.report.Party.{Party}
-use Rattle.hart_line.specs.world.Damage.{Arrives}
-use Rattle.hart_line.specs.world.Promises.{AnswersLastSending, IsWellMadeStart, IsStepOf, submissions_of}
-use Rattle.hart_line.specs.world.Promises.{brought_in_step}
-use Rattle.hart_line.specs.world.Spoken.{spoken_by}
-use Rattle.hart_line.specs.world.Step.{submitted, Accepts, IsLast, spoken_request, outcome_of, LeadsTo, effect_on, executions_after}
-use Rattle.hart_line.specs.world.World.{InHand, Start, World, first_world, state_of, Execution, overwrites_of}
-use Rattle.hart_line.proofs.lemmas.world.Basics.{slice_get-append, slice_get-set, some_one}
+use Rattle.hart_line.proofs.lemmas.world.Basics.{slice_get-append, slice_get-set}
 use Rattle.hart_line.proofs.lemmas.world.Steps.{along, turn_cases, entered, frame_in, contents-more}
 use Rattle.hart_line.proofs.lemmas.world.Submitted.{held_in}
 
@@ -52,7 +47,7 @@ device_replied : (start : Start) (events : List LineEvent) (before : World) (who
 device_replied start events before who held answer reply made led answered is =
     let read = answers_are_replies-read (state_of start.device before) start.process (spoken_request who held).frame answer
     (led_valid start made.device.contents events before led) made.process (grind arith) answered in
-    grind (arith, common_steps, some_one)
+    grind (arith, common_steps, same_Some)
 
 -- THE TURN OF THE LAST SENDING
 -- What is found after a store.
@@ -72,7 +67,7 @@ answers_sent : (state : DeviceState) (process : Process) (who : MasterId) (held 
 answers_sent state process who held brought None accepted retries reply sendings known back accepts is = grind arith
 answers_sent state process who held brought returned None retries reply sendings known back accepts is = grind arith
 answers_sent state process who held (Garbled request) (Some frame) (Some accepted) retries reply sendings known back accepts is =
-    grind (arith, common_steps, slice_index, communication_faults_are_no_reply-frame, some_one)
+    grind (arith, common_steps, slice_index, communication_faults_are_no_reply-frame, same_Some)
 answers_sent state process who held brought (Some frame) (Some accepted) retries reply sendings known back accepts is = grind arith
 
 came_back : (party : Party) (preambles : ℕ) (down : Heard) (answer returned : Option FrameParts)
@@ -81,8 +76,7 @@ came_back party preambles down answer returned back = grind arith
 
 -- A submission answers nothing.
 not_answered : (world : World) (who : MasterId) (address : Address) (request : Request) (fault : Option MasterFault) (number : ℕ)
-    (reply : Reply) (sendings : ℕ)
-    → slice_get (submitted world who address request fault).outcomes number ≡ Some (Answered reply sendings)
+    (reply : Reply) (sendings : ℕ) → slice_get (submitted world who address request fault).outcomes number ≡ Some (Answered reply sendings)
     → slice_get world.outcomes number ≡ Some (Answered reply sendings)
 not_answered world who address request fault number reply sendings is = grind (arith, slice_get-append)
 

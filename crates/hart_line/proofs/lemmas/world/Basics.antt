@@ -1,11 +1,7 @@
 -- What an option and a list hold, and what one of two masters has.
 use Rattle.hart_line.proofs.Common.{◌≡◌, ◌≢◌, ℕ, arith, Option, None, Some, inl, inr, refl, List, [], ◌∷◌, ◌++◌, length, slice_set, ◌⊎◌}
 use Rattle.hart_line.proofs.Common.{◌-◌, IsSome, nat_tests, slice_get, option_or, option_map, of_master, with_master, EachMaster, MasterId}
-use Rattle.std.proofs.Common.{◌==◌, if◌then◌else◌}
-
--- Options that are one hold one thing.
-pub some_one : {A : Type 0} {x y : A} → Some x ≡ Some y → x ≡ y
-some_one is = cc
+use Rattle.hart_line.proofs.Common.{◌==◌, if◌then◌else◌}
 
 pub some_of : {A : Type 0} (a : Option A) → IsSome a → (x : A) × (a ≡ Some x)
 some_of None is = cc
@@ -19,6 +15,9 @@ none_or_some (Some x) = inr (x, refl)
 pub with_master-cases : {A : Type 0} (id who : MasterId) (a : Option A) (each : EachMaster (Option A)) (x : A)
     → of_master id (with_master who a each) ≡ Some x → ((id ≡ who) × (a ≡ Some x)) ⊎ ((id ≢ who) × (of_master id each ≡ Some x))
 with_master-cases id who a each x is = grind arith
+
+pub with_master-same : {A : Type 0} (id : MasterId) (a : A) (each : EachMaster A) → of_master id each ≡ a → with_master id a each ≡ each
+with_master-same id a each is = grind arith
 
 -- What is in a list with others after it, and after a store.
 pub slice_get-append : {A : Type 0} (xs ys : List A) (n : ℕ)

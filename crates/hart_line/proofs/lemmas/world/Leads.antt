@@ -1,24 +1,20 @@
 -- A script leads to one world, if all damage is detected, and past no undetected damage; and detectable damage is detected.
 use Rattle.hart_line.proofs.Common.{ap, ◌≡◌, ℕ, ◌<◌, ◌∙◌, sym, arith, Option, None, Some, List, [], ◌∷◌, ◌++◌, suc, pred, take, drop, ◌≤◌}
 use Rattle.hart_line.proofs.Common.{refl, inl, inr, common_steps, slice_get, of_master, MasterId, Character, FrameParts, Reply, Brings}
-use Rattle.hart_line.proofs.Common.{Brought, IdentityParts, deliveries_bring_one-one, deliveries_bring_one-brings, Heard, Clean, Chars}
-use Rattle.hart_line.proofs.Common.{LineEvent, Turn, Noise, Leg, Undetected, LineFault}
-use Rattle.std.proofs.Common.{append-nil}
+use Rattle.hart_line.proofs.Common.{Brought, IdentityParts, Heard, Clean, Chars, LineEvent, Turn, Noise, Leg, Undetected, LineFault}
+use Rattle.hart_line.proofs.Common.{append-nil, AreHeard, Arrives, IsUndetected, Reaches, ReachesAmong, IsDetectable, IsDetected, IsFault}
+use Rattle.hart_line.proofs.Common.{SpokenFrame, frame_of, Accepts, IsLast, LeadsTo, Step, sent_back, sent_by, InHand, Start, World}
+use Rattle.hart_line.proofs.Common.{first_world, messages_have_their_frame_alone-message, messages_have_their_frame_alone-nothing}
+use Rattle.hart_device.proofs.lemmas.Laws.{deliveries_bring_one-one, deliveries_bring_one-brings}
 use Rattle.hart_frame.specs.declared.heard.found.Found.{Found}
 use Rattle.hart_frame.specs.heard.Frames.{AreFrames}
 use Rattle.hart_frame.proofs.lemmas.Laws.{bodies_are_unambiguous-one_body, frames_are_unambiguous-one_list}
 use Rattle.hart_frame.proofs.lemmas.Laws.{damaged_messages_have_no_other_frame-check, damaged_messages_have_no_other_frame-marked}
-use Rattle.hart_frame.proofs.lemmas.Laws.{messages_have_their_frame_alone-message, messages_have_their_frame_alone-nothing}
 use Rattle.hart_master.proofs.lemmas.Laws.{replies_are_decided-one_reply, replies_are_decided-decided}
-use Rattle.hart_line.specs.world.Damage.{AreHeard, Arrives, ArrivesAmong, IsUndetected, Reaches, ReachesAmong, IsDetectable, IsDetected}
-use Rattle.hart_line.specs.world.Faults.{HasUndetected, HeardIn, IsFault, AreAllDetected, HasDetectable, IsNotDetectable, LegsAreDetected}
-use Rattle.hart_line.specs.world.Spoken.{SpokenFrame, frame_of}
-use Rattle.hart_line.specs.world.Step.{Accepts, IsLast, LeadsTo, Step, sent_back, sent_by}
-use Rattle.hart_line.specs.world.World.{InHand, Start, World, first_world}
+use Rattle.hart_line.specs.world.Faults.{HasUndetected, HeardIn, AreAllDetected, HasDetectable, IsNotDetectable, LegsAreDetected}
 use Rattle.hart_line.specs.declared.fault.Leg.TheVariants as legs
 
-AreHeard-one : (heard : Heard) (sent : Option SpokenFrame) (a b : List Character) → AreHeard heard sent a
-    → AreHeard heard sent b → a ≡ b
+AreHeard-one : (heard : Heard) (sent : Option SpokenFrame) (a b : List Character) → AreHeard heard sent a → AreHeard heard sent b → a ≡ b
 AreHeard-one Clean (Some said) a b x y =
     let body = bodies_are_unambiguous-one_body said.frame x.1.body y.1.body x.1.is_body y.1.is_body in grind (arith, common_steps)
 AreHeard-one heard sent a b x y = grind arith
@@ -39,9 +35,9 @@ Reaches-one identity heard sent a b s t =
     deliveries_bring_one-one identity t.chars a b (rw same at (brings_among s.among)) (brings_among t.among)
 
 -- Damage that is detected is not undetected.
-pub among_detected : (heard : Heard) (sent : Option SpokenFrame) (chars : List Character) (arrived : Option FrameParts)
-    → AreHeard heard sent chars → ArrivesAmong chars (frame_of sent) arrived → IsUndetected heard sent → ⊥
-among_detected heard sent chars arrived are a u = grind (arith, AreHeard-one, frames_are_unambiguous-one_list)
+arrived_detected : {heard : Heard} {sent : Option SpokenFrame} {arrived : Option FrameParts} → Arrives heard sent arrived
+    → IsUndetected heard sent → ⊥
+arrived_detected a u = grind (arith, AreHeard-one, frames_are_unambiguous-one_list)
 
 Accepts-one : (who : MasterId) (hand : Option InHand) (returned : Option FrameParts) (a b : Option Reply)
     → Accepts who hand returned a → Accepts who hand returned b → a ≡ b
@@ -66,8 +62,7 @@ leads_on start (event ∷ prefix) suffix from world last run led =
     leads_on start prefix suffix led.0 world last (rw (step_one start from event run.0 led.0 run.1 led.1) at run.2) led.2
 
 -- So a script leads to one world.
-pub leads_one : (start : Start) (events : List LineEvent) (world a b : World)
-    → LeadsTo start world events a → LeadsTo start world events b
+pub leads_one : (start : Start) (events : List LineEvent) (world a b : World) → LeadsTo start world events a → LeadsTo start world events b
     → a ≡ b
 leads_one start events world a b s t = leads_on start events [] world b a (rw append-nil s) t
 
@@ -99,17 +94,14 @@ step_hears start world event next leg heard sent step h = absurd h
 step_detected : (start : Start) (world : World) (event : LineEvent) (next : World) (leg : Leg)
     → Step start world event next → HasUndetected start world event leg → ⊥
 step_detected start world event next leg step u =
-    let a = step_hears start world event next leg u.0 u.1 step u.2 in
-    among_detected u.0 u.1 a.1.chars a.0 a.1.are_heard a.1.among u.3
+    arrived_detected (step_hears start world event next leg u.0 u.1 step u.2).1 u.3
 
 pub undetected_one : (start : Start) (world : World) (event : LineEvent) (leg another : Leg)
     → HasUndetected start world event leg → HasUndetected start world event another → leg ≡ another
 undetected_one start world (Turn who up down) legs.Up legs.Down u v =
-    let up_ = arrived_of v.2.2 in
-    absurd (among_detected up _ up_.1.chars up_.0 up_.1.are_heard up_.1.among (rw (u.2.0, u.2.1) at u.3))
+    absurd (arrived_detected (arrived_of v.2.2).1 (rw (u.2.0, u.2.1) at u.3))
 undetected_one start world (Turn who up down) legs.Down legs.Up u v =
-    let up_ = arrived_of u.2.2 in
-    absurd (among_detected up _ up_.1.chars up_.0 up_.1.are_heard up_.1.among (rw (v.2.0, v.2.1) at v.3))
+    absurd (arrived_detected (arrived_of u.2.2).1 (rw (v.2.0, v.2.1) at v.3))
 undetected_one start world event leg another u v = grind arith
 
 take-past : {A : Type 0} (number other : ℕ) (xs : List A) (x : A) → slice_get xs number ≡ Some x → number < other

@@ -1,14 +1,12 @@
 -- What holds since a master's last reset, and after a refused command.
 use Rattle.hart_line.proofs.Common.{◌≤◌, ◌≡◌, ◌≢◌, ℕ, refl, arith, Option, IfSome, Ok, false, List, [], ◌∷◌, ◌++◌, length, ◌⊎◌, inl, inr}
 use Rattle.hart_line.proofs.Common.{nat_tests, common_steps, of_master, EachMaster, MasterId, FrameParts, DeviceState, Effect, Nothing}
-use Rattle.hart_line.proofs.Common.{Resets, after_refusal, code_of, effect_of, is_answered, reading_of}
-use Rattle.hart_line.proofs.Common.{refused_commands_change_nothing-refused, refused_commands_change_nothing-silent}
-use Rattle.hart_line.proofs.Common.{resets_name_this_counter-only, LineEvent, Turn}
-use Rattle.std.proofs.Common.{append_assoc}
+use Rattle.hart_line.proofs.Common.{Resets, after_refusal, code_of, effect_of, is_answered, reading_of, LineEvent, Turn, append_assoc}
+use Rattle.hart_line.proofs.Common.{brought_in_step, IsStepOf, IsLast, LeadsTo, effect_on, executions_after, marks_after, Execution, Start}
+use Rattle.hart_line.proofs.Common.{World, first_world, state_of, HasNoReset, IsLastReset, IsRefusedByDevice}
+use Rattle.hart_device.proofs.lemmas.Laws.{refused_commands_change_nothing-refused, refused_commands_change_nothing-silent}
+use Rattle.hart_device.proofs.lemmas.Laws.{resets_name_this_counter-only}
 use Rattle.hart_commands.specs.declared.request.Request.TheVariants.{ResetChanged}
-use Rattle.hart_line.specs.world.Promises.{brought_in_step, HasNoReset, IsLastReset, IsRefusedByDevice, IsStepOf}
-use Rattle.hart_line.specs.world.Step.{IsLast, LeadsTo, effect_on, executions_after, marks_after}
-use Rattle.hart_line.specs.world.World.{Execution, Start, World, first_world, state_of}
 use Rattle.hart_line.proofs.lemmas.world.Leads.{leads_on}
 use Rattle.hart_line.proofs.lemmas.world.Steps.{along, entered, leads_more, master_in, turn_cases}
 
@@ -50,8 +48,7 @@ after_step start events last run before next event here =
 -- If the master's bit is clear, nothing was executed since.
 pub unseen : (start : Start) (events : List LineEvent) (last : World) → IsLast start events last
     → (who : MasterId) (before : World) (given : Option ℕ) → IsLastReset start events who before given
-    → of_master who (state_of start.device last).changed ≡ false
-    → IfSome given (λ counter. (state_of start.device last).counter ≡ counter)
+    → of_master who (state_of start.device last).changed ≡ false → IfSome given (λ counter. (state_of start.device last).counter ≡ counter)
     × ((state_of start.device last).counter ≡ (state_of start.device before).counter)
     × ((state_of start.device last).contents ≡ (state_of start.device before).contents)
 unseen start events last run who before given r clear =

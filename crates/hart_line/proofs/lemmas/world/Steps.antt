@@ -1,24 +1,19 @@
 -- What is brought to the device, the steps of a script and what each keeps, and the device after an effect.
 use Rattle.hart_line.proofs.Common.{arith, ◌≡◌, Bool, ap, refl, subst, Option, None, Some, List, [], ◌∷◌, ◌++◌, ◌⊎◌, inl, inr, ℕ, length}
 use Rattle.hart_line.proofs.Common.{common_steps, map-append, mod-add-mod, nat_tests, of_master, EachMaster, MasterId, Primary, Secondary}
-use Rattle.hart_line.proofs.Common.{Reply, Contents, registers_of, overwritten, Brought, OneFrame, Garbled, NoMessage, Effect, DeviceState}
-use Rattle.hart_line.proofs.Common.{Executes, after, IdentityParts, MasterFault, FrameParts, registers_of_lists-last, Heard, LineEvent}
-use Rattle.hart_line.proofs.Common.{Submit, Turn, Protect, Noise, Restart}
-use Rattle.std.proofs.lemmas.List.{length-append}
-use Rattle.hart_line.specs.world.Promises.{IsStepOf, Submission, brought_in_step, submissions_of}
-use Rattle.hart_line.specs.world.Spoken.{SpokenFrame}
-use Rattle.hart_line.specs.world.Step.{IsTurn, LeadsTo, Step, replied, spoken_request, submitted, turned, effect_on, executions_after}
-use Rattle.hart_line.specs.world.Step.{marks_after}
-use Rattle.hart_line.specs.world.World.{state_of, InHand, Start, World, Execution, MarksWithin, overwrites_of}
-use Rattle.hart_line.specs.world.Damage.{Reaches}
+use Rattle.hart_line.proofs.Common.{Reply, Contents, registers_of, overwritten, Brought, OneFrame, Effect, DeviceState, Executes, after}
+use Rattle.hart_line.proofs.Common.{IdentityParts, MasterFault, FrameParts, Heard, LineEvent, Submit, Turn, Protect, Noise, Restart}
+use Rattle.hart_line.proofs.Common.{length-append, IsStepOf, Submission, brought_in_step, submissions_of, SpokenFrame, IsTurn, LeadsTo}
+use Rattle.hart_line.proofs.Common.{Step, replied, spoken_request, submitted, turned, effect_on, executions_after, marks_after, state_of}
+use Rattle.hart_line.proofs.Common.{InHand, Start, Reaches, World, Execution, MarksWithin, overwrites_of}
+use Rattle.hart_device.proofs.lemmas.Laws.{registers_of_lists-last}
 use Rattle.hart_line.proofs.lemmas.world.Basics.{none_or_some, with_master-cases}
 
 -- WHAT IS BROUGHT
 -- A frame that is brought to the device is the one that was sent.
 abbrev pub frame_in : Brought → Option FrameParts
 frame_in (OneFrame frame) = Some frame
-frame_in (Garbled request) = None
-frame_in NoMessage = None
+frame_in brought = None
 
 pub reaches_sent : (identity : IdentityParts) (heard : Heard) (said : SpokenFrame) (brought : Brought)
     → Reaches identity heard (Some said) brought → (frame_in brought ≡ None) ⊎ (brought ≡ OneFrame said.frame)
@@ -102,8 +97,7 @@ marks_kept effect who number world next executions marks within id mark is =
 -- What holds before all events and is kept by each step of a script holds after them.
 pub along : (start : Start) (from : World) (events : List LineEvent) (P : List LineEvent → World → Type 0)
     → ((before next : World) (event : LineEvent) (here : IsStepOf start from events before event next) → P here.prefix before
-    → P (here.prefix ++ event ∷ []) next)
-    → P [] from → (last : World) → LeadsTo start from events last → P events last
+    → P (here.prefix ++ event ∷ []) next) → P [] from → (last : World) → LeadsTo start from events last → P events last
 along start from [] P keeps holds last led = rw led holds
 along start from (event ∷ events) P keeps holds last led = along start led.0 events (λ es. P (event ∷ es)) (λ before next other here.
     keeps before next other (record {
@@ -135,8 +129,7 @@ contents-more executions execution initial = grind (arith, common_steps, map-app
 -- The state after an effect, with other cold start bits, is that of the world that the effect entered, with these bits.
 pub state-after : (initial : DeviceState) (world next : World) (id : MasterId) (number : ℕ) (effect : Effect) → MarksWithin world
     → next.executions ≡ executions_after effect number world.executions
-    → next.marks ≡ marks_after effect id (length world.executions) world.marks
-    → next.protected ≡ world.protected
+    → next.marks ≡ marks_after effect id (length world.executions) world.marks → next.protected ≡ world.protected
     → record (after id effect (state_of initial world)) { cold_start = next.cold_start } ≡ state_of initial next
 state-after initial world next id number (Executes overwrite) within executions marks protected =
     rw (executions, marks, protected) (same_state _ _ refl (contents-more world.executions _ initial.contents)

@@ -1,16 +1,12 @@
 -- A request in hand is unfinished, and is the one that was submitted under its number, to its master and for its address; and it was
 -- executed at most as often as it was sent.
-use Rattle.hart_line.proofs.Common.{◌≡◌, ℕ, ◌+◌, ◌<◌, refl, Some, List, [], ◌∷◌, ◌++◌, get_or, length, slice_set, take, arith, ◌≤◌}
-use Rattle.hart_line.proofs.Common.{common_steps, map-append, take_more, All-append, get_or_from_slice_get, slice_get-map, slice_get_past}
-use Rattle.hart_line.proofs.Common.{slice_get_within, nat_tests, sum_by-append, slice_get, of_master, MasterId, IsRequest, Effect}
-use Rattle.hart_line.proofs.Common.{LineEvent, Outcome, Unfinished}
-use Rattle.std.proofs.Common.{◌==◌, if◌then◌else◌}
-use Rattle.std.proofs.lemmas.List.{append-nil}
-use Rattle.hart_line.specs.world.Promises.{AreWellMade, IsStepOf, Submission, requests_of, submission_in, submissions_of, sendings_in}
-use Rattle.hart_line.specs.world.Step.{IsLast, effect_on, executions_after}
-use Rattle.hart_line.specs.world.World.{InHand, Start, World, first_world, Execution, state_of}
-use Rattle.hart_line.specs.world.Executions.{times_executed}
-use Rattle.hart_line.proofs.lemmas.world.Basics.{slice_get-append, slice_get-set, some_one, with_master-cases}
+use Rattle.hart_line.proofs.Common.{same_Some, ◌≡◌, ℕ, ◌+◌, ◌<◌, refl, Some, List, [], ◌∷◌, ◌++◌, get_or, length, slice_set, take, arith}
+use Rattle.hart_line.proofs.Common.{◌≤◌, common_steps, map-append, take_more, All-append, nat_tests, sum_by-append, slice_get, of_master}
+use Rattle.hart_line.proofs.Common.{MasterId, IsRequest, Effect, LineEvent, Outcome, Unfinished, ◌==◌, if◌then◌else◌, append-nil}
+use Rattle.hart_line.proofs.Common.{AreWellMade, IsStepOf, Submission, requests_of, submissions_of, IsLast, times_executed, effect_on}
+use Rattle.hart_line.proofs.Common.{executions_after, InHand, Start, World, first_world, Execution, state_of, submission_in, sendings_in}
+use Rattle.std.proofs.lemmas.Option.{get_or_from_slice_get, slice_get-map, slice_get_past, slice_get_within}
+use Rattle.hart_line.proofs.lemmas.world.Basics.{slice_get-append, slice_get-set, with_master-cases}
 use Rattle.hart_line.proofs.lemmas.world.Steps.{StepCases, Submits, Sends, Stays, along, step_cases}
 
 -- EVENT BY EVENT
@@ -31,7 +27,7 @@ held_more submissions more start world next id held (Submits said fault are is) 
     let old = a.hands id held in grind (arith, common_steps, slice_get-append, slice_get_past, with_master-cases)
 held_more submissions more start world next id held (Sends who brought accepted are s) a own =
     let sent = a.hands who s.held s.in_hand in let old = a.hands id held in
-    grind (arith, common_steps, append-nil, slice_set, nat_tests, slice_get-set, some_one, with_master-cases)
+    grind (arith, common_steps, append-nil, slice_set, nat_tests, slice_get-set, same_Some, with_master-cases)
 held_more submissions more start world next id held (Stays protected cold_start spoken are is) a own =
     let old = a.hands id held in grind (arith, common_steps, append-nil)
 

@@ -1,22 +1,19 @@
 -- Unrefused writes are executed in their turn, nothing else is, and the registers of all executions are those of the last ones.
-use Rattle.hart_line.proofs.Common.{◌≡◌, ℕ, ◌∙◌, sym, refl, Some, IsTrue, List, inl, inr, arith, suc, Ok, Bool, true, false, [], ◌∷◌, None}
-use Rattle.hart_line.proofs.Common.{Option, ◌⊎◌, ◌+◌, common_steps, elements, nat_tests, get_or-map, length-map, All-push, slice_get, All}
-use Rattle.hart_line.proofs.Common.{Contains, option_and_then, MasterId, command_of, Reply, Request, Contents, Overwrite, overwrite_of}
-use Rattle.hart_line.proofs.Common.{overwritten, registers_of, DeviceState, Effect, Executes, code_of, reading_of, Brought, OneFrame}
-use Rattle.hart_line.proofs.Common.{answers_give_their_code-answered, writes_execute_their_overwrite-executes}
-use Rattle.hart_line.proofs.Common.{writes_execute_their_overwrite-only, registers_of_lists-again, registers_of_lists-first, Heard}
-use Rattle.hart_line.proofs.Common.{LineEvent, Turn}
-use Rattle.std.proofs.Common.{if◌then◌else◌, ◌==◌}
+use Rattle.hart_line.proofs.Common.{same_Some, ◌≡◌, ℕ, ◌∙◌, sym, refl, Some, IsTrue, List, inl, inr, arith, suc, Ok, Bool, true, false, []}
+use Rattle.hart_line.proofs.Common.{◌∷◌, None, Option, ◌⊎◌, ◌+◌, common_steps, elements, nat_tests, get_or-map, length-map, All-push}
+use Rattle.hart_line.proofs.Common.{slice_get, All, Contains, option_and_then, MasterId, command_of, Reply, Request, Contents, Overwrite}
+use Rattle.hart_line.proofs.Common.{overwrite_of, overwritten, registers_of, DeviceState, Effect, Executes, code_of, reading_of, Brought}
+use Rattle.hart_line.proofs.Common.{OneFrame, Heard, LineEvent, Turn, if◌then◌else◌, ◌==◌, AnswersLastSending, AreWellMade, IsStepOf}
+use Rattle.hart_line.proofs.Common.{brought_in_step, requests_of, effect_on, executions_after, spoken_request, submitted, IsLast, Execution}
+use Rattle.hart_line.proofs.Common.{has_execution_of, last_executions, Start, World, first_world, state_of, InHand, overwrites_of}
+use Rattle.hart_line.proofs.Common.{IsExecutedFromHand, IsExecutedInItsTurn, IsUnrefusedWrite}
+use Rattle.hart_device.proofs.lemmas.Laws.{answers_give_their_code-answered, writes_execute_their_overwrite-executes}
+use Rattle.hart_device.proofs.lemmas.Laws.{writes_execute_their_overwrite-only, registers_of_lists-again, registers_of_lists-first}
 use Rattle.std.proofs.lemmas.List.Folds.{Any-from_list_any}
 use Rattle.hart_commands.specs.ReplyData.{reply_reading}
 use Rattle.hart_commands.specs.RequestCode.{is_write}
 use Rattle.hart_commands.proofs.lemmas.Laws.{requests_have_their_command, writes_have_overwrites-exactly, written_data_are_their_request}
-use Rattle.hart_line.specs.world.Promises.{AnswersLastSending, AreWellMade, IsExecutedFromHand, IsExecutedInItsTurn, IsStepOf}
-use Rattle.hart_line.specs.world.Promises.{IsUnrefusedWrite, brought_in_step, requests_of}
-use Rattle.hart_line.specs.world.Step.{effect_on, executions_after, spoken_request, submitted, IsLast}
-use Rattle.hart_line.specs.world.World.{Execution, Start, World, first_world, state_of, InHand, overwrites_of}
-use Rattle.hart_line.specs.world.Executions.{has_execution_of, last_executions}
-use Rattle.hart_line.proofs.lemmas.world.Basics.{some_of, some_one}
+use Rattle.hart_line.proofs.lemmas.world.Basics.{some_of}
 use Rattle.hart_line.proofs.lemmas.world.Steps.{entered, turn_cases, Submits, Sends, Stays, along, step_cases, frame_in}
 use Rattle.hart_line.proofs.lemmas.world.Submitted.{held_in, made_of, request_there}
 
@@ -55,14 +52,13 @@ turn_executed start events made before next who up down here write =
 pub answered_executed : (start : Start) (events : List LineEvent) → AreWellMade events → (number : ℕ) (request : Request)
     (reply : Reply) (sendings : ℕ)
     → AnswersLastSending start events number reply sendings → slice_get (requests_of events) number ≡ Some request
-    → IsTrue (is_write (command_of request)) → reply.code ≡ 0
-    → IsExecutedInItsTurn start events number request reply sendings
+    → IsTrue (is_write (command_of request)) → reply.code ≡ 0 → IsExecutedInItsTurn start events number request reply sendings
 answered_executed start events made number request reply sendings a submitted write success =
     let state = state_of start.device a.before in
     let frame = (spoken_request a.who a.held).frame in
     let coded = answers_give_their_code-answered state start.process frame a.answer a.answered in
     let code : code_of state frame ≡ 0 = sym (reading_code a.answer.command a.answer.payload reply _ a.is_reply.read coded.2) ∙ success in
-    let same : a.held.request ≡ request = some_one (sym (request_there events number _ a.submitted_as) ∙ submitted) in
+    let same : a.held.request ≡ request = same_Some _ _ (sym (request_there events number _ a.submitted_as) ∙ submitted) in
     let unrefused : IsUnrefusedWrite state (OneFrame frame) = (rw (← same) at write, coded.0, code) in
     let e = turn_executed start events made a.before a.next a.who a.up a.down a.turn (rw a.brought unrefused) in
     let held : e.held ≡ a.held = cc (e.in_hand, a.in_hand) in record {

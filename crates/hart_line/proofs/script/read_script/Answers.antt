@@ -1,16 +1,11 @@
 use Rattle.hart_line.proofs.Common.{ℕ, ◌+◌, length, None, Some, arith, sym, rules, tests, ◌≡◌, ◌<◌, List, [], ◌∷◌, ◌++◌, get_or, Option, Ok}
 use Rattle.hart_line.proofs.Common.{Err, false, inl, inr, refl, take, common_steps, take_all, length-map, length_push, get_or-map}
-use Rattle.hart_line.proofs.Common.{take_more, err_from_is_err_and, filter-append, slice_get-get_or, slice_split, option_to_list}
-use Rattle.hart_line.proofs.Common.{LineEvent, LineFault, BadLine, Undetected}
+use Rattle.hart_line.proofs.Common.{take_more, err_from_is_err_and, filter-append, slice_get-get_or, slice_split, option_to_list, LineEvent}
+use Rattle.hart_line.proofs.Common.{LineFault, BadLine, Undetected, Memory, append-nil, ◌==◌, lines_of, words_of, AreEvents, IsNeededByText}
+use Rattle.hart_line.proofs.Common.{IsScriptFault, Says, SaysLine, is_skipped, lines_in_words, all_zipped_more}
 use Rattle.std.proofs.lemmas.Iterator.Consumers.{YieldsList-at, YieldsList-end, YieldsList-turn}
 use Rattle.std.proofs.lemmas.Iterator.Splits.{YieldsList-from_slice_split}
-use Rattle.std.proofs.lemmas.List.{append-nil}
-use Rattle.std.specs.Bool.{◌==◌}
-use Rattle.std.proofs.lemmas.Slice.Zip.{all_zipped_more}
 use Rattle.std.specs.Str.Lines.{strip_carriage_return}
-use Rattle.hart_line.specs.declared.fault.LineFault.TheVariants.{Memory}
-use Rattle.hart_line.specs.script.Lines.{lines_of, words_of}
-use Rattle.hart_line.specs.script.Rows.{AreEvents, IsNeededByText, IsScriptFault, Says, SaysLine, is_skipped, lines_in_words}
 use Rattle.hart_line.proofs.script.read_script.Goals.{After-without_return}
 use Rattle.hart_line.proofs.script.read_script.Goals as goal
 

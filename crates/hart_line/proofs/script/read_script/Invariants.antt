@@ -1,5 +1,4 @@
-use Rattle.hart_line.proofs.Common.{◌≡◌, length, take}
-use Rattle.hart_line.specs.script.Rows.{AreEvents, lines_in_words}
+use Rattle.hart_line.proofs.Common.{◌≡◌, length, take, AreEvents, lines_in_words}
 use Rattle.hart_line.proofs.script.read_script.Given as goal
 
 abbrev pub invariant-loop-part : goal.invariant-loop-part

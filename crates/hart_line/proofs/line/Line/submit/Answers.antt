@@ -1,10 +1,7 @@
 use Rattle.hart_line.proofs.Common.{◌≡◌, Option, [], ◌∷◌, ◌++◌, length, refl, arith, of_master, with_master, Address, MasterId, Request}
-use Rattle.hart_line.proofs.Common.{MasterFault, Outcome, Submit}
+use Rattle.hart_line.proofs.Common.{MasterFault, Outcome, Submit, LineState, Stands, Stepped, AreHeld, Submits, submission_fault, submitted}
+use Rattle.hart_line.proofs.Common.{Start, World}
 use Rattle.hart_line.specs.declared.line.masters.Masters.{Masters}
-use Rattle.hart_line.specs.line.Line.{LineState, Stands, Stepped}
-use Rattle.hart_line.specs.line.Masters.{AreHeld, Submits}
-use Rattle.hart_line.specs.world.Step.{submission_fault, submitted}
-use Rattle.hart_line.specs.world.World.{Start, World}
 use Rattle.hart_line.proofs.lemmas.line.Turn.{silent_step}
 use Rattle.hart_line.proofs.line.Line.submit.Goals as goal
 

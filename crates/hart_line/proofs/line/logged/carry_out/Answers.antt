@@ -1,6 +1,5 @@
-use Rattle.hart_line.proofs.Common.{◌+◌, ◌++◌, [], arith, refl, take, take_all, slice_get-get_or, err_from_is_err_and, Undetected}
-use Rattle.hart_line.specs.world.Faults.{IsFault}
-use Rattle.hart_line.specs.world.Promises.{start_from}
+use Rattle.hart_line.proofs.Common.{◌+◌, ◌++◌, [], arith, refl, take, take_all, slice_get-get_or, err_from_is_err_and, Undetected, IsFault}
+use Rattle.hart_line.proofs.Common.{start_from}
 use Rattle.hart_line.proofs.lemmas.Laws.{led_keeps, scripts_keep_their_promises-detected}
 use Rattle.hart_line.proofs.lemmas.line.Reached.{Any-append, IsReached, reached_first, reached_led, reached_more}
 use Rattle.hart_line.proofs.lemmas.line.Room.{room_after, room_here}

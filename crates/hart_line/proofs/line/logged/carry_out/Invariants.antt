@@ -1,6 +1,5 @@
-use Rattle.hart_line.proofs.Common.{List, drop, take, Spoken}
+use Rattle.hart_line.proofs.Common.{List, drop, take, Spoken, start_from}
 use Rattle.hart_line.specs.line.Room.{HasRoomFor}
-use Rattle.hart_line.specs.world.Promises.{start_from}
 use Rattle.hart_line.proofs.lemmas.line.Reached.{IsReached}
 use Rattle.hart_line.proofs.line.logged.carry_out.Given as goal
 

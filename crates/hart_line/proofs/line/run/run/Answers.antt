@@ -1,8 +1,5 @@
-use Rattle.hart_line.proofs.Common.{arith}
-use Rattle.hart_line.proofs.lemmas.line.Log.{spoken_within}
-use Rattle.std.proofs.lemmas.Slice.Zip.{AllZip-long}
-use Rattle.hart_line.specs.world.Promises.{start_from}
-use Rattle.hart_line.specs.world.Spoken.{IsSpoken}
+use Rattle.hart_line.proofs.Common.{arith, start_from, IsSpoken, AllZip-long}
+use Rattle.hart_line.proofs.lemmas.line.Room.{spoken_within}
 use Rattle.hart_line.proofs.line.run.run.Goals as goal
 
 pub returns-clause-led : goal.returns-clause-led

@@ -1,5 +1,4 @@
-use Rattle.hart_line.proofs.Common.{arith, []}
-use Rattle.hart_line.specs.script.Items.{Plain}
+use Rattle.hart_line.proofs.Common.{arith, [], Plain}
 use Rattle.hart_line.proofs.script.digits.digit_value.Goals as goal
 
 -- a byte that is no item after a 0 is no digit

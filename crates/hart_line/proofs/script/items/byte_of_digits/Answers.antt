@@ -1,8 +1,7 @@
 use Rattle.hart_line.proofs.Common.{◌≡◌, ℕ, ◌+◌, ◌*◌, [], ◌∷◌, Option, Some, None, Ok, is_some, unwrap_or, arith, mul_comm, common_steps}
-use Rattle.std.specs.Prelude.{◌&&◌, if◌then◌else◌}
+use Rattle.hart_line.proofs.Common.{◌&&◌, if◌then◌else◌, byte_of}
 use Rattle.std.specs.Result.{result_ok}
 use Rattle.hex.specs.Hex.{decode_pairs, digit_or_error, hex_digit_value, is_hex_digit, ◌>>=◌}
-use Rattle.hart_line.specs.script.Items.{byte_of}
 use Rattle.hart_line.proofs.script.items.byte_of_digits.Goals as goal
 
 -- what `hex` reads of two bytes whose values as digits these are

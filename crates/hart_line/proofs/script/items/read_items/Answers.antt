@@ -1,5 +1,4 @@
-use Rattle.hart_line.proofs.Common.{arith, common_steps, length_push, take_rest}
-use Rattle.std.proofs.lemmas.List.{length-append}
+use Rattle.hart_line.proofs.Common.{arith, common_steps, length_push, take_rest, length-append}
 use Rattle.std.proofs.Math.Seq.{drop-append_seam}
 use Rattle.hart_line.proofs.lemmas.script.Items.{items_begin, reads_all, reads_item, reads_nothing}
 use Rattle.hart_line.proofs.script.items.read_items.Goals as goal

@@ -1,7 +1,6 @@
-use Rattle.hart_line.proofs.Common.{rules, tests, arith, nat_tests, prefix_len-le-length}
+use Rattle.hart_line.proofs.Common.{rules, tests, arith, nat_tests, prefix_len-le-length, is_blank}
 use Rattle.std.proofs.lemmas.Iterator.{YieldsList-from_slice}
 use Rattle.std.proofs.lemmas.Iterator.Search.{position_from_yields_List}
-use Rattle.hart_line.specs.script.Lines.{is_blank}
 use Rattle.hart_line.proofs.script.lines.len_before_blank.Goals as goal
 
 pub returns-clause-place : goal.returns-clause-place

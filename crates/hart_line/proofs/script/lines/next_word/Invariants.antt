@@ -1,5 +1,4 @@
-use Rattle.hart_line.proofs.Common.{◌≡◌, length}
-use Rattle.hart_line.specs.script.Lines.{words_of}
+use Rattle.hart_line.proofs.Common.{◌≡◌, length, words_of}
 use Rattle.hart_line.proofs.script.lines.next_word.Given as goal
 
 abbrev pub invariant-loop-rest : goal.invariant-loop-rest

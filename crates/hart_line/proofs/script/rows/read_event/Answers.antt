@@ -1,9 +1,6 @@
 use Rattle.hart_line.proofs.Common.{codes, arith, rules, ◌≡◌, ℕ, List, ◌∷◌, Option, None, Some, Result, ok_or, LineEvent, RowFault}
-use Rattle.std.proofs.lemmas.Slice.Eq.{text_from_reads}
+use Rattle.hart_line.proofs.Common.{words_of, ReadsWords, Finds, text_from_reads}
 use Rattle.hart_line.specs.declared.script.rows.RowFault.TheVariants.{Bad}
-use Rattle.hart_line.specs.script.Lines.{words_of}
-use Rattle.hart_line.specs.script.Rows.{ReadsWords}
-use Rattle.hart_line.specs.script.Words.{Finds}
 use Rattle.hart_line.proofs.lemmas.script.Rows.{says_none}
 use Rattle.hart_line.proofs.script.rows.read_event.Goals as goal
 

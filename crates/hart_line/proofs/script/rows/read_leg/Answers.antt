@@ -1,5 +1,4 @@
-use Rattle.hart_line.proofs.Common.{arith, rules, [], ◌∷◌, refl, err_from_is_err_and}
-use Rattle.hart_line.specs.script.Items.{IsItemsWord}
+use Rattle.hart_line.proofs.Common.{arith, rules, [], ◌∷◌, refl, err_from_is_err_and, IsItemsWord}
 use Rattle.hart_line.proofs.lemmas.script.Rows.{fault_of_word, no_leg}
 use Rattle.hart_line.proofs.script.rows.read_leg.Goals as goal
 

@@ -1,9 +1,7 @@
-use Rattle.hart_line.proofs.Common.{arith, ◌≡◌, true, false, nat_tests, common_steps}
-use Rattle.std.proofs.lemmas.Bool.{false_from_ne_true}
+use Rattle.hart_line.proofs.Common.{arith, ◌≡◌, true, false, nat_tests, common_steps, false_from_ne_true, all_ascii_digits}
 use Rattle.std.proofs.lemmas.Fmt.{IsAscii-from_digits}
 use Rattle.std.proofs.lemmas.Str.{IsUtf8-from_ascii}
 use Rattle.std.proofs.lemmas.Str.Parse.{IsNumeralModel, numerals_by_value, parse_plain, tells_all_ascii_digits}
-use Rattle.std.specs.Str.{all_ascii_digits}
 use Rattle.std.specs.Str.Parse.{digits_value}
 use Rattle.hart_line.proofs.script.words.read_decimal.Goals as goal
 

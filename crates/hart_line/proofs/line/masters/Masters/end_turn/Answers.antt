@@ -1,10 +1,12 @@
-use Rattle.hart_line.proofs.Common.{refl}
+use Rattle.hart_line.proofs.Common.{arith, common_steps, Primary, Secondary}
 use Rattle.hart_line.proofs.line.masters.Masters.end_turn.Goals as goal
 
-pub returns-then-is_sent-clause-ends : goal.returns-then-is_sent-clause-ends
-returns-then-is_sent-clause-ends c = λ retries hands frame sends.
-    let held = rw c.if-is_sent.true at sends in rw held.1 (c.conclude.ensures.concludes retries hands held.0 held.3)
+pub returns-in-Primary-clause-ends : goal.returns-in-Primary-clause-ends
+returns-in-Primary-clause-ends c = λ retries hands. rw c.in-Primary.is (λ turn.
+    let done = c.conclude.ensures.concludes Primary retries.primary hands.primary turn.0 in
+    record { accepted = done.accepted; accepts = done.accepts; outcomes_are = done.outcomes_are; left = grind (arith, common_steps) })
 
-pub returns-else-is_sent-clause-ends : goal.returns-else-is_sent-clause-ends
-returns-else-is_sent-clause-ends c = λ retries hands frame sends.
-    let silent = rw c.if-is_sent.false at sends in rw silent.0 (c.overhear.ensures retries hands silent.1, refl)
+pub returns-in-Secondary-clause-ends : goal.returns-in-Secondary-clause-ends
+returns-in-Secondary-clause-ends c = λ retries hands. rw c.in-Secondary.is (λ turn.
+    let done = c.conclude-in-Secondary.ensures.concludes Secondary retries.secondary hands.secondary turn.0 in
+    record { accepted = done.accepted; accepts = done.accepts; outcomes_are = done.outcomes_are; left = grind (arith, common_steps) })

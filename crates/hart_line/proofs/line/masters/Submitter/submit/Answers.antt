@@ -1,8 +1,6 @@
-use Rattle.hart_line.proofs.Common.{arith, ◌≡◌, ℕ, Option, Err, Address, Request, hand_submitted, result_submitted, Refused}
+use Rattle.hart_line.proofs.Common.{arith, ◌≡◌, ℕ, Option, Err, Address, Request, hand_submitted, result_submitted, Refused, Submits}
+use Rattle.hart_line.proofs.Common.{hand_of, submission_fault, InHand}
 use Rattle.hart_master.specs.declared.fault.Rejected.{Rejected}
-use Rattle.hart_line.specs.line.Masters.{Submits, hand_of}
-use Rattle.hart_line.specs.world.Step.{submission_fault}
-use Rattle.hart_line.specs.world.World.{InHand}
 use Rattle.hart_line.proofs.line.masters.Submitter.submit.Goals as goal
 
 -- A submission that the master refuses is the one that the world refuses, and the hand stays.
