@@ -2,10 +2,11 @@
 ghost use Rattle.std.specs.Prelude.{◌≡◌, ◌≤◌, IfErr, IfOk, OnErr, length};
 ghost use Rattle.hart_frame.specs.wire.Message.{IsPreambleCount};
 ghost use Rattle.hart_device.specs.image.Image.{IsImageOf};
-ghost use Rattle.hart_c.specs.Checks.{IsFirstOf};
-ghost use Rattle.hart_c.specs.Device.{HearOutcome, Hears, IsKept, IsRestarted, IsSaid, ReplyHasNoRoom, hear_checks, state_checks};
+ghost use Rattle.hart_c.specs.Faults.{IsFirstOf};
+ghost use Rattle.hart_c.specs.Device.{HearOutcome, Hears, IsKept, IsRestarted, IsSaid, hear_checks, state_checks};
+ghost use Rattle.hart_c.specs.Messages.{HasNoRoom, IsWritten};
 ghost use Rattle.hart_c.specs.Device.{IsKeptFault, NewDeviceOutcome, device_of, image_in};
-ghost use Rattle.hart_c.specs.Identity.{parts_of};
+ghost use Rattle.hart_c.specs.Numbers.{parts_of};
 
 use crate::fault::{Fault, HartOutcome};
 use crate::find::HartChar;
@@ -144,8 +145,8 @@ fn keep(state: &Device<ImageRegisters>, device: &mut HartDevice)
 /// Writes what a device says as a message at the front of `output`, and gives how many bytes that are; none of silence.
 fn say(said: Option<Frame>, preambles: u8, output: &mut [u8]) -> Result<usize, Fault>
     requires { IsPreambleCount preambles }
-    ensures said { IfOk result (IsSaid said preambles output.old output.new) }
-    ensures refused { IfErr result (λ fault. (fault ≡ Fault.NoRoom) × ReplyHasNoRoom said preambles (length output.old)) }
+    ensures said { IfOk result (IsWritten (IsSaid said preambles) output.old output.new) }
+    ensures refused { IfErr result (λ fault. (fault ≡ Fault.NoRoom) × HasNoRoom (IsSaid said preambles) (length output.old)) }
     ensures unchanged { OnErr result (output.new ≡ output.old) }
 {
     let Some(frame) = said else {
