@@ -1,12 +1,12 @@
 -- What reading the data of a message, and telling the names of its fields, promise to a caller in C (own profile).
 use Rattle.std.specs.Prelude.{◌≡◌, ◌<◌, ◌≤◌, ◌⊎◌, ◌++◌, ℕ, Bool, true, false, List, drop, length, slice_get, Option, None, Some, option_map}
 use Rattle.std.specs.Prelude.{◌+◌, ◌==◌, if◌then◌else◌, [], ◌∷◌, take, Ok, Err}
-use Rattle.hart_commands.specs.{Commands.reply_rows, Commands.request_rows, Parts.content_bytes, FieldWidths.IsWidthOf}
-use Rattle.hart_commands.specs.{ReplyData.reply_payload, ReplyData.reply_reading, RequestData.Reading, RequestData.request_data}
-use Rattle.hart_commands.specs.{RequestData.request_reading, declared.fields.FieldKind.FieldKind, declared.reply.Reply.Reply}
-use Rattle.hart_commands.specs.Fields.{Row, Field, bytes_of, fields_of}
-use Rattle.hart_commands.specs.declared.fields.FieldKind.TheVariants.{Bytes, Number, PackedText, LatinText, Date, Float, Variables}
-use Rattle.hart_c.specs.{declared.fault.HartOutcome.HartOutcome, declared.data.HartField.HartField, declared.data.HartReading.HartReading}
+use Rattle.hart_commands.specs.ReplyData.{reply_payload, reply_reading}
+use Rattle.hart_commands.specs.RequestData.{Reading, request_data, request_reading}
+use Rattle.hart_commands.specs.declared.fields.FieldKind.TheVariants.{Bytes, Date, Float, LatinText, Number, PackedText, Variables}
+use Rattle.hart_commands.specs.{Commands.reply_rows, Commands.request_rows, declared.fields.FieldKind.FieldKind, declared.reply.Reply.Reply}
+use Rattle.hart_commands.specs.{FieldWidths.IsWidthOf, Fields.Field, Fields.Row, Fields.bytes_of, Fields.fields_of, Parts.content_bytes}
+use Rattle.hart_c.specs.declared.{data.HartField.HartField, data.HartReading.HartReading, fault.HartOutcome.HartOutcome}
 
 -- A name that fits is written over the front of the output; otherwise that stays, and the fault is 15 for no name and 12 for no room.
 abbrev pub NameOutcome : Option (List ℕ) → List ℕ → List ℕ → HartOutcome → Type 0
@@ -59,8 +59,7 @@ request_fields command bytes (Err code) = []
 abbrev pub RequestShown : ℕ → List ℕ → Reading → List HartField → List HartField → HartReading → Type 0
 RequestShown command bytes (Ok request) before after reading =
     IsShown 0 (request_fields command bytes (Ok request)) (length (take (length (request_data request)) bytes)) 0 0 before after reading
-RequestShown command bytes (Err code) before after reading =
-    IsShown 0 (request_fields command bytes (Err code)) 0 code 0 before after reading
+RequestShown command bytes (Err code) before after reading = IsShown 0 [] 0 code 0 before after reading
 
 -- Data are read as a request of their command.
 abbrev pub RequestOutcome : ℕ → List ℕ → List HartField → List HartField → HartReading → Type 0

@@ -1,21 +1,20 @@
 -- The device that a caller in C keeps, and what the calls make of it (own profile).
-use Rattle.std.specs.Prelude.{◌≡◌, ◌<◌, ◌≤◌, ◌⊎◌, ◌+◌, ◌-◌, ◌%◌, ◌++◌, ℕ, Bool, true, List, [], ◌∷◌, Option, None, Some, if◌then◌else◌}
+use Rattle.std.specs.Prelude.{◌≡◌, ◌≤◌, ◌+◌, ◌-◌, ◌%◌, ◌++◌, ℕ, Bool, List, [], ◌∷◌, Option, None, Some, if◌then◌else◌}
 use Rattle.std.specs.Prelude.{length, map, slice_index, slice_set, take}
 use Rattle.hart_frame.specs.{wire.FrameParts.FrameParts, wire.Message.IsMessage}
 use Rattle.hart_commands.specs.Registers.{AreValid}
-use Rattle.hart_device.specs.{Device.DeviceState, Device.new_device, Device.restarted, Identity.AreIdentityParts, Identity.IsIdentityFault}
-use Rattle.hart_device.specs.{image.Image.IsImageFault, image.Image.IsImageOf, image.Image.image_of, registers.Values.values_of}
-use Rattle.hart_device.specs.{declared.fault.DeviceFault.DeviceFault, declared.identity_parts.IdentityParts.IdentityParts}
-use Rattle.hart_device.specs.{declared.process.Process.Process, declared.registers.values.RegisterValues.RegisterValues}
+use Rattle.hart_device.specs.image.Image.{IsImageFault, IsImageOf, image_of}
 use Rattle.hart_device.specs.answer.Delivery.{Brings, Brought, answer_to, state_after_delivery}
 use Rattle.hart_device.specs.declared.fault.DeviceFault.TheVariants.{BadField, BadLength}
-use Rattle.hart_c.specs.{declared.device.HartDevice.HartDevice, declared.fault.HartOutcome.HartOutcome, declared.find.HartChar.HartChar}
-use Rattle.hart_c.specs.{declared.identity.HartIdentity.HartIdentity, declared.process.HartProcess.HartProcess}
-use Rattle.hart_c.specs.{declared.registers.HartRegisters.HartRegisters, Messages.HasNoRoom, Messages.IsWritten, Find.char_of}
-use Rattle.hart_c.specs.Find.{heard_checks}
+use Rattle.hart_device.specs.{Device.DeviceState, Device.new_device, Identity.AreIdentityParts, Identity.IsIdentityFault}
+use Rattle.hart_device.specs.{declared.process.Process.Process, registers.Values.values_of}
+use Rattle.hart_device.specs.{declared.identity_parts.IdentityParts.IdentityParts, declared.registers.values.RegisterValues.RegisterValues}
 use Rattle.hart_c.specs.declared.fault.Fault.TheVariants.{BadVariables, Device, NoRoom}
 use Rattle.hart_c.specs.Faults.{AllPass, Check, Outcome, needs, needs_or, outcome_of, refused_if}
 use Rattle.hart_c.specs.Numbers.{HasVariables, IsProcessOf, contents_of, parts_of}
+use Rattle.hart_c.specs.{Find.char_of, Find.heard_checks, Messages.HasNoRoom, Messages.IsWritten}
+use Rattle.hart_c.specs.declared.{device.HartDevice.HartDevice, find.HartChar.HartChar, process.HartProcess.HartProcess}
+use Rattle.hart_c.specs.declared.{fault.HartOutcome.HartOutcome, identity.HartIdentity.HartIdentity, registers.HartRegisters.HartRegisters}
 
 -- The image is the first of the bytes, as many as are said.
 abbrev pub image_in : HartDevice → List ℕ
@@ -44,23 +43,12 @@ with_protection protected device =
     let last = device.image_len - 1 in
     record device { image = slice_set device.image last (slice_index device.image last % 4 + (if protected then 4 else 0)) }
 
--- Bytes that are said to be more than 86 are refused for their length, and others as an image is.
-abbrev pub IsKeptFault : HartDevice → DeviceFault → Type 0
-IsKeptFault device fault =
-    ((86 < device.image_len) × (fault ≡ BadLength)) ⊎ ((device.image_len ≤ 86) × IsImageFault (image_in device) fault)
-
 -- The device that is new with these registers, whoever it is, is kept; or one of them would not be valid, and what was kept stays.
 abbrev pub NewDeviceOutcome : HartRegisters → HartDevice → HartDevice → HartOutcome → Type 0
 NewDeviceOutcome given before after =
     Outcome (needs (AreValid (contents_of given)) (Device BadField) ∷ [])
     (λ len. (len ≡ 86) × (values : RegisterValues) × (values_of values ≡ contents_of given) × AreValid (contents_of given)
-    × ((parts : IdentityParts) → after ≡ device_of (new_device parts values)))
-    (after ≡ before) outcome_of
-
--- A restart sets both cold start bits and nothing else: whichever state was kept, it is now that after a restart.
-pub record IsRestarted (before after : HartDevice) : Type 0 where
-  pub set : after ≡ record before { primary_cold_start = true; secondary_cold_start = true }
-  pub restarted : (parts : IdentityParts) (state : DeviceState) → IsKept parts before state → IsKept parts after (restarted state)
+    × ((parts : IdentityParts) → after ≡ device_of (new_device parts values))) (after ≡ before) outcome_of
 
 -- What a device hears: it is kept in a state, its process is handed in, and a delivery brings it something.
 pub record IsHearing (identity : HartIdentity) (process : HartProcess) (heard : List HartChar) (device : HartDevice) : Type 0 where
@@ -86,11 +74,12 @@ pub record Hears (identity : HartIdentity) (process : HartProcess) (heard : List
   pub kept : IsKept (parts_of identity) after (state_after_delivery hearing.state hearing.brought)
   pub silent : len ≡ 0 → state_after_delivery hearing.state hearing.brought ≡ hearing.state
 
--- Who the device is is checked first, and then that what is kept of it is some state of it.
+-- Who the device is is checked first, then the length that is said of its image, and then that what is kept of it is some state of it.
 abbrev pub state_checks : HartIdentity → HartDevice → List Check
 state_checks identity device =
     needs_or (AreIdentityParts (parts_of identity)) (IsIdentityFault (parts_of identity)) Device
-    ∷ needs_or ((state : DeviceState) × IsKept (parts_of identity) device state) (IsKeptFault device) Device ∷ []
+    ∷ needs (device.image_len ≤ 86) (Device BadLength)
+    ∷ needs_or ((state : DeviceState) × IsKept (parts_of identity) device state) (IsImageFault (image_in device)) Device ∷ []
 
 -- The device is checked, then the process for one to four dynamic variables, then the characters, and then whether the reply fits.
 abbrev pub hear_checks : HartIdentity → HartProcess → List HartChar → HartDevice → ℕ → List Check

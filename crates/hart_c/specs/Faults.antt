@@ -2,13 +2,12 @@
 use Rattle.std.specs.Prelude.{ℕ, Result, Ok, Err, ◌≡◌, ◌⊎◌, List, [], ◌∷◌}
 use Rattle.hart_frame.specs.wire.FaultNumbers.{frame_fault_number}
 use Rattle.hart_device.specs.declared.fault.DeviceFault.TheVariants.{BadField, BadLength, BadVersion, BroadcastAddress, OutOfRange}
-use Rattle.hart_c.specs.{declared.fault.HartOutcome.HartOutcome, declared.fault.Fault.Fault}
-use Rattle.hart_c.specs.declared.fault.Fault.TheVariants.{Frame, BadAddress, LongExpansion, NoRoom, BadFaultBits, BadVariables, Device}
-use Rattle.hart_c.specs.declared.fault.Fault.TheVariants.{NoRequest, TooLong, WrongAddress}
-use Rattle.hart_c.specs.declared.fault.Fault as own
+use Rattle.hart_c.specs.declared.fault.Fault.TheVariants.{BadAddress, BadFaultBits, BadVariables, LongExpansion, NoRequest, WrongAddress}
+use Rattle.hart_c.specs.declared.fault.Fault.TheVariants.{Device, Frame, NoRoom, TooLong}
+use Rattle.hart_c.specs.declared.{fault.Fault.Fault, fault.HartOutcome.HartOutcome}
 
 -- The numbers of all faults. Those of frames are the same as in hart_frame.
-abbrev pub number_of : own.Fault → ℕ
+abbrev pub number_of : Fault → ℕ
 number_of (Frame fault) = frame_fault_number fault
 number_of BadAddress = 10
 number_of LongExpansion = 11
@@ -25,7 +24,7 @@ number_of NoRequest = 23
 number_of WrongAddress = 24
 
 -- How many bytes were written is told without a fault, and a fault by its number.
-abbrev pub outcome_of : Result ℕ own.Fault → HartOutcome
+abbrev pub outcome_of : Result ℕ Fault → HartOutcome
 outcome_of (Ok len) = record { len = len; fault = 0 }
 outcome_of (Err fault) = record { len = 0; fault = number_of fault }
 

@@ -1,11 +1,11 @@
--- What is heard, as a caller in C passes it, and what a search for frames promises to one that keeps only what is not used up (own profile).
+-- What is heard, as a caller in C passes it, and what a search for frames promises to one that keeps what is not used up (own profile).
 use Rattle.std.specs.Prelude.{◌≤◌, List, [], ◌∷◌, length, ◌≡◌, ◌+◌, ◌<◌, ◌⊎◌, ℕ, Bool, IsTrue, false, ◌++◌, drop, map, take}
 use Rattle.std.specs.List.{All}
-use Rattle.hart_frame.specs.{heard.Character.AreFaultBits, heard.Character.Character, heard.Frames.IsUndecided, heard.Frames.moved}
-use Rattle.hart_frame.specs.{scan.Next.AreNext, declared.heard.found.Found.Found}
-use Rattle.hart_c.specs.{Faults.Check, Faults.needs, declared.fault.Fault.TheVariants.BadFaultBits}
-use Rattle.hart_c.specs.{declared.fault.Fault.TheVariants.TooLong, declared.find.HartChar.HartChar, declared.find.HartSearch.HartSearch}
-use Rattle.hart_c.specs.{declared.frame.HartFrame.HartFrame, Numbers.IsTidy, Numbers.found_in_first}
+use Rattle.hart_frame.specs.heard.Character.{AreFaultBits, Character}
+use Rattle.hart_frame.specs.{declared.heard.found.Found.Found, heard.Frames.IsUndecided, heard.Frames.moved, scan.Next.AreNext}
+use Rattle.hart_c.specs.declared.fault.Fault.TheVariants.{BadFaultBits, TooLong}
+use Rattle.hart_c.specs.{Faults.Check, Faults.needs, Numbers.IsTidy, Numbers.found_in_first}
+use Rattle.hart_c.specs.declared.{find.HartChar.HartChar, find.HartSearch.HartSearch, frame.HartFrame.HartFrame}
 
 -- No character has another bit than fault bits.
 abbrev pub HaveFaultBits : List HartChar → Type 0
@@ -36,8 +36,7 @@ SearchOutcome heard ended before after search =
     (HaveFaultBits heard × Finds (map char_of heard) ended before after search)
     ⊎ ((HaveFaultBits heard → ⊥) × (search ≡ record { used = 0; count = 0; fault = 13 }) × (after ≡ before))
 
--- What was heard so far, whether it ended, the frames that were given of it, and how much is used up: at first nothing; then each search in
--- what is not used up, and in what came after it, adds to them, and nothing comes after the end.
+-- What was heard so far, whether it ended, the frames that were given of it, and how much of it is used up: each search adds to them.
 pub data IsSearchedSoFar : List Character → Bool → List Found → ℕ → Type 0 where
   begin : IsSearchedSoFar [] false [] 0
   search : (heard piece : List Character) (before ended : Bool) (given found : List Found) (used further : ℕ)

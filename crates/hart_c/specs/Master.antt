@@ -1,15 +1,13 @@
 -- What a caller in C hears as a master does (own profile).
 use Rattle.std.specs.Prelude.{◌≡◌, true, false, List, [], ◌∷◌, ◌++◌, Option, None, Some, Result, Ok, Err, map}
-use Rattle.hart_values.specs.{declared.address.Address.Address, declared.address.Address.TheVariants.Unique}
-use Rattle.hart_values.specs.declared.master_id.MasterId.{MasterId}
+use Rattle.hart_values.specs.declared.{address.Address.Address, address.Address.TheVariants.Unique, master_id.MasterId.MasterId}
 use Rattle.hart_frame.specs.{heard.Character.Character, wire.FrameParts.FrameParts, wire.FrameParts.request_parts}
 use Rattle.hart_commands.specs.{RequestData.request_reading, declared.reply.Reply.Reply, declared.request.Request.Request}
 use Rattle.hart_master.specs.{Acceptance.IsAccepted, Pairing.may_ask, Unique.unique_in}
-use Rattle.hart_c.specs.{declared.fault.Fault.Fault, declared.find.HartChar.HartChar, declared.frame.HartFrame.HartFrame}
-use Rattle.hart_c.specs.{declared.master.HartAcceptance.HartAcceptance, declared.master.HartUnique.HartUnique, Messages.IsFrame}
-use Rattle.hart_c.specs.{Messages.frame_checks, Find.char_of, Find.heard_checks, Numbers.IsTidy, Numbers.found_in, Numbers.frame_in}
-use Rattle.hart_c.specs.declared.fault.Fault.TheVariants.{NoRequest, WrongAddress}
-use Rattle.hart_c.specs.Faults.{AllPass, Check, Outcome, needs, number_of}
+use Rattle.hart_c.specs.{Faults.AllPass, Faults.Check, Faults.Outcome, Faults.needs, Find.char_of, Numbers.IsTidy}
+use Rattle.hart_c.specs.{Faults.number_of, Find.heard_checks, Messages.IsFrame, Messages.frame_checks, Numbers.found_in, Numbers.frame_in}
+use Rattle.hart_c.specs.declared.{fault.Fault.Fault, fault.Fault.TheVariants.NoRequest, find.HartChar.HartChar, frame.HartFrame.HartFrame}
+use Rattle.hart_c.specs.declared.{fault.Fault.TheVariants.WrongAddress, master.HartAcceptance.HartAcceptance, master.HartUnique.HartUnique}
 
 -- A master asks a request with a frame if that is one of a request, whose data are read as it.
 pub record IsAsked (frame : FrameParts) (request : Request) : Type 0 where
@@ -59,8 +57,7 @@ AcceptOutcome numbers heard before after =
 
 -- The numbers of the unique address that is given; a polling address gives none.
 abbrev pub given_of : Option Address → HartUnique
-given_of (Some (Unique numbers)) =
-    record { is_given = true; expanded_type = numbers.expanded_type; device_id = numbers.device_id }
+given_of (Some (Unique numbers)) = record { is_given = true; expanded_type = numbers.expanded_type; device_id = numbers.device_id }
 given_of _ = record { is_given = false; expanded_type = 0; device_id = 0 }
 
 -- The numbers of the unique address that a reply gives, and no reply gives one.

@@ -1,11 +1,11 @@
 -- What reading and writing a frame promise to a caller in C (own profile).
 use Rattle.std.specs.Prelude.{◌≡◌, ℕ, List, ◌<◌, ◌≤◌, ◌^◌, ◌++◌, Bool, true, false, [], ◌∷◌, drop, length}
-use Rattle.hart_frame.specs.{wire.Body.BeginsWithBody, wire.Refusal.IsRefusedWith, wire.FrameParts.FrameParts, wire.FrameParts.IsLongEnough}
-use Rattle.hart_frame.specs.wire.Message.{IsMessage, IsPreambleCount}
-use Rattle.hart_frame.specs.declared.wire.fault.FrameFault.TheVariants.{TooShortReply, BadPreamble}
-use Rattle.hart_c.specs.{declared.fault.HartOutcome.HartOutcome, declared.frame.HartFrame.HartFrame, Numbers.IsTidy, Numbers.frame_in}
-use Rattle.hart_c.specs.declared.fault.Fault.TheVariants.{Frame, BadAddress, LongExpansion, NoRoom}
-use Rattle.hart_c.specs.Faults.{AllPass, Check, Outcome, needs, needs_or, refused_if, outcome_of}
+use Rattle.hart_frame.specs.wire.FrameParts.{FrameParts, IsLongEnough}
+use Rattle.hart_frame.specs.declared.wire.fault.FrameFault.TheVariants.{BadPreamble, TooShortReply}
+use Rattle.hart_frame.specs.{wire.Body.BeginsWithBody, wire.Message.IsMessage, wire.Message.IsPreambleCount, wire.Refusal.IsRefusedWith}
+use Rattle.hart_c.specs.Faults.{AllPass, Check, Outcome, needs, needs_or, outcome_of, refused_if}
+use Rattle.hart_c.specs.declared.fault.Fault.TheVariants.{BadAddress, Frame, LongExpansion, NoRoom}
+use Rattle.hart_c.specs.{Numbers.IsTidy, Numbers.frame_in, declared.fault.HartOutcome.HartOutcome, declared.frame.HartFrame.HartFrame}
 
 -- The frame whose body bytes begin with is shown from place 0 on, and its length told; or their fault is, and what was shown stays.
 abbrev pub DecodeOutcome : List ℕ → HartFrame → HartFrame → HartOutcome → Type 0

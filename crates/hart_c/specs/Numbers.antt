@@ -1,17 +1,16 @@
 -- What the numbers for C say of a frame, and of who a device is, what it measures and what its registers hold (own profile).
 use Rattle.std.specs.Prelude.{◌≡◌, ◌≤◌, if◌then◌else◌, ℕ, Bool, true, false, List, map, take, [], ◌∷◌}
-use Rattle.hart_values.specs.{declared.address.Address.Address, declared.bits32.Bits32.Bits32}
 use Rattle.hart_values.specs.declared.address.Address.TheVariants.{Polling, Unique}
 use Rattle.hart_values.specs.declared.master_id.MasterId.TheVariants.{Primary, Secondary}
+use Rattle.hart_values.specs.declared.{address.Address.Address, bits32.Bits32.Bits32}
+use Rattle.hart_frame.specs.declared.wire.kind.FrameKind.TheVariants.{Ack, Stx}
 use Rattle.hart_frame.specs.{declared.heard.found.Found.Found, wire.FrameParts.FrameParts}
-use Rattle.hart_frame.specs.declared.wire.kind.FrameKind.TheVariants.{Stx, Ack}
-use Rattle.hart_c.specs.{declared.frame.HartFrame.HartFrame, declared.identity.HartIdentity.HartIdentity}
-use Rattle.hart_c.specs.{declared.process.HartOutput.HartOutput, declared.process.HartProcess.HartProcess}
-use Rattle.hart_c.specs.{declared.process.HartSensor.HartSensor, declared.process.HartVariable.HartVariable}
-use Rattle.hart_c.specs.declared.registers.HartRegisters.{HartRegisters}
-use Rattle.hart_device.specs.{declared.identity_parts.IdentityParts.IdentityParts, declared.process.OutputValues.OutputValues}
-use Rattle.hart_device.specs.{declared.process.Process.Process, declared.process.ProcessVariable.ProcessVariable, Process.dynamic_variables}
-use Rattle.hart_commands.specs.{declared.sensor.SensorContent.SensorContent, Registers.Contents}
+use Rattle.hart_commands.specs.{Registers.Contents, declared.sensor.SensorContent.SensorContent}
+use Rattle.hart_device.specs.{Process.dynamic_variables, declared.process.OutputValues.OutputValues, declared.process.Process.Process}
+use Rattle.hart_device.specs.{declared.identity_parts.IdentityParts.IdentityParts, declared.process.ProcessVariable.ProcessVariable}
+use Rattle.hart_c.specs.declared.frame.HartFrame.{HartFrame}
+use Rattle.hart_c.specs.declared.{identity.HartIdentity.HartIdentity, process.HartOutput.HartOutput, registers.HartRegisters.HartRegisters}
+use Rattle.hart_c.specs.declared.{process.HartProcess.HartProcess, process.HartSensor.HartSensor, process.HartVariable.HartVariable}
 
 -- An address is the unique one of two numbers, or a polling address.
 abbrev pub address_of : Bool → HartFrame → Address

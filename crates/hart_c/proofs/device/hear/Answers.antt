@@ -1,4 +1,5 @@
-use Rattle.std.proofs.Common.{◌≡◌, ◌∙◌, inl, inr, ℕ, Bool, true, false, Err, List, Option, None, Some, [], ◌∷◌, arith, length, length-append, map, refl, rules, sym}
+use Rattle.std.proofs.Common.{◌≡◌, ◌∙◌, inl, inr, ℕ, Bool, true, false, Err, List, Option, None, Some, [], ◌∷◌, arith, length}
+use Rattle.std.proofs.Common.{length-append, map, refl, rules, sym}
 use Rattle.std.proofs.lemmas.Grind.{common_steps}
 use Rattle.std.specs.Prelude.{if◌then◌else◌}
 use Rattle.std.proofs.lemmas.List.{length-replicate}
@@ -75,17 +76,8 @@ returns-in_err-len-clause-refused c =
     rw is (inr (
       heard.kept.is_identity,
       inr (
-        (heard.state, heard.kept),
-        inr (
-          heard.process_is.count,
-          inr (
-            bits,
-            inr (
-              few,
-              inl ((heard, no_room), refl),
-            ),
-          ),
-        ),
+        heard.kept.fits,
+        inr ((heard.state, heard.kept), inr (heard.process_is.count, inr (bits, inr (few, inl ((heard, no_room), refl))))),
       ),
     ))
 
@@ -102,7 +94,10 @@ returns-in_err-delivery-clause-refused c =
     let fits = refused_if ((none : IsHearing c.args.identity.now c.args.process.now c.args.heard.now c.args.device.now) × HasNoRoom
     (IsSaid (answer_to none.state none.measured none.brought) c.args.identity.now.response_preambles) (length c.args.reply.now)) NoRoom in
     let later = first_before (heard_checks c.args.heard.now) (fits ∷ []) fault in
-    rw is (inr (kept.is_identity, inr ((c.in_ok-state.state, kept), inr (measured.count, later c.in_err-delivery.ensures.refused))))
+    rw is (inr (
+      kept.is_identity,
+      inr (kept.fits, inr ((c.in_ok-state.state, kept), inr (measured.count, later c.in_err-delivery.ensures.refused))),
+    ))
 
 pub returns-clause-heard : goal.returns-clause-heard
 returns-clause-heard c =

@@ -1,4 +1,5 @@
-use Rattle.std.proofs.Common.{◌+◌, ◌++◌, take, arith, length, map, ◌<◌, ◌≡◌, inl, [], ◌-◌, inr, refl, true, ◌≤◌, ◌⊎◌, false, Bool, ℕ, IsTrue, List, All, drop}
+use Rattle.std.proofs.Common.{◌+◌, ◌++◌, take, arith, length, map, ◌<◌, ◌≡◌, inl, [], ◌-◌, inr, refl, true, ◌≤◌, ◌⊎◌, false}
+use Rattle.std.proofs.Common.{Bool, ℕ, IsTrue, List, All, drop}
 use Rattle.std.proofs.lemmas.Grind.{common_steps}
 use Rattle.std.proofs.Common.{length-drop, take-add}
 use Rattle.std.proofs.lemmas.List.{drop-drop, drop-map, length-map, length-take, take-map, take-take, take_rest}

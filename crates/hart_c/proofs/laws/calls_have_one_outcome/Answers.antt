@@ -2,15 +2,17 @@ use Rattle.std.proofs.Common.{◌≡◌, ◌⊎◌, ℕ, List, Option, None, Som
 use Rattle.std.proofs.lemmas.Grind.{common_steps}
 use Rattle.hart_frame.specs.wire.FrameParts.{FrameParts}
 use Rattle.hart_frame.specs.wire.Message.{IsMessage, IsPreambleCount}
-use Rattle.hart_frame.proofs.lemmas.Laws.{bodies_are_unambiguous-one_body, bodies_are_unambiguous-one_prefix, frames_are_unambiguous-one_list}
+use Rattle.hart_frame.proofs.lemmas.Laws.{bodies_are_unambiguous-one_body, bodies_are_unambiguous-one_prefix}
+use Rattle.hart_frame.proofs.lemmas.Laws.{frames_are_unambiguous-one_list}
 use Rattle.hart_commands.specs.declared.reply.Reply.{Reply}
 use Rattle.hart_device.specs.Identity.{AreIdentityParts, IsIdentityFault}
 use Rattle.hart_device.specs.answer.Delivery.{answer_to}
+use Rattle.hart_device.specs.image.Image.{IsImageFault}
 use Rattle.hart_device.specs.declared.identity_parts.IdentityParts.{IdentityParts}
 use Rattle.hart_device.proofs.lemmas.Laws.{deliveries_bring_one-one, images_have_no_fault}
 use Rattle.hart_master.proofs.lemmas.Laws.{replies_are_decided-one_reply}
 use Rattle.hart_c.specs.Faults.{AllPass, needs_or, outcome_of}
-use Rattle.hart_c.specs.Device.{Hears, IsHearing, IsKept, IsKeptFault, IsSaid, hear_checks, image_in}
+use Rattle.hart_c.specs.Device.{Hears, IsHearing, IsKept, IsSaid, hear_checks, image_in}
 use Rattle.hart_c.specs.Messages.{HasNoRoom, IsFrame, IsWritten, encode_checks}
 use Rattle.hart_c.specs.Find.{char_of}
 use Rattle.hart_c.specs.Numbers.{found_in, frame_in, parts_of}
@@ -102,11 +104,12 @@ module _ (identity : HartIdentity) (process : HartProcess) (heard : List HartCha
       let who : IsSound
       (needs_or (AreIdentityParts (parts_of identity)) (IsIdentityFault (parts_of identity)) Device) =
       record { one = λ fault other why because. grind arith; not_both = λ fault is why. grind arith } in
-      let kept : IsSound (needs_or ((state : DeviceState) × IsKept (parts_of identity) device state) (IsKeptFault device) Device) = record {
+      let kept : IsSound
+      (needs_or ((state : DeviceState) × IsKept (parts_of identity) device state) (IsImageFault (image_in device)) Device) = record {
         one = λ fault other why because. grind (arith, c.bytes_have_one_image_fault.ensures);
         not_both = λ fault is why. grind (arith, images_have_no_fault is.0 (image_in device));
       } in
-      (who, (kept, (needs-sound _ _, (needs-sound _ _, (needs-sound _ _, (refused_if-sound _ _, tt))))))
+      (who, (needs-sound _ _, (kept, (needs-sound _ _, (needs-sound _ _, (needs-sound _ _, (refused_if-sound _ _, tt)))))))
 
   heard_passes : (after : HartDevice) (old new : List ℕ) (len : ℕ) → length new ≡ length old
       → Hears identity process heard device after old new len → AllPass (hear_checks identity process heard device (length old))
@@ -117,8 +120,10 @@ module _ (identity : HartIdentity) (process : HartProcess) (heard : List HartCha
       (IsSaid (answer_to none.state none.measured none.brought) identity.response_preambles) (length old)) → ⊥ =
       λ none.
       let (state, measured, brought) = one_hearing none.0 hearing in
-      said_fits _ _ _ _ _ same is.reply (rw (state, measured, brought) at none.1) in
-      (hearing.kept.is_identity, ((hearing.state, hearing.kept), (hearing.process_is.count, (bits, (few, (room, tt))))))
+      said_fits _ _ _ _ _ same is.reply (rw (state, measured, brought) at none.1) in (
+        hearing.kept.is_identity,
+        (hearing.kept.fits, ((hearing.state, hearing.kept), (hearing.process_is.count, (bits, (few, (room, tt)))))),
+      )
 
 pub returns-clause-hear : goal.returns-clause-hear
 returns-clause-hear c identity process heard before after other old new newer outcome another long longer =
