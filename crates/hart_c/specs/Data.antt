@@ -1,6 +1,6 @@
 -- What reading the data of a message, and telling the names of its fields, promise to a caller in C (own profile).
-use Rattle.std.specs.Prelude.{◌≡◌, ◌<◌, ◌≤◌, ◌⊎◌, ◌++◌, ℕ, Bool, true, false, List, drop, length, slice_get, Option, None, Some, option_map}
-use Rattle.std.specs.Prelude.{◌+◌, ◌==◌, if◌then◌else◌, [], ◌∷◌, take, Ok, Err}
+use Rattle.std.specs.Prelude.{◌≡◌, ◌<◌, ◌≤◌, ◌⊎◌, ◌++◌, ◌+◌, ◌==◌, if◌then◌else◌, ℕ, Bool, true, false, List, drop, length, slice_get}
+use Rattle.std.specs.Prelude.{Option, None, Some, option_map, [], ◌∷◌, take, Ok, Err}
 use Rattle.hart_commands.specs.ReplyData.{reply_payload, reply_reading}
 use Rattle.hart_commands.specs.RequestData.{Reading, request_data, request_reading}
 use Rattle.hart_commands.specs.declared.fields.FieldKind.TheVariants.{Bytes, Date, Float, LatinText, Number, PackedText, Variables}

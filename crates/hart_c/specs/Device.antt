@@ -1,13 +1,13 @@
 -- The device that a caller in C keeps, and what the calls make of it (own profile).
-use Rattle.std.specs.Prelude.{◌≡◌, ◌≤◌, ◌+◌, ◌-◌, ◌%◌, ◌++◌, ℕ, Bool, List, [], ◌∷◌, Option, None, Some, if◌then◌else◌}
-use Rattle.std.specs.Prelude.{length, map, slice_index, slice_set, take}
+use Rattle.std.specs.Prelude.{◌≡◌, ◌≤◌, ◌+◌, ◌-◌, ◌%◌, ◌++◌, if◌then◌else◌, ℕ, Bool, List, [], ◌∷◌, Option, None, Some, length, map}
+use Rattle.std.specs.Prelude.{slice_index, slice_set, take}
 use Rattle.hart_frame.specs.{wire.FrameParts.FrameParts, wire.Message.IsMessage}
 use Rattle.hart_commands.specs.Registers.{AreValid}
 use Rattle.hart_device.specs.image.Image.{IsImageFault, IsImageOf, image_of}
 use Rattle.hart_device.specs.answer.Delivery.{Brings, Brought, answer_to, state_after_delivery}
 use Rattle.hart_device.specs.declared.fault.DeviceFault.TheVariants.{BadField, BadLength}
-use Rattle.hart_device.specs.{Device.DeviceState, Device.new_device, Identity.AreIdentityParts, Identity.IsIdentityFault}
-use Rattle.hart_device.specs.{declared.process.Process.Process, registers.Values.values_of}
+use Rattle.hart_device.specs.Identity.{AreIdentityParts, IsIdentityFault}
+use Rattle.hart_device.specs.{Device.DeviceState, Device.new_device, declared.process.Process.Process, registers.Values.values_of}
 use Rattle.hart_device.specs.{declared.identity_parts.IdentityParts.IdentityParts, declared.registers.values.RegisterValues.RegisterValues}
 use Rattle.hart_c.specs.declared.fault.Fault.TheVariants.{BadVariables, Device, NoRoom}
 use Rattle.hart_c.specs.Faults.{AllPass, Check, Outcome, needs, needs_or, outcome_of, refused_if}

@@ -1,5 +1,5 @@
 -- The faults of calls: their numbers for C, what a call is checked for, and which fault is the first that holds (own profile).
-use Rattle.std.specs.Prelude.{ℕ, Result, Ok, Err, ◌≡◌, ◌⊎◌, List, [], ◌∷◌}
+use Rattle.std.specs.Prelude.{◌≡◌, ◌⊎◌, ℕ, Result, Ok, Err, List, [], ◌∷◌}
 use Rattle.hart_frame.specs.wire.FaultNumbers.{frame_fault_number}
 use Rattle.hart_device.specs.declared.fault.DeviceFault.TheVariants.{BadField, BadLength, BadVersion, BroadcastAddress, OutOfRange}
 use Rattle.hart_c.specs.declared.fault.Fault.TheVariants.{BadAddress, BadFaultBits, BadVariables, LongExpansion, NoRequest, WrongAddress}

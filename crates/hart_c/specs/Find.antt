@@ -1,6 +1,5 @@
 -- What is heard, as a caller in C passes it, and what a search for frames promises to one that keeps what is not used up (own profile).
-use Rattle.std.specs.Prelude.{◌≤◌, List, [], ◌∷◌, length, ◌≡◌, ◌+◌, ◌<◌, ◌⊎◌, ℕ, Bool, IsTrue, false, ◌++◌, drop, map, take}
-use Rattle.std.specs.List.{All}
+use Rattle.std.specs.Prelude.{◌≤◌, ◌≡◌, ◌+◌, ◌<◌, ◌⊎◌, ◌++◌, List, [], ◌∷◌, length, ℕ, Bool, IsTrue, false, drop, map, take, All}
 use Rattle.hart_frame.specs.heard.Character.{AreFaultBits, Character}
 use Rattle.hart_frame.specs.{declared.heard.found.Found.Found, heard.Frames.IsUndecided, heard.Frames.moved, scan.Next.AreNext}
 use Rattle.hart_c.specs.declared.fault.Fault.TheVariants.{BadFaultBits, TooLong}

@@ -1,13 +1,14 @@
 -- What a caller in C hears as a master does (own profile).
-use Rattle.std.specs.Prelude.{◌≡◌, true, false, List, [], ◌∷◌, ◌++◌, Option, None, Some, Result, Ok, Err, map}
+use Rattle.std.specs.Prelude.{◌≡◌, ◌++◌, true, false, List, [], ◌∷◌, Option, None, Some, Result, Ok, Err, map}
 use Rattle.hart_values.specs.declared.{address.Address.Address, address.Address.TheVariants.Unique, master_id.MasterId.MasterId}
 use Rattle.hart_frame.specs.{heard.Character.Character, wire.FrameParts.FrameParts, wire.FrameParts.request_parts}
 use Rattle.hart_commands.specs.{RequestData.request_reading, declared.reply.Reply.Reply, declared.request.Request.Request}
 use Rattle.hart_master.specs.{Acceptance.IsAccepted, Pairing.may_ask, Unique.unique_in}
-use Rattle.hart_c.specs.{Faults.AllPass, Faults.Check, Faults.Outcome, Faults.needs, Find.char_of, Numbers.IsTidy}
-use Rattle.hart_c.specs.{Faults.number_of, Find.heard_checks, Messages.IsFrame, Messages.frame_checks, Numbers.found_in, Numbers.frame_in}
-use Rattle.hart_c.specs.declared.{fault.Fault.Fault, fault.Fault.TheVariants.NoRequest, find.HartChar.HartChar, frame.HartFrame.HartFrame}
-use Rattle.hart_c.specs.declared.{fault.Fault.TheVariants.WrongAddress, master.HartAcceptance.HartAcceptance, master.HartUnique.HartUnique}
+use Rattle.hart_c.specs.Faults.{AllPass, Check, Outcome, needs, number_of}
+use Rattle.hart_c.specs.declared.fault.Fault.TheVariants.{NoRequest, WrongAddress}
+use Rattle.hart_c.specs.{Find.char_of, Messages.IsFrame, Numbers.IsTidy, Numbers.found_in, Numbers.frame_in}
+use Rattle.hart_c.specs.{Find.heard_checks, Messages.frame_checks, declared.find.HartChar.HartChar, declared.frame.HartFrame.HartFrame}
+use Rattle.hart_c.specs.{declared.fault.Fault.Fault, declared.master.HartAcceptance.HartAcceptance, declared.master.HartUnique.HartUnique}
 
 -- A master asks a request with a frame if that is one of a request, whose data are read as it.
 pub record IsAsked (frame : FrameParts) (request : Request) : Type 0 where

@@ -1,5 +1,5 @@
 -- What reading and writing a frame promise to a caller in C (own profile).
-use Rattle.std.specs.Prelude.{◌≡◌, ℕ, List, ◌<◌, ◌≤◌, ◌^◌, ◌++◌, Bool, true, false, [], ◌∷◌, drop, length}
+use Rattle.std.specs.Prelude.{◌≡◌, ◌<◌, ◌≤◌, ◌^◌, ◌++◌, ℕ, List, Bool, true, false, [], ◌∷◌, drop, length}
 use Rattle.hart_frame.specs.wire.FrameParts.{FrameParts, IsLongEnough}
 use Rattle.hart_frame.specs.declared.wire.fault.FrameFault.TheVariants.{BadPreamble, TooShortReply}
 use Rattle.hart_frame.specs.{wire.Body.BeginsWithBody, wire.Message.IsMessage, wire.Message.IsPreambleCount, wire.Refusal.IsRefusedWith}
