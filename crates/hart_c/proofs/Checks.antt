@@ -1,6 +1,6 @@
 -- Which fault some checks have.
 use Rattle.std.proofs.Common.{◌≡◌, inl, inr, List, [], ◌∷◌, ◌++◌, sym, ◌∙◌}
-use Rattle.hart_c.specs.Checks.{AllPass, Check, IsFirstOf, needs, refused_if}
+use Rattle.hart_c.specs.Faults.{AllPass, Check, IsFirstOf, needs, refused_if}
 use Rattle.hart_c.specs.declared.fault.Fault.{Fault}
 
 -- a check that refuses with one fault, and nothing that passes it

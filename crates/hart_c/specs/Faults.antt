@@ -1,35 +1,63 @@
--- The numbers of faults for C (own profile).
-use Rattle.std.specs.Prelude.{ℕ, Result, Ok, Err}
+-- The faults of calls: their numbers for C, what a call is checked for, and which fault is the first that holds (own profile).
+use Rattle.std.specs.Prelude.{◌≡◌, ◌⊎◌, ℕ, Result, Ok, Err, List, [], ◌∷◌}
 use Rattle.hart_frame.specs.wire.FaultNumbers.{frame_fault_number}
-use Rattle.hart_device.specs.declared.fault.DeviceFault.{DeviceFault}
 use Rattle.hart_device.specs.declared.fault.DeviceFault.TheVariants.{BadField, BadLength, BadVersion, BroadcastAddress, OutOfRange}
-use Rattle.hart_c.specs.declared.fault.Fault as own
-use Rattle.hart_c.specs.declared.fault.HartOutcome.{HartOutcome}
-use Rattle.hart_c.specs.declared.fault.Fault.TheVariants.{Frame, BadAddress, LongExpansion, NoRoom}
-use Rattle.hart_c.specs.declared.fault.Fault.TheVariants.{BadFaultBits, BadVariables, Device, NoRequest, TooLong, WrongAddress}
-
--- The numbers for C of the faults of devices.
-abbrev pub device_fault_number_for_c : DeviceFault → ℕ
-device_fault_number_for_c OutOfRange = 16
-device_fault_number_for_c BroadcastAddress = 17
-device_fault_number_for_c BadVersion = 18
-device_fault_number_for_c BadLength = 19
-device_fault_number_for_c BadField = 20
+use Rattle.hart_c.specs.declared.fault.Fault.TheVariants.{BadAddress, BadFaultBits, BadVariables, LongExpansion, NoRequest, WrongAddress}
+use Rattle.hart_c.specs.declared.fault.Fault.TheVariants.{Device, Frame, NoRoom, TooLong}
+use Rattle.hart_c.specs.declared.{fault.Fault.Fault, fault.HartOutcome.HartOutcome}
 
 -- The numbers of all faults. Those of frames are the same as in hart_frame.
-abbrev pub number_of : own.Fault → ℕ
+abbrev pub number_of : Fault → ℕ
 number_of (Frame fault) = frame_fault_number fault
 number_of BadAddress = 10
 number_of LongExpansion = 11
 number_of NoRoom = 12
 number_of BadFaultBits = 13
-number_of (Device fault) = device_fault_number_for_c fault
+number_of (Device OutOfRange) = 16
+number_of (Device BroadcastAddress) = 17
+number_of (Device BadVersion) = 18
+number_of (Device BadLength) = 19
+number_of (Device BadField) = 20
 number_of BadVariables = 21
 number_of TooLong = 22
 number_of NoRequest = 23
 number_of WrongAddress = 24
 
 -- How many bytes were written is told without a fault, and a fault by its number.
-abbrev pub outcome_of : Result ℕ own.Fault → HartOutcome
+abbrev pub outcome_of : Result ℕ Fault → HartOutcome
 outcome_of (Ok len) = record { len = len; fault = 0 }
 outcome_of (Err fault) = record { len = 0; fault = number_of fault }
+
+-- A check of a call: what passes it, and with which fault it refuses what does not.
+pub record Check : Type 1 where
+  pub passes : Type 0
+  pub refuses : Fault → Type 0
+
+-- Something has to hold, or this is the fault.
+abbrev pub needs : Type 0 → Fault → Check
+needs good fault = record { passes = good; refuses = λ told. (good → ⊥) × (told ≡ fault) }
+
+-- Something must not hold, or this is the fault.
+abbrev pub refused_if : Type 0 → Fault → Check
+refused_if bad fault = record { passes = bad → ⊥; refuses = λ told. bad × (told ≡ fault) }
+
+-- Something has to hold, or one of the faults that a lower crate names is the fault.
+abbrev pub needs_or : {F : Type 0} → Type 0 → (F → Type 0) → (F → Fault) → Check
+needs_or {F} good refuses named =
+    record { passes = good; refuses = λ told. (fault : F) × refuses fault × (told ≡ named fault) }
+
+-- The fault of some checks is that of the first one that refuses: all before it are passed.
+abbrev pub IsFirstOf : List Check → Fault → Type 0
+IsFirstOf [] told = ⊥
+IsFirstOf (check ∷ checks) told = check.refuses told ⊎ (check.passes × IsFirstOf checks told)
+
+-- All checks are passed.
+abbrev pub AllPass : List Check → Type 0
+AllPass [] = Unit {0}
+AllPass (check ∷ checks) = check.passes × AllPass checks
+
+-- A call has done something, and tells it; or it tells the first fault of its checks, and what it writes to stays.
+abbrev pub Outcome : {D T : Type 0} → List Check → (D → Type 0) → Type 0 → (Result D Fault → T) → T → Type 0
+Outcome {D} checks IsDone stays telling told =
+    ((done : D) × IsDone done × (told ≡ telling (Ok done)))
+    ⊎ ((fault : Fault) × IsFirstOf checks fault × (told ≡ telling (Err fault)) × stays)

@@ -1,17 +1,20 @@
--- What a search for frames promises to a caller that keeps only what is not used up (own profile).
-use Rattle.std.specs.Prelude.{◌≡◌, ◌+◌, ◌<◌, ◌≤◌, ◌⊎◌, ℕ, Bool, IsTrue, false, List, [], ◌++◌, drop, length, map, take}
-use Rattle.std.specs.List.{All}
+-- What is heard, as a caller in C passes it, and what a search for frames promises to one that keeps what is not used up (own profile).
+use Rattle.std.specs.Prelude.{◌≤◌, ◌≡◌, ◌+◌, ◌<◌, ◌⊎◌, ◌++◌, List, [], ◌∷◌, length, ℕ, Bool, IsTrue, false, drop, map, take, All}
 use Rattle.hart_frame.specs.heard.Character.{AreFaultBits, Character}
-use Rattle.hart_frame.specs.heard.Frames.{IsUndecided, moved}
-use Rattle.hart_frame.specs.scan.Next.{AreNext}
-use Rattle.hart_frame.specs.declared.heard.found.Found.{Found}
-use Rattle.hart_c.specs.declared.find.HartChar.{HartChar}
-use Rattle.hart_c.specs.declared.find.HartSearch.{HartSearch}
-use Rattle.hart_c.specs.declared.frame.HartFrame.{HartFrame}
-use Rattle.hart_c.specs.Frames.{IsTidy, found_in_first}
+use Rattle.hart_frame.specs.{declared.heard.found.Found.Found, heard.Frames.IsUndecided, heard.Frames.moved, scan.Next.AreNext}
+use Rattle.hart_c.specs.declared.fault.Fault.TheVariants.{BadFaultBits, TooLong}
+use Rattle.hart_c.specs.{Faults.Check, Faults.needs, Numbers.IsTidy, Numbers.found_in_first}
+use Rattle.hart_c.specs.declared.{find.HartChar.HartChar, find.HartSearch.HartSearch, frame.HartFrame.HartFrame}
 
--- A search shows the next frames, and says how many characters are used up. What the search does not need to show stays as it was. If there
--- was room for more frames: none are left if it ended; otherwise at most 268 characters are left, and nothing is decided in them.
+-- No character has another bit than fault bits.
+abbrev pub HaveFaultBits : List HartChar → Type 0
+HaveFaultBits heard = All (λ given. AreFaultBits given.faults) heard
+
+-- A delivery, which is what is heard at once, is checked for fault bits alone, and for being 1,024 characters at most.
+abbrev pub heard_checks : List HartChar → List Check
+heard_checks heard = needs (HaveFaultBits heard) BadFaultBits ∷ needs (length heard ≤ 1024) TooLong ∷ []
+
+-- A search shows the next frames; where it had room for more, it left nothing at the end, and before that 268 undecided characters at most.
 pub record Finds (chars : List Character) (ended : Bool) (before after : List HartFrame) (search : HartSearch) : Type 0 where
   pub within : search.count ≤ length after
   pub untouched : drop search.count after ≡ drop search.count before
@@ -26,16 +29,13 @@ pub record Finds (chars : List Character) (ended : Bool) (before after : List Ha
 abbrev pub char_of : HartChar → Character
 char_of given = record { byte = given.byte; faults = given.faults }
 
--- If all characters have no other bits than fault bits, the next frames are shown. Otherwise that is the fault, and nothing is found, used
--- up or shown.
+-- Of characters with fault bits alone the next frames are shown; otherwise that is the fault, and nothing is found, used up or shown.
 abbrev pub SearchOutcome : List HartChar → Bool → List HartFrame → List HartFrame → HartSearch → Type 0
 SearchOutcome heard ended before after search =
-    (All (λ given. AreFaultBits given.faults) heard × Finds (map char_of heard) ended before after search)
-    ⊎ ((All (λ given. AreFaultBits given.faults) heard → ⊥) × (search ≡ record { used = 0; count = 0; fault = 13 }) × (after ≡ before))
+    (HaveFaultBits heard × Finds (map char_of heard) ended before after search)
+    ⊎ ((HaveFaultBits heard → ⊥) × (search ≡ record { used = 0; count = 0; fault = 13 }) × (after ≡ before))
 
--- What was heard so far, whether it ended, the frames that were given of it, with their places in all of it, and how much of it is used
--- up: at first nothing; then a search in what was not used up, and in what came after it, gives further frames, and uses up more. Once it
--- ended nothing comes after it, and it stays ended.
+-- What was heard so far, whether it ended, the frames that were given of it, and how much of it is used up: each search adds to them.
 pub data IsSearchedSoFar : List Character → Bool → List Found → ℕ → Type 0 where
   begin : IsSearchedSoFar [] false [] 0
   search : (heard piece : List Character) (before ended : Bool) (given found : List Found) (used further : ℕ)

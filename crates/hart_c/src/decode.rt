@@ -1,5 +1,5 @@
 //! The frame that bytes begin with.
-ghost use Rattle.hart_c.specs.Decode.{DecodeOutcome};
+ghost use Rattle.hart_c.specs.Messages.{DecodeOutcome};
 
 use crate::fault::{HART_OK, HartOutcome, number_of_frame_fault};
 use crate::frame::{HartFrame, show_frame};

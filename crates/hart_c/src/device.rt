@@ -1,11 +1,13 @@
 //! A device that its caller keeps, as its image and its cold start bits.
-ghost use Rattle.std.specs.Prelude.{◌≡◌, ◌≤◌, IfErr, IfOk, OnErr, length};
+ghost use Rattle.std.specs.Prelude.{◌≡◌, true, IfErr, IfOk, OnErr, length};
 ghost use Rattle.hart_frame.specs.wire.Message.{IsPreambleCount};
-ghost use Rattle.hart_device.specs.image.Image.{IsImageOf};
-ghost use Rattle.hart_c.specs.Checks.{IsFirstOf};
-ghost use Rattle.hart_c.specs.Device.{HearOutcome, Hears, IsKept, IsRestarted, IsSaid, ReplyHasNoRoom, hear_checks, state_checks};
-ghost use Rattle.hart_c.specs.Device.{IsKeptFault, NewDeviceOutcome, device_of, image_in};
-ghost use Rattle.hart_c.specs.Identity.{parts_of};
+ghost use Rattle.hart_device.specs.Device.{DeviceState, restarted};
+ghost use Rattle.hart_device.specs.declared.identity_parts.IdentityParts.{IdentityParts};
+ghost use Rattle.hart_c.specs.Faults.{IsFirstOf};
+ghost use Rattle.hart_c.specs.Device.{HearOutcome, Hears, IsKept, IsSaid, hear_checks, state_checks};
+ghost use Rattle.hart_c.specs.Messages.{HasNoRoom, IsWritten};
+ghost use Rattle.hart_c.specs.Device.{NewDeviceOutcome, device_of};
+ghost use Rattle.hart_c.specs.Numbers.{parts_of};
 
 use crate::fault::{Fault, HartOutcome};
 use crate::find::HartChar;
@@ -55,7 +57,9 @@ pub extern "C" fn hart_new_device(registers: &HartRegisters, device: &mut HartDe
 /// The device was without power: sets both masters' cold start bits. All else stays as it is.
 #[unsafe(no_mangle)]
 pub extern "C" fn hart_restart(device: &mut HartDevice)
-    ensures { IsRestarted device.old device.new }
+    ensures set { device.new ≡ record device.old { primary_cold_start = true; secondary_cold_start = true } }
+    ensures restarted { (parts : IdentityParts) (state : DeviceState) → IsKept parts device.old state
+        → IsKept parts device.new (restarted state) }
 {
     device.primary_cold_start = true;
     device.secondary_cold_start = true;
@@ -111,23 +115,14 @@ fn kept_state(identity: &HartIdentity, device: &HartDevice) -> Result<Device<Ima
     ensures refused { IfErr result (IsFirstOf (state_checks identity.now device.now)) }
 {
     let identity = Identity::new(parts_of(identity)).map_err(Fault::Device)?;
-    let mut state = imaged(identity, device).map_err(Fault::Device)?;
+    let image = device.image.get(..usize::from(device.image_len));
+    let image = image.ok_or(Fault::Device(DeviceFault::BadLength))?;
+    let mut state = Device::from_image(identity, image).map_err(Fault::Device)?;
     state.restore_cold_start(EachMaster {
         primary: device.primary_cold_start,
         secondary: device.secondary_cold_start,
     });
     Ok(state)
-}
-
-/// The device that goes on from the image that is kept.
-fn imaged(identity: Identity, device: &HartDevice) -> Result<Device<ImageRegisters>, DeviceFault>
-    ensures identity { IfOk result (λ state. state.identity ≡ identity) }
-    ensures image { IfOk result (λ state. IsImageOf state (image_in device.now)) }
-    ensures fits { IfOk result (λ state. device.now.image_len ≤ 86) }
-    ensures refused { IfErr result (IsKeptFault device.now) }
-{
-    let image = device.image.get(..usize::from(device.image_len));
-    Device::from_image(identity, image.ok_or(DeviceFault::BadLength)?)
 }
 
 /// Keeps the state of a device.
@@ -144,8 +139,8 @@ fn keep(state: &Device<ImageRegisters>, device: &mut HartDevice)
 /// Writes what a device says as a message at the front of `output`, and gives how many bytes that are; none of silence.
 fn say(said: Option<Frame>, preambles: u8, output: &mut [u8]) -> Result<usize, Fault>
     requires { IsPreambleCount preambles }
-    ensures said { IfOk result (IsSaid said preambles output.old output.new) }
-    ensures refused { IfErr result (λ fault. (fault ≡ Fault.NoRoom) × ReplyHasNoRoom said preambles (length output.old)) }
+    ensures said { IfOk result (IsWritten (IsSaid said preambles) output.old output.new) }
+    ensures refused { IfErr result (λ fault. (fault ≡ Fault.NoRoom) × HasNoRoom (IsSaid said preambles) (length output.old)) }
     ensures unchanged { OnErr result (output.new ≡ output.old) }
 {
     let Some(frame) = said else {

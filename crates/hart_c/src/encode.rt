@@ -1,8 +1,9 @@
 //! A frame, written as a message.
-ghost use Rattle.std.specs.Prelude.{◌≡◌, ◌↔◌, length, IfOk, IfErr, IfSome, IsSome, OnErr};
-ghost use Rattle.hart_c.specs.Encode.{EncodeOutcome, IsFrame, IsInRange, IsWritten, encode_checks, frame_checks};
-ghost use Rattle.hart_c.specs.Checks.{IsFirstOf};
-ghost use Rattle.hart_c.specs.Frames.{address_of, frame_in, kind_of, master_of};
+ghost use Rattle.std.specs.Prelude.{◌≡◌, ◌↔◌, length, if◌then◌else◌, IfOk, IfErr, IfSome, IsSome, OnErr};
+ghost use Rattle.hart_frame.specs.wire.Message.{IsMessage, IsPreambleCount};
+ghost use Rattle.hart_c.specs.Messages.{EncodeOutcome, IsFrame, IsInRange, IsWritten, encode_checks, frame_checks};
+ghost use Rattle.hart_c.specs.Faults.{IsFirstOf};
+ghost use Rattle.hart_c.specs.Numbers.{address_of, frame_in};
 
 use crate::fault::{Fault, HartOutcome};
 use crate::frame::HartFrame;
@@ -26,7 +27,8 @@ pub extern "C" fn hart_encode(frame: &HartFrame, preambles: u8, output: &mut [u8
 
 /// Writes a frame as a message at the front of `output`, and gives how many bytes that are.
 fn write_message(frame: &HartFrame, preambles: u8, output: &mut [u8]) -> Result<usize, Fault>
-    ensures written { IfOk result (λ len. IsWritten frame.now preambles output.old output.new len) }
+    ensures frame { IfOk result (λ len. IsFrame frame.now × IsPreambleCount preambles) }
+    ensures written { IfOk result (IsWritten (IsMessage (frame_in frame.now) preambles) output.old output.new) }
     ensures refused { IfErr result (IsFirstOf (encode_checks frame.now preambles (length output.old))) }
     ensures unchanged { OnErr result (output.new ≡ output.old) }
 {
@@ -79,7 +81,7 @@ fn address_of(frame: &HartFrame) -> Option<Address>
 
 /// A reply is an ACK, and any other frame an STX.
 fn kind_of(is_reply: bool) -> FrameKind
-    ensures { result ≡ kind_of is_reply }
+    ensures { result ≡ (if is_reply then FrameKind.Ack else FrameKind.Stx) }
 {
     if is_reply {
         FrameKind::Ack
@@ -90,7 +92,7 @@ fn kind_of(is_reply: bool) -> FrameKind
 
 /// The primary master, or the secondary one.
 fn master_of(is_primary: bool) -> MasterId
-    ensures { result ≡ master_of is_primary }
+    ensures { result ≡ (if is_primary then MasterId.Primary else MasterId.Secondary) }
 {
     if is_primary {
         MasterId::Primary

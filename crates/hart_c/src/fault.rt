@@ -1,7 +1,7 @@
 //! Why a call wrote nothing, as numbers for C.
 ghost use Rattle.std.specs.Prelude.{◌≡◌};
 ghost use Rattle.hart_frame.specs.wire.FaultNumbers.{frame_fault_number};
-ghost use Rattle.hart_c.specs.Faults.{number_of, device_fault_number_for_c};
+ghost use Rattle.hart_c.specs.Faults.{number_of};
 
 use hart_device::DeviceFault;
 use hart_frame::FrameFault;
@@ -129,7 +129,7 @@ impl Fault {
 
 /// The number of a fault of a device for C.
 fn number_of_device_fault(fault: DeviceFault) -> u8
-    ensures { result ≡ device_fault_number_for_c fault }
+    ensures { result ≡ number_of (Fault.Device fault) }
 {
     match fault {
         DeviceFault::OutOfRange => HART_OUT_OF_RANGE,

@@ -5,8 +5,7 @@ ghost use Rattle.hart_frame.specs.heard.Frames.{IsUndecided};
 ghost use Rattle.hart_frame.specs.scan.Streamed.{IsHistory, IsWholeHistory};
 ghost use Rattle.hart_frame.specs.scan.Scanner.{Gives, GivesNothing};
 ghost use Rattle.hart_c.specs.Find.{Finds, SearchOutcome, char_of};
-ghost use Rattle.hart_c.specs.private.Find.{IsSearched};
-ghost use Rattle.hart_c.specs.Frames.{IsTidy, found_in, found_in_first};
+ghost use Rattle.hart_c.specs.Numbers.{IsTidy, found_in, found_in_first};
 
 use crate::fault::{HART_BAD_FAULT_BITS, HART_OK};
 use crate::frame::{HartFrame, show_found};
@@ -98,7 +97,15 @@ pub extern "C" fn hart_find(heard: &[HartChar], ended: bool, frames: &mut [HartF
         taken += scanner.push_chars(&chunk[..len]);
         count = fill(&mut scanner, frames, count);
     }
-    settle(&mut scanner, ended, heard.len(), frames, count)
+    if !ended || count == frames.len() {
+        return found_so_far(scanner.first_held() as usize, count);
+    }
+    scanner.finish();
+    let count = fill(&mut scanner, frames, count);
+    if count < frames.len() {
+        return found_so_far(heard.len(), count);
+    }
+    found_so_far(scanner.first_held() as usize, count)
 }
 
 /// Copies characters to the front of a chunk, as many as fit, and returns their number.
@@ -121,50 +128,6 @@ pub(crate) fn char_of(given: &HartChar) -> Char
     ensures { result ≡ char_of given.now }
 {
     Char::new(given.byte, given.faults).unwrap()
-}
-
-/// What a search came to in so many characters: if they ended and there is still room, the frames that the scanner has left are
-/// shown.
-fn settle(
-    scanner: &mut Scanner,
-    ended: bool,
-    len: usize,
-    frames: &mut [HartFrame],
-    count: usize,
-) -> HartSearch
-    requires room { count ≤ length frames.old }
-    ensures { (n : ℕ) (chars : List Character) (before : List HartFrame) → len ≡ length chars
-        → IsSearched n chars before frames.old count scanner.old → Finds chars ended before frames.new result }
-{
-    if !ended {
-        return step(scanner, count);
-    }
-    if count == frames.len() {
-        return step(scanner, count);
-    }
-    scanner.finish();
-    let count = fill(scanner, frames, count);
-    if count == frames.len() {
-        return step(scanner, count);
-    }
-    HartSearch {
-        used: len,
-        count,
-        fault: HART_OK,
-    }
-}
-
-/// Returns what a search came to that goes on.
-fn step(scanner: &Scanner, count: usize) -> HartSearch
-    ensures used { result.used ≡ scanner.now.first }
-    ensures count { result.count ≡ count }
-    ensures fault { result.fault ≡ 0 }
-{
-    HartSearch {
-        used: scanner.first_held() as usize,
-        count,
-        fault: HART_OK,
-    }
 }
 
 /// Shows the frames that a scanner gives, after so many others, until it gives none or there is no more room.

@@ -1,8 +1,7 @@
 //! A frame, as numbers for C.
 ghost use Rattle.std.specs.Prelude.{◌≡◌, ◌≤◌, length};
 ghost use Rattle.hart_frame.specs.scan.View.{found_of};
-ghost use Rattle.hart_c.specs.Frames.{IsTidy, found_in, frame_in, with_address};
-ghost use Rattle.hart_c.specs.private.Frames.{parts_in};
+ghost use Rattle.hart_c.specs.Numbers.{IsTidy, found_in, frame_in, with_address};
 
 use hart_frame::{FoundView, Frame, FrameKind};
 use hart_values::{Address, MasterId};
@@ -98,7 +97,15 @@ pub(crate) fn show_frame(shown: &Frame, start: u64, stop: u64, frame: &mut HartF
 fn show_parts(parts: &Parts<'_>, frame: &mut HartFrame)
     requires expansion { length parts.now.expansion.now ≤ 3 }
     requires payload { length parts.now.payload.now ≤ 255 }
-    ensures parts { frame_in frame.new ≡ parts_in parts.now }
+    ensures parts { frame_in frame.new ≡ record {
+      kind = parts.now.kind;
+      master = parts.now.master;
+      burst = parts.now.burst;
+      address = parts.now.address;
+      expansion = parts.now.expansion.now;
+      command = parts.now.command;
+      payload = parts.now.payload.now;
+    } }
     ensures tidy { IsTidy frame.new }
 {
     show_address(parts.address, frame);

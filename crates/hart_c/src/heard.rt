@@ -1,8 +1,7 @@
 //! What is heard at once, as a caller in C passes it.
 ghost use Rattle.std.specs.Prelude.{◌≡◌, ◌≤◌, ◌↔◌, IfErr, IfOk, IsTrue, map, take};
-ghost use Rattle.hart_c.specs.Find.{char_of};
-ghost use Rattle.hart_c.specs.Heard.{HaveFaultBits, IsDelivery, heard_checks};
-ghost use Rattle.hart_c.specs.Checks.{IsFirstOf};
+ghost use Rattle.hart_c.specs.Find.{HaveFaultBits, char_of, heard_checks};
+ghost use Rattle.hart_c.specs.Faults.{AllPass, IsFirstOf};
 
 use crate::fault::Fault;
 use crate::find::{HartChar, char_of};
@@ -31,7 +30,7 @@ impl Delivery {
 /// The delivery of these characters.
 pub(crate) fn delivery_of(heard: &[HartChar]) -> Result<Delivery, Fault>
     ensures same { IfOk result (λ delivery. take delivery.len delivery.chars ≡ map char_of heard.now) }
-    ensures accepted { IfOk result (λ delivery. IsDelivery heard.now) }
+    ensures accepted { IfOk result (λ delivery. AllPass (heard_checks heard.now)) }
     ensures refused { IfErr result (IsFirstOf (heard_checks heard.now)) }
 {
     if !have_fault_bits(heard) {

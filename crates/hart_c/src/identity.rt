@@ -1,7 +1,7 @@
 //! Who a device is, as numbers for C.
 ghost use Rattle.std.specs.Prelude.{◌≡◌};
 ghost use Rattle.hart_device.specs.Bench.{bench_identity};
-ghost use Rattle.hart_c.specs.Identity.{parts_of};
+ghost use Rattle.hart_c.specs.Numbers.{parts_of};
 
 use hart_device::IdentityParts;
 

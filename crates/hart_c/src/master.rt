@@ -2,9 +2,10 @@
 ghost use Rattle.std.specs.Prelude.{◌≡◌, ◌<◌, ◌^◌, false, IfErr, IfOk, OnErr};
 ghost use Rattle.hart_commands.specs.ReplyData.{reply_reading};
 ghost use Rattle.hart_commands.specs.declared.request.Request.{Request};
-ghost use Rattle.hart_c.specs.Checks.{IsFirstOf};
-ghost use Rattle.hart_c.specs.Master.{AcceptOutcome, Accepts, IsAsked, accept_checks, acceptance_of, send_checks};
-ghost use Rattle.hart_c.specs.private.Master.{IsAwaiting};
+ghost use Rattle.hart_c.specs.Faults.{IsFirstOf};
+ghost use Rattle.hart_c.specs.Master.{AcceptOutcome, Accepts, IsAsked, IsSent, accept_checks, acceptance_of, send_checks};
+ghost use Rattle.hart_c.specs.Numbers.{frame_in};
+ghost use Rattle.hart_master.specs.declared.hand.Hand.TheVariants.{Awaiting};
 ghost use Rattle.hart_c.specs.Master.{given_by, given_of};
 
 use crate::encode::frame_of;
@@ -120,7 +121,8 @@ fn accept(
 
 /// The master that sent a request, and awaits its reply.
 fn sent(request: &HartFrame) -> Result<Master, Fault>
-    ensures awaits { IfOk result (IsAwaiting request.now) }
+    ensures awaits { IfOk result (λ master. (asked : Request) × IsSent request.now asked × (master.id ≡ (frame_in request.now).master)
+        × (master.hand ≡ Awaiting (record { address = (frame_in request.now).address; request = asked; sendings = 1 }) 0)) }
     ensures refused { IfErr result (IsFirstOf (send_checks request.now)) }
 {
     let frame = frame_of(request)?;

@@ -2,7 +2,7 @@
 ghost use Rattle.std.specs.Prelude.{◌≡◌, map, option_map};
 ghost use Rattle.hart_commands.specs.Commands.{command_name};
 ghost use Rattle.hart_commands.specs.Fields.{seen};
-ghost use Rattle.hart_c.specs.Names.{NameOutcome, field_name, rows_for};
+ghost use Rattle.hart_c.specs.Data.{NameOutcome, field_name, rows_for};
 
 use crate::fault::{HART_UNKNOWN, HartOutcome};
 use crate::output::{outcome_of, put};

@@ -1,7 +1,7 @@
 //! What a device measures, as numbers for C.
 ghost use Rattle.std.specs.Prelude.{◌≡◌, ◌≤◌, ◌↔◌, IsSome, IfSome, length, map};
 ghost use Rattle.hart_device.specs.Bench.{bench_process};
-ghost use Rattle.hart_c.specs.Process.{HasVariables, IsProcessOf, output_of, sensor_of, variable_of};
+ghost use Rattle.hart_c.specs.Numbers.{HasVariables, IsProcessOf, output_of, sensor_of, variable_of};
 
 use hart_commands::{SensorContent, ShortList};
 use hart_device::{OutputValues, Process, ProcessVariable, bench};

@@ -4,7 +4,7 @@ ghost use Rattle.hart_commands.specs.Registers.{AreValid};
 ghost use Rattle.hart_commands.specs.RequestData.{mode_byte};
 ghost use Rattle.hart_device.specs.Bench.{bench_values};
 ghost use Rattle.hart_device.specs.registers.Values.{values_of};
-ghost use Rattle.hart_c.specs.Registers.{contents_of};
+ghost use Rattle.hart_c.specs.Numbers.{contents_of};
 
 use hart_device::{RegisterValues, bench};
 use hart_values::{HartDate, LoopMode, PackedText, PollingAddress};

@@ -1,4 +1,5 @@
-use Rattle.std.proofs.Common.{◌≡◌, ◌∙◌, inl, inr, ℕ, Bool, true, false, Err, List, Option, None, Some, arith, length, length-append, map, refl, rules, sym}
+use Rattle.std.proofs.Common.{◌≡◌, ◌∙◌, inl, inr, ℕ, Bool, true, false, Err, List, Option, None, Some, [], ◌∷◌, arith, length}
+use Rattle.std.proofs.Common.{length-append, map, refl, rules, sym}
 use Rattle.std.proofs.lemmas.Grind.{common_steps}
 use Rattle.std.specs.Prelude.{if◌then◌else◌}
 use Rattle.std.proofs.lemmas.List.{length-replicate}
@@ -9,11 +10,11 @@ use Rattle.hart_device.specs.answer.Answer.{is_answered}
 use Rattle.hart_device.specs.answer.Delivery.{Brings, Brought, OneFrame, Garbled, NoMessage, answer_to, state_after_delivery}
 use Rattle.hart_device.specs.declared.process.Process.{Process}
 use Rattle.hart_device.proofs.lemmas.Laws.{deliveries_bring_one-brings, frames_leave_identity_and_protection-identity}
-use Rattle.hart_c.specs.Device.{IsHearing, IsSaid, ReplyHasNoRoom, reply_checks, state_checks}
-use Rattle.hart_c.specs.Find.{char_of}
-use Rattle.hart_c.specs.Heard.{IsDelivery, heard_checks}
-use Rattle.hart_c.specs.Identity.{parts_of}
-use Rattle.hart_c.specs.Process.{IsProcessOf}
+use Rattle.hart_c.specs.Faults.{AllPass, refused_if}
+use Rattle.hart_c.specs.Device.{IsHearing, IsSaid, state_checks}
+use Rattle.hart_c.specs.Messages.{HasNoRoom, IsWritten}
+use Rattle.hart_c.specs.Find.{char_of, heard_checks}
+use Rattle.hart_c.specs.Numbers.{IsProcessOf, parts_of}
 use Rattle.hart_c.specs.declared.fault.Fault.TheVariants.{NoRoom}
 use Rattle.hart_c.proofs.Checks.{first_before}
 use Rattle.hart_c.proofs.Kept.{devices_are_kept-kept}
@@ -39,14 +40,14 @@ unanswered state process NoMessage none = refl
 
 -- only silence has no bytes
 unsaid : (answer : Option FrameParts) (preambles : ℕ) (old new : List ℕ) (len : ℕ) → IsPreambleCount preambles
-    → IsSaid answer preambles old new len → len ≡ 0 → answer ≡ None
+    → IsWritten (IsSaid answer preambles) old new len → len ≡ 0 → answer ≡ None
 unsaid None preambles old new len counts said none = refl
 unsaid (Some reply) preambles old new len counts said none =
     grind (arith, common_steps, length-append, length-replicate)
 
 -- what a delivery brings to the device
 abbrev hearing : (c : In_ok-process) → IsProcessOf c.args.process.now c.in_ok-process.process
-    → IsDelivery c.args.heard.now → IsHearing c.args.identity.now c.args.process.now c.args.heard.now c.args.device.now
+    → AllPass (heard_checks c.args.heard.now) → IsHearing c.args.identity.now c.args.process.now c.args.heard.now c.args.device.now
 hearing c process_is delivery =
     let (brought, brings) = deliveries_bring_one-brings (parts_of c.args.identity.now) (map char_of c.args.heard.now) in
     record {
@@ -69,23 +70,14 @@ returns-in_err-len-clause-refused c =
     let counts : c.response_preambles-preambles.result ≡ c.args.identity.now.response_preambles =
     grind (arith, after, stays c.in_ok-state.state heard.brought) in
     let is : c.from_residual-in_err-len.result ≡ Err NoRoom = grind (arith, common_steps, c.in_err-len.ensures.refused.0) in
-    let no_room : ReplyHasNoRoom (answer_to heard.state heard.measured heard.brought) c.args.identity.now.response_preambles
+    let no_room : HasNoRoom (IsSaid (answer_to heard.state heard.measured heard.brought) c.args.identity.now.response_preambles)
     (length c.args.reply.now) = rw (← c.hear-said.ensures.answer heard.brought brings, ← counts) c.in_err-len.ensures.refused.1 in
     let (bits, (few, end)) = heard.delivery in
     rw is (inr (
       heard.kept.is_identity,
       inr (
-        (heard.state, heard.kept),
-        inr (
-          heard.process_is.count,
-          inr (
-            bits,
-            inr (
-              few,
-              inl ((heard, no_room), refl),
-            ),
-          ),
-        ),
+        heard.kept.fits,
+        inr ((heard.state, heard.kept), inr (heard.process_is.count, inr (bits, inr (few, inl ((heard, no_room), refl))))),
       ),
     ))
 
@@ -99,9 +91,13 @@ returns-in_err-delivery-clause-refused c =
     let is : c.from_residual-in_err-delivery.result ≡ Err fault = grind (arith, common_steps) in
     let kept = c.in_ok-state.ensures.kept in
     let measured : IsProcessOf c.args.process.now c.in_ok-process.process = search rules in
-    let later = first_before (heard_checks c.args.heard.now)
-    (reply_checks c.args.identity.now c.args.process.now c.args.heard.now c.args.device.now (length c.args.reply.now)) fault in
-    rw is (inr (kept.is_identity, inr ((c.in_ok-state.state, kept), inr (measured.count, later c.in_err-delivery.ensures.refused))))
+    let fits = refused_if ((none : IsHearing c.args.identity.now c.args.process.now c.args.heard.now c.args.device.now) × HasNoRoom
+    (IsSaid (answer_to none.state none.measured none.brought) c.args.identity.now.response_preambles) (length c.args.reply.now)) NoRoom in
+    let later = first_before (heard_checks c.args.heard.now) (fits ∷ []) fault in
+    rw is (inr (
+      kept.is_identity,
+      inr (kept.fits, inr ((c.in_ok-state.state, kept), inr (measured.count, later c.in_err-delivery.ensures.refused))),
+    ))
 
 pub returns-clause-heard : goal.returns-clause-heard
 returns-clause-heard c =

@@ -1,7 +1,7 @@
 use Rattle.std.proofs.Common.{◌≡◌, ◌≤◌, ◌-◌, List, All, drop, length, take}
 use Rattle.hart_frame.specs.heard.Character.{Character}
 use Rattle.hart_frame.specs.scan.Streamed.{IsHistory}
-use Rattle.hart_c.specs.Frames.{IsTidy, found_in_first}
+use Rattle.hart_c.specs.Numbers.{IsTidy, found_in_first}
 use Rattle.hart_c.proofs.find.fill.Given as goal
 
 abbrev pub invariant-loop-count : goal.invariant-loop-count

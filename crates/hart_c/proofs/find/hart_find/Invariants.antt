@@ -2,7 +2,7 @@ use Rattle.std.proofs.Common.{◌≡◌, ◌<◌, ◌≤◌, ◌-◌, false, IsT
 use Rattle.hart_frame.specs.heard.Frames.{IsUndecided}
 use Rattle.hart_frame.specs.scan.Streamed.{IsHistory}
 use Rattle.hart_c.specs.Find.{char_of}
-use Rattle.hart_c.specs.Frames.{IsTidy, found_in_first}
+use Rattle.hart_c.specs.Numbers.{IsTidy, found_in_first}
 use Rattle.hart_c.proofs.find.hart_find.Given as goal
 
 abbrev pub invariant-loop-taken : goal.invariant-loop-taken

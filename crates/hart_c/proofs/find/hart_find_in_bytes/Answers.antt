@@ -7,7 +7,7 @@ use Rattle.hart_frame.specs.heard.Frames.{IsUndecided}
 use Rattle.hart_frame.specs.scan.Next.{AreNext}
 use Rattle.hart_frame.proofs.lemmas.Laws.{next_frames_are_all-nothing, next_frames_are_all-onward}
 use Rattle.hart_c.specs.Find.{Finds}
-use Rattle.hart_c.specs.Frames.{IsTidy, found_in_first}
+use Rattle.hart_c.specs.Numbers.{IsTidy, found_in_first}
 use Rattle.hart_c.specs.declared.frame.HartFrame.{HartFrame}
 use Rattle.hart_c.proofs.find.hart_find_in_bytes.Goals as goal
 

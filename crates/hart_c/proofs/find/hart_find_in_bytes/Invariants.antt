@@ -1,7 +1,7 @@
 use Rattle.std.proofs.Common.{◌≡◌, ◌≤◌, ◌-◌, All, drop, length, take}
 use Rattle.hart_frame.specs.heard.Character.{faultless}
 use Rattle.hart_frame.specs.scan.Next.{AreNext}
-use Rattle.hart_c.specs.Frames.{IsTidy, found_in_first}
+use Rattle.hart_c.specs.Numbers.{IsTidy, found_in_first}
 use Rattle.hart_c.proofs.find.hart_find_in_bytes.Given as goal
 
 abbrev pub invariant-loop-count : goal.invariant-loop-count

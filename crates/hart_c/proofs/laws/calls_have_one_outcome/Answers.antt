@@ -1,25 +1,26 @@
-use Rattle.std.proofs.Common.{◌≡◌, ◌⊎◌, ℕ, List, Option, None, Some, arith, length, map, sym, ◌∙◌}
+use Rattle.std.proofs.Common.{◌≡◌, ◌⊎◌, ℕ, List, Option, None, Some, Ok, Err, ap, arith, length, map, sym, ◌∙◌}
 use Rattle.std.proofs.lemmas.Grind.{common_steps}
 use Rattle.hart_frame.specs.wire.FrameParts.{FrameParts}
-use Rattle.hart_frame.specs.wire.Message.{IsMessage}
-use Rattle.hart_frame.proofs.lemmas.Laws.{bodies_are_unambiguous-one_body, bodies_are_unambiguous-one_prefix, frames_are_unambiguous-one_list}
+use Rattle.hart_frame.specs.wire.Message.{IsMessage, IsPreambleCount}
+use Rattle.hart_frame.proofs.lemmas.Laws.{bodies_are_unambiguous-one_body, bodies_are_unambiguous-one_prefix}
+use Rattle.hart_frame.proofs.lemmas.Laws.{frames_are_unambiguous-one_list}
 use Rattle.hart_commands.specs.declared.reply.Reply.{Reply}
 use Rattle.hart_device.specs.Identity.{AreIdentityParts, IsIdentityFault}
 use Rattle.hart_device.specs.answer.Delivery.{answer_to}
+use Rattle.hart_device.specs.image.Image.{IsImageFault}
 use Rattle.hart_device.specs.declared.identity_parts.IdentityParts.{IdentityParts}
 use Rattle.hart_device.proofs.lemmas.Laws.{deliveries_bring_one-one, images_have_no_fault}
 use Rattle.hart_master.proofs.lemmas.Laws.{replies_are_decided-one_reply}
-use Rattle.hart_c.specs.Checks.{AllPass, Check, IsFirstOf}
-use Rattle.hart_c.specs.Faults.{number_of}
-use Rattle.hart_c.specs.declared.fault.HartOutcome.{HartOutcome}
-use Rattle.hart_c.specs.Device.{Hears, IsHearing, IsInState, IsKeptFault, IsSaid, OfDevice, ReplyHasNoRoom, hear_checks, image_in}
-use Rattle.hart_c.specs.Encode.{IsWritten, encode_checks}
+use Rattle.hart_c.specs.Faults.{AllPass, needs_or, outcome_of}
+use Rattle.hart_c.specs.Device.{Hears, IsHearing, IsKept, IsSaid, hear_checks, image_in}
+use Rattle.hart_c.specs.Messages.{HasNoRoom, IsFrame, IsWritten, encode_checks}
 use Rattle.hart_c.specs.Find.{char_of}
-use Rattle.hart_c.specs.Frames.{found_in, frame_in}
-use Rattle.hart_c.specs.Identity.{parts_of}
+use Rattle.hart_c.specs.Numbers.{found_in, frame_in, parts_of}
 use Rattle.hart_c.specs.Master.{Accepts, accept_checks}
 use Rattle.hart_c.specs.declared.device.HartDevice.{HartDevice}
 use Rattle.hart_c.specs.declared.fault.Fault.{Fault}
+use Rattle.hart_c.specs.declared.fault.Fault.TheVariants.{Device}
+use Rattle.hart_device.specs.Device.{DeviceState}
 use Rattle.hart_c.specs.declared.find.HartChar.{HartChar}
 use Rattle.hart_c.specs.declared.frame.HartFrame.{HartFrame}
 use Rattle.hart_c.specs.declared.identity.HartIdentity.{HartIdentity}
@@ -32,13 +33,6 @@ use Rattle.hart_c.proofs.laws.calls_have_one_outcome.Goals as goal
 -- an outcome is one if success is, and the fault, and there are not both
 one_outcome : {A B C D R : Type 0} → (A → C → R) → (A → D → ⊥) → (B → C → ⊥) → (B → D → R) → A ⊎ B → C ⊎ D → R
 one_outcome both free none one is again = grind arith
-
--- one fault is told in one way
-one_fault : (checks : List Check) → AreSound checks → (fault other : Fault) (outcome another : HartOutcome) → IsFirstOf checks fault
-    → IsFirstOf checks other → outcome.fault ≡ number_of fault → outcome.len ≡ 0 → another.fault ≡ number_of other → another.len ≡ 0
-    → outcome ≡ another
-one_fault checks sound fault other outcome another why because told none tale nothing =
-    let same = first_one checks sound fault other why because in grind (arith, same)
 
 pub returns-clause-decode : goal.returns-clause-decode
 returns-clause-decode c bytes before after other outcome another is again =
@@ -56,31 +50,44 @@ encode_sound : (frame : HartFrame) (preambles room : ℕ) → AreSound (encode_c
 encode_sound frame preambles room =
     (needs-sound _ _, (needs-sound _ _, (needs-sound _ _, (needs-sound _ _, (refused_if-sound _ _, tt)))))
 
-written_passes : (frame : HartFrame) (preambles : ℕ) (before after : List ℕ) (len : ℕ) → length after ≡ length before
-    → IsWritten frame preambles before after len → AllPass (encode_checks frame preambles (length before))
-written_passes frame preambles before after len long is =
-    let (address, (expansion, (payload, end))) = is.is_frame in
-    (address, (expansion, (payload, (is.in_range, (λ none. grind (arith, common_steps, one_message), tt)))))
+written_passes : (frame : HartFrame) (preambles : ℕ) (before after : List ℕ) (len : ℕ) → length after ≡ length before → IsFrame frame
+    → IsPreambleCount preambles → IsWritten (IsMessage (frame_in frame) preambles) before after len
+    → AllPass (encode_checks frame preambles (length before))
+written_passes frame preambles before after len long (address, (expansion, (payload, end))) in_range is =
+    (address, (expansion, (payload, (in_range, (λ none. grind (arith, common_steps, one_message), tt)))))
 
 pub returns-clause-encode : goal.returns-clause-encode
 returns-clause-encode c frame preambles before after other outcome another long longer =
     let checks = encode_checks frame preambles (length before) in
     let sound = encode_sound frame preambles (length before) in
-    one_outcome (λ is again. grind (arith, one_message (frame_in frame) preambles is.1.message again.1.message))
-    (λ is why. first_none checks sound (written_passes frame preambles before after outcome.len long is.1) why.0 why.1)
-    (λ why is. first_none checks sound (written_passes frame preambles before other another.len longer is.1) why.0 why.1)
+    one_outcome (λ is again. grind (arith, one_message (frame_in frame) preambles is.1.2.0 again.1.2.0))
+    (λ is why. first_none checks sound (written_passes frame preambles before after is.0 long is.1.0 is.1.1 is.1.2) why.0 why.1)
+    (λ why is. first_none checks sound (written_passes frame preambles before other is.0 longer is.1.0 is.1.1 is.1.2) why.0 why.1)
     (λ why again. grind (arith, first_one checks sound why.0 again.0))
 
 pub returns-clause-new_devices : goal.returns-clause-new_devices
 returns-clause-new_devices c given before after other outcome another =
-    one_outcome (λ is again. let parts : IdentityParts = grind (arith, common_steps) in grind (arith, is.4 parts, again.4 parts))
-    (λ is why. why.0 is.3) (λ why is. why.0 is.3) (λ why again. grind arith)
+    one_outcome (λ is again. let parts : IdentityParts = grind (arith, common_steps) in grind (arith, is.1.4 parts, again.1.4 parts))
+    (λ is why. grind (arith, is.1.3)) (λ why is. grind (arith, is.1.3)) (λ why again. grind arith)
+
+-- what an answer says are the same bytes
+one_saying : (answer : Option FrameParts) (preambles : ℕ) (bytes other : List ℕ) → IsSaid answer preambles bytes
+    → IsSaid answer preambles other → bytes ≡ other
+one_saying None preambles bytes other is again = is ∙ sym again
+one_saying (Some reply) preambles bytes other is again = one_message reply preambles bytes other is again
 
 -- an answer is said in one way
-one_said : (answer : Option FrameParts) (preambles : ℕ) (old new newer : List ℕ) (len size : ℕ) → IsSaid answer preambles old new len
-    → IsSaid answer preambles old newer size → (len ≡ size) × (new ≡ newer)
-one_said (Some reply) preambles old new newer len size is again = grind (arith, one_message reply preambles is.0 again.0)
-one_said answer preambles old new newer len size is again = grind arith
+one_said : (answer : Option FrameParts) (preambles : ℕ) (old new newer : List ℕ) (len size : ℕ)
+    → IsWritten (IsSaid answer preambles) old new len → IsWritten (IsSaid answer preambles) old newer size
+    → (len ≡ size) × (new ≡ newer)
+one_said answer preambles old new newer len size is again =
+    let same = one_saying answer preambles is.0 again.0 is.1 again.1 in grind (arith, same)
+
+-- and where it is said it has room
+said_fits : (answer : Option FrameParts) (preambles : ℕ) (old new : List ℕ) (len : ℕ) → length new ≡ length old
+    → IsWritten (IsSaid answer preambles) old new len → HasNoRoom (IsSaid answer preambles) (length old) → ⊥
+said_fits answer preambles old new len long is none =
+    let same = one_saying answer preambles is.0 none.0 is.1 none.1 in grind (arith, common_steps, same)
 
 -- of who hears what
 module _ (identity : HartIdentity) (process : HartProcess) (heard : List HartChar) (device : HartDevice) where
@@ -95,37 +102,44 @@ module _ (identity : HartIdentity) (process : HartProcess) (heard : List HartCha
   hear_sound : (c : After-bytes_have_one_image_fault) (room : ℕ) → AreSound (hear_checks identity process heard device room)
   hear_sound c room =
       let who : IsSound
-      (record { passes = AreIdentityParts (parts_of identity); refuses = OfDevice (IsIdentityFault (parts_of identity)) }) =
+      (needs_or (AreIdentityParts (parts_of identity)) (IsIdentityFault (parts_of identity)) Device) =
       record { one = λ fault other why because. grind arith; not_both = λ fault is why. grind arith } in
-      let kept : IsSound (record { passes = IsInState identity device; refuses = OfDevice (IsKeptFault device) }) = record {
+      let kept : IsSound
+      (needs_or ((state : DeviceState) × IsKept (parts_of identity) device state) (IsImageFault (image_in device)) Device) = record {
         one = λ fault other why because. grind (arith, c.bytes_have_one_image_fault.ensures);
         not_both = λ fault is why. grind (arith, images_have_no_fault is.0 (image_in device));
       } in
-      (who, (kept, (needs-sound _ _, (needs-sound _ _, (needs-sound _ _, (refused_if-sound _ _, tt))))))
+      (who, (needs-sound _ _, (kept, (needs-sound _ _, (needs-sound _ _, (needs-sound _ _, (refused_if-sound _ _, tt)))))))
 
   heard_passes : (after : HartDevice) (old new : List ℕ) (len : ℕ) → length new ≡ length old
       → Hears identity process heard device after old new len → AllPass (hear_checks identity process heard device (length old))
   heard_passes after old new len same is =
       let hearing = is.hearing in
       let (bits, (few, end)) = hearing.delivery in
-      let room : ((none : IsHearing identity process heard device) × ReplyHasNoRoom
-      (answer_to none.state none.measured none.brought) identity.response_preambles (length old)) → ⊥ =
-      λ none. grind (arith, common_steps, one_hearing none.0 hearing, one_message) in
-      (hearing.kept.is_identity, ((hearing.state, hearing.kept), (hearing.process_is.count, (bits, (few, (room, tt))))))
+      let room : ((none : IsHearing identity process heard device) × HasNoRoom
+      (IsSaid (answer_to none.state none.measured none.brought) identity.response_preambles) (length old)) → ⊥ =
+      λ none.
+      let (state, measured, brought) = one_hearing none.0 hearing in
+      said_fits _ _ _ _ _ same is.reply (rw (state, measured, brought) at none.1) in (
+        hearing.kept.is_identity,
+        (hearing.kept.fits, ((hearing.state, hearing.kept), (hearing.process_is.count, (bits, (few, (room, tt)))))),
+      )
 
 pub returns-clause-hear : goal.returns-clause-hear
 returns-clause-hear c identity process heard before after other old new newer outcome another long longer =
     let checks = hear_checks identity process heard before (length old) in
     let sound = hear_sound identity process heard before c (length old) in
     one_outcome
-    (λ is again. grind (arith, one_said, one_hearing identity process heard before is.1.hearing again.1.hearing))
-    (λ is why. first_none checks sound (heard_passes identity process heard before after old new outcome.len long is.1) why.0 why.1)
-    (λ why is. first_none checks sound (heard_passes identity process heard before other old newer another.len longer is.1) why.0 why.1)
-    (λ why again. (
-      one_fault checks sound why.0 again.0 outcome another why.1 again.1 why.2 why.3 again.2 again.3,
-      why.4 ∙ sym again.4,
-      why.5 ∙ sym again.5,
-    ))
+    (λ is again.
+    let (state, measured, brought) = one_hearing identity process heard before is.1.hearing again.1.hearing in
+    let said = one_said _ _ _ _ _ _ _ (rw (state, measured, brought) at is.1.reply) again.1.reply in
+    let same : after ≡ other = is.1.state ∙ rw (state, brought) (sym again.1.state) in
+    (is.2 ∙ ap (λ (n : ℕ). outcome_of (Ok n)) said.0 ∙ sym again.2, same, said.1))
+    (λ is why. first_none checks sound (heard_passes identity process heard before after old new is.0 long is.1) why.0 why.1)
+    (λ why is. first_none checks sound (heard_passes identity process heard before other old newer is.0 longer is.1) why.0 why.1)
+    (λ why again.
+    let same = first_one checks sound why.0 again.0 why.1 again.1 in
+    (why.2 ∙ ap (λ (fault : Fault). outcome_of (Err fault)) same ∙ sym again.2, why.3.0 ∙ sym again.3.0, why.3.1 ∙ sym again.3.1))
 
 -- the checks of what is accepted
 accept_sound : (numbers : HartFrame) (heard : List HartChar) → AreSound (accept_checks numbers heard)

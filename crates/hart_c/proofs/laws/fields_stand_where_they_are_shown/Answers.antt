@@ -9,8 +9,7 @@ use Rattle.hart_commands.specs.FieldWidths.{HasWidthOfKind}
 use Rattle.hart_commands.specs.Fields.{Field, Row, bytes_of, fields_of}
 use Rattle.hart_commands.specs.RequestData.{Reading, request_data, request_reading}
 use Rattle.hart_commands.proofs.lemmas.Laws.{fields_have_the_width_of_their_kind-reply, fields_have_the_width_of_their_kind-request}
-use Rattle.hart_c.specs.Data.{IsShown, RequestShown, StandsAt, kind_number, placed, request_fields, written_over}
-use Rattle.hart_c.specs.Names.{rows_for}
+use Rattle.hart_c.specs.Data.{IsShown, RequestShown, StandsAt, kind_number, placed, request_fields, rows_for, written_over}
 use Rattle.hart_c.specs.declared.data.HartField.{HartField}
 use Rattle.hart_c.specs.declared.data.HartReading.{HartReading}
 use Rattle.hart_c.proofs.laws.fields_stand_where_they_are_shown.Goals as goal

@@ -1,11 +1,10 @@
 use Rattle.std.proofs.Common.{◌≡◌, ◌≤◌, inl, inr, ℕ, List, Option, None, Some, arith, length}
 use Rattle.hart_frame.specs.wire.FrameParts.{FrameParts}
 use Rattle.hart_frame.specs.wire.Message.{IsMessage}
-use Rattle.hart_c.specs.Checks.{IsFirstOf}
-use Rattle.hart_c.specs.Device.{ReplyHasNoRoom, hear_checks}
-use Rattle.hart_c.specs.Encode.{HasNoRoom, encode_checks}
-use Rattle.hart_c.specs.Faults.{number_of}
-use Rattle.hart_c.specs.Frames.{frame_in}
+use Rattle.hart_c.specs.Faults.{IsFirstOf, number_of}
+use Rattle.hart_c.specs.Device.{IsSaid, hear_checks}
+use Rattle.hart_c.specs.Messages.{HasNoRoom, encode_checks}
+use Rattle.hart_c.specs.Numbers.{frame_in}
 use Rattle.hart_c.specs.declared.device.HartDevice.{HartDevice}
 use Rattle.hart_c.specs.declared.fault.Fault.{Fault}
 use Rattle.hart_c.specs.declared.fault.Fault.TheVariants.{NoRoom}
@@ -25,7 +24,8 @@ AreShort = (frame : FrameParts) (preambles : ℕ) (message : List ℕ) → pream
     → length message ≤ 287
 
 -- so a frame has room
-frame_fits : AreShort → (frame : FrameParts) (preambles room : ℕ) → preambles ≤ 20 → 287 ≤ room → HasNoRoom frame preambles room → ⊥
+frame_fits : AreShort → (frame : FrameParts) (preambles room : ℕ) → preambles ≤ 20 → 287 ≤ room
+    → HasNoRoom (IsMessage frame preambles) room → ⊥
 frame_fits short frame preambles room few enough (message, is_message, long) =
     omega (arith, short frame preambles message few is_message, long, enough)
 
@@ -35,34 +35,37 @@ written_fits short frame preambles room fault enough why none = grind (arith, fr
 
 -- and so has a reply
 reply_fits : AreShort → (reply : Option FrameParts) (preambles room : ℕ) → preambles ≤ 20 → 287 ≤ room
-    → ReplyHasNoRoom reply preambles room → ⊥
-reply_fits short None preambles room few enough none = none
+    → HasNoRoom (IsSaid reply preambles) room → ⊥
+reply_fits short None preambles room few enough (bytes, silent, long) = grind (arith, silent, long)
 reply_fits short (Some reply) preambles room few enough none = frame_fits short reply preambles room few enough none
 
 -- what is heard is refused at the end alone for want of room
 hear_fits : AreShort → (identity : HartIdentity) (process : HartProcess) (heard : List HartChar) (device : HartDevice) (room : ℕ)
     (fault : Fault) → 287 ≤ room → IsFirstOf (hear_checks identity process heard device room) fault → fault ≡ NoRoom → ⊥
 hear_fits short id process heard device room fault enough
-    (inr (who, inr (kept, inr (count, inr (bits, inr (few, inl (tight, is))))))) none =
+    (inr (who, inr (long, inr (kept, inr (count, inr (bits, inr (few, inl (tight, is)))))))) none =
     reply_fits short _ id.response_preambles room tight.0.kept.is_identity.in_range.response_preambles.1 enough tight.1
 hear_fits short id process heard device room fault enough (inl (other, why, is)) none = cc
-hear_fits short id process heard device room fault enough (inr (who, inl (other, why, is))) none = cc
-hear_fits short id process heard device room fault enough (inr (who, inr (kept, inl (why, is)))) none = cc
-hear_fits short id process heard device room fault enough (inr (who, inr (kept, inr (count, inl (why, is))))) none = cc
-hear_fits short id process heard device room fault enough (inr (who, inr (kept, inr (count, inr (bits, inl (why, is)))))) none = cc
+hear_fits short id process heard device room fault enough (inr (who, inl (why, is))) none = cc
+hear_fits short id process heard device room fault enough (inr (who, inr (long, inl (other, why, is)))) none = cc
+hear_fits short id process heard device room fault enough (inr (who, inr (long, inr (kept, inl (why, is))))) none = cc
+hear_fits short id process heard device room fault enough (inr (who, inr (long, inr (kept, inr (count, inl (why, is)))))) none = cc
 hear_fits short id process heard device room fault enough
-    (inr (who, inr (kept, inr (count, inr (bits, inr (few, inr (_, end))))))) none = end
+    (inr (who, inr (long, inr (kept, inr (count, inr (bits, inl (why, is))))))) none = cc
+hear_fits short id process heard device room fault enough
+    (inr (who, inr (long, inr (kept, inr (count, inr (bits, inr (few, inr (_, end)))))))) none = end
 
 pub returns-clause-encode : goal.returns-clause-encode
 returns-clause-encode c frame preambles before after outcome room told none = elim told [
-  | inl done ↦ cc
+  | inl done ↦ grind arith
   | inr why ↦
-      written_fits c.messages_are_short.ensures.message frame preambles (length before) why.0 room why.1 (no_room why.0 (cc))
+      written_fits c.messages_are_short.ensures.message frame preambles (length before) why.0 room why.1 (no_room why.0 (grind arith))
 ]
 
 pub returns-clause-hear : goal.returns-clause-hear
 returns-clause-hear c identity process heard before after old new outcome room told none = elim told [
-  | inl done ↦ cc
+  | inl done ↦ grind arith
   | inr why ↦
-      hear_fits c.messages_are_short.ensures.message identity process heard before (length old) why.0 room why.1 (no_room why.0 (cc))
+      hear_fits c.messages_are_short.ensures.message identity process heard before (length old) why.0 room why.1
+      (no_room why.0 (grind arith))
 ]

@@ -1,9 +1,9 @@
 use Rattle.std.proofs.Common.{◌≡◌, Bool, true, false, inl, inr, ℕ, List, ap, subst, sym, arith}
 use Rattle.hart_frame.specs.wire.FrameParts.{FrameParts, IsLongEnough}
 use Rattle.hart_frame.specs.wire.Message.{IsMessage}
-use Rattle.hart_c.specs.Checks.{IsFirstOf}
-use Rattle.hart_c.specs.Encode.{IsFrame, IsInRange, encode_checks}
-use Rattle.hart_c.specs.Frames.{address_of, frame_in}
+use Rattle.hart_c.specs.Faults.{IsFirstOf}
+use Rattle.hart_c.specs.Messages.{IsFrame, IsInRange, encode_checks}
+use Rattle.hart_c.specs.Numbers.{address_of, frame_in}
 use Rattle.hart_c.specs.declared.fault.Fault.{Fault}
 use Rattle.hart_c.specs.declared.frame.HartFrame.{HartFrame}
 use Rattle.hart_c.proofs.laws.numbers_of_one_frame_are_written_alike.Goals as goal
@@ -66,14 +66,12 @@ pub returns : goal.returns
 returns c frame other preambles before after outcome same long told = elim told [
   | inl is ↦ inl (
     is.0,
-    record {
-      is_frame = is_frame frame other same long is.1.is_frame;
-      in_range = is.1.in_range;
-      message = is.1.message;
-      is_message = is_message (frame_in frame) (frame_in other) preambles same is.1.is_message;
-      len_is = is.1.len_is;
-      written = is.1.written;
-    },
+    (
+      is_frame frame other same long is.1.0,
+      is.1.1,
+      (is.1.2.0, is_message (frame_in frame) (frame_in other) preambles same is.1.2.1, is.1.2.2, is.1.2.3),
+    ),
+    is.2,
   )
-  | inr why ↦ inr (why.0, refused frame other same long preambles _ why.0 why.1, why.2, why.3, why.4)
+  | inr why ↦ inr (why.0, refused frame other same long preambles _ why.0 why.1, why.2, why.3)
 ]

@@ -10,11 +10,11 @@ use Rattle.hart_frame.specs.wire.Body.{IsBody}
 use Rattle.hart_frame.specs.declared.wire.fault.FrameFault.{FrameFault}
 use Rattle.hart_commands.specs.declared.reply.Reply.{Reply}
 use Rattle.hart_frame.proofs.lemmas.Laws.{every_list_has_frames}
-use Rattle.hart_c.specs.Encode.{IsFrame, IsInRange}
+use Rattle.hart_c.specs.Messages.{IsFrame, IsInRange}
 use Rattle.hart_frame.specs.wire.FaultNumbers.{frame_fault_number}
 use Rattle.hart_c.specs.Master.{Accepts, acceptance_of}
 use Rattle.hart_c.specs.declared.find.HartChar.{HartChar}
-use Rattle.hart_c.specs.Frames.{IsTidy, address_of, found_in, frame_in}
+use Rattle.hart_c.specs.Numbers.{IsTidy, address_of, found_in, frame_in}
 use Rattle.hart_c.specs.declared.frame.HartFrame.{HartFrame}
 use Rattle.hart_c.proofs.laws.shown_frames_can_be_written.Goals as goal
 
@@ -56,8 +56,8 @@ a_fault fault is = grind arith
 
 pub returns-clause-decoded : goal.returns-clause-decoded
 returns-clause-decoded c bytes before after outcome told free = elim told [
-  | inl is ↦ shown after _ is.1.begins.body is.1.tidy
-  | inr why ↦ absurd (a_fault why.0 (cc))
+  | inl is ↦ shown after _ is.1.0.body is.1.3
+  | inr why ↦ absurd (grind (arith, a_fault))
 ]
 
 -- a reply that is accepted is a frame that was found

@@ -1,14 +1,15 @@
-use Rattle.std.proofs.Common.{◌≡◌, Err, arith, false, true, inl, inr, refl}
+use Rattle.std.proofs.Common.{◌≡◌, [], ◌∷◌, Err, arith, false, true, inl, inr, refl}
 use Rattle.std.proofs.lemmas.Grind.{common_steps}
 use Rattle.hart_values.specs.declared.address.Address.{Address}
 use Rattle.hart_commands.specs.declared.request.Request.{Request}
 use Rattle.hart_master.specs.Master.{hand_sent, hand_submitted}
 use Rattle.hart_master.specs.Pairing.{may_ask}
 use Rattle.hart_master.specs.declared.hand.Hand.TheVariants.{Awaiting, Empty}
-use Rattle.hart_c.specs.Encode.{frame_checks}
-use Rattle.hart_c.specs.Frames.{frame_in}
-use Rattle.hart_c.specs.Master.{asking_checks}
-use Rattle.hart_c.specs.declared.fault.Fault.TheVariants.{NoRequest}
+use Rattle.hart_c.specs.Messages.{frame_checks}
+use Rattle.hart_c.specs.Numbers.{frame_in}
+use Rattle.hart_c.specs.Faults.{needs}
+use Rattle.hart_c.specs.Master.{IsAsked, IsSent}
+use Rattle.hart_c.specs.declared.fault.Fault.TheVariants.{NoRequest, WrongAddress}
 use Rattle.hart_c.proofs.Checks.{first_before}
 use Rattle.hart_c.proofs.master.sent.Goals as goal
 
@@ -20,7 +21,9 @@ awaited address request may = grind arith
 pub returns-in_err-frame-clause-refused : goal.returns-in_err-frame-clause-refused
 returns-in_err-frame-clause-refused c =
     let is : c.from_residual.result ≡ Err c.in_err-frame.field-0.0 = grind (arith, common_steps) in
-    rw is (first_before (frame_checks c.args.request.now) (asking_checks c.args.request.now) c.in_err-frame.field-0.0
+    let asked = needs ((request : Request) × IsAsked (frame_in c.args.request.now) request) NoRequest in
+    let paired = needs ((request : Request) × IsSent c.args.request.now request) WrongAddress in
+    rw is (first_before (frame_checks c.args.request.now) (asked ∷ paired ∷ []) c.in_err-frame.field-0.0
     c.in_err-frame.ensures.refused)
 
 pub returns-in_err-asked-clause-refused : goal.returns-in_err-asked-clause-refused
@@ -59,9 +62,6 @@ pub returns-clause-awaits : goal.returns-clause-awaits
 returns-clause-awaits c =
     let made = rw c.unwrap-master.ensures at c.new.ensures.kept in
     let asked = rw c.in_ok-frame.ensures.same at c.in_ok-asked.ensures.asked in
-    record {
-      request = c.in_ok-asked.asked;
-      sent = record { is_frame = c.in_ok-frame.ensures.frame; asked = asked; paired = grind (arith, made) };
-      id = grind (arith, made);
-      hand = grind (arith, made, awaited);
-    }
+    let sent : IsSent c.args.request.now c.in_ok-asked.asked =
+    record { is_frame = c.in_ok-frame.ensures.frame; asked = asked; paired = grind (arith, made) } in
+    (c.in_ok-asked.asked, sent, grind (arith, made), grind (arith, made, awaited))

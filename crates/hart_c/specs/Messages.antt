@@ -1,0 +1,51 @@
+-- What reading and writing a frame promise to a caller in C (own profile).
+use Rattle.std.specs.Prelude.{◌≡◌, ◌<◌, ◌≤◌, ◌^◌, ◌++◌, ℕ, List, Bool, true, false, [], ◌∷◌, drop, length}
+use Rattle.hart_frame.specs.wire.FrameParts.{FrameParts, IsLongEnough}
+use Rattle.hart_frame.specs.declared.wire.fault.FrameFault.TheVariants.{BadPreamble, TooShortReply}
+use Rattle.hart_frame.specs.{wire.Body.BeginsWithBody, wire.Message.IsMessage, wire.Message.IsPreambleCount, wire.Refusal.IsRefusedWith}
+use Rattle.hart_c.specs.Faults.{AllPass, Check, Outcome, needs, needs_or, outcome_of, refused_if}
+use Rattle.hart_c.specs.declared.fault.Fault.TheVariants.{BadAddress, Frame, LongExpansion, NoRoom}
+use Rattle.hart_c.specs.{Numbers.IsTidy, Numbers.frame_in, declared.fault.HartOutcome.HartOutcome, declared.frame.HartFrame.HartFrame}
+
+-- The frame whose body bytes begin with is shown from place 0 on, and its length told; or their fault is, and what was shown stays.
+abbrev pub DecodeOutcome : List ℕ → HartFrame → HartFrame → HartOutcome → Type 0
+DecodeOutcome bytes before after =
+    Outcome (needs_or ((frame : FrameParts) × (len : ℕ) × BeginsWithBody bytes frame len) (IsRefusedWith bytes) Frame ∷ [])
+    (λ len. BeginsWithBody bytes (frame_in after) len × (after.start ≡ 0) × (after.stop ≡ len) × IsTidy after) (after ≡ before) outcome_of
+
+-- The numbers of an address are in range: 14 bits and 24 bits of a unique address, 6 bits of a polling address.
+abbrev pub IsInRange : Bool → HartFrame → Type 0
+IsInRange true frame = (frame.expanded_type < 2 ^ 14) × (frame.device_id < 2 ^ 24)
+IsInRange false frame = frame.polling_address < 64
+
+-- A frame is checked for an address in range, then three expansion bytes at most, and then the two status bytes of a reply.
+abbrev pub frame_checks : HartFrame → List Check
+frame_checks frame =
+    needs (IsInRange frame.is_unique frame) BadAddress
+    ∷ needs (frame.expansion_len ≤ 3) LongExpansion
+    ∷ needs (IsLongEnough (frame_in frame).kind (frame_in frame).payload) (Frame TooShortReply) ∷ []
+
+-- Numbers are a frame if they pass these checks.
+abbrev pub IsFrame : HartFrame → Type 0
+IsFrame frame = AllPass (frame_checks frame)
+
+-- Bytes that are to be written are more than there is room for.
+abbrev pub HasNoRoom : (List ℕ → Type 0) → ℕ → Type 0
+HasNoRoom ToWrite room = (bytes : List ℕ) × ToWrite bytes × (room < length bytes)
+
+-- Bytes that are to be written stand at the front of the output, what came after it there stays, and their number is told.
+abbrev pub IsWritten : (List ℕ → Type 0) → List ℕ → List ℕ → ℕ → Type 0
+IsWritten ToWrite before after len = (bytes : List ℕ) × ToWrite bytes × (len ≡ length bytes) × (after ≡ bytes ++ drop len before)
+
+-- What is written is checked for being a frame first, then for 5 to 20 preamble bytes, and then whether it fits.
+abbrev pub encode_checks : HartFrame → ℕ → ℕ → List Check
+encode_checks frame preambles room =
+    frame_checks frame ++ needs (IsPreambleCount preambles) (Frame BadPreamble)
+    ∷ refused_if (HasNoRoom (IsMessage (frame_in frame) preambles) room) NoRoom ∷ []
+
+-- A message of the frame is written, and its length is told; or a fault is told by its number, and the output is as it was.
+abbrev pub EncodeOutcome : HartFrame → ℕ → List ℕ → List ℕ → HartOutcome → Type 0
+EncodeOutcome frame preambles before after =
+    Outcome (encode_checks frame preambles (length before))
+    (λ len. IsFrame frame × IsPreambleCount preambles × IsWritten (IsMessage (frame_in frame) preambles) before after len)
+    (after ≡ before) outcome_of
