@@ -7,7 +7,7 @@ use Rattle.std.proofs.lemmas.Slice.Zip.{AllZip-long}
 use Rattle.std.specs.List.{AllZip}
 use Rattle.hart_frame.specs.declared.heard.found.Found.{Found}
 use Rattle.hart_frame.specs.heard.Character.{Character, faultless}
-use Rattle.hart_frame.specs.heard.Damage.{HasNoTwoPreambles, IsCheckDamage, IsHeardOrMarked, IsMarkedDamage, after_delimiter}
+use Rattle.hart_frame.specs.heard.Damage.{HasNoTwoPreambles, IsCheckDamage, IsHeardOrMarked, IsMarkedDamage}
 use Rattle.hart_frame.specs.heard.Frames.{AreFrames, none, first}
 use Rattle.hart_frame.specs.heard.Place.{StandsIn}
 use Rattle.hart_frame.specs.wire.Body.{IsBody}
@@ -67,7 +67,7 @@ stood left body chars found from delimiter heard stands =
 
 -- so it starts at the delimiter if no two preamble bytes are heard after that
 stands_there : (left : ℕ) (body : List ℕ) (chars : List Character) (found : Found) (from : ℕ) → delimiter_in body ≢ 255
-    → AllZip IsHeardOrMarked (replicate left 255 ++ body) chars → HasNoTwoPreambles (after_delimiter left chars)
+    → AllZip IsHeardOrMarked (replicate left 255 ++ body) chars → HasNoTwoPreambles (drop (left + 1) chars)
     → (stands : StandsIn found chars from) → (rest : List ℕ) × (length stands.prefix + 2 ≡ left) × (body ≡ stands.body ++ rest)
 stands_there left body chars found from delimiter heard no_two_preambles stands =
     let none = no_two_preambles (drop (left + 1) stands.prefix) (faultless stands.body ++ stands.rest) in
@@ -121,8 +121,9 @@ pub AreFrames-check : (frame : FrameParts) (preambles : ℕ) (chars : List Chara
     → AreFrames chars 0 []
 AreFrames-check frame preambles chars damage = none 0 (λ found stands.
     let (others, begins, low) = head_of frame damage.body damage.is_body in
+    let (bytes, replaces, all, odd) = damage.heard in
     let (rest, start, same) =
-    stands_there damage.left damage.bytes chars found 0 (grind arith) (grind (arith, heard_faultless)) damage.no_two_preambles stands in
+    stands_there damage.left bytes chars found 0 (grind arith) (grind (arith, heard_faultless)) damage.no_two_preambles stands in
     let sent = says_of frame damage.body damage.is_body in
     let said = says (stands.body ++ rest) found.frame (length stands.body)
     (BeginsWithBody-append found.frame stands.body rest stands.is_body) in
