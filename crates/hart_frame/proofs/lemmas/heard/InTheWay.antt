@@ -1,5 +1,5 @@
 -- A miss where a body may start is what stands in the way there, and comes from the fault with which the bytes there are refused.
-use Rattle.std.proofs.Common.{◌≡◌, ◌≢◌, ℕ, ◌+◌, ◌-◌, ◌<◌, ◌≤◌, ◌⊎◌, List, length, take, ◌↔◌, drop, get_or, None, Some, refl}
+use Rattle.std.proofs.Common.{◌≡◌, ◌≢◌, ℕ, ◌+◌, ◌-◌, ◌<◌, ◌≤◌, ◌⊎◌, List, fold, bit_xor, length, take, ◌↔◌, drop, get_or, None, Some, refl}
 use Rattle.std.proofs.Common.{sym, arith, Option, ◌∙◌}
 use Rattle.std.proofs.lemmas.Bool.Decides.{nat_tests}
 use Rattle.std.proofs.lemmas.Grind.{common_steps}
@@ -13,7 +13,7 @@ use Rattle.hart_frame.specs.declared.wire.fault.FrameFault.{FrameFault}
 use Rattle.hart_frame.specs.heard.Character.{Character, faultless_bytes}
 use Rattle.hart_frame.specs.heard.InTheWay.{ComeToTheEnd, HasFaultsAt, IsInTheWay, bytes_from}
 use Rattle.hart_frame.specs.heard.InTheWay.{fault_of}
-use Rattle.hart_frame.specs.heard.Miss.{miss_in, body_miss, faulty_or, fitting_check_byte, miss_of}
+use Rattle.hart_frame.specs.heard.Miss.{miss_in, body_miss, faulty_or, miss_of}
 use Rattle.hart_frame.specs.heard.Start.{IsStart}
 use Rattle.hart_frame.specs.private.Miss.{IsOfBytes}
 use Rattle.hart_frame.specs.wire.Layout.{body_length}
@@ -84,9 +84,8 @@ said : (chars : List Character) (start : ℕ) (miss : Miss)
 said chars start miss fit is told =
     let bytes = bytes_from chars start in
     let n = body_length bytes - 1 in
-    let same : (place byte fits : ℕ) → miss ≡ BadCheck place byte fits → IsCheckByte (take n bytes) (fitting_check_byte bytes) =
-    λ place byte fits is. IsCheckByte-fold (take n bytes) (fitting_check_byte bytes)
-    (fits_at (take n bytes) (covered chars start (fit place byte fits is))) refl in
+    let same : (place byte fits : ℕ) → miss ≡ BadCheck place byte fits → IsCheckByte (take n bytes) (fold bit_xor 0 (take n bytes)) =
+    λ place byte fits is. IsCheckByte-fold (take n bytes) _ (fits_at (take n bytes) (covered chars start (fit place byte fits is))) refl in
     let missing = stops chars start (Missing (body_length bytes - length bytes)) is in
     grind (arith, nat_tests, stops chars start EndsBeforeByteCount is, heard_at chars start n, same (start + n))
 
