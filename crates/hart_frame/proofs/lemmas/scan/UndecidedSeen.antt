@@ -75,7 +75,7 @@ module _ (rest : List ℕ) (fit : All (λ byte. byte < 256) rest) (truncated : I
       let (miss, is) = truncated_miss rest (2 + length rest) 2 truncated in
       let wrong : body_miss 2 (drop 2 (whole ++ [])) ≡ Some miss =
       ap (λ (xs : List Character). body_miss 2 xs) (append-nil (faultless rest)) ∙ miss_end rest 2 ∙ is in
-      let passes = miss_two (255 ∷ 255 ∷ rest) More [] 0 2 tt (λ over. absurd cc) silent_two asked_two miss follows_two wrong in
+      let passes = miss_two (255 ∷ 255 ∷ rest) More [] 0 2 tt silent_two asked_two miss follows_two wrong in
       let (later, are) = seen_found (whole ++ []) 3 in
       let one = always [] _ (passes_on (whole ++ []) 0 3 _ later passes are) in
       let fits : All (λ character. character.byte < 256) whole =
@@ -86,9 +86,9 @@ module _ (rest : List ℕ) (fit : All (λ byte. byte < 256) rest) (truncated : I
       (record { prefix = []; bytes = rest; split = refl; start = refl; truncated = truncated }) in
       let chars = whole ++ can.more in
       let at = can.start in
-      let silent = none_seen (255 ∷ 255 ∷ rest) More can.more 0 2 tt (λ over. absurd cc) silent_two heard_two in
+      let silent = none_seen (255 ∷ 255 ∷ rest) More can.more 0 2 tt silent_two heard_two in
       let first_frame = λ (other : Found) (stands : StandsIn other chars 0). late (255 ∷ 255 ∷ rest) More can.more 0 2 tt
-      (λ over. absurd cc) silent_two heard_two other stands in
+      silent_two heard_two other stands in
       let (after, are_after) = seen_found chars can.found.stop in
       let two = always can.more _ (message_on chars 0 can.found after
       (missed_none chars 0 can.found.start (λ p low high. silent p low (omega (arith, high, at))))
@@ -150,7 +150,7 @@ module _ (rest : List ℕ) (some : 0 < length rest) (other : get_or rest 0 0 ≢
   pub undecided_one : IsUndecidedSighting (faultless (255 ∷ rest))
   undecided_one first always =
       let whole = faultless (255 ∷ rest) in
-      let passes = miss_one (255 ∷ rest) More may.one 0 1 tt (λ over. absurd cc) silent_one asked_one (λ two. omega (arith, two.0))
+      let passes = miss_one (255 ∷ rest) More may.one 0 1 tt silent_one asked_one (λ two. omega (arith, two.0))
       may.alone in
       let (later, are) = seen_found (whole ++ may.one) 2 in
       let one = always may.one _ (passes_on (whole ++ may.one) 0 2 _ later passes are) in
@@ -174,7 +174,7 @@ undecided_few bytes few preambles first always =
           let at = StandsIn-within found chars 0 stands in omega (arith, at.after, at.some, at.within, long, few));
       seen_is = sym (missed_none chars 0 (length chars) (λ p low high.
           not_other chars 0 p low (not_both chars p
-          (preamble_yes bytes More [] p (omega (arith, high, long)) (preambles p (omega (arith, high, long)))))));
+          (preamble_yes bytes [] p (omega (arith, high, long)) (preambles p (omega (arith, high, long)))))));
     } in
     let none = always [] [] are in
     cc (none.1)
@@ -193,10 +193,10 @@ undecided_used bytes from used (low, inr (inr (last, one, two))) =
     let here : (i ≡ 0) ⊎ (i ≡ 1) = grind arith in grind (arith, get_or-drop))
 
 -- what is left where something is open
-pub open_undecided : (bytes : List ℕ) (after : After) (from start used : ℕ) → All (λ byte. byte < 256) bytes
-    → IsAsked bytes after from start → after ≡ More → IsStandingAt bytes after from start (Open used)
+pub open_undecided : (bytes : List ℕ) (after : After) (place from start used : ℕ) → All (λ byte. byte < 256) bytes
+    → IsAsked bytes after place start → after ≡ More → IsStandingAt bytes after from start (Open used)
     → IsUndecidedSighting (faultless (drop used bytes))
-open_undecided bytes after from start used fit is more (inl (two, (more_is, at, truncated))) =
+open_undecided bytes after place from start used fit is more (inl (two, (more_is, at, truncated))) =
     let heard : length (heard_with bytes after) ≡ length bytes = rw more (grind (arith, length-map)) in
     let some : 0 < length (drop start bytes) = omega (arith, is.heard, heard, length-drop start bytes) in
     let first : get_or bytes used 0 ≡ 255 = let same : start - 2 ≡ used = omega (arith, at) in rw same at two.1 in
@@ -207,7 +207,7 @@ open_undecided bytes after from start used fit is more (inl (two, (more_is, at, 
     ∙ ap (λ (xs : List ℕ). get_or bytes used 0 ∷ xs) (drop_more bytes (used + 1) 0 (omega (arith, at, is.within)))
     ∙ rw (first, second, last) refl in
     rw parts (undecided_two (drop start bytes) (All-drop (λ byte. byte < 256) start bytes fit) truncated some)
-open_undecided bytes after from start used fit is more (inr (one, (more_is, at, few, may))) =
+open_undecided bytes after place from start used fit is more (inr (one, (more_is, at, few, may))) =
     let heard : length (heard_with bytes after) ≡ length bytes = rw more (grind (arith, length-map)) in
     let some : 0 < length (drop start bytes) = omega (arith, is.heard, heard, length-drop start bytes) in
     let here : get_or bytes used 0 ≡ 255 = let same : start - 1 ≡ used = omega (arith, at) in rw same at is.preamble in

@@ -27,7 +27,10 @@ returns-in-More c =
     grind (arith, take_rest, cut_truncated (drop c.args.start c.args.bytes.now) c.in-Cut.missing)
 
 pub returns-in-Damaged : goal.returns-in-Damaged
-returns-in-Damaged c = grind (arith, take_rest, length-append, length-map, cut_damaged)
+returns-in-Damaged c =
+    let seen = cut_damaged c.args.bytes.now c.in-Damaged.character c.args.start c.in-Cut.missing c.requires.within
+    (grind (arith, take_rest)) in
+    rw (c.in-Damaged.is, c.faults.ensures) (seen, grind (arith, length-append, length-map))
 
 pub returns-in-End : goal.returns-in-End
 returns-in-End c = grind (arith, take_rest, cut_ended)

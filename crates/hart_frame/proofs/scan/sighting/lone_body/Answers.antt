@@ -45,5 +45,5 @@ returns c =
     λ more all same. grind (arith, get_or-drop, length-drop) in (
       refl,
       alone bytes c.args.after.now start n (omega (arith, c.requires.order, c.requires.within)) c.requires.body
-          (omega (arith, length-drop start bytes, c.requires.within)) c.requires.whole c.requires.valid not last,
+          (omega (arith, length-drop start bytes, c.requires.within)) c.requires.whole not last,
     )
