@@ -140,7 +140,7 @@ module _ (bytes : List ℕ) (after : After) (next : List Character) (from to : �
               let is = asked bytes after next from place may here follows other in
               let (two, alone) = silent place is below in
               elim (bool_cases (follows_from chars from (place - 1))) [
-                | inr single ↦ after_one-none chars from place order single (alone next may)
+                | inr single ↦ after_one-none chars from place order follows single (alone next may)
                 | inl both ↦ absurd (two (two_in bytes after next from place may is.within both))
               ]
         ]

@@ -158,7 +158,7 @@ module _ (rest : List ℕ) (some : 0 < length rest) (other : get_or rest 0 0 ≢
       let (frames, are_frames) = AreFrames-found chars 0 in
       let two = always may.other (sightings chars 0 frames) (record { frames = frames; are_frames = are_frames; seen_is = refl }) in
       let zeroth = unasked chars 0 0 (omega arith) refl in
-      let none = after_one-none chars 0 1 (omega arith) refl may.not_alone in
+      let none = after_one-none chars 0 1 (omega arith) refl refl may.not_alone in
       let same : first ≡ Missed 1 OnePreamble = cc (one.1) in
       not_one chars frames two.0 OnePreamble zeroth none (rw same at two.1)
 
