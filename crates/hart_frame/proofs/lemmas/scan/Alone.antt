@@ -70,11 +70,7 @@ two_push (x ∷ z ∷ xs) y none other = grind (arith, nat_tests, two_step, two_
 pub two_in : (bytes : List ℕ) (next : List Character) (start n : ℕ) → start ≤ length bytes → body_length (drop start bytes) ≡ n
     → n ≤ length (drop start bytes)
     → two_begin_in_body (faultless bytes ++ next) start ≡ has_two_preambles (take (n + 1) (drop start bytes ++ faultless_bytes next))
-two_in bytes next start n within long whole =
-    let xs = drop start bytes in
-    let ys = faultless_bytes next in
-    let same : body_length (xs ++ ys) ≡ n = length_more xs ys (omega (arith, long, whole)) ∙ long in
-    rw (bytes_from-heard bytes next start within, same) refl
+two_in bytes next start n within long whole = grind (arith, nat_tests, bytes_from-heard, length_more)
 
 -- a byte follows only if more may come
 more_of : (after : After) (next : List Character) → MayFollow after next → 0 < length (faultless_bytes next) → after ≡ More
@@ -132,16 +128,7 @@ module _ (bytes : List ℕ) (after : After) (start n : ℕ) (within : start ≤ 
 -- the bytes of a body that are looked at, and one more
 pub looked_at : (bytes : List ℕ) (start stop : ℕ) → start < stop → stop ≤ length bytes
     → take (min (length bytes) (stop + 1) - start) (drop start bytes) ≡ take (stop - start + 1) (drop start bytes)
-looked_at bytes start stop order within =
-    let cases : (stop + 1 ≤ length bytes) ⊎ (stop ≡ length bytes) = grind arith in
-    elim cases [
-      | inl fits ↦
-          let same : min (length bytes) (stop + 1) - start ≡ stop - start + 1 = omega (arith, fits, order) in
-          ap (λ (k : ℕ). take k (drop start bytes)) same
-      | inr all ↦
-          let long = length-drop start bytes in
-          take_all _ (drop start bytes) (omega (arith, long, all)) ∙ sym (take_all _ (drop start bytes) (omega (arith, long, all, order)))
-    ]
+looked_at bytes start stop order within = grind (arith, nat_tests, length-drop, take_all)
 
 -- a whole body that ends in a preamble byte at the end may or may not stand alone
 pub lone_open : (bytes : List ℕ) (start n : ℕ) → start ≤ length bytes → body_length (drop start bytes) ≡ n → n ≡ length (drop start bytes)

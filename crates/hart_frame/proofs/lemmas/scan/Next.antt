@@ -27,12 +27,7 @@ StopsBy place found = found.stop ≤ place
 -- WHAT THE NEXT FRAMES ARE
 -- at a place none come before that place
 pub next_nothing : (chars : List Character) (ended : Bool) (place : ℕ) → place ≤ length chars → AreNext chars ended place [] place
-next_nothing chars ended place within = record {
-  onward = omega arith;
-  within = within;
-  leads = λ more later closed frames. frames;
-  stops = All-nil (StopsBy place);
-}
+next_nothing chars ended place within = grind (arith, All-nil)
 
 -- some, and then others
 pub next_then : (chars : List Character) (ended : Bool) (from mid to : ℕ) (xs ys : List Found) → AreNext chars ended from xs mid
@@ -48,23 +43,12 @@ next_then chars ended from mid to xs ys p q = record {
 -- they stay so if more comes
 pub next_grown : (chars piece : List Character) (ended : Bool) (from to : ℕ) (given : List Found) → AreNext chars false from given to
     → AreNext (chars ++ piece) ended from given to
-next_grown chars piece ended from to given next = record {
-  onward = next.onward;
-  within = omega (arith, next.within, length-append chars piece);
-  leads = λ more later closed frames.
-      rw append_assoc (next.leads (piece ++ more) later (λ over. absurd cc) (rw (← append_assoc chars piece more) frames));
-  stops = next.stops;
-}
+next_grown chars piece ended from to given next = grind (arith, append_assoc, length-append)
 
 -- and if it is said that none comes
 pub next_ended : (chars : List Character) (ended : Bool) (from to : ℕ) (given : List Found) (closed : Bool)
     → (IsTrue ended → IsTrue closed) → AreNext chars ended from given to → AreNext chars closed from given to
-next_ended chars ended from to given closed says next = record {
-  onward = next.onward;
-  within = next.within;
-  leads = λ more later none. next.leads more later (λ over. none (says over));
-  stops = next.stops;
-}
+next_ended chars ended from to given closed says next = grind (arith)
 
 -- those of a rest are those of the whole from its place on
 pub next_of_rest : (n : ℕ) (chars : List Character) (ended : Bool) (given : List Found) (to : ℕ) → n ≤ length chars
@@ -98,15 +82,7 @@ all_stop chars from frames (first place found later is others) =
     (all_stop chars found.stop later others)
 
 pub next_whole : (chars : List Character) (given : List Found) → AreFrames chars 0 given → AreNext chars true 0 given (length chars)
-next_whole chars given are = record {
-  onward = omega arith;
-  within = omega arith;
-  leads = λ more later closed frames.
-      let alone : chars ++ more ≡ chars = rw (closed refl, append-nil) refl in
-      let nothing : later ≡ [] = frames_none chars (length chars) later (omega arith) (rw alone at frames) in
-      rw (nothing, append-nil, alone) are;
-  stops = all_stop chars 0 given are;
-}
+next_whole chars given are = grind (arith, all_stop, append-nil, frames_none)
 
 -- where there is one, some characters are used up
 pub next_some : (chars : List Character) (ended : Bool) (from to : ℕ) (found : Found) (more : List Found)

@@ -287,13 +287,7 @@ lt_or a b order = grind arith
 -- what is asked from one place on is asked from each other that lies before it
 asked_after : (bytes : List ℕ) (after : After) (from place start : ℕ) → place < start → IsAsked bytes after from start
     → IsAsked bytes after place start
-asked_after bytes after from place start order is = record {
-  order = order;
-  within = is.within;
-  preamble = is.preamble;
-  other = is.other;
-  heard = is.heard;
-}
+asked_after bytes after from place start order is = grind arith
 
 -- the next place that is asked, up to which nothing is seen
 pub next_is : (bytes : List ℕ) (after : After) (from place start : ℕ) → from ≤ place → AreSilent bytes after from place

@@ -1,5 +1,5 @@
 -- What is next in bytes, as what is seen of the characters that are heard.
-use Rattle.std.proofs.Common.{◌≡◌, ◌≢◌, ℕ, ◌+◌, ◌-◌, ◌<◌, ◌≤◌, ◌⊎◌, inl, inr, Bool, true, false, List, ◌++◌, length, get_or}
+use Rattle.std.proofs.Common.{◌≡◌, ◌≢◌, ℕ, ◌-◌, ◌<◌, ◌≤◌, ◌⊎◌, inl, inr, Bool, true, false, List, ◌++◌, length, get_or}
 use Rattle.std.proofs.Common.{arith, refl, length-append}
 use Rattle.std.proofs.lemmas.Bool.Decides.{nat_tests}
 use Rattle.std.proofs.lemmas.List.{get_or_append_left, get_or_at, get_or-map, length-map}
@@ -44,15 +44,7 @@ known bytes _ next follows = record {
 -- a preamble byte is one of the bytes
 pub preamble_yes : (bytes : List ℕ) (next : List Character) (i : ℕ) → i < length bytes → get_or bytes i 0 ≡ 255
     → is_preamble_at (faultless bytes ++ next) i ≡ true
-preamble_yes bytes next i below is =
-    grind (
-      arith,
-      nat_tests,
-      tested (faultless bytes ++ next) i,
-      chars_at bytes next i preamble,
-      length-append,
-      length-map,
-    )
+preamble_yes bytes next i below is = grind (arith, nat_tests, chars_at, length-append, length-map, tested)
 
 pub preamble_no : (bytes : List ℕ) (after : After) (next : List Character) (i : ℕ) → MayFollow after next
     → i < length (heard_with bytes after) → (i < length bytes → get_or bytes i 0 ≢ 255)
@@ -81,33 +73,15 @@ other_yes bytes after next i follows within other =
 pub asked : (bytes : List ℕ) (after : After) (next : List Character) (from place : ℕ) → MayFollow after next
     → place < length (heard_with bytes after) → follows_from (faultless bytes ++ next) from place ≡ true
     → is_other_at (faultless bytes ++ next) place ≡ true → IsAsked bytes after from place
-asked bytes after next from place may within follows other =
-    let chars = faultless bytes ++ next in
-    let order : from < place = grind (arith, nat_tests) in
-    let before : is_preamble_at chars (place - 1) ≡ true = grind (arith, nat_tests) in
-    let one = preamble_is bytes after next (place - 1) may (omega (arith, within)) before in
-    record {
-      order = order;
-      within = omega (arith, one.0, order);
-      preamble = one.1;
-      other = λ below same. grind (arith, nat_tests, preamble_yes bytes next place below same, tested chars place);
-      heard = within;
-    }
+asked bytes after next from place may within follows other = grind (arith, nat_tests, is_preamble_at, preamble_is, preamble_yes, tested, within)
 
 pub two_in : (bytes : List ℕ) (after : After) (next : List Character) (from place : ℕ) → MayFollow after next → place ≤ length bytes
     → follows_from (faultless bytes ++ next) from (place - 1) ≡ true → FollowsTwo bytes from place
-two_in bytes after next from place may within follows =
-    let order : from + 2 ≤ place = grind (arith, nat_tests) in
-    let same : place - 1 - 1 ≡ place - 2 = omega arith in
-    let before : is_preamble_at (faultless bytes ++ next) (place - 2) ≡ true = grind (arith, nat_tests) in
-    (order, (preamble_is bytes after next (place - 2) may (omega (arith, order, within, heard_few bytes after)) before).1)
+two_in bytes after next from place may within follows = grind (arith, nat_tests, heard_few, is_preamble_at, preamble_is, within)
 
 pub two_out : (bytes : List ℕ) (next : List Character) (from place : ℕ) → place ≤ length bytes → FollowsTwo bytes from place
     → follows_from (faultless bytes ++ next) from (place - 1) ≡ true
-two_out bytes next from place within (order, is) =
-    let same : place - 1 - 1 ≡ place - 2 = omega arith in
-    let before = preamble_yes bytes next (place - 2) (omega (arith, order, within)) is in
-    grind (arith, nat_tests)
+two_out bytes next from place within (order, is) = grind (arith, nat_tests, preamble_yes, within)
 
 -- a place that is asked in the bytes is asked in the characters
 pub follows_in : (bytes : List ℕ) (after : After) (next : List Character) (from place : ℕ) → IsAsked bytes after from place

@@ -50,11 +50,7 @@ all chars ended given sees =
     rw (append-nil given) at (rw same at whole)
 
 pub one : (chars : List Character) (from : ℕ) (xs ys : List Seen) → AreSightings chars from xs → AreSightings chars from ys → xs ≡ ys
-one chars from xs ys first second =
-    first.seen_is
-    ∙ ap (sightings chars from)
-    (frames_are_unambiguous-one_list chars from first.frames second.frames first.are_frames second.are_frames)
-    ∙ sym second.seen_is
+one chars from xs ys first second = grind (arith, frames_are_unambiguous-one_list)
 
 pub some : (chars : List Character) (from : ℕ) → (seen : List Seen) × AreSightings chars from seen
 some chars from =

@@ -50,13 +50,7 @@ module _ (rest : List ℕ) (fit : All (λ byte. byte < 256) rest) (truncated : I
   bytes = 255 ∷ 255 ∷ rest
 
   asked_two : IsAsked (255 ∷ 255 ∷ rest) More 0 2
-  asked_two = record {
-    order = omega arith;
-    within = omega arith;
-    preamble = refl;
-    other = λ below same. grind arith;
-    heard = grind (arith, length-map);
-  }
+  asked_two = grind (arith, length-map)
 
   silent_two : SilentBefore (255 ∷ 255 ∷ rest) More 0 2
   silent_two zero is below = absurd (omega (arith, is.order))
@@ -135,13 +129,7 @@ not_one chars (found ∷ frames) later miss zeroth first is =
 -- after one preamble byte alone, what may stand alone
 module _ (rest : List ℕ) (some : 0 < length rest) (other : get_or rest 0 0 ≢ 255) (may : MayStandAlone (255 ∷ rest) 1) where
   asked_one : IsAsked (255 ∷ rest) More 0 1
-  asked_one = record {
-    order = omega arith;
-    within = omega arith;
-    preamble = refl;
-    other = λ below. other;
-    heard = grind (arith, length-map);
-  }
+  asked_one = grind (arith, length-map)
 
   silent_one : SilentBefore (255 ∷ rest) More 0 1
   silent_one zero is below = absurd (omega (arith, is.order))
