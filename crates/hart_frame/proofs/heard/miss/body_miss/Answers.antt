@@ -5,9 +5,6 @@ use Rattle.hart_frame.proofs.lemmas.wire.Parity.{fits_at}
 use Rattle.hart_frame.proofs.lemmas.wire.Reading.{wrong_within}
 use Rattle.hart_frame.proofs.heard.miss.body_miss.Goals as goal
 
-pub wrong_miss-requires-clause-some : goal.wrong_miss-requires-clause-some
-wrong_miss-requires-clause-some c = grind (arith, wrong_within c.as_slice.result.now c.in-Wrong.wrong)
-
 pub wrong_miss-requires-clause-within : goal.wrong_miss-requires-clause-within
 wrong_miss-requires-clause-within c = grind (arith, wrong_within c.as_slice.result.now c.in-Wrong.wrong, length-front c.args.heard.now 267)
 

@@ -5,7 +5,7 @@ use Rattle.hart_frame.specs.declared.wire.prefix.Prefix.TheVariants.{Cut}
 use Rattle.hart_frame.specs.private.Prefix.{IsPrefix}
 use Rattle.hart_frame.proofs.lemmas.scan.Alone.{alone_moved}
 use Rattle.hart_frame.proofs.lemmas.scan.BodyAt.{cut_not_alone, not_alone, whole_seen, wrong_seen}
-use Rattle.hart_frame.proofs.lemmas.wire.Reading.{cut_truncated, whole_has}
+use Rattle.hart_frame.proofs.lemmas.wire.Reading.{cut_truncated}
 use Rattle.hart_frame.proofs.lemmas.wire.Truncated.{truncated_few}
 use Rattle.hart_frame.proofs.scan.sighting.after_one.Goals.{else-eq-via-then-eq+else-can_stand_alone, else-eq-via-else-eq}
 use Rattle.hart_frame.proofs.scan.sighting.after_one.Goals as goal
@@ -14,14 +14,6 @@ pub lone_body-requires-clause-whole : goal.lone_body-requires-clause-whole
 lone_body-requires-clause-whole c =
     whole_seen c.args.bytes.now c.args.after.now c.args.start c.in-Whole.layout c.requires.within
     (rw (take_rest c.args.bytes.now c.args.start) at c.in-Whole.ensures)
-
-pub lone_body-requires-clause-body : goal.lone_body-requires-clause-body
-lone_body-requires-clause-body c =
-    let has = whole_has _ c.in-Whole.layout (rw (take_rest c.args.bytes.now c.args.start) at c.in-Whole.ensures) in grind (arith, has)
-
-pub lone_body-requires-clause-long : goal.lone_body-requires-clause-long
-lone_body-requires-clause-long c =
-    let has = whole_has _ c.in-Whole.layout (rw (take_rest c.args.bytes.now c.args.start) at c.in-Whole.ensures) in grind (arith, has)
 
 pub returns-in-Wrong : goal.returns-in-Wrong
 returns-in-Wrong c =

@@ -1,18 +1,7 @@
-use Rattle.std.proofs.Common.{arith, drop, length-append, length-drop}
+use Rattle.std.proofs.Common.{arith, length-append}
 use Rattle.std.proofs.lemmas.List.{length-map, take_rest}
 use Rattle.hart_frame.proofs.lemmas.scan.BodyAt.{cut_damaged, cut_ended, wrong_below, wrong_seen}
-use Rattle.hart_frame.proofs.lemmas.wire.Reading.{cut_truncated, wrong_within}
 use Rattle.hart_frame.proofs.scan.sighting.after_two.Goals as goal
-
-pub returns-in-Whole : goal.returns-in-Whole
-returns-in-Whole c = rw take_rest at c.in-Whole.ensures
-
-pub wrong_miss-requires-clause-some : goal.wrong_miss-requires-clause-some
-wrong_miss-requires-clause-some c = grind (arith, take_rest, wrong_within (drop c.args.start c.args.bytes.now) c.in-Wrong.wrong)
-
-pub wrong_miss-requires-clause-within : goal.wrong_miss-requires-clause-within
-wrong_miss-requires-clause-within c =
-    grind (arith, take_rest, length-drop, wrong_within (drop c.args.start c.args.bytes.now) c.in-Wrong.wrong)
 
 pub returns-in-Wrong : goal.returns-in-Wrong
 returns-in-Wrong c =
@@ -21,10 +10,6 @@ returns-in-Wrong c =
       wrong_seen c.args.bytes.now c.args.after.now c.args.start c.in-Wrong.wrong c.requires.within is,
       wrong_below c.args.bytes.now c.args.after.now c.args.start c.in-Wrong.wrong c.requires.within is,
     )
-
-pub returns-in-More : goal.returns-in-More
-returns-in-More c =
-    grind (arith, take_rest, cut_truncated (drop c.args.start c.args.bytes.now) c.in-Cut.missing)
 
 pub returns-in-Damaged : goal.returns-in-Damaged
 returns-in-Damaged c =

@@ -3,7 +3,6 @@ use Rattle.std.proofs.lemmas.List.Elements.{All-from_get_or}
 use Rattle.hart_frame.specs.private.Sighting.{IsUsed}
 use Rattle.hart_frame.proofs.lemmas.scan.NextSeen.{message_seen, message_two, missed_seen, next_is, open_few, open_seen}
 use Rattle.hart_frame.proofs.lemmas.scan.NextSeen.{passed_all, sees, silent_all, silent_on}
-use Rattle.hart_frame.proofs.lemmas.scan.Sighted.{heard_few}
 use Rattle.hart_frame.proofs.lemmas.scan.UndecidedSeen.{open_undecided, undecided_used}
 use Rattle.hart_frame.proofs.scan.sighting.next_sighting.Goals as goal
 
@@ -51,15 +50,6 @@ returns-in-Message-clause-sightings c =
     let two = message_two bytes c.args.after c.args.from start c.in-Message.layout c.in-Message.ensures in
     let (view, same, at) = c.message_at.ensures.message in
     rw same (message_seen bytes c.args.after c.args.from start c.message_at.result.used view c.requires.valid silent is two at)
-
-pub returns-in-Message-clause-within : goal.returns-in-Message-clause-within
-returns-in-Message-clause-within c =
-    let (view, same, at) = c.message_at.ensures.message in omega (arith, at.within, heard_few c.args.bytes.now c.args.after)
-
-pub returns-in-Message-clause-places : goal.returns-in-Message-clause-places
-returns-in-Message-clause-places c =
-    let (view, same, at) = c.message_at.ensures.message in
-    rw same (omega (arith, at.start_is, at.stop_is, at.order), at.stop_is)
 
 pub returns-in-Missed-clause-sightings : goal.returns-in-Missed-clause-sightings
 returns-in-Missed-clause-sightings c =
