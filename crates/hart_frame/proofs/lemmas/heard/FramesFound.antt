@@ -82,8 +82,7 @@ body_of chars found from stands = record {
 
 pub start_of : (chars : List Character) (found : Found) (from : ℕ) → StandsIn found chars from → IsStart found.start chars
 start_of chars found from stands =
-    let (others, begins, low) = head_of found.frame stands.body stands.is_body in
-    let parts = parts_of chars found from stands in grind (arith, common_steps, append_assoc, preamble)
+    grind (arith, common_steps, head_of found.frame stands.body stands.is_body, parts_of chars found from stands, append_assoc)
 
 -- whether a frame starts at a place
 frame_decided : (chars : List Character) (start : ℕ) → HasFrameAt chars start ⊎ (HasFrameAt chars start → ⊥)

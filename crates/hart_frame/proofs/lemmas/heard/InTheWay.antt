@@ -1,6 +1,6 @@
 -- A miss where a body may start is what stands in the way there, and comes from the fault with which the bytes there are refused.
 use Rattle.std.proofs.Common.{◌≡◌, ◌≢◌, ℕ, ◌+◌, ◌-◌, ◌<◌, ◌≤◌, ◌⊎◌, List, fold, bit_xor, length, take, ◌↔◌, drop, get_or, None, Some, refl}
-use Rattle.std.proofs.Common.{sym, arith, Option, ◌∙◌}
+use Rattle.std.proofs.Common.{arith, Option, ◌∙◌}
 use Rattle.std.proofs.lemmas.Bool.Decides.{nat_tests}
 use Rattle.std.proofs.lemmas.Grind.{common_steps}
 use Rattle.std.proofs.lemmas.List.{get_or-drop, length-append, length-drop, take-take}
@@ -104,8 +104,7 @@ only chars start miss fit is way =
 pub in_the_way : (start : ℕ) (chars : List Character) (miss : Miss) → IsOfBytes (drop start chars) → IsStart start chars
     → (miss_of chars start ≡ Some miss) ↔ IsInTheWay chars start miss
 in_the_way start chars miss fit is =
-    rw (sym (miss_of-start chars (drop start chars) start refl is))
-    (said chars start miss (λ place byte fits same. fit) is, only chars start miss fit is)
+    grind (arith, nat_tests, common_steps, miss_of-start chars (drop start chars) start, said, only chars start miss fit is)
 
 -- a miss but that of one preamble byte is of a place where a body may start
 pub way_of : (start : ℕ) (chars : List Character) (miss : Miss)

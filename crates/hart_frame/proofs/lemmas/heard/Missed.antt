@@ -1,5 +1,5 @@
 -- The miss of a place by what stands before it, and that there is none where a frame stands.
-use Rattle.std.proofs.Common.{refl, ◌≡◌, ℕ, zero, suc, ◌+◌, ◌-◌, ◌<◌, ◌⊎◌, inl, inr, List, [], ◌∷◌, ◌++◌, length, take, drop}
+use Rattle.std.proofs.Common.{◌≡◌, ℕ, zero, suc, ◌+◌, ◌-◌, ◌<◌, ◌⊎◌, inl, inr, List, [], ◌∷◌, ◌++◌, length, take, drop}
 use Rattle.std.proofs.Common.{true, false, None, Some, arith}
 use Rattle.std.proofs.lemmas.Bool.Decides.{nat_tests}
 use Rattle.std.proofs.lemmas.List.{length-take-le, take_more}
@@ -57,5 +57,4 @@ none_of chars start has =
 -- where a frame stands there is no miss
 pub no_miss : (place : ℕ) (chars : List Character) → HasFrameAt chars place → miss_of chars place ≡ None
 no_miss place chars (found, stands, at) =
-    let none = none_of chars found.start (body_of chars found 0 stands) in
-    grind (arith, miss_of-start chars (drop found.start chars) found.start refl (start_of chars found 0 stands))
+    grind (arith, nat_tests, none_of chars found.start (body_of chars found 0 stands), body_of chars found 0 stands, miss_of-start chars (drop found.start chars) found.start, start_of chars found 0 stands)

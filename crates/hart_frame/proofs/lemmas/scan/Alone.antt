@@ -99,31 +99,12 @@ module _ (bytes : List ℕ) (after : After) (start n : ℕ) (within : start ≤ 
 
   pub crossed : has_two_preambles (take (n + 1) (drop start bytes)) ≡ true
       → Whatever bytes after (λ chars. stands_alone chars start ≡ false)
-  crossed two next follows =
-      let ys = faultless_bytes next in
-      let is = two_in bytes next start n within long enough in
-      let cases = part ys in
-      let both : two_begin_in_body (faultless bytes ++ next) start ≡ true = elim cases [
-        | inl (fits, same) ↦ is ∙ ap has_two_preambles same ∙ two
-        | inr (all, same, own) ↦ is ∙ ap has_two_preambles same ∙ two_more (drop start bytes) (take 1 ys) (rw own at two)
-      ] in
-      grind (arith, nat_tests)
+  crossed two next follows = grind (arith, nat_tests, two_in bytes next start n within long enough, part, two_more)
 
   pub alone : has_two_preambles (take (n + 1) (drop start bytes)) ≡ false
       → (after ≡ More → n ≡ length (drop start bytes) → get_or (drop start bytes) (n - 1) 0 ≢ 255)
       → Whatever bytes after (λ chars. stands_alone chars start ≡ true)
-  alone none last next follows =
-      let xs = drop start bytes in
-      let ys = faultless_bytes next in
-      let is = two_in bytes next start n within long enough in
-      let cases = part ys in
-      let not : two_begin_in_body (faultless bytes ++ next) start ≡ false = elim cases [
-        | inl (fits, same) ↦ is ∙ ap has_two_preambles same ∙ none
-        | inr (all, same, own) ↦ is ∙ ap has_two_preambles same ∙ end_none xs ys (rw own at none)
-            (λ some. rw all at (last (more_of after next follows some) all))
-      ] in
-      let stands = whole next follows in
-      grind (arith, nat_tests)
+  alone none last next follows = grind (arith, nat_tests, two_in bytes next start n within long enough, part, end_none, more_of)
 
 -- the bytes of a body that are looked at, and one more
 pub looked_at : (bytes : List ℕ) (start stop : ℕ) → start < stop → stop ≤ length bytes

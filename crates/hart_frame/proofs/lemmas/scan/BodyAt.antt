@@ -42,18 +42,12 @@ miss_more xs rest start = rw (faultless_bytes-append xs rest) refl
 
 pub miss_end : (xs : List ℕ) (start : ℕ) → body_miss start (faultless xs) ≡ miss_in xs None (start + length xs) start
 miss_end xs start =
-    let all : faultless_bytes (faultless xs) ≡ xs = grind (arith, append-nil, faultless_bytes-append xs []) in
-    let none : slice_get (faultless xs) (length xs) ≡ None = grind (arith, length-map, slice_get_cases (faultless xs) (length xs)) in
-    rw (all, none) refl
+    grind (arith, nat_tests, append-nil, faultless_bytes-append xs [], length-map, slice_get_cases (faultless xs) (length xs))
 
 pub miss_faulty : (xs : List ℕ) (c : Character) (more : List Character) (start : ℕ) → c.faults ≢ 0
     → body_miss start (faultless xs ++ c ∷ more) ≡ miss_in xs (Some c) (start + length xs) start
 miss_faulty xs c more start bad =
-    let all : faultless_bytes (faultless xs ++ c ∷ more) ≡ xs =
-    grind (arith, append-nil, faultless_bytes-append xs (c ∷ more), faultless_bytes-end c more) in
-    let there : slice_get (faultless xs ++ c ∷ more) (length xs) ≡ Some c =
-    grind (arith, length-map, length-append, slice_get-get_or (faultless xs ++ c ∷ more) (length xs) c, get_or_at) in
-    rw (all, there) refl
+    grind (arith, nat_tests, append-nil, faultless_bytes-append xs (c ∷ more), faultless_bytes-end c more, length-map, length-append, slice_get-get_or (faultless xs ++ c ∷ more) (length xs) c, get_or_at)
 
 -- what is decided by the bytes from a place on is its miss whatever comes
 whatever : (bytes : List ℕ) (after : After) (start : ℕ) (miss : Option Miss) → start ≤ length bytes
@@ -85,16 +79,12 @@ wrong_below bytes after start (BadCheck len byte fits) within is =
 pub cut_ended : (bytes : List ℕ) (start : ℕ) (missing : Option ℕ) → start ≤ length bytes → IsPrefix (drop start bytes) (Cut missing)
     → Whatever bytes End (HasBodyMiss start (Some (cut_miss missing)))
 cut_ended bytes start missing within is next ends =
-    let heard : drop start (faultless bytes ++ next) ≡ faultless (drop start bytes) = grind (arith, append-nil, drop-heard) in
-    rw heard (miss_end (drop start bytes) start ∙ cut_told (drop start bytes) missing None (start + length (drop start bytes)) start is)
+    grind (arith, nat_tests, append-nil, drop-heard, miss_end (drop start bytes) start, cut_told (drop start bytes) missing None (start + length (drop start bytes)) start is)
 
 pub cut_damaged : (bytes : List ℕ) (c : Character) (start : ℕ) (missing : Option ℕ) → start ≤ length bytes
     → IsPrefix (drop start bytes) (Cut missing) → Whatever bytes (Damaged c) (HasBodyMiss start (Some (Faulty (length bytes) c.faults)))
 cut_damaged bytes c start missing within is next (valid, more, same) =
-    let place : start + length (drop start bytes) ≡ length bytes = omega (arith, length-drop start bytes, within) in
-    let faulty = miss_faulty (drop start bytes) c more start valid ∙ cut_told (drop start bytes) missing (Some c)
-    (start + length (drop start bytes)) start is in
-    rw (same, drop-heard bytes (c ∷ more) start within) (rw place at faulty)
+    grind (arith, nat_tests, length-drop start bytes, miss_faulty (drop start bytes) c more start valid, cut_told (drop start bytes) missing (Some c) (start + length (drop start bytes)) start is, drop-heard bytes (c ∷ more) start within)
 
 -- what has a miss does not stand alone
 pub not_alone : (bytes : List ℕ) (after : After) (start : ℕ) (miss : Miss) → Whatever bytes after (HasBodyMiss start (Some miss))

@@ -86,10 +86,7 @@ two_out bytes next from place within (order, is) = grind (arith, nat_tests, prea
 -- a place that is asked in the bytes is asked in the characters
 pub follows_in : (bytes : List ℕ) (after : After) (next : List Character) (from place : ℕ) → IsAsked bytes after from place
     → follows_from (faultless bytes ++ next) from place ≡ true
-follows_in bytes after next from place is =
-    let before = preamble_yes bytes next (place - 1) (omega (arith, is.order, is.within)) is.preamble in
-    let order = is.order in
-    grind (arith, nat_tests)
+follows_in bytes after next from place is = grind (arith, nat_tests, preamble_yes)
 
 pub bool_cases : (b : Bool) → (b ≡ true) ⊎ (b ≡ false)
 bool_cases true = inl refl
