@@ -1,5 +1,5 @@
 -- A miss where a body may start is what stands in the way there, and comes from the fault with which the bytes there are refused.
-use Rattle.std.proofs.Common.{◌≡◌, ◌≢◌, ℕ, ◌+◌, ◌-◌, ◌<◌, ◌≤◌, ◌⊎◌, List, fold, bit_xor, length, take, ◌↔◌, drop, get_or, None, Some, refl}
+use Rattle.std.proofs.Common.{◌≡◌, ◌≢◌, ℕ, ◌+◌, ◌-◌, ◌<◌, ◌⊎◌, List, fold, bit_xor, length, take, ◌↔◌, drop, get_or, None, Some, refl}
 use Rattle.std.proofs.Common.{arith, Option, ◌∙◌}
 use Rattle.std.proofs.lemmas.Bool.Decides.{nat_tests}
 use Rattle.std.proofs.lemmas.Grind.{common_steps}
@@ -32,16 +32,7 @@ rest_at chars start n = grind (arith, common_steps, slice_get_cases, slice_get-g
 heard_at : (chars : List Character) (start i place : ℕ) → place ≡ start + i → i < length (bytes_from chars start)
     → slice_get chars place ≡ Some (record { byte = get_or (bytes_from chars start) i 0; faults = 0 })
 heard_at chars start i place is below =
-    let heard = drop start chars in
-    grind (
-      arith,
-      slice_get_cases chars place,
-      slice_get-get_or chars place preamble,
-      char_at heard i preamble below,
-      length-faultless_bytes heard,
-      length-drop start chars,
-      get_or-drop,
-    )
+    grind (arith, nat_tests, common_steps, slice_get_cases chars place, slice_get-get_or chars place preamble, char_at (drop start chars) i preamble below, length-faultless_bytes (drop start chars), length-drop start chars, get_or-drop)
 
 -- where the bytes stop too early: at the end of the list, or at a character with fault bits
 stops : (chars : List Character) (start : ℕ) (at_end : Miss) → IsStart start chars
@@ -53,20 +44,7 @@ stops : (chars : List Character) (start : ℕ) (at_end : Miss) → IsStart start
     × (faulty_or (slice_get (drop start chars) (length (bytes_from chars start))) (start + length (bytes_from chars start)) at_end
     ≡ Faulty (start + length (bytes_from chars start)) faults))
 stops chars start at_end is =
-    let heard = drop start chars in
-    let within : start ≤ length chars = grind (arith, common_steps, length-append, preamble) in
-    let n = length (faultless_bytes heard) in
-    grind (
-      arith,
-      slice_get_cases heard n,
-      slice_get_cases chars (start + n),
-      slice_get-get_or heard n preamble,
-      slice_get-get_or chars (start + n) preamble,
-      rest_at chars start n,
-      after_faultless heard,
-      length-drop start chars,
-      length-faultless_bytes heard,
-    )
+    grind (arith, nat_tests, common_steps, length-append, slice_get_cases (drop start chars) (length (faultless_bytes (drop start chars))), slice_get_cases chars (start + (length (faultless_bytes (drop start chars)))), slice_get-get_or (drop start chars) (length (faultless_bytes (drop start chars))) preamble, slice_get-get_or chars (start + (length (faultless_bytes (drop start chars)))) preamble, rest_at chars start (length (faultless_bytes (drop start chars))), after_faultless (drop start chars), length-drop start chars, length-faultless_bytes (drop start chars))
 
 -- the bytes that the check byte covers
 covered : (chars : List Character) (start : ℕ) → IsOfBytes (drop start chars)

@@ -12,7 +12,6 @@ use Rattle.hart_frame.specs.heard.Place.{HasFrameAt}
 use Rattle.hart_frame.specs.heard.Miss.{body_miss, miss_of, follows_one_preamble}
 use Rattle.hart_frame.specs.heard.Miss.{is_start}
 use Rattle.hart_frame.specs.heard.Start.{IsStart}
-use Rattle.hart_frame.specs.wire.Layout.{body_length}
 use Rattle.hart_frame.proofs.lemmas.heard.FramesFound.{begins_at, body_of, start_of}
 use Rattle.hart_frame.proofs.lemmas.heard.Place.{preamble}
 use Rattle.hart_frame.proofs.lemmas.heard.Start.{start_test, tested}
@@ -47,12 +46,7 @@ preamble_before chars (suc k) one =
 -- nothing is missed where a body stands
 pub none_of : (chars : List Character) (start : ℕ) → HasBodyAt chars start → body_miss start (drop start chars) ≡ None
 none_of chars start has =
-    let bytes = faultless_bytes (drop start chars) in
-    let begins = begins_at chars start has in
-    let whole = (says bytes has.frame (length has.body) begins).whole in
-    let check = has_check bytes has.frame (length has.body) begins in
-    let even = rw whole at begins.body.parity in
-    grind (arith, nat_tests, odd bytes (body_length bytes) (rw whole at begins.body.bytes_fit), check)
+    grind (arith, nat_tests, begins_at chars start has, says (faultless_bytes (drop start chars)) has.frame (length has.body) (begins_at chars start has), has_check (faultless_bytes (drop start chars)) has.frame (length has.body) (begins_at chars start has), odd)
 
 -- where a frame stands there is no miss
 pub no_miss : (place : ℕ) (chars : List Character) → HasFrameAt chars place → miss_of chars place ≡ None

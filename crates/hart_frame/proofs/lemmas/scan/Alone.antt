@@ -1,5 +1,5 @@
 -- When a whole body ends before two preamble bytes in a row begin.
-use Rattle.std.proofs.Common.{◌≡◌, ◌≢◌, ℕ, ◌+◌, ◌-◌, ◌<◌, ◌≤◌, ◌⊎◌, inl, inr, true, false, List, [], ◌∷◌, ◌++◌, length, take, drop}
+use Rattle.std.proofs.Common.{◌≡◌, ◌≢◌, ℕ, ◌+◌, ◌-◌, ◌<◌, ◌≤◌, ◌⊎◌, true, false, List, [], ◌∷◌, ◌++◌, length, take, drop}
 use Rattle.std.proofs.Common.{get_or, min}
 use Rattle.std.proofs.Common.{◌∙◌, add-zero, ap, sym, arith, refl, length-append, length-drop, None, Option}
 use Rattle.std.proofs.lemmas.Bool.Decides.{nat_tests}
@@ -89,13 +89,7 @@ module _ (bytes : List ℕ) (after : After) (start n : ℕ) (within : start ≤ 
   part : (ys : List ℕ) → ((n + 1 ≤ length (drop start bytes)) × (take (n + 1) (drop start bytes ++ ys) ≡ take (n + 1) (drop start bytes)))
       ⊎ ((n ≡ length (drop start bytes)) × (take (n + 1) (drop start bytes ++ ys) ≡ drop start bytes ++ take 1 ys)
       × (take (n + 1) (drop start bytes) ≡ drop start bytes))
-  part ys =
-      let xs = drop start bytes in
-      let cases : (n + 1 ≤ length xs) ⊎ (n ≡ length xs) = grind arith in
-      elim cases [
-        | inl fits ↦ inl (fits, take-append-le (n + 1) xs ys fits)
-        | inr all ↦ inr (all, rw all (take-append-add xs ys 1), take_all (n + 1) xs (omega (arith, all)))
-      ]
+  part ys = grind (arith, nat_tests, take-append-le, take-append-add (drop start bytes) ys 1, take_all)
 
   pub crossed : has_two_preambles (take (n + 1) (drop start bytes)) ≡ true
       → Whatever bytes after (λ chars. stands_alone chars start ≡ false)

@@ -7,7 +7,6 @@ use Rattle.std.specs.List.{slice_range}
 use Rattle.hart_values.specs.address.AddressBytes.{IsAddressBytes}
 use Rattle.hart_frame.specs.declared.wire.layout.Layout.{Layout}
 use Rattle.hart_frame.specs.wire.Body.{IsCheckedPart}
-use Rattle.hart_frame.specs.wire.Delimiter.{delimiter_of}
 use Rattle.hart_frame.specs.wire.FrameParts.{FrameParts, IsLongEnough}
 use Rattle.hart_frame.specs.private.Layout.{Describes}
 use Rattle.hart_frame.specs.wire.Layout.{body_length}
@@ -44,7 +43,4 @@ length-slice_range xs a b ab within = length-take-le (b - a) (drop a xs) (omega 
 pub IsCheckedPart-in : (bytes : List ℕ) (layout : Layout) (frame : FrameParts) → Describes layout bytes → HasCheckByte bytes
     → StandsByLayout bytes layout frame → IsCheckedPart frame (take (body_length bytes - 1) bytes)
 IsCheckedPart-in bytes layout frame describes whole stands =
-    let k = layout.command_place + 2 + layout.byte_count in
-    let delimiter : delimiter_of frame ≡ get_or bytes 0 0 = grind (arith, length-slice_range bytes) in
-    let checked_len : body_length bytes - 1 ≡ k = omega arith in
-    grind (arith, cut bytes layout.address_end layout.command_place k, length-slice_range bytes)
+    grind (arith, length-slice_range bytes, cut bytes layout.address_end layout.command_place (layout.command_place + 2 + layout.byte_count))

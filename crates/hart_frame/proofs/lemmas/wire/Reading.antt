@@ -120,9 +120,4 @@ truncated_cut xs (inr (inr (good, early))) =
 pub whole_has : (xs : List ℕ) (layout : Layout) → IsPrefix xs (Whole layout)
     → HasCheckByte xs × (body_length xs ≡ layout_length layout) × (layout_length layout ≤ 267)
 whole_has xs layout (within, is) =
-    let n = layout_length layout in
-    let few = fits_at (take n xs) is.fits in
-    let more = take-append-drop n xs in
-    let long = length_more (take n xs) (drop n xs) is.checked.0.0.1 in
-    let good = HasGoodByteCount-more (take n xs) (drop n xs) is.checked.0 in
-    grind (arith, length-take-le n xs within, few 0, few (byte_count_place (take n xs)))
+    grind (arith, fits_at (take (layout_length layout) xs) is.fits, take-append-drop (layout_length layout) xs, length_more (take (layout_length layout) xs) (drop (layout_length layout) xs) is.checked.0.0.1, HasGoodByteCount-more (take (layout_length layout) xs) (drop (layout_length layout) xs) is.checked.0, length-take-le (layout_length layout) xs within)

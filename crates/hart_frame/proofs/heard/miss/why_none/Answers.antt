@@ -25,10 +25,7 @@ pub returns-clause-found : goal.returns-clause-found
 returns-clause-found c = grind (arith, take_rest c.args.chars.now c.args.start, start_test c.args.chars.now c.args.start)
 
 pub returns-then-is_start-clause-miss : goal.returns-then-is_start-clause-miss
-returns-then-is_start-clause-miss c =
-    let heard : c.in_ok-heard.heard.now ≡ drop c.args.start c.args.chars.now = grind (arith, take_rest) in
-    let fit : IsOfBytes (drop c.args.start c.args.chars.now) = rw heard at c.body_miss.ensures.fit in
-    is_told c.args.chars.now c.args.start _ (λ either. fit) (returns-then-is_start-clause-found c)
+returns-then-is_start-clause-miss c = grind (arith, take_rest, is_told, returns-then-is_start-clause-found c)
 
 pub returns-then-is_none-clause-miss : goal.returns-then-is_none-clause-miss
 returns-then-is_none-clause-miss c =

@@ -11,9 +11,7 @@ use Rattle.hart_frame.proofs.scan.sighting.after_one.Goals.{else-eq-via-then-eq+
 use Rattle.hart_frame.proofs.scan.sighting.after_one.Goals as goal
 
 pub lone_body-requires-clause-whole : goal.lone_body-requires-clause-whole
-lone_body-requires-clause-whole c =
-    whole_seen c.args.bytes.now c.args.after.now c.args.start c.in-Whole.layout c.requires.within
-    (rw (take_rest c.args.bytes.now c.args.start) at c.in-Whole.ensures)
+lone_body-requires-clause-whole c = grind (arith, whole_seen, take_rest c.args.bytes.now c.args.start)
 
 pub returns-in-Wrong : goal.returns-in-Wrong
 returns-in-Wrong c =
