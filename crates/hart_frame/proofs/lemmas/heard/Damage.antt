@@ -18,7 +18,7 @@ use Rattle.hart_frame.proofs.lemmas.heard.Body.{head_of}
 use Rattle.hart_frame.proofs.lemmas.heard.FramesFound.{AreFrames-found}
 use Rattle.hart_frame.proofs.lemmas.heard.Place.{HasNoFrame-end}
 use Rattle.hart_frame.proofs.lemmas.wire.Refusal.{Says, says}
-use Rattle.hart_frame.proofs.lemmas.wire.UnambiguousBodies.{BeginsWithBody-append}
+use Rattle.hart_frame.proofs.lemmas.wire.UnambiguousBodies.{BeginsWithBody-append, bodies_are_unambiguous-no_proper_prefix, bodies_are_unambiguous-one_frame}
 
 -- a faultless character
 abbrev pub clear : ℕ → Character
@@ -75,25 +75,20 @@ stands_there left body chars found from delimiter heard no_two_preambles stands 
     grind (arith, common_steps, stands.split, drop-append-le, append_assoc)
 
 -- MARKED DAMAGE
--- what keeps bodies unambiguous
-pub record BodyLaws : Type 0 where
-  pub one_frame : (f g : FrameParts) (bytes : List ℕ) → IsBody f bytes → IsBody g bytes → f ≡ g
-  pub no_proper_prefix : (f g : FrameParts) (bytes rest : List ℕ) → IsBody f bytes → IsBody g (bytes ++ rest) → rest ≡ []
-
 -- the message's own frame, in its place
 abbrev own : FrameParts → ℕ → List Character → Found
 own frame left chars = record { start = left; stop = length chars; frame = frame }
 
 -- a frame that stands there is the message's own
-marked_own : BodyLaws → (frame : FrameParts) (preambles : ℕ) (chars : List Character) (damage : IsMarkedDamage frame preambles chars)
+marked_own : (frame : FrameParts) (preambles : ℕ) (chars : List Character) (damage : IsMarkedDamage frame preambles chars)
     → (found : Found) (from : ℕ) → StandsIn found chars from → found ≡ own frame damage.left chars
-marked_own laws frame preambles chars damage found from stands =
+marked_own frame preambles chars damage found from stands =
     let (others, begins, low) = head_of frame damage.body damage.is_body in
     let (rest, start, same) =
     stands_there damage.left damage.body chars found from (grind arith) damage.heard damage.no_two_preambles stands in
-    let whole : rest ≡ [] = grind (arith, laws.no_proper_prefix found.frame frame stands.body rest) in
+    let whole : rest ≡ [] = grind (arith, bodies_are_unambiguous-no_proper_prefix found.frame frame stands.body rest) in
     let long = AllZip-long IsHeardOrMarked (replicate damage.left 255 ++ damage.body) chars damage.heard in
-    grind (arith, laws.one_frame found.frame frame stands.body, append-nil, length-append, length-replicate)
+    grind (arith, bodies_are_unambiguous-one_frame found.frame frame stands.body, append-nil, length-append, length-replicate)
 
 -- if each frame that stands is one that ends the list, the list has none or that one alone
 none_or_own : (chars : List Character) (from : ℕ) (one : Found) → ((found : Found) → StandsIn found chars from → found ≡ one)
@@ -103,13 +98,13 @@ none_or_own chars from one alone end frames (none place empty) = inl (none place
 none_or_own chars from one alone end frames (first place found later is_first others) =
     inr (first place one [] (rw (alone found is_first.stands) at is_first) (none one.stop (HasNoFrame-end chars one.stop end)))
 
-pub AreFrames-marked : BodyLaws → (frame : FrameParts) (preambles : ℕ) (chars : List Character)
-    → (damage : IsMarkedDamage frame preambles chars)
+pub AreFrames-marked : (frame : FrameParts) (preambles : ℕ) (chars : List Character)
+    (damage : IsMarkedDamage frame preambles chars)
     → AreFrames chars 0 [] ⊎ AreFrames chars 0 (own frame damage.left chars ∷ [])
-AreFrames-marked laws frame preambles chars damage =
+AreFrames-marked frame preambles chars damage =
     let found = AreFrames-found chars 0 in
     none_or_own chars 0 (own frame damage.left chars)
-    (λ other stands. marked_own laws frame preambles chars damage other 0 stands) (omega arith) found.0 found.1
+    (λ other stands. marked_own frame preambles chars damage other 0 stands) (omega arith) found.0 found.1
 
 -- CHECK DAMAGE
 -- a body gives its delimiter and its length

@@ -1,6 +1,5 @@
 -- The request that shows what damage is.
-use Rattle.std.proofs.Common.{◌⊎◌, ◌≡◌, ℕ, ◌<◌, inl, List, [], ◌∷◌, ◌++◌, length, drop, replicate, refl, ap, arith}
-use Rattle.std.proofs.Common.{length-append, subst}
+use Rattle.std.proofs.Common.{◌⊎◌, ◌≡◌, ℕ, ◌<◌, inl, List, [], ◌∷◌, ◌++◌, length, drop, replicate, refl, ap, arith, length-append, subst}
 use Rattle.std.proofs.lemmas.List.{drop_at, length-replicate}
 use Rattle.std.proofs.lemmas.List.Elements.{All-from_recursion}
 use Rattle.std.proofs.lemmas.Slice.Zip.{AllZip-long}
@@ -10,12 +9,12 @@ use Rattle.hart_frame.specs.heard.Character.{Character, IsFaultBit, faultless}
 use Rattle.hart_frame.specs.heard.Damage.{HasNoTwoPreambles, IsCheckDamage, IsHeardOrMarked, IsMarkedDamage}
 use Rattle.hart_frame.specs.heard.DamageExamples.{faulty_address, identity_request, other_address, other_request, preamble_in_body}
 use Rattle.hart_frame.specs.wire.Body.{IsBody}
-use Rattle.hart_frame.specs.wire.FrameParts.{FrameParts}
 use Rattle.hart_frame.specs.wire.Parity.{HasEvenParity}
 use Rattle.hart_frame.proofs.lemmas.heard.Body.{faultless-one}
 use Rattle.hart_frame.proofs.lemmas.heard.Damage.{clear_is}
 use Rattle.hart_frame.proofs.lemmas.heard.Place.{preamble}
 use Rattle.hart_frame.proofs.lemmas.wire.Body.{IsBody-push}
+use Rattle.hart_frame.proofs.lemmas.wire.UnambiguousBodies.{bodies_are_unambiguous-one_body}
 use Rattle.hart_frame.proofs.lemmas.wire.Parity.{IsCheckByte-fold, even-check, fits_at}
 
 -- the body that is sent
@@ -77,32 +76,28 @@ other_is_check = record {
   no_two_preambles = none_in_row _ (grind arith);
 }
 
--- a frame has one body
-abbrev pub OneBody : Type 0
-OneBody = (f : FrameParts) (bytes others : List ℕ) → IsBody f bytes → IsBody f others → bytes ≡ others
-
-pub other_is_not_marked : OneBody → IsMarkedDamage identity_request 5 other_address → ⊥
-other_is_not_marked one_body damage = grind (arith, request_is, AllZip-long, length-append, length-replicate, clear_is)
+pub other_is_not_marked : IsMarkedDamage identity_request 5 other_address → ⊥
+other_is_not_marked damage = grind (arith, bodies_are_unambiguous-one_body, request_is, AllZip-long, length-append, length-replicate, clear_is)
 
 -- of what is as long as these two preamble bytes are left, and then come the bytes
-after_two : OneBody → (row : List ℕ) → length row ≡ 7 → (damage : IsCheckDamage identity_request 5 (faultless row))
+after_two : (row : List ℕ) → length row ≡ 7 → (damage : IsCheckDamage identity_request 5 (faultless row))
     → (damage.left ≡ 2) × (drop 2 row ≡ damage.heard.0)
-after_two one_body row seven damage =
+after_two row seven damage =
     let (bytes, replaces, all, odd) = damage.heard in
     let prefix : List ℕ = replicate damage.left 255 in
     let same : row ≡ prefix ++ bytes = faultless-one row (prefix ++ bytes) all in
-    grind (arith, length-replicate, request_is, length-append, drop_at)
+    grind (arith, bodies_are_unambiguous-one_body, length-replicate, request_is, length-append, drop_at)
 
-pub request_is_not_check : OneBody → IsCheckDamage identity_request 5 other_request → ⊥
-request_is_not_check one_body damage =
-    let bytes = (after_two one_body (255 ∷ 255 ∷ other_bytes 131) refl damage).1 in
+pub request_is_not_check : IsCheckDamage identity_request 5 other_request → ⊥
+request_is_not_check damage =
+    let bytes = (after_two (255 ∷ 255 ∷ other_bytes 131) refl damage).1 in
     let fits = fits_at (other_bytes 131) (All-from_recursion IsByte (other_bytes 131) (grind arith)) in
     let check = IsCheckByte-fold (other_bytes 131) 0 fits refl in
     let (own, replaces, all, odd) = damage.heard in
     odd (subst HasEvenParity bytes (even-check (other_bytes 131) check))
 
-pub preamble_is_not_check : OneBody → IsCheckDamage identity_request 5 preamble_in_body → ⊥
-preamble_is_not_check one_body damage =
+pub preamble_is_not_check : IsCheckDamage identity_request 5 preamble_in_body → ⊥
+preamble_is_not_check damage =
     let row : List ℕ = 255 ∷ 255 ∷ 2 ∷ 255 ∷ 255 ∷ 0 ∷ 130 ∷ [] in
-    let two = (after_two one_body row refl damage).0 in
+    let two = (after_two row refl damage).0 in
     damage.no_two_preambles [] (faultless (0 ∷ 130 ∷ [])) (rw two refl)

@@ -7,8 +7,7 @@ use Rattle.hart_frame.specs.declared.heard.found.Found.{Found}
 use Rattle.hart_frame.specs.heard.Character.{Character, faultless, faultless_bytes}
 use Rattle.hart_frame.specs.heard.Frames.{none, first, AreFrames, IsFirst}
 use Rattle.hart_frame.specs.heard.InTheWay.{bytes_from, HasBodyAt}
-use Rattle.hart_frame.specs.heard.Place.{HasFrameAt, HasFrameUpTo}
-use Rattle.hart_frame.specs.heard.Place.{StandsIn}
+use Rattle.hart_frame.specs.heard.Place.{HasFrameAt, HasFrameUpTo, StandsIn}
 use Rattle.hart_frame.specs.heard.Start.{IsStart}
 use Rattle.hart_frame.specs.wire.Body.{IsBody, BeginsWithBody}
 use Rattle.hart_frame.specs.wire.FrameParts.{FrameParts}

@@ -9,8 +9,7 @@ use Rattle.hart_frame.specs.declared.heard.miss.Miss.TheVariants.{OnePreamble}
 use Rattle.hart_frame.specs.heard.Character.{Character, faultless_bytes}
 use Rattle.hart_frame.specs.heard.InTheWay.{FollowsOnePreamble, HasBodyAt}
 use Rattle.hart_frame.specs.heard.Place.{HasFrameAt}
-use Rattle.hart_frame.specs.heard.Miss.{body_miss, miss_of, follows_one_preamble}
-use Rattle.hart_frame.specs.heard.Miss.{is_start}
+use Rattle.hart_frame.specs.heard.Miss.{body_miss, miss_of, follows_one_preamble, is_start}
 use Rattle.hart_frame.specs.heard.Start.{IsStart}
 use Rattle.hart_frame.proofs.lemmas.heard.FramesFound.{begins_at, body_of, start_of}
 use Rattle.hart_frame.proofs.lemmas.heard.Place.{preamble}

@@ -1,6 +1,9 @@
 -- Where a frame stands, and where the body begins that is heard there.
 use Rattle.std.proofs.Common.{◌≡◌, ℕ, ◌+◌, ◌<◌, ◌≤◌, List, ◌∷◌, ◌++◌, length, drop, arith, append_assoc, length-append}
-use Rattle.std.proofs.lemmas.List.{drop_at, length-map}
+use Rattle.std.proofs.lemmas.Grind.{common_steps}
+use Rattle.std.proofs.lemmas.List.{drop_at, get_or-drop, length-drop, length-map}
+use Rattle.std.proofs.lemmas.Option.{slice_get-get_or, slice_get_cases}
+use Rattle.std.specs.List.{slice_get}
 use Rattle.hart_frame.specs.declared.heard.found.Found.{Found}
 use Rattle.hart_frame.specs.heard.Character.{Character, faultless}
 use Rattle.hart_frame.specs.heard.Frames.{HasNoFrame}
@@ -32,3 +35,7 @@ StandsIn-within found chars from stands = grind (arith, length-append, length-ma
 -- none stands from the end of the list on
 pub HasNoFrame-end : (chars : List Character) (from : ℕ) → length chars ≤ from → HasNoFrame chars from
 HasNoFrame-end chars from end found stands = grind (arith, StandsIn-within found chars from stands)
+
+-- a character of the rest of a list
+pub rest_at : (chars : List Character) (start n : ℕ) → slice_get (drop start chars) n ≡ slice_get chars (start + n)
+rest_at chars start n = grind (arith, common_steps, slice_get_cases, slice_get-get_or, get_or-drop, length-drop)

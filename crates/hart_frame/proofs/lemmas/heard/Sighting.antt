@@ -1,13 +1,11 @@
 -- What is seen of the rest of a list, and after a character that is no preamble byte.
 use Rattle.std.proofs.Common.{◌≡◌, ℕ, zero, suc, ◌+◌, ◌-◌, ◌<◌, ◌≤◌, Bool, true, false, List, [], ◌∷◌, length, map, drop, Option, None}
-use Rattle.std.proofs.Common.{Some}
-use Rattle.std.proofs.Common.{◌∙◌, ◌⊎◌, inl, inr, ap, sym, arith, refl, length-drop}
+use Rattle.std.proofs.Common.{Some, ◌∙◌, ◌⊎◌, inl, inr, ap, sym, arith, refl, length-drop}
 use Rattle.std.proofs.lemmas.Bool.Decides.{nat_tests}
 use Rattle.std.proofs.lemmas.Grind.{common_steps}
-use Rattle.std.proofs.lemmas.List.{drop_all, drop_more, drop-drop, get_or-drop, map-append}
+use Rattle.std.proofs.lemmas.List.{drop_all, drop_more, drop-drop, map-append}
 use Rattle.hart_frame.proofs.lemmas.heard.Front.{faultless_bytes-more}
-use Rattle.hart_frame.proofs.lemmas.heard.Place.{preamble}
-use Rattle.std.proofs.lemmas.Option.{slice_get-get_or, slice_get_cases}
+use Rattle.hart_frame.proofs.lemmas.heard.Place.{preamble, rest_at}
 use Rattle.std.specs.List.{flat_map, range_with_len, slice_get}
 use Rattle.std.specs.Option.{option_map_or}
 use Rattle.std.specs.Prelude.{◌&&◌, if◌then◌else◌, is_none, nat_lt, not, option_map}
@@ -57,10 +55,6 @@ sightings_moved chars n from (found ∷ later) =
 -- the miss of characters that begin at a place, counted from another
 pub body_moved : (n start : ℕ) (heard : List Character) → option_map (miss_in_whole n) (body_miss start heard) ≡ body_miss (n + start) heard
 body_moved n start heard = grind (arith, nat_tests)
-
--- a character of the rest of a list
-rest_at : (chars : List Character) (start n : ℕ) → slice_get (drop start chars) n ≡ slice_get chars (start + n)
-rest_at chars start n = grind (arith, common_steps, slice_get_cases, slice_get-get_or, get_or-drop, length-drop)
 
 -- whether a faultless FF stands at a place, and right before a place of the rest of a list
 abbrev pub is_preamble_at : List Character → ℕ → Bool

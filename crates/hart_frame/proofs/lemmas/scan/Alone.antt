@@ -1,7 +1,6 @@
 -- When a whole body ends before two preamble bytes in a row begin.
-use Rattle.std.proofs.Common.{◌≡◌, ◌≢◌, ℕ, ◌+◌, ◌-◌, ◌<◌, ◌≤◌, ◌⊎◌, true, false, List, [], ◌∷◌, ◌++◌, length, take, drop}
-use Rattle.std.proofs.Common.{get_or, min}
-use Rattle.std.proofs.Common.{◌∙◌, add-zero, ap, sym, arith, refl, length-append, length-drop, None, Option}
+use Rattle.std.proofs.Common.{◌≡◌, ◌≢◌, ℕ, ◌+◌, ◌-◌, ◌<◌, ◌≤◌, ◌⊎◌, true, false, List, [], ◌∷◌, ◌++◌, length, take, drop, get_or, min, ◌∙◌}
+use Rattle.std.proofs.Common.{add-zero, ap, sym, arith, refl, length-append, length-drop, None, Option}
 use Rattle.std.proofs.lemmas.Bool.Decides.{nat_tests}
 use Rattle.std.proofs.lemmas.List.{append-nil, get_or_append_left, take_all, take-append-le}
 use Rattle.std.proofs.Math.Seq.{take-append-add}
@@ -10,13 +9,12 @@ use Rattle.hart_frame.specs.declared.scan.sighting.After.{After}
 use Rattle.hart_frame.specs.declared.scan.sighting.After.TheVariants.{Damaged, End, More}
 use Rattle.hart_frame.specs.heard.Character.{Character, faultless, faultless_bytes}
 use Rattle.hart_frame.specs.heard.Miss.{body_miss, check_miss, miss_in}
-use Rattle.hart_frame.specs.heard.Sighting.{has_two_preambles, two_begin_in_body}
+use Rattle.hart_frame.specs.heard.Sighting.{has_two_preambles, two_begin_in_body, miss_in_whole}
 use Rattle.hart_frame.specs.private.Sighting.{HasBodyMiss, MayFollow, MayStandAlone, Whatever, stands_alone}
 use Rattle.hart_frame.specs.wire.Layout.{body_length}
 use Rattle.hart_frame.specs.wire.Refusal.{HasCheckByte, IsTruncated}
 use Rattle.hart_frame.proofs.lemmas.heard.Place.{preamble}
 use Rattle.hart_frame.proofs.lemmas.heard.Front.{faultless_bytes-end}
-use Rattle.hart_frame.specs.heard.Sighting.{miss_in_whole}
 use Rattle.hart_frame.proofs.lemmas.heard.Sighting.{body_moved, is_none-map}
 use Rattle.hart_frame.proofs.lemmas.scan.BodyAt.{bytes_from-heard, drop-heard}
 use Rattle.hart_frame.proofs.lemmas.wire.Prefix.{length_more}

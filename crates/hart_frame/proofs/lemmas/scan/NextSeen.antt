@@ -14,9 +14,8 @@ use Rattle.hart_frame.specs.heard.Character.{Character, faultless}
 use Rattle.hart_frame.specs.heard.Miss.{body_miss}
 use Rattle.hart_frame.specs.heard.Place.{StandsIn}
 use Rattle.hart_frame.specs.heard.Sighting.{AreSightings, Message, Missed, Seen, SeesOn}
-use Rattle.hart_frame.specs.scan.Sighting.{AfterIsValid}
+use Rattle.hart_frame.specs.scan.Sighting.{AfterIsValid, heard_with, is_end}
 use Rattle.hart_frame.specs.private.Sighting.{AreSilent, FollowsTwo, IsAsked, IsMessageAt, IsNextAsked, IsPassed, IsStandingAt, MayFollow, Whatever}
-use Rattle.hart_frame.specs.scan.Sighting.{heard_with, is_end}
 use Rattle.hart_frame.specs.scan.View.{found_of}
 use Rattle.hart_frame.specs.declared.scan.view.FoundView.{FoundView}
 use Rattle.hart_frame.specs.private.Sighting.{stands_alone}
@@ -34,8 +33,7 @@ use Rattle.hart_frame.proofs.lemmas.heard.Sighting.{after_one-miss, after_two-mi
 use Rattle.hart_frame.proofs.lemmas.heard.Start.{StartsAt, is_start_from, tested}
 use Rattle.hart_frame.proofs.lemmas.scan.BodyAt.{drop-heard}
 use Rattle.hart_frame.proofs.lemmas.scan.Sighted.{SilentBefore, bool_cases, follows_in, heard_few, known, late, none_seen, other_yes}
-use Rattle.hart_frame.proofs.lemmas.scan.Sighted.{preamble_no}
-use Rattle.hart_frame.proofs.lemmas.scan.Sighted.{preamble_yes, two_in, two_out}
+use Rattle.hart_frame.proofs.lemmas.scan.Sighted.{preamble_no, preamble_yes, two_in, two_out}
 use Rattle.hart_frame.proofs.lemmas.wire.Truncated.{truncated_few}
 
 -- whatever comes is what may follow

@@ -28,16 +28,10 @@ use Rattle.hart_frame.proofs.lemmas.heard.Seen.{message_on, missed_none, passes_
 use Rattle.hart_frame.proofs.lemmas.heard.Sighting.{after_one-none, not_both, not_other, unasked}
 use Rattle.hart_frame.proofs.lemmas.heard.Told.{cut_told}
 use Rattle.hart_frame.proofs.lemmas.scan.BodyAt.{miss_end}
+use Rattle.hart_frame.proofs.lemmas.scan.SightingLaws.{some as some_sightings}
 use Rattle.hart_frame.proofs.lemmas.wire.Reading.{truncated_cut}
 use Rattle.hart_frame.proofs.lemmas.scan.NextSeen.{miss_one, miss_two}
 use Rattle.hart_frame.proofs.lemmas.scan.Sighted.{SilentBefore, late, none_seen, preamble_yes}
-use Rattle.hart_frame.proofs.lemmas.wire.Truncated.{CanBecomeBody-truncated}
-
--- every list has its sightings
-seen_found : (chars : List Character) (from : ℕ) → (seen : List Seen) × AreSightings chars from seen
-seen_found chars from =
-    let (frames, are) = AreFrames-found chars from in
-    (sightings chars from frames, record { frames = frames; are_frames = are; seen_is = refl })
 
 -- bytes that end too early have a miss at the end
 truncated_miss : (xs : List ℕ) (fp start : ℕ) → IsTruncated xs → (miss : Miss) × (miss_in xs None fp start ≡ Some miss)
@@ -70,23 +64,22 @@ module _ (rest : List ℕ) (fit : All (λ byte. byte < 256) rest) (truncated : I
       let wrong : body_miss 2 (drop 2 (whole ++ [])) ≡ Some miss =
       ap (λ (xs : List Character). body_miss 2 xs) (append-nil (faultless rest)) ∙ miss_end rest 2 ∙ is in
       let passes = miss_two (255 ∷ 255 ∷ rest) More [] 0 2 tt silent_two asked_two miss follows_two wrong in
-      let (later, are) = seen_found (whole ++ []) 3 in
+      let (later, are) = some_sightings (whole ++ []) 3 in
       let one = always [] _ (passes_on (whole ++ []) 0 3 _ later passes are) in
       let fits : All (λ character. character.byte < 256) whole =
       All-map (λ (c : Character). c.byte < 256) (λ (byte : ℕ). let c : Character = record { byte = byte; faults = 0 } in c)
       (255 ∷ 255 ∷ rest)
       (All-cons (λ byte. byte < 256) 255 (255 ∷ rest) (omega arith) (All-cons (λ byte. byte < 256) 255 rest (omega arith) fit)) in
-      let can = open_begins CanBecomeBody-truncated 2 whole fits
+      let (more, found, stands, at) = open_begins 2 whole fits
       (record { prefix = []; bytes = rest; split = refl; start = refl; truncated = truncated }) in
-      let chars = whole ++ can.more in
-      let at = can.start in
-      let silent = none_seen (255 ∷ 255 ∷ rest) More can.more 0 2 tt silent_two heard_two in
-      let first_frame = λ (other : Found) (stands : StandsIn other chars 0). late (255 ∷ 255 ∷ rest) More can.more 0 2 tt
+      let chars = whole ++ more in
+      let silent = none_seen (255 ∷ 255 ∷ rest) More more 0 2 tt silent_two heard_two in
+      let first_frame = λ (other : Found) (stands : StandsIn other chars 0). late (255 ∷ 255 ∷ rest) More more 0 2 tt
       silent_two heard_two other stands in
-      let (after, are_after) = seen_found chars can.found.stop in
-      let two = always can.more _ (message_on chars 0 can.found after
-      (missed_none chars 0 can.found.start (λ p low high. silent p low (omega (arith, high, at))))
-      (record { stands = can.stands; least = λ other stands. omega (arith, at, first_frame other stands) }) are_after) in
+      let (after, are_after) = some_sightings chars found.stop in
+      let two = always more _ (message_on chars 0 found after
+      (missed_none chars 0 found.start (λ p low high. silent p low (omega (arith, high, at))))
+      (record { stands = stands; least = λ other stands. omega (arith, at, first_frame other stands) }) are_after) in
       cc (one.1, two.1)
 
 -- where nothing is seen at the first two places, no miss of the second one comes first
@@ -140,7 +133,7 @@ module _ (rest : List ℕ) (some : 0 < length rest) (other : get_or rest 0 0 ≢
       let whole = faultless (255 ∷ rest) in
       let passes = miss_one (255 ∷ rest) More may.one 0 1 tt silent_one asked_one (λ two. omega (arith, two.0))
       may.alone in
-      let (later, are) = seen_found (whole ++ may.one) 2 in
+      let (later, are) = some_sightings (whole ++ may.one) 2 in
       let one = always may.one _ (passes_on (whole ++ may.one) 0 2 _ later passes are) in
       let chars = whole ++ may.other in
       let (frames, are_frames) = AreFrames-found chars 0 in
