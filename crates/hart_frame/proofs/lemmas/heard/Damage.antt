@@ -18,7 +18,8 @@ use Rattle.hart_frame.proofs.lemmas.heard.Body.{head_of}
 use Rattle.hart_frame.proofs.lemmas.heard.FramesFound.{AreFrames-found}
 use Rattle.hart_frame.proofs.lemmas.heard.Place.{HasNoFrame-end}
 use Rattle.hart_frame.proofs.lemmas.wire.Refusal.{Says, says}
-use Rattle.hart_frame.proofs.lemmas.wire.UnambiguousBodies.{BeginsWithBody-append, bodies_are_unambiguous-no_proper_prefix, bodies_are_unambiguous-one_frame}
+use Rattle.hart_frame.proofs.lemmas.wire.UnambiguousBodies.{BeginsWithBody-append, bodies_are_unambiguous-no_proper_prefix}
+use Rattle.hart_frame.proofs.lemmas.wire.UnambiguousBodies.{bodies_are_unambiguous-one_frame}
 
 -- a faultless character
 abbrev pub clear : ℕ → Character

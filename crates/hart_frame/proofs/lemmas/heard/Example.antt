@@ -77,7 +77,15 @@ other_is_check = record {
 }
 
 pub other_is_not_marked : IsMarkedDamage identity_request 5 other_address → ⊥
-other_is_not_marked damage = grind (arith, bodies_are_unambiguous-one_body, request_is, AllZip-long, length-append, length-replicate, clear_is)
+other_is_not_marked damage = grind (
+  arith,
+  bodies_are_unambiguous-one_body,
+  request_is,
+  AllZip-long,
+  length-append,
+  length-replicate,
+  clear_is,
+)
 
 -- of what is as long as these two preamble bytes are left, and then come the bytes
 after_two : (row : List ℕ) → length row ≡ 7 → (damage : IsCheckDamage identity_request 5 (faultless row))

@@ -45,9 +45,23 @@ preamble_before chars (suc k) one =
 -- nothing is missed where a body stands
 pub none_of : (chars : List Character) (start : ℕ) → HasBodyAt chars start → body_miss start (drop start chars) ≡ None
 none_of chars start has =
-    grind (arith, nat_tests, begins_at chars start has, says (faultless_bytes (drop start chars)) has.frame (length has.body) (begins_at chars start has), has_check (faultless_bytes (drop start chars)) has.frame (length has.body) (begins_at chars start has), odd)
+    grind (
+      arith,
+      nat_tests,
+      begins_at chars start has,
+      says (faultless_bytes (drop start chars)) has.frame (length has.body) (begins_at chars start has),
+      has_check (faultless_bytes (drop start chars)) has.frame (length has.body) (begins_at chars start has),
+      odd,
+    )
 
 -- where a frame stands there is no miss
 pub no_miss : (place : ℕ) (chars : List Character) → HasFrameAt chars place → miss_of chars place ≡ None
 no_miss place chars (found, stands, at) =
-    grind (arith, nat_tests, none_of chars found.start (body_of chars found 0 stands), body_of chars found 0 stands, miss_of-start chars (drop found.start chars) found.start, start_of chars found 0 stands)
+    grind (
+      arith,
+      nat_tests,
+      none_of chars found.start (body_of chars found 0 stands),
+      body_of chars found 0 stands,
+      miss_of-start chars (drop found.start chars) found.start,
+      start_of chars found 0 stands,
+    )

@@ -17,7 +17,8 @@ use Rattle.hart_frame.specs.heard.Frames.{moved}
 use Rattle.hart_frame.specs.heard.Miss.{body_miss, follows_preamble, is_preamble}
 use Rattle.hart_frame.specs.private.Sighting.{stands_alone}
 use Rattle.hart_frame.proofs.lemmas.heard.Start.{tested}
-use Rattle.hart_frame.specs.heard.Sighting.{Missed, Seen, missed, missed_at, miss_in_whole, moved_seen, seen_miss, sightings, two_begin_in_body}
+use Rattle.hart_frame.specs.heard.Sighting.{Missed, Seen, missed, missed_at, miss_in_whole, moved_seen, seen_miss, sightings}
+use Rattle.hart_frame.specs.heard.Sighting.{two_begin_in_body}
 
 -- a place that is told is told so many places later
 told_moved : (n from p : ℕ) (m : Option Miss) → option_map_or (λ miss. Missed (n + p) (miss_in_whole (n + from) miss) ∷ []) m []
@@ -121,7 +122,8 @@ told_is from place (Some miss) = refl
 
 told_at : (chars : List Character) (from place : ℕ) → from ≤ place → missed_at chars from place
     ≡ told place (whole_miss chars place (follows_from chars from place) (follows_from chars from (place - 1)) (is_other_at chars place))
-told_at chars from place after = told_is from place (seen_miss (drop from chars) (place - from)) ∙ ap (told place) (miss_is chars from place after)
+told_at chars from place after =
+    told_is from place (seen_miss (drop from chars) (place - from)) ∙ ap (told place) (miss_is chars from place after)
 
 -- so two places from which a list is looked at tell the same of a place if the same stands before it
 same_miss : (chars : List Character) (place : ℕ) (one two other asked : Bool) → (one ≡ true → two ≡ other)

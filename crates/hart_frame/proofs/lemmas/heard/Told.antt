@@ -70,7 +70,14 @@ module _ (heard : List Character) (start most : ℕ) (front : List ℕ) (is_fron
   pub front_cut : (missing : Option ℕ) → IsPrefix front (Cut missing)
       → body_miss start heard ≡ Some (faulty_or (slice_get heard (length front)) (start + length front) (cut_miss missing))
   front_cut missing is =
-      grind (arith, nat_tests, truncated_few front fits (cut_truncated front missing is), cut_truncated front missing is, short_front, cut_told front missing (slice_get heard (length front)) (start + length front) start is)
+      grind (
+        arith,
+        nat_tests,
+        truncated_few front fits (cut_truncated front missing is),
+        cut_truncated front missing is,
+        short_front,
+        cut_told front missing (slice_get heard (length front)) (start + length front) start is,
+      )
 
   fits_within : (i : ℕ) → i < most → get_or (faultless_bytes heard) i 0 < 256
   fits_within i below = let same = get_or-take most (faultless_bytes heard) i 0 below in rw same at (rw is_front at (fits i))

@@ -1,7 +1,8 @@
 -- The next frames of characters: of those from a place on, of a list that grows, of its rest, and of bytes.
-use Rattle.std.proofs.Common.{◌≡◌, ℕ, ◌+◌, ◌-◌, ◌<◌, ◌≤◌, ◌⊎◌, inl, inr, Bool, false, true, IsTrue, List, [], ◌∷◌, ◌++◌, length, map, take, drop}
-use Rattle.std.proofs.Common.{append_assoc, arith, length-append, length-drop, refl, subst, sym, ◌∙◌}
-use Rattle.std.proofs.lemmas.List.{append-nil, drop-append-le, drop-drop, drop-map, length-map, length-take-le, map-append, take-append-drop}
+use Rattle.std.proofs.Common.{◌≡◌, ℕ, ◌+◌, ◌-◌, ◌<◌, ◌≤◌, ◌⊎◌, inl, inr, Bool, false, true, IsTrue, List, [], ◌∷◌, ◌++◌, length, map}
+use Rattle.std.proofs.Common.{drop}
+use Rattle.std.proofs.Common.{append_assoc, arith, length-append, length-drop, refl, subst, sym, ap, ◌∙◌}
+use Rattle.std.proofs.lemmas.List.{append-nil, drop-append-le, drop-drop, drop-map, length-map, length-take-le, map-append}
 use Rattle.std.proofs.lemmas.List.{take_at}
 use Rattle.std.proofs.lemmas.List.Elements.{All-append, All-cons, All-map, All-nil, All-weaker}
 use Rattle.std.specs.List.{All, slice_range}
@@ -9,7 +10,6 @@ use Rattle.hart_frame.specs.declared.heard.found.Found.{Found}
 use Rattle.hart_frame.specs.declared.wire.layout.Layout.{Layout}
 use Rattle.hart_frame.specs.heard.Character.{Character, faultless}
 use Rattle.hart_frame.specs.heard.Frames.{AreFrames, moved, none, first}
-use Rattle.hart_frame.specs.heard.Place.{StandsIn}
 use Rattle.hart_frame.specs.private.Candidate.{BeginWithNone, IsWhole}
 use Rattle.hart_frame.specs.private.Layout.{layout_length}
 use Rattle.hart_frame.specs.private.Search.{NoneBeginThen}
@@ -17,7 +17,7 @@ use Rattle.hart_frame.specs.scan.Next.{AreNext}
 use Rattle.hart_frame.specs.wire.Body.{IsBody}
 use Rattle.hart_frame.specs.wire.FrameParts.{FrameParts}
 use Rattle.hart_frame.proofs.lemmas.heard.FramesFound.{AreFrames-earlier, AreFrames-found, head_first}
-use Rattle.hart_frame.proofs.lemmas.heard.Place.{StandsIn-at, StandsIn-from, StandsIn-within}
+use Rattle.hart_frame.proofs.lemmas.heard.Place.{StandsIn-at, StandsIn-from, StandsIn-within, stands_at}
 use Rattle.hart_frame.proofs.lemmas.heard.Rest.{frames_none, moved_twice, rest_all, rest_frames}
 
 -- a frame that stops at a place or before it
@@ -127,16 +127,9 @@ next_one chars ended place f body rest within parts is =
       onward = omega arith;
       within = grind (arith, length-append, length-map, length-drop place chars);
       leads = λ more later closed frames.
-          let stands : StandsIn found (chars ++ more) place = record {
-            prefix = take place chars;
-            body = body;
-            rest = rest ++ more;
-            split = grind (arith, append_assoc, take-append-drop place chars);
-            is_body = is;
-            after = omega (arith, long);
-            start = omega (arith, long);
-            stop = omega (arith, long);
-          } in
+          let parts = drop-append-le place chars more within ∙ ap (λ (cs : List Character). cs ++ more) parts in
+          let stands = stands_at (chars ++ more) place f body (rest ++ more) (omega (arith, within, length-append chars more))
+          (rw append_assoc at parts) is in
           AreFrames.first place found later
           (record { stands = stands; least = λ other there. (StandsIn-within other (chars ++ more) place there).after }) frames;
       stops = All-cons (StopsBy (place + 2 + length body)) found [] (omega arith) (All-nil (StopsBy (place + 2 + length body)));

@@ -1,8 +1,7 @@
 -- What is next in bytes is what is seen next, whatever comes.
 use Rattle.std.proofs.Common.{◌≡◌, ◌≢◌, ℕ, ◌+◌, ◌-◌, ◌<◌, ◌≤◌, ◌⊎◌, inl, inr, true, false, List, [], ◌∷◌, ◌++◌, length, drop, get_or}
 use Rattle.std.proofs.Common.{None, Some, Option, ◌∙◌, ap, sym, arith, refl, append_assoc, length-append, length-drop, take-append-drop}
-use Rattle.std.proofs.lemmas.Grind.{common_steps}
-use Rattle.std.proofs.lemmas.List.{get_or-drop, length-take-le, length-map}
+use Rattle.std.proofs.lemmas.List.{drop_more, get_or-drop, length-take-le, length-map}
 use Rattle.std.specs.List.{slice_range}
 use Rattle.std.specs.Prelude.{IsTrue}
 use Rattle.hart_frame.specs.declared.heard.found.Found.{Found}
@@ -15,7 +14,8 @@ use Rattle.hart_frame.specs.heard.Miss.{body_miss}
 use Rattle.hart_frame.specs.heard.Place.{StandsIn}
 use Rattle.hart_frame.specs.heard.Sighting.{AreSightings, Message, Missed, Seen, SeesOn}
 use Rattle.hart_frame.specs.scan.Sighting.{AfterIsValid, heard_with, is_end}
-use Rattle.hart_frame.specs.private.Sighting.{AreSilent, FollowsTwo, IsAsked, IsMessageAt, IsNextAsked, IsPassed, IsStandingAt, MayFollow, Whatever}
+use Rattle.hart_frame.specs.private.Sighting.{AreSilent, FollowsTwo, IsAsked, IsMessageAt, IsNextAsked, IsPassed, IsStandingAt, MayFollow}
+use Rattle.hart_frame.specs.private.Sighting.{Whatever}
 use Rattle.hart_frame.specs.scan.View.{found_of}
 use Rattle.hart_frame.specs.declared.scan.view.FoundView.{FoundView}
 use Rattle.hart_frame.specs.private.Sighting.{stands_alone}
@@ -25,12 +25,10 @@ use Rattle.hart_frame.specs.declared.scan.sighting.Standing.TheVariants.{Nothing
 use Rattle.hart_frame.specs.declared.wire.layout.Layout.{Layout}
 use Rattle.hart_frame.specs.wire.Body.{IsBody}
 use Rattle.hart_frame.specs.wire.FrameParts.{FrameParts}
-use Rattle.hart_frame.proofs.lemmas.heard.FramesFound.{starts}
 use Rattle.hart_frame.proofs.lemmas.heard.Front.{regrouped}
-use Rattle.hart_frame.proofs.lemmas.heard.Place.{preamble}
+use Rattle.hart_frame.proofs.lemmas.heard.Place.{StandsIn-from, stands_at}
 use Rattle.hart_frame.proofs.lemmas.heard.Seen.{Passes, NoneSeen, frame_at, message_on, missed_none, passes_miss, passes_on, passes_silent}
 use Rattle.hart_frame.proofs.lemmas.heard.Sighting.{after_one-miss, after_two-miss, follows_from, is_other_at, is_preamble_at}
-use Rattle.hart_frame.proofs.lemmas.heard.Start.{StartsAt, is_start_from, tested}
 use Rattle.hart_frame.proofs.lemmas.scan.BodyAt.{drop-heard}
 use Rattle.hart_frame.proofs.lemmas.scan.Sighted.{SilentBefore, bool_cases, follows_in, heard_few, known, late, none_seen, other_yes}
 use Rattle.hart_frame.proofs.lemmas.scan.Sighted.{preamble_no, preamble_yes, two_in, two_out}
@@ -54,12 +52,10 @@ sees bytes after from to given valid passes more later closed are =
 apart : (a b : ℕ) → a ≤ b → (b ≡ a) ⊎ (b ≡ a + 1) ⊎ (b ≡ a + 2) ⊎ (a + 3 ≤ b)
 apart a b order = grind arith
 
--- two preamble bytes and another character stand there
-preamble_char : (chars : List Character) (k : ℕ) → is_preamble_at chars k ≡ true → get_or chars k preamble ≡ preamble
-preamble_char chars k is = grind (arith, tested chars k)
-
-other_char : (chars : List Character) (k : ℕ) → k < length chars → is_preamble_at chars k ≡ false → get_or chars k preamble ≢ preamble
-other_char chars k within is = grind (arith, tested chars k)
+-- two preamble bytes stand there, and then the rest
+pub two_parts : (bytes : List ℕ) (start : ℕ) → 2 ≤ start → start ≤ length bytes → get_or bytes (start - 2) 0 ≡ 255
+    → get_or bytes (start - 1) 0 ≡ 255 → drop (start - 2) bytes ≡ 255 ∷ 255 ∷ drop start bytes
+two_parts bytes start low within first second = grind (arith, drop_more bytes (start - 2) 0, drop_more bytes (start - 1) 0)
 
 differ : (m : Option Miss) (miss : Miss) → m ≡ None → m ≡ Some miss → ⊥
 differ m miss none some = cc
@@ -165,35 +161,19 @@ module _ (bytes : List ℕ) (after : After) (next : List Character) (from start 
       → IsBody f (slice_range bytes start stop)
       → StandsIn (record { start = start; stop = stop; frame = f }) (faultless bytes ++ next) from
   stands_there f stop two order fits body =
-      let chars = faultless bytes ++ next in
-      let one = preamble_yes bytes next (start - 2) (omega (arith, two.0, is.within)) two.1 in
-      let last = preamble_yes bytes next (start - 1) (omega (arith, two.0, is.within)) is.preamble in
-      let low = two.0 in
-      let three : StartsAt chars start preamble = record {
-        after_two = omega (arith, low);
-        within = inside;
-        one = preamble_char chars (start - 2) one;
-        two = preamble_char chars (start - 1) last;
-        other = other_char chars start inside no_preamble;
-      } in
-      let at = starts chars start (is_start_from chars start preamble three) in
       let xs : List ℕ = slice_range bytes start stop in
       let ys : List ℕ = drop (stop - start) (drop start bytes) in
-      let parts : xs ++ ys ≡ drop start bytes = take-append-drop (stop - start) (drop start bytes) in
-      let heard : drop start chars ≡ faultless xs ++ (faultless ys ++ next) =
-      drop-heard bytes next start is.within ∙ ap (λ (zs : List ℕ). faultless zs ++ next) (sym parts) ∙ regrouped xs ys next in
+      let rest : xs ++ ys ≡ drop start bytes = take-append-drop (stop - start) (drop start bytes) in
+      let parts : drop (start - 2) (faultless bytes ++ next) ≡ faultless (255 ∷ 255 ∷ xs) ++ (faultless ys ++ next) =
+      drop-heard bytes next (start - 2) (omega (arith, is.within))
+      ∙ ap (λ (zs : List ℕ). faultless zs ++ next) (two_parts bytes start (omega (arith, two.0)) is.within two.1 is.preamble)
+      ∙ ap (λ (zs : List ℕ). faultless (255 ∷ 255 ∷ zs) ++ next) (sym rest) ∙ regrouped (255 ∷ 255 ∷ xs) ys next in
+      let there = stands_at (faultless bytes ++ next) (start - 2) f xs (faultless ys ++ next) (omega (arith, inside)) parts body in
       let long : length xs ≡ stop - start = length-take-le (stop - start) (drop start bytes)
       (omega (arith, fits, length-drop start bytes)) in
-      record {
-        prefix = at.prefix;
-        body = xs;
-        rest = faultless ys ++ next;
-        split = grind (arith, common_steps, preamble, append_assoc);
-        is_body = body;
-        after = omega (arith, low, at.at);
-        start = at.at;
-        stop = omega (arith, at.at, long, order);
-      }
+      let at : start - 2 + 2 ≡ start = omega (arith, two.0) in
+      let to : start + length xs ≡ stop = omega (arith, long, order) in
+      StandsIn-from _ (faultless bytes ++ next) (start - 2) from (rw (at, to) at there) (omega (arith, two.0))
 
   pub message : (f : FrameParts) (stop : ℕ) (later : List Seen) → FollowsTwo bytes from start → start ≤ stop → stop ≤ length bytes
       → IsBody f (slice_range bytes start stop) → AreSightings (faultless bytes ++ next) stop later

@@ -25,12 +25,12 @@ use Rattle.hart_frame.proofs.lemmas.heard.FramesFound.{AreFrames-found}
 use Rattle.hart_frame.proofs.lemmas.heard.Open.{open_begins}
 use Rattle.hart_frame.proofs.lemmas.heard.Place.{StandsIn-within}
 use Rattle.hart_frame.proofs.lemmas.heard.Seen.{message_on, missed_none, passes_on}
-use Rattle.hart_frame.proofs.lemmas.heard.Sighting.{after_one-none, not_both, not_other, unasked}
+use Rattle.hart_frame.proofs.lemmas.heard.Sighting.{after_one-none, not_both, not_other}
 use Rattle.hart_frame.proofs.lemmas.heard.Told.{cut_told}
 use Rattle.hart_frame.proofs.lemmas.scan.BodyAt.{miss_end}
 use Rattle.hart_frame.proofs.lemmas.scan.SightingLaws.{some as some_sightings}
 use Rattle.hart_frame.proofs.lemmas.wire.Reading.{truncated_cut}
-use Rattle.hart_frame.proofs.lemmas.scan.NextSeen.{miss_one, miss_two}
+use Rattle.hart_frame.proofs.lemmas.scan.NextSeen.{miss_one, miss_two, two_parts}
 use Rattle.hart_frame.proofs.lemmas.scan.Sighted.{SilentBefore, late, none_seen, preamble_yes}
 
 -- bytes that end too early have a miss at the end
@@ -82,42 +82,30 @@ module _ (rest : List ℕ) (fit : All (λ byte. byte < 256) rest) (truncated : I
       (record { stands = stands; least = λ other stands. omega (arith, at, first_frame other stands) }) are_after) in
       cc (one.1, two.1)
 
--- where nothing is seen at the first two places, no miss of the second one comes first
+-- where nothing is seen at a place, no miss of it comes first
 form : (m : Option Miss) (from place : ℕ)
     → (option_map_or (λ miss. Missed place (miss_in_whole from miss) ∷ []) m [] ≡ [])
     ⊎ ((miss : Miss) × (option_map_or (λ miss. Missed place (miss_in_whole from miss) ∷ []) m [] ≡ Missed place miss ∷ []))
 form None from place = inl refl
 form (Some miss) from place = inr (_, refl)
 
-late_head : (chars : List Character) (a k : ℕ) (tail later : List Seen) (miss : Miss) → 2 ≤ a → (tail ≡ Missed 1 miss ∷ later → ⊥)
+not_first : (chars : List Character) (a k : ℕ) (tail later : List Seen) (miss : Miss) → missed_at chars 0 1 ≡ []
+    → (tail ≡ Missed 1 miss ∷ later → ⊥)
     → flat_map (λ p. missed_at chars 0 p) (range_with_len a k) ++ tail ≡ Missed 1 miss ∷ later → ⊥
-late_head chars a zero tail later miss after not is = not is
-late_head chars a (suc k) tail later miss after not is = elim (form (seen_miss (drop 0 chars) (a - 0)) 0 a) [
-  | inl nil ↦ late_head chars (a + 1) k tail later miss (omega (arith, after)) not (rw nil at is)
+not_first chars a zero tail later miss none not is = not is
+not_first chars a (suc k) tail later miss none not is = elim (form (seen_miss (drop 0 chars) (a - 0)) 0 a) [
+  | inl nil ↦ not_first chars (a + 1) k tail later miss none not (rw nil at is)
   | inr (other, one) ↦
       let both = rw one at is in
-      let same : a ≡ 1 = cc in omega (arith, after, same)
+      let same : a ≡ 1 = cc in
+      let clash = sym none ∙ rw same at one in cc (clash)
 ]
 
-skip : (xs rest tail target : List Seen) → xs ≡ [] → (xs ++ rest) ++ tail ≡ target → rest ++ tail ≡ target
-skip xs rest tail target none is = sym (ap (λ (ys : List Seen). (ys ++ rest) ++ tail) none) ∙ is
-
-not_first : (chars : List Character) (k : ℕ) (tail later : List Seen) (miss : Miss) → missed_at chars 0 0 ≡ [] → missed_at chars 0 1 ≡ []
-    → (tail ≡ Missed 1 miss ∷ later → ⊥)
-    → flat_map (λ p. missed_at chars 0 p) (range_with_len 0 k) ++ tail ≡ Missed 1 miss ∷ later → ⊥
-not_first chars zero tail later miss zeroth first not is = not is
-not_first chars (suc zero) tail later miss zeroth first not is = not (skip (missed_at chars 0 0) [] tail _ zeroth is)
-not_first chars (suc (suc k)) tail later miss zeroth first not is =
-    let rest = flat_map (λ p. missed_at chars 0 p) (range_with_len 2 k) in
-    late_head chars 2 k tail later miss (omega arith) not
-    (skip (missed_at chars 0 1) rest tail _ first (skip (missed_at chars 0 0) (missed_at chars 0 1 ++ rest) tail _ zeroth is))
-
-not_one : (chars : List Character) (frames : List Found) (later : List Seen) (miss : Miss) → missed_at chars 0 0 ≡ []
-    → missed_at chars 0 1 ≡ [] → sightings chars 0 frames ≡ Missed 1 miss ∷ later → ⊥
-not_one chars [] later miss zeroth first is =
-    not_first chars (length chars - 0) [] later miss zeroth first (λ same. cc) (append-nil _ ∙ is)
-not_one chars (found ∷ frames) later miss zeroth first is =
-    not_first chars (found.start - 0) (Message found ∷ sightings chars found.stop frames) later miss zeroth first (λ same. cc) is
+not_one : (chars : List Character) (frames : List Found) (later : List Seen) (miss : Miss) → missed_at chars 0 1 ≡ []
+    → sightings chars 0 frames ≡ Missed 1 miss ∷ later → ⊥
+not_one chars [] later miss none is = not_first chars 0 (length chars - 0) [] later miss none (λ same. cc) (append-nil _ ∙ is)
+not_one chars (found ∷ frames) later miss none is =
+    not_first chars 0 (found.start - 0) (Message found ∷ sightings chars found.stop frames) later miss none (λ same. cc) is
 
 -- after one preamble byte alone, what may stand alone
 module _ (rest : List ℕ) (some : 0 < length rest) (other : get_or rest 0 0 ≢ 255) (may : MayStandAlone (255 ∷ rest) 1) where
@@ -138,10 +126,9 @@ module _ (rest : List ℕ) (some : 0 < length rest) (other : get_or rest 0 0 ≢
       let chars = whole ++ may.other in
       let (frames, are_frames) = AreFrames-found chars 0 in
       let two = always may.other (sightings chars 0 frames) (record { frames = frames; are_frames = are_frames; seen_is = refl }) in
-      let zeroth = unasked chars 0 0 (omega arith) refl in
       let none = after_one-none chars 0 1 (omega arith) refl refl may.not_alone in
       let same : first ≡ Missed 1 OnePreamble = cc (one.1) in
-      not_one chars frames two.0 OnePreamble zeroth none (rw same at two.1)
+      not_one chars frames two.0 OnePreamble none (rw same at two.1)
 
 -- a few preamble bytes
 pub undecided_few : (bytes : List ℕ) → length bytes ≤ 2 → ((i : ℕ) → i < length bytes → get_or bytes i 0 ≡ 255)
@@ -180,13 +167,8 @@ pub open_undecided : (bytes : List ℕ) (after : After) (place from start used :
 open_undecided bytes after place from start used fit is more (inl (two, (more_is, at, truncated))) =
     let heard : length (heard_with bytes after) ≡ length bytes = rw more (grind (arith, length-map)) in
     let some : 0 < length (drop start bytes) = omega (arith, is.heard, heard, length-drop start bytes) in
-    let first : get_or bytes used 0 ≡ 255 = let same : start - 2 ≡ used = omega (arith, at) in rw same at two.1 in
-    let second : get_or bytes (used + 1) 0 ≡ 255 = let same : start - 1 ≡ used + 1 = omega (arith, at) in rw same at is.preamble in
-    let last : drop (used + 1 + 1) bytes ≡ drop start bytes = let same : used + 1 + 1 ≡ start = omega (arith, at) in rw same refl in
-    let parts : drop used bytes ≡ 255 ∷ 255 ∷ drop start bytes =
-    drop_more bytes used 0 (omega (arith, at, is.within))
-    ∙ ap (λ (xs : List ℕ). get_or bytes used 0 ∷ xs) (drop_more bytes (used + 1) 0 (omega (arith, at, is.within)))
-    ∙ rw (first, second, last) refl in
+    let same : start - 2 ≡ used = omega (arith, at) in
+    let parts = rw same at (two_parts bytes start (omega (arith, at)) is.within two.1 is.preamble) in
     rw parts (undecided_two (drop start bytes) (All-drop (λ byte. byte < 256) start bytes fit) truncated some)
 open_undecided bytes after place from start used fit is more (inr (one, (more_is, at, few, may))) =
     let heard : length (heard_with bytes after) ≡ length bytes = rw more (grind (arith, length-map)) in

@@ -44,7 +44,17 @@ spread f body rest is = rw (is.parts, is.checked_part.parts) (simp append_assoc)
 same_bodies : (f g : FrameParts) (body other rest more : List ℕ) → IsBody f body → IsBody g other → body ++ rest ≡ other ++ more
     → (f ≡ g) × (body ≡ other) × (rest ≡ more)
 same_bodies f g body other rest more p q whole =
-    grind (arith, spread f body rest p, spread g other more q, kind_code-is, address_type-lt, same_parts, length-address, address_bytes_are_unambiguous-one_reading, append_cancel_right)
+    grind (
+      arith,
+      spread f body rest p,
+      spread g other more q,
+      kind_code-is,
+      address_type-lt,
+      same_parts,
+      length-address,
+      address_bytes_are_unambiguous-one_reading,
+      append_cancel_right,
+    )
 
 pub bodies_are_unambiguous-one_frame : (f g : FrameParts) (bytes : List ℕ) → IsBody f bytes → IsBody g bytes → f ≡ g
 bodies_are_unambiguous-one_frame f g bytes p q = (same_bodies f g bytes bytes [] [] p q refl).0
@@ -56,7 +66,13 @@ bodies_are_unambiguous-no_proper_prefix f g bytes rest p q = grind (arith, appen
 pub bodies_are_unambiguous-one_prefix : (f g : FrameParts) (bytes : List ℕ) (m n : ℕ)
     → BeginsWithBody bytes f m → BeginsWithBody bytes g n → (f ≡ g) × (m ≡ n)
 bodies_are_unambiguous-one_prefix f g bytes m n p q =
-    grind (arith, same_bodies f g (take m bytes) (take n bytes) (drop m bytes) (drop n bytes), take-append-drop, length-take-le m bytes, length-take-le n bytes)
+    grind (
+      arith,
+      same_bodies f g (take m bytes) (take n bytes) (drop m bytes) (drop n bytes),
+      take-append-drop,
+      length-take-le m bytes,
+      length-take-le n bytes,
+    )
 
 -- the check byte of a body is the exclusive or of the bytes before it
 check_is : (f : FrameParts) (body : List ℕ) (is : IsBody f body) → is.check ≡ fold bit_xor 0 is.checked

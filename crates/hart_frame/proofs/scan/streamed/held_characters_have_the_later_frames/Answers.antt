@@ -6,4 +6,10 @@ use Rattle.hart_frame.proofs.scan.streamed.held_characters_have_the_later_frames
 
 pub returns : goal.returns
 returns c =
-    grind (arith, common_steps, frames_are_streamed-pushed, held_characters_have_the_later_frames-held, held_characters_have_the_later_frames-later)
+    grind (
+      arith,
+      common_steps,
+      frames_are_streamed-pushed,
+      held_characters_have_the_later_frames-held,
+      held_characters_have_the_later_frames-later,
+    )
