@@ -11,7 +11,6 @@ use Rattle.hart_frame.specs.heard.DamageExamples.{faulty_address, identity_reque
 use Rattle.hart_frame.specs.wire.Body.{IsBody}
 use Rattle.hart_frame.specs.wire.Parity.{HasEvenParity}
 use Rattle.hart_frame.proofs.lemmas.heard.Body.{faultless-one}
-use Rattle.hart_frame.proofs.lemmas.heard.Damage.{clear_is}
 use Rattle.hart_frame.proofs.lemmas.heard.Place.{preamble}
 use Rattle.hart_frame.proofs.lemmas.wire.Body.{IsBody-push}
 use Rattle.hart_frame.proofs.lemmas.wire.UnambiguousBodies.{bodies_are_unambiguous-one_body}
@@ -77,15 +76,7 @@ other_is_check = record {
 }
 
 pub other_is_not_marked : IsMarkedDamage identity_request 5 other_address → ⊥
-other_is_not_marked damage = grind (
-  arith,
-  bodies_are_unambiguous-one_body,
-  request_is,
-  AllZip-long,
-  length-append,
-  length-replicate,
-  clear_is,
-)
+other_is_not_marked damage = grind (arith, AllZip-long, length-append, length-replicate)
 
 -- of what is as long as these two preamble bytes are left, and then come the bytes
 after_two : (row : List ℕ) → length row ≡ 7 → (damage : IsCheckDamage identity_request 5 (faultless row))

@@ -19,7 +19,7 @@ use Rattle.hart_frame.specs.private.Miss.{cut_miss, wrong_miss}
 use Rattle.hart_frame.specs.private.Prefix.{IsPrefix, IsWrong}
 use Rattle.hart_frame.specs.private.Sighting.{HasBodyMiss, Whatever, stands_alone}
 use Rattle.hart_frame.specs.scan.Sighting.{NamesPlacesBelow, heard_with}
-use Rattle.hart_frame.proofs.lemmas.heard.Front.{faultless_bytes-append, faultless_bytes-end}
+use Rattle.hart_frame.proofs.lemmas.heard.Front.{faultless_bytes-append}
 use Rattle.hart_frame.proofs.lemmas.heard.Told.{cut_told, whole_told, wrong_told}
 use Rattle.hart_frame.proofs.lemmas.scan.Sighted.{heard_few}
 use Rattle.hart_frame.proofs.lemmas.wire.Reading.{wrong_within}
@@ -47,17 +47,7 @@ miss_end xs start =
 pub miss_faulty : (xs : List ℕ) (c : Character) (more : List Character) (start : ℕ) → c.faults ≢ 0
     → body_miss start (faultless xs ++ c ∷ more) ≡ miss_in xs (Some c) (start + length xs) start
 miss_faulty xs c more start bad =
-    grind (
-      arith,
-      nat_tests,
-      append-nil,
-      faultless_bytes-append xs (c ∷ more),
-      faultless_bytes-end c more,
-      length-map,
-      length-append,
-      slice_get-get_or (faultless xs ++ c ∷ more) (length xs) c,
-      get_or_at,
-    )
+    grind (arith, append-nil, faultless_bytes-append xs (c ∷ more), length-map, length-append, slice_get-get_or (faultless xs ++ c ∷ more) (length xs) c, get_or_at)
 
 -- what is decided by the bytes from a place on is its miss whatever comes
 whatever : (bytes : List ℕ) (after : After) (start : ℕ) (miss : Option Miss) → start ≤ length bytes
@@ -89,26 +79,12 @@ wrong_below bytes after start (BadCheck len byte fits) within is =
 pub cut_ended : (bytes : List ℕ) (start : ℕ) (missing : Option ℕ) → start ≤ length bytes → IsPrefix (drop start bytes) (Cut missing)
     → Whatever bytes End (HasBodyMiss start (Some (cut_miss missing)))
 cut_ended bytes start missing within is next ends =
-    grind (
-      arith,
-      nat_tests,
-      append-nil,
-      drop-heard,
-      miss_end (drop start bytes) start,
-      cut_told (drop start bytes) missing None (start + length (drop start bytes)) start is,
-    )
+    grind (arith, append-nil, drop-heard, miss_end (drop start bytes) start, cut_told (drop start bytes) missing None (start + length (drop start bytes)) start is)
 
 pub cut_damaged : (bytes : List ℕ) (c : Character) (start : ℕ) (missing : Option ℕ) → start ≤ length bytes
     → IsPrefix (drop start bytes) (Cut missing) → Whatever bytes (Damaged c) (HasBodyMiss start (Some (Faulty (length bytes) c.faults)))
 cut_damaged bytes c start missing within is next (valid, more, same) =
-    grind (
-      arith,
-      nat_tests,
-      length-drop start bytes,
-      miss_faulty (drop start bytes) c more start valid,
-      cut_told (drop start bytes) missing (Some c) (start + length (drop start bytes)) start is,
-      drop-heard bytes (c ∷ more) start within,
-    )
+    grind (arith, length-drop start bytes, miss_faulty (drop start bytes) c more start valid, cut_told (drop start bytes) missing (Some c) (start + length (drop start bytes)) start is, drop-heard bytes (c ∷ more) start within)
 
 -- what has a miss does not stand alone
 pub not_alone : (bytes : List ℕ) (after : After) (start : ℕ) (miss : Miss) → Whatever bytes after (HasBodyMiss start (Some miss))

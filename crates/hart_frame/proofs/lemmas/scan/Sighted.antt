@@ -73,15 +73,7 @@ other_yes bytes after next i follows within other =
 pub asked : (bytes : List ℕ) (after : After) (next : List Character) (from place : ℕ) → MayFollow after next
     → place < length (heard_with bytes after) → follows_from (faultless bytes ++ next) from place ≡ true
     → is_other_at (faultless bytes ++ next) place ≡ true → IsAsked bytes after from place
-asked bytes after next from place may within follows other = grind (
-  arith,
-  nat_tests,
-  is_preamble_at,
-  preamble_is,
-  preamble_yes,
-  tested,
-  within,
-)
+asked bytes after next from place may within follows other = grind (arith, preamble_is, preamble_yes)
 
 pub two_in : (bytes : List ℕ) (after : After) (next : List Character) (from place : ℕ) → MayFollow after next → place ≤ length bytes
     → follows_from (faultless bytes ++ next) from (place - 1) ≡ true → FollowsTwo bytes from place

@@ -42,8 +42,4 @@ length-slice_range xs a b ab within = length-take-le (b - a) (drop a xs) (omega 
 pub IsCheckedPart-in : (bytes : List ℕ) (layout : Layout) (frame : FrameParts) → Describes layout bytes → HasCheckByte bytes
     → StandsByLayout bytes layout frame → IsCheckedPart frame (take (body_length bytes - 1) bytes)
 IsCheckedPart-in bytes layout frame describes whole stands =
-    grind (
-      arith,
-      length-slice_range bytes,
-      cut bytes layout.address_end layout.command_place (layout.command_place + 2 + layout.byte_count),
-    )
+    grind (arith, length-slice_range bytes, cut bytes layout.address_end layout.command_place (layout.command_place + 2 + layout.byte_count))

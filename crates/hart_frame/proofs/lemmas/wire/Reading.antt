@@ -13,7 +13,7 @@ use Rattle.hart_frame.specs.private.Prefix.{HasBadCheck, IsPrefix, IsWrong, faul
 use Rattle.hart_frame.specs.wire.Layout.{body_length, byte_count_place}
 use Rattle.hart_frame.specs.wire.Parity.{IsCheckByte}
 use Rattle.hart_frame.specs.wire.Refusal.{HasCheckByte, IsRefusedWith, IsTruncated}
-use Rattle.hart_frame.proofs.lemmas.wire.Parity.{IsCheckByte-fold, before_last, changed, even-check, fits-is, fits_at, odd}
+use Rattle.hart_frame.proofs.lemmas.wire.Parity.{IsCheckByte-fold, before_last, changed, even-check, fits-is, odd}
 use Rattle.hart_frame.proofs.lemmas.wire.Prefix.{Describes-prefix, HasCheckByte-prefix, HasGoodByteCount-more, good_prefix, length_more}
 use Rattle.hart_frame.proofs.lemmas.wire.Truncated.{truncated_check, truncated_count}
 
@@ -49,16 +49,7 @@ module _ (layout : Layout) (xs : List ℕ) (len check : ℕ) (has : HasCheckByte
   -- and with one that is refused for its check byte if it is odd
   pub odd_prefix : check ≢ 0 → HasBadCheck xs len (get_or xs (len - 1) 0) (bit_xor check (get_or xs (len - 1) 0))
   odd_prefix other =
-      grind (
-        arith,
-        fitting,
-        IsCheckByte-fold,
-        get_or-take,
-        get_or_past,
-        length-take,
-        changed check (get_or xs (len - 1) 0) other,
-        are_bytes,
-      )
+      grind (arith, fitting, IsCheckByte-fold, get_or-take, get_or_past, length-take, changed check (get_or xs (len - 1) 0) other, are_bytes)
 
 -- what fits there
 pub fold_fits : (xs : List ℕ) (len byte fits : ℕ) → HasBadCheck xs len byte fits → fits ≡ fold bit_xor 0 (take (len - 1) xs)
@@ -129,11 +120,4 @@ truncated_cut xs (inr (inr (good, early))) =
 pub whole_has : (xs : List ℕ) (layout : Layout) → IsPrefix xs (Whole layout)
     → HasCheckByte xs × (body_length xs ≡ layout_length layout) × (layout_length layout ≤ 267)
 whole_has xs layout (within, is) =
-    grind (
-      arith,
-      fits_at (take (layout_length layout) xs) is.fits,
-      take-append-drop (layout_length layout) xs,
-      length_more (take (layout_length layout) xs) (drop (layout_length layout) xs) is.checked.0.0.1,
-      HasGoodByteCount-more (take (layout_length layout) xs) (drop (layout_length layout) xs) is.checked.0,
-      length-take-le (layout_length layout) xs within,
-    )
+    grind (arith, take-append-drop (layout_length layout) xs, length_more (take (layout_length layout) xs) (drop (layout_length layout) xs) is.checked.0.0.1, HasGoodByteCount-more (take (layout_length layout) xs) (drop (layout_length layout) xs) is.checked.0)
