@@ -59,7 +59,12 @@ body_or_miss chars start fit = grind (arith, nat_tests, heard_body chars start f
 pub frame_or_miss : (place : ℕ) (chars : List Character) → All (λ c. c.byte < 256) chars → IsStart place chars
     → HasFrameAt chars place ⊎ IsSome (miss_of chars place)
 frame_or_miss place chars fit is =
-    grind (arith, body_or_miss chars place (of_chars chars place fit), body_frame chars place is, miss_of-start chars (drop place chars) place refl is)
+    grind (
+      arith,
+      body_or_miss chars place (of_chars chars place fit),
+      body_frame chars place is,
+      miss_of-start chars (drop place chars) place refl is,
+    )
 
 -- after one preamble byte alone a whole body stands
 one_stands : (start : ℕ) (chars : List Character) → IsOfBytes (drop start chars) → miss_of chars start ≡ Some OnePreamble

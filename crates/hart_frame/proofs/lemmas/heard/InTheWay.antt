@@ -27,7 +27,14 @@ use Rattle.hart_frame.proofs.lemmas.wire.Parity.{IsCheckByte-fold, fits-is, fits
 heard_at : (chars : List Character) (start i place : ℕ) → place ≡ start + i → i < length (bytes_from chars start)
     → slice_get chars place ≡ Some (record { byte = get_or (bytes_from chars start) i 0; faults = 0 })
 heard_at chars start i place is below =
-    grind (arith, slice_get-get_or chars place preamble, char_at (drop start chars) i preamble below, length-faultless_bytes (drop start chars), length-drop start chars, get_or-drop)
+    grind (
+      arith,
+      slice_get-get_or chars place preamble,
+      char_at (drop start chars) i preamble below,
+      length-faultless_bytes (drop start chars),
+      length-drop start chars,
+      get_or-drop,
+    )
 
 -- where the bytes stop too early: at the end of the list, or at a character with fault bits
 stops : (chars : List Character) (start : ℕ) (at_end : Miss) → IsStart start chars
@@ -39,7 +46,16 @@ stops : (chars : List Character) (start : ℕ) (at_end : Miss) → IsStart start
     × (faulty_or (slice_get (drop start chars) (length (bytes_from chars start))) (start + length (bytes_from chars start)) at_end
     ≡ Faulty (start + length (bytes_from chars start)) faults))
 stops chars start at_end is =
-    grind (arith, length-append, slice_get_cases chars (start + (length (faultless_bytes (drop start chars)))), slice_get-get_or chars (start + (length (faultless_bytes (drop start chars)))) preamble, rest_at chars start (length (faultless_bytes (drop start chars))), after_faultless (drop start chars), length-drop start chars, length-faultless_bytes (drop start chars))
+    grind (
+      arith,
+      length-append,
+      slice_get_cases chars (start + (length (faultless_bytes (drop start chars)))),
+      slice_get-get_or chars (start + (length (faultless_bytes (drop start chars)))) preamble,
+      rest_at chars start (length (faultless_bytes (drop start chars))),
+      after_faultless (drop start chars),
+      length-drop start chars,
+      length-faultless_bytes (drop start chars),
+    )
 
 -- the bytes that the check byte covers
 covered : (chars : List Character) (start : ℕ) → IsOfBytes (drop start chars)

@@ -1,6 +1,6 @@
 -- The miss of a place by what stands before it, and that there is none where a frame stands.
-use Rattle.std.proofs.Common.{◌≡◌, ℕ, zero, suc, ◌+◌, ◌-◌, ◌<◌, ◌⊎◌, inl, inr, List, [], ◌∷◌, ◌++◌, length, take, drop}
-use Rattle.std.proofs.Common.{true, false, None, Some, arith}
+use Rattle.std.proofs.Common.{refl, ◌≡◌, ℕ, zero, suc, ◌+◌, ◌-◌, ◌<◌, ◌⊎◌, inl, inr, List, [], ◌∷◌, ◌++◌, length, take, drop, true, false}
+use Rattle.std.proofs.Common.{None, Some, arith}
 use Rattle.std.proofs.lemmas.List.{length-take-le, take_more}
 use Rattle.std.specs.Option.{is_some}
 use Rattle.hart_frame.specs.declared.heard.miss.Miss.{Miss}
@@ -44,9 +44,15 @@ preamble_before chars (suc k) one =
 -- nothing is missed where a body stands
 pub none_of : (chars : List Character) (start : ℕ) → HasBodyAt chars start → body_miss start (drop start chars) ≡ None
 none_of chars start has =
-    grind (arith, begins_at chars start has, says (faultless_bytes (drop start chars)) has.frame (length has.body) (begins_at chars start has), odd)
+    grind (
+      arith,
+      begins_at chars start has,
+      says (faultless_bytes (drop start chars)) has.frame (length has.body) (begins_at chars start has),
+      odd,
+    )
 
 -- where a frame stands there is no miss
 pub no_miss : (place : ℕ) (chars : List Character) → HasFrameAt chars place → miss_of chars place ≡ None
 no_miss place chars (found, stands, at) =
-    grind (arith, none_of chars found.start (body_of chars found 0 stands), miss_of-start chars (drop found.start chars) found.start, start_of chars found 0 stands)
+    let none = none_of chars found.start (body_of chars found 0 stands) in
+    grind (arith, miss_of-start chars (drop found.start chars) found.start refl (start_of chars found 0 stands))

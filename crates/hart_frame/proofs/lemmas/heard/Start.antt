@@ -1,7 +1,6 @@
 -- Where a body may start in a list of characters.
 use Rattle.std.proofs.Common.{◌↔◌, true, false, not, ◌≡◌, ◌≢◌, ℕ, zero, suc, ◌-◌, ◌<◌, ◌≤◌, ◌⊎◌, inl, inr, List, [], ◌∷◌, ◌++◌, length}
-use Rattle.std.proofs.Common.{take, drop, get_or}
-use Rattle.std.proofs.Common.{arith, length-append, drop-cons, append_assoc}
+use Rattle.std.proofs.Common.{take, drop, get_or, arith, length-append, drop-cons, append_assoc}
 use Rattle.std.proofs.lemmas.Bool.Decides.{nat_tests}
 use Rattle.std.proofs.lemmas.Option.{slice_get-get_or, slice_get_cases}
 use Rattle.std.specs.List.{slice_get}
@@ -51,7 +50,14 @@ tested chars k = grind (arith, nat_tests, slice_get_cases chars k, slice_get-get
 -- the test of a start
 pub start_test : (chars : List Character) (place : ℕ) → (is_start chars place ≡ true) ↔ IsStart place chars
 start_test chars place =
-    grind (arith, is_start_from chars place preamble, starts_at chars place preamble, tested chars (place - 1), tested chars (place - 2), tested chars place)
+    grind (
+      arith,
+      is_start_from chars place preamble,
+      starts_at chars place preamble,
+      tested chars (place - 1),
+      tested chars (place - 2),
+      tested chars place,
+    )
 
 -- no start lies before a place
 abbrev pub NoneBefore : List Character → ℕ → Type 0

@@ -1,4 +1,5 @@
 -- What stands at a place of bytes, whatever comes after them.
+use Rattle.hart_frame.proofs.lemmas.heard.Front.{faultless_bytes-end, faultless_bytes-append}
 use Rattle.std.proofs.Common.{◌≡◌, ◌≢◌, ℕ, ◌+◌, ◌≤◌, false, List, [], ◌∷◌, ◌++◌, length, drop, None, Some, Option}
 use Rattle.std.proofs.Common.{◌∙◌, arith, refl, length-append, length-drop}
 use Rattle.std.proofs.lemmas.Bool.Decides.{nat_tests}
@@ -19,7 +20,6 @@ use Rattle.hart_frame.specs.private.Miss.{cut_miss, wrong_miss}
 use Rattle.hart_frame.specs.private.Prefix.{IsPrefix, IsWrong}
 use Rattle.hart_frame.specs.private.Sighting.{HasBodyMiss, Whatever, stands_alone}
 use Rattle.hart_frame.specs.scan.Sighting.{NamesPlacesBelow, heard_with}
-use Rattle.hart_frame.proofs.lemmas.heard.Front.{faultless_bytes-append}
 use Rattle.hart_frame.proofs.lemmas.heard.Told.{cut_told, whole_told, wrong_told}
 use Rattle.hart_frame.proofs.lemmas.scan.Sighted.{heard_few}
 use Rattle.hart_frame.proofs.lemmas.wire.Reading.{wrong_within}
@@ -47,7 +47,11 @@ miss_end xs start =
 pub miss_faulty : (xs : List ℕ) (c : Character) (more : List Character) (start : ℕ) → c.faults ≢ 0
     → body_miss start (faultless xs ++ c ∷ more) ≡ miss_in xs (Some c) (start + length xs) start
 miss_faulty xs c more start bad =
-    grind (arith, append-nil, faultless_bytes-append xs (c ∷ more), length-map, length-append, slice_get-get_or (faultless xs ++ c ∷ more) (length xs) c, get_or_at)
+    let all : faultless_bytes (faultless xs ++ c ∷ more) ≡ xs =
+    grind (arith, append-nil, faultless_bytes-append xs (c ∷ more), faultless_bytes-end c more) in
+    let there : slice_get (faultless xs ++ c ∷ more) (length xs) ≡ Some c =
+    grind (arith, length-map, length-append, slice_get-get_or (faultless xs ++ c ∷ more) (length xs) c, get_or_at) in
+    rw (all, there) refl
 
 -- what is decided by the bytes from a place on is its miss whatever comes
 whatever : (bytes : List ℕ) (after : After) (start : ℕ) (miss : Option Miss) → start ≤ length bytes
@@ -79,12 +83,16 @@ wrong_below bytes after start (BadCheck len byte fits) within is =
 pub cut_ended : (bytes : List ℕ) (start : ℕ) (missing : Option ℕ) → start ≤ length bytes → IsPrefix (drop start bytes) (Cut missing)
     → Whatever bytes End (HasBodyMiss start (Some (cut_miss missing)))
 cut_ended bytes start missing within is next ends =
-    grind (arith, append-nil, drop-heard, miss_end (drop start bytes) start, cut_told (drop start bytes) missing None (start + length (drop start bytes)) start is)
+    let heard : drop start (faultless bytes ++ next) ≡ faultless (drop start bytes) = grind (arith, append-nil, drop-heard) in
+    rw heard (miss_end (drop start bytes) start ∙ cut_told (drop start bytes) missing None (start + length (drop start bytes)) start is)
 
 pub cut_damaged : (bytes : List ℕ) (c : Character) (start : ℕ) (missing : Option ℕ) → start ≤ length bytes
     → IsPrefix (drop start bytes) (Cut missing) → Whatever bytes (Damaged c) (HasBodyMiss start (Some (Faulty (length bytes) c.faults)))
 cut_damaged bytes c start missing within is next (valid, more, same) =
-    grind (arith, length-drop start bytes, miss_faulty (drop start bytes) c more start valid, cut_told (drop start bytes) missing (Some c) (start + length (drop start bytes)) start is, drop-heard bytes (c ∷ more) start within)
+    let place : start + length (drop start bytes) ≡ length bytes = omega (arith, length-drop start bytes, within) in
+    let faulty = miss_faulty (drop start bytes) c more start valid ∙ cut_told (drop start bytes) missing (Some c)
+    (start + length (drop start bytes)) start is in
+    rw (same, drop-heard bytes (c ∷ more) start within) (rw place at faulty)
 
 -- what has a miss does not stand alone
 pub not_alone : (bytes : List ℕ) (after : After) (start : ℕ) (miss : Miss) → Whatever bytes after (HasBodyMiss start (Some miss))

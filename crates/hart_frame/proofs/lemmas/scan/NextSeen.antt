@@ -15,10 +15,9 @@ use Rattle.hart_frame.specs.heard.Place.{StandsIn}
 use Rattle.hart_frame.specs.heard.Sighting.{AreSightings, Message, Missed, Seen, SeesOn}
 use Rattle.hart_frame.specs.scan.Sighting.{AfterIsValid, heard_with, is_end}
 use Rattle.hart_frame.specs.private.Sighting.{AreSilent, FollowsTwo, IsAsked, IsMessageAt, IsNextAsked, IsPassed, IsStandingAt, MayFollow}
-use Rattle.hart_frame.specs.private.Sighting.{Whatever}
+use Rattle.hart_frame.specs.private.Sighting.{Whatever, stands_alone}
 use Rattle.hart_frame.specs.scan.View.{found_of}
 use Rattle.hart_frame.specs.declared.scan.view.FoundView.{FoundView}
-use Rattle.hart_frame.specs.private.Sighting.{stands_alone}
 use Rattle.hart_frame.specs.wire.View.{parts_of}
 use Rattle.hart_frame.specs.declared.scan.sighting.Standing.TheVariants as standing
 use Rattle.hart_frame.specs.declared.scan.sighting.Standing.TheVariants.{Nothing, Open}

@@ -1,4 +1,5 @@
 -- The parts that a layout cuts out of bytes are, joined again, the bytes.
+use Rattle.hart_frame.specs.wire.Delimiter.{delimiter_of}
 use Rattle.std.proofs.Common.{◌≡◌, ℕ, ◌+◌, ◌-◌, ◌<◌, ◌≤◌, List, ◌∷◌, ◌++◌, length, take, drop, get_or, arith, length-drop}
 use Rattle.std.proofs.Math.Seq.{take-add}
 use Rattle.std.proofs.lemmas.List.{drop_more, drop-drop, length-take-le}
@@ -42,4 +43,7 @@ length-slice_range xs a b ab within = length-take-le (b - a) (drop a xs) (omega 
 pub IsCheckedPart-in : (bytes : List ℕ) (layout : Layout) (frame : FrameParts) → Describes layout bytes → HasCheckByte bytes
     → StandsByLayout bytes layout frame → IsCheckedPart frame (take (body_length bytes - 1) bytes)
 IsCheckedPart-in bytes layout frame describes whole stands =
-    grind (arith, length-slice_range bytes, cut bytes layout.address_end layout.command_place (layout.command_place + 2 + layout.byte_count))
+    let k = layout.command_place + 2 + layout.byte_count in
+    let delimiter : delimiter_of frame ≡ get_or bytes 0 0 = grind (arith, length-slice_range bytes) in
+    let checked_len : body_length bytes - 1 ≡ k = omega arith in
+    grind (arith, cut bytes layout.address_end layout.command_place k, length-slice_range bytes)

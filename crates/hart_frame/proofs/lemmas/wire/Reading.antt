@@ -48,8 +48,14 @@ module _ (layout : Layout) (xs : List ℕ) (len check : ℕ) (has : HasCheckByte
 
   -- and with one that is refused for its check byte if it is odd
   pub odd_prefix : check ≢ 0 → HasBadCheck xs len (get_or xs (len - 1) 0) (bit_xor check (get_or xs (len - 1) 0))
-  odd_prefix other =
-      grind (arith, fitting, IsCheckByte-fold, get_or-take, get_or_past, length-take, changed check (get_or xs (len - 1) 0) other, are_bytes)
+  odd_prefix other = record {
+    checked = has;
+    whole = omega (arith, same, is.command, is.count);
+    stands = refl;
+    fitting = IsCheckByte-fold (take (len - 1) xs) _ (λ i. grind (arith, get_or-take, get_or_past, length-take, fits i)) fitting;
+    differs = changed check (get_or xs (len - 1) 0) other;
+    are_bytes = are_bytes;
+  }
 
 -- what fits there
 pub fold_fits : (xs : List ℕ) (len byte fits : ℕ) → HasBadCheck xs len byte fits → fits ≡ fold bit_xor 0 (take (len - 1) xs)
@@ -120,4 +126,9 @@ truncated_cut xs (inr (inr (good, early))) =
 pub whole_has : (xs : List ℕ) (layout : Layout) → IsPrefix xs (Whole layout)
     → HasCheckByte xs × (body_length xs ≡ layout_length layout) × (layout_length layout ≤ 267)
 whole_has xs layout (within, is) =
-    grind (arith, take-append-drop (layout_length layout) xs, length_more (take (layout_length layout) xs) (drop (layout_length layout) xs) is.checked.0.0.1, HasGoodByteCount-more (take (layout_length layout) xs) (drop (layout_length layout) xs) is.checked.0)
+    grind (
+      arith,
+      take-append-drop (layout_length layout) xs,
+      length_more (take (layout_length layout) xs) (drop (layout_length layout) xs) is.checked.0.0.1,
+      HasGoodByteCount-more (take (layout_length layout) xs) (drop (layout_length layout) xs) is.checked.0,
+    )

@@ -2,8 +2,7 @@
 use Rattle.std.proofs.Common.{◌≡◌, ℕ, ◌+◌, ◌*◌, ◌<◌, Bool, List, [], ◌∷◌, ◌++◌, fold, bit_xor, length, take, drop, refl, arith}
 use Rattle.std.proofs.Common.{append_assoc, length-append}
 use Rattle.std.proofs.Math.Seq.{drop-append_seam, take-append_seam}
-use Rattle.std.proofs.lemmas.List.{append-nil, length-take-le, take_at, take-append-drop}
-use Rattle.std.proofs.lemmas.List.{get_or_append_left, get_or_at, get_or_past}
+use Rattle.std.proofs.lemmas.List.{append-nil, length-take-le, take_at, take-append-drop, get_or_append_left, get_or_at, get_or_past}
 use Rattle.hart_values.proofs.lemmas.Laws.{address_bytes_are_unambiguous-one_list}
 use Rattle.hart_values.specs.address.AddressBytes.{IsAddressBytes}
 use Rattle.hart_values.specs.declared.address.Address.{Address}
@@ -55,7 +54,8 @@ bodies_are_unambiguous-no_proper_prefix f g bytes rest p q = grind (arith, appen
 pub bodies_are_unambiguous-one_prefix : (f g : FrameParts) (bytes : List ℕ) (m n : ℕ)
     → BeginsWithBody bytes f m → BeginsWithBody bytes g n → (f ≡ g) × (m ≡ n)
 bodies_are_unambiguous-one_prefix f g bytes m n p q =
-    grind (arith, same_bodies f g (take m bytes) (take n bytes) (drop m bytes) (drop n bytes), take-append-drop, length-take-le m bytes, length-take-le n bytes)
+    let same = same_bodies f g (take m bytes) (take n bytes) (drop m bytes) (drop n bytes) in
+    grind (arith, same, take-append-drop, length-take-le m bytes, length-take-le n bytes)
 
 -- the check byte of a body is the exclusive or of the bytes before it
 check_is : (f : FrameParts) (body : List ℕ) (is : IsBody f body) → is.check ≡ fold bit_xor 0 is.checked

@@ -15,11 +15,17 @@ returns-in-Whole-clause-found c =
 
 pub returns-in-Wrong-clause-found : goal.returns-in-Wrong-clause-found
 returns-in-Wrong-clause-found c =
-    grind (arith, front_wrong c.args.heard.now c.args.start 267 c.as_slice.result.now (grind arith) (omega arith) (fits_at _ c.as_slice.ensures.bytes) c.in-Wrong.wrong c.in-Wrong.ensures)
+    grind (
+      arith,
+      front_wrong c.args.heard.now c.args.start 267 c.as_slice.result.now (grind arith) (omega arith) (fits_at _ c.as_slice.ensures.bytes) c.in-Wrong.wrong c.in-Wrong.ensures,
+    )
 
 pub returns-in-Cut-clause-found : goal.returns-in-Cut-clause-found
 returns-in-Cut-clause-found c =
-    grind (arith, front_cut c.args.heard.now c.args.start 267 c.as_slice.result.now (grind arith) (omega arith) (fits_at _ c.as_slice.ensures.bytes) c.in-Cut.missing c.in-Cut.ensures)
+    grind (
+      arith,
+      front_cut c.args.heard.now c.args.start 267 c.as_slice.result.now (grind arith) (omega arith) (fits_at _ c.as_slice.ensures.bytes) c.in-Cut.missing c.in-Cut.ensures,
+    )
 
 pub returns-in-Whole-clause-fit : goal.returns-in-Whole-clause-fit
 returns-in-Whole-clause-fit c =

@@ -7,7 +7,9 @@ use Rattle.hart_frame.proofs.scan.first.first_frame.Goals as goal
 -- the frame that is copied is the first of the rest
 is_first : (c : goal.After-found_at-found) → IsFirst c.found_at-found.result c.in_ok-get.field-0.now 0
 is_first c =
-    grind (arith, first_copied c.in_ok-get.field-0.now c.first_span.new.buffer c.in_ok-span.span c.found_at-found.result c.in_ok-span.ensures c.found_at-found.ensures.frame c.found_at-found.ensures.start c.found_at-found.ensures.stop)
+    let copied = c.found_at-found in
+    first_copied c.in_ok-get.field-0.now c.first_span.new.buffer c.in_ok-span.span copied.result c.in_ok-span.ensures copied.ensures.frame
+    copied.ensures.start copied.ensures.stop
 
 pub returns-in_err-span-clause-first : goal.returns-in_err-span-clause-first
 returns-in_err-span-clause-first c =

@@ -5,7 +5,8 @@ use Rattle.hart_frame.proofs.scan.search.search.Goals as goal
 
 pub loop-start-preserved : goal.loop-start-preserved
 loop-start-preserved c =
-    grind (arith, searching_on c.args.bytes.now c.args.from c.args.seen c.loop-start.place c.loop-start.decided c.in-Some.start c.in-Never.count c.max-decided.result c.loop-start.invariant c.in-Some.ensures c.in-Never.ensures.candidate c.in-Never.ensures.few c.max-decided.ensures)
+    searching_on c.args.bytes.now c.args.from c.args.seen c.loop-start.place c.loop-start.decided c.in-Some.start c.in-Never.count
+    c.max-decided.result c.loop-start.invariant c.in-Some.ensures c.in-Never.ensures.candidate c.in-Never.ensures.few c.max-decided.ensures
 
 pub returns-in-Open : goal.returns-in-Open
 returns-in-Open c =
@@ -24,4 +25,5 @@ returns-in-Whole c =
 
 pub returns : goal.returns
 returns c =
-    grind (arith, drop_all, searched_open c.args.bytes.now c.args.from c.args.seen c.loop-start.place c.loop-start.decided (length c.args.bytes.now))
+    let end = length c.args.bytes.now in
+    grind (arith, drop_all, searched_open c.args.bytes.now c.args.from c.args.seen c.loop-start.place c.loop-start.decided end)

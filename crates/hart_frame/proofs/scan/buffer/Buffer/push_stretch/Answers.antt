@@ -6,7 +6,8 @@ use Rattle.hart_frame.proofs.scan.buffer.Buffer.push_stretch.Goals as goal
 
 pub returns-clause-hears : goal.returns-clause-hears
 returns-clause-hears c =
-    grind (arith, hears_first c.args.self.now c.push.new.self c.peek-layout.new.self c.args.chunk.now c.index-chunk-0.result c.peek-layout.result c.requires.sound c.requires.drained c.requires.some c.index-chunk-0.is c.push.ensures.pushed c.peek-layout.ensures.seen)
+    hears_first c.args.self.now c.push.new.self c.peek-layout.new.self c.args.chunk.now c.index-chunk-0.result c.peek-layout.result
+    c.requires.sound c.requires.drained c.requires.some c.index-chunk-0.is c.push.ensures.pushed c.peek-layout.ensures.seen
 
 pub returns-then-not-is_empty-clause-hears : goal.returns-then-not-is_empty-clause-hears
 returns-then-not-is_empty-clause-hears c =
