@@ -15,17 +15,15 @@ returns-in-Whole-clause-found c =
 
 pub returns-in-Wrong-clause-found : goal.returns-in-Wrong-clause-found
 returns-in-Wrong-clause-found c =
-    grind (
-      arith,
-      front_wrong c.args.heard.now c.args.start 267 c.as_slice.result.now (grind arith) (omega arith) (fits_at _ c.as_slice.ensures.bytes) c.in-Wrong.wrong c.in-Wrong.ensures,
-    )
+    let is = front_wrong c.args.heard.now c.args.start 267 c.as_slice.result.now (grind arith) (omega arith)
+    (fits_at _ c.as_slice.ensures.bytes) c.in-Wrong.wrong c.in-Wrong.ensures in
+    grind (arith, is)
 
 pub returns-in-Cut-clause-found : goal.returns-in-Cut-clause-found
 returns-in-Cut-clause-found c =
-    grind (
-      arith,
-      front_cut c.args.heard.now c.args.start 267 c.as_slice.result.now (grind arith) (omega arith) (fits_at _ c.as_slice.ensures.bytes) c.in-Cut.missing c.in-Cut.ensures,
-    )
+    let is = front_cut c.args.heard.now c.args.start 267 c.as_slice.result.now (grind arith) (omega arith)
+    (fits_at _ c.as_slice.ensures.bytes) c.in-Cut.missing c.in-Cut.ensures in
+    grind (arith, is)
 
 pub returns-in-Whole-clause-fit : goal.returns-in-Whole-clause-fit
 returns-in-Whole-clause-fit c =
