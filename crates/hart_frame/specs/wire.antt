@@ -7,5 +7,4 @@ pub mod Layout
 pub mod Refusal
 pub mod Message
 pub mod FaultNumbers
-pub mod PlainAddress
 pub mod View

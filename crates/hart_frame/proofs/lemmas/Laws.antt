@@ -1,15 +1,12 @@
--- The laws of bodies, of frames, of scanners, of first starts and of damage, for the proofs of this crate and of those above.
-use Rattle.std.proofs.Common.{arith, ◌≡◌, ◌⊎◌, ◌↔◌, ℕ, Bool, IsTrue, List, [], ◌∷◌, ◌++◌, drop, length, map}
+-- The laws of bodies, of frames, of scanners, of starts, of damage and of sightings, for the proofs of this crate and of those above.
+use Rattle.std.proofs.Common.{arith, ◌≡◌, ◌↔◌, ℕ, Bool, IsTrue, List, [], ◌++◌, drop, length, map}
 use Rattle.std.proofs.lemmas.List.{append-nil}
 use Rattle.hart_frame.specs.declared.heard.found.Found.{Found}
 use Rattle.hart_frame.specs.heard.Character.{Character}
-use Rattle.hart_frame.specs.heard.Damage.{IsMarkedDamage}
 use Rattle.hart_frame.specs.heard.Frames.{AreFrames, moved}
 use Rattle.hart_frame.specs.scan.Next.{AreNext}
 use Rattle.hart_frame.specs.scan.Scanner.{Scan}
 use Rattle.hart_frame.specs.scan.Streamed.{IsHistory}
-use Rattle.hart_frame.specs.wire.FrameParts.{FrameParts}
-use Rattle.hart_frame.proofs.lemmas.heard.Damage.{AreFrames-marked}
 use Rattle.hart_frame.proofs.lemmas.heard.Place.{HasNoFrame-end}
 use Rattle.hart_frame.proofs.lemmas.heard.Rest.{rest_frames, rest_only}
 use Rattle.hart_frame.proofs.lemmas.scan.Next.{next_frames}
@@ -25,13 +22,18 @@ pub use Rattle.hart_frame.proofs.lemmas.scan.Scan.{moves_then as scanners_move_p
 pub use Rattle.hart_frame.proofs.lemmas.scan.Stream.{history_next as frames_are_streamed-next, next_rest as next_frames_are_all-rest}
 pub use Rattle.hart_frame.proofs.lemmas.scan.Undecided.{gives_onward as held_frames_are_given-onward}
 pub use Rattle.hart_frame.proofs.lemmas.heard.Damage.{AreFrames-check as damaged_messages_have_no_other_frame-check}
+pub use Rattle.hart_frame.proofs.lemmas.heard.Damage.{AreFrames-marked as damaged_messages_have_no_other_frame-marked}
 pub use Rattle.hart_frame.proofs.lemmas.heard.FramesFound.{AreFrames-found as every_list_has_frames}
 pub use Rattle.hart_frame.proofs.lemmas.heard.Message.{AreFrames-message as messages_have_their_frame_alone-message}
 pub use Rattle.hart_frame.proofs.lemmas.heard.Message.{AreFrames-nothing as messages_have_their_frame_alone-nothing}
-pub use Rattle.hart_frame.proofs.lemmas.heard.Start.{IsFirstStart-one as first_starts_are_decided-one}
+pub use Rattle.hart_frame.proofs.lemmas.heard.Start.{IsFirstStart-one as first_starts_are_decided-one, start_test}
 pub use Rattle.hart_frame.proofs.lemmas.heard.Start.{first_start_decided as first_starts_are_decided-decided}
 pub use Rattle.hart_frame.proofs.lemmas.scan.Stream.{history_all as frames_are_streamed-all, history_length as frames_are_streamed-pushed}
 pub use Rattle.hart_frame.proofs.lemmas.scan.Stream.{history_held as held_characters_have_the_later_frames-held}
+pub use Rattle.hart_frame.proofs.lemmas.scan.SightingLaws.{all as next_sightings_are_all-all, grown as next_sightings_are_all-grown}
+pub use Rattle.hart_frame.proofs.lemmas.scan.SightingLaws.{onward as next_sightings_are_all-onward, rest_all as next_sightings_are_all-rest}
+pub use Rattle.hart_frame.proofs.lemmas.scan.SightingLaws.{one as sightings_are_unambiguous-one, some as sightings_are_unambiguous-some}
+pub use Rattle.hart_frame.proofs.lemmas.scan.SightingLaws.{rest as the_rest_has_the_later_sightings}
 pub use Rattle.hart_frame.proofs.lemmas.wire.UnambiguousBodies.{bodies_are_unambiguous-no_proper_prefix, bodies_are_unambiguous-one_body}
 pub use Rattle.hart_frame.proofs.lemmas.wire.UnambiguousBodies.{bodies_are_unambiguous-one_frame, bodies_are_unambiguous-one_prefix}
 
@@ -51,9 +53,3 @@ next_frames_are_all-all chars ended given next =
     rw append-nil at
     (next_frames chars ended 0 (length chars) given [] next
     (AreFrames.none (length chars) (HasNoFrame-end chars (length chars) (omega arith))))
-
-pub damaged_messages_have_no_other_frame-marked : (frame : FrameParts) (preambles : ℕ) (chars : List Character)
-    (damage : IsMarkedDamage frame preambles chars)
-    → AreFrames chars 0 [] ⊎ AreFrames chars 0 (record { start = damage.left; stop = length chars; frame = frame } ∷ [])
-damaged_messages_have_no_other_frame-marked = AreFrames-marked
-    (record { one_frame = bodies_are_unambiguous-one_frame; no_proper_prefix = bodies_are_unambiguous-no_proper_prefix })

@@ -11,10 +11,6 @@ use Rattle.hart_frame.specs.wire.Parity.{HasEvenParity}
 abbrev pub HasNoTwoPreambles : List Character → Type 0
 HasNoTwoPreambles chars = (prefix rest : List Character) → chars ≡ prefix ++ faultless (255 ∷ 255 ∷ []) ++ rest → ⊥
 
--- What was heard after the delimiter, if so many characters of the preamble were heard before it.
-abbrev pub after_delimiter : ℕ → List Character → List Character
-after_delimiter preambles chars = drop (preambles + 1) chars
-
 -- A character is marked if it has a fault bit, whatever its byte.
 pub record IsMarked (character : Character) : Type 0 where
   pub byte : character.byte < 256
@@ -25,15 +21,20 @@ pub record IsMarked (character : Character) : Type 0 where
 abbrev pub IsHeardOrMarked : ℕ → Character → Type 0
 IsHeardOrMarked byte character = (character ≡ record { byte = byte; faults = 0 }) ⊎ IsMarked character
 
--- Marked damage of a message with so many preamble bytes: any number of the first of these are missing; each byte that is left of
--- the message is heard as it is, or as any marked character; and after the delimiter no two faultless FF are heard in a row.
-pub record IsMarkedDamage (frame : FrameParts) (preambles : ℕ) (chars : List Character) : Type 0 where
+-- Damage of a message with so many preamble bytes: any number of the first of these are missing, what is left of the preamble and a body
+-- are heard in some way, and after the delimiter no two faultless FF are heard in a row.
+pub record IsDamage (frame : FrameParts) (preambles : ℕ) (chars : List Character) (AreHeard : ℕ → List ℕ → Type 0) : Type 0 where
   pub left : ℕ
   pub left_within : left ≤ preambles
   pub body : List ℕ
   pub is_body : IsBody frame body
-  pub heard : AllZip IsHeardOrMarked (replicate left 255 ++ body) chars
-  pub no_two_preambles : HasNoTwoPreambles (after_delimiter left chars)
+  pub heard : AreHeard left body
+  pub no_two_preambles : HasNoTwoPreambles (drop (left + 1) chars)
+
+-- Marked damage: each byte that is left of the message is heard as it is, or as any marked character.
+abbrev pub IsMarkedDamage : FrameParts → ℕ → List Character → Type 0
+IsMarkedDamage frame preambles chars =
+    IsDamage frame preambles chars (λ left body. AllZip IsHeardOrMarked (replicate left 255 ++ body) chars)
 
 -- Bytes replace a body if they are as many, with its delimiter and its byte count; all others may be any bytes.
 pub record Replaces (bytes body : List ℕ) : Type 0 where
@@ -42,16 +43,8 @@ pub record Replaces (bytes body : List ℕ) : Type 0 where
   pub same_byte_count : byte_count_in bytes ≡ byte_count_in body
   pub bytes_fit : All (λ byte. byte < 256) bytes
 
--- Check damage of a message with so many preamble bytes: any number of the first of these are missing; all is heard without faults,
--- but with bytes that replace the body, whose parity is not even, so that their exclusive or is not zero; and after the delimiter
--- no two FF are heard in a row.
-pub record IsCheckDamage (frame : FrameParts) (preambles : ℕ) (chars : List Character) : Type 0 where
-  pub left : ℕ
-  pub left_within : left ≤ preambles
-  pub body : List ℕ
-  pub is_body : IsBody frame body
-  pub bytes : List ℕ
-  pub replaces : Replaces bytes body
-  pub heard : chars ≡ faultless (replicate left 255 ++ bytes)
-  pub parity : HasEvenParity bytes → ⊥
-  pub no_two_preambles : HasNoTwoPreambles (after_delimiter left chars)
+-- Check damage: all is heard without faults, but with bytes that replace the body, whose parity is not even, so that their exclusive or is
+-- not zero.
+abbrev pub IsCheckDamage : FrameParts → ℕ → List Character → Type 0
+IsCheckDamage frame preambles chars = IsDamage frame preambles chars (λ left body. (bytes : List ℕ) × Replaces bytes body
+    × (chars ≡ faultless (replicate left 255 ++ bytes)) × (HasEvenParity bytes → ⊥))

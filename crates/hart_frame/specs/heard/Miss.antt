@@ -21,19 +21,13 @@ is_delimiter byte = (byte / 8 % 4 == 0) && ((byte % 8 == 2) || (byte % 8 == 6))
 abbrev pub delimiter_miss : ℕ → Miss
 delimiter_miss byte = if is_burst_delimiter byte then Burst else BadDelimiter byte
 
--- The byte that would fit as the check byte is the exclusive or of the bytes before it.
-abbrev pub fitting_check_byte : List ℕ → ℕ
-fitting_check_byte bytes = fold bit_xor 0 (take (body_length bytes - 1) bytes)
-
--- The byte that stands in the place of the check byte.
-abbrev pub check_byte_in : List ℕ → ℕ
-check_byte_in bytes = slice_index bytes (body_length bytes - 1)
-
--- Why the check byte does not fit, if it does not: its place, itself, and the byte that would fit there.
+-- Why the check byte does not fit, if it does not: its place, itself, and the byte that would fit there, which is the exclusive or of the
+-- bytes before it.
 abbrev pub check_miss : List ℕ → ℕ → Option Miss
 check_miss bytes start =
-    if check_byte_in bytes == fitting_check_byte bytes then None
-    else Some (BadCheck (start + (body_length bytes - 1)) (check_byte_in bytes) (fitting_check_byte bytes))
+    let last = body_length bytes - 1 in
+    let fits = fold bit_xor 0 (take last bytes) in
+    if slice_index bytes last == fits then None else Some (BadCheck (start + last) (slice_index bytes last) fits)
 
 -- Where the faultless bytes stop too early, the reason is the character with fault bits at that place, if there is one; otherwise it
 -- is the one for the end of the list.

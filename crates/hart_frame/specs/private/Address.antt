@@ -1,7 +1,15 @@
--- The range of the numbers of an address in a view (HCF_SPEC-081).
+-- The address of a view, by its numbers (HCF_SPEC-081).
 use Rattle.std.specs.Prelude.{ℕ, ◌<◌, ◌^◌}
+use Rattle.hart_values.specs.declared.address.Address.{Address}
+use Rattle.hart_values.specs.declared.address.Address.TheVariants.{Polling as PollingAddress, Unique as UniqueAddress}
 use Rattle.hart_frame.specs.declared.wire.plain_address.PlainAddress.{PlainAddress}
 use Rattle.hart_frame.specs.declared.wire.plain_address.PlainAddress.TheVariants.{Polling, Unique}
+
+-- The address that has these numbers.
+abbrev pub address_of : PlainAddress → Address
+address_of (Polling number) = PollingAddress number
+address_of (Unique expanded_type device_id) =
+    UniqueAddress (record { expanded_type = expanded_type; device_id = device_id })
 
 -- The number of a polling address, 0 if it is none.
 abbrev pub polling_number : PlainAddress → ℕ

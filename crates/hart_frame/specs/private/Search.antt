@@ -1,5 +1,6 @@
 -- What a search finds of frames in faultless bytes (own profile).
-use Rattle.std.specs.Prelude.{◌≡◌, ◌≢◌, ℕ, Bool, false, IsTrue, ◌+◌, ◌<◌, ◌≤◌, ◌⊎◌, List, ◌++◌, MatchOption, length, slice_index, take, drop}
+use Rattle.std.specs.Prelude.{◌≡◌, ◌≢◌, ℕ, Bool, false, IsTrue, ◌+◌, ◌<◌, ◌≤◌, ◌⊎◌, List, ◌++◌, MatchOption, length, slice_index, take}
+use Rattle.std.specs.Prelude.{drop}
 use Rattle.hart_frame.specs.heard.Character.{Character, faultless}
 use Rattle.hart_frame.specs.private.Candidate.{BeginWithNone, IsWhole, MayBegin, NeverBegin, NothingFollows}
 use Rattle.hart_frame.specs.declared.scan.search.Sighting.{Sighting}

@@ -1,5 +1,5 @@
 -- What stands next in bytes, and what is passed before it (own profile).
-use Rattle.std.specs.Prelude.{◌≡◌, ◌≢◌, ◌<◌, ◌≤◌, ◌+◌, ◌-◌, ◌&&◌, ◌⊎◌, not, ℕ, Bool, IsTrue, true, false, List, [], ◌++◌, Option}
+use Rattle.std.specs.Prelude.{◌≡◌, ◌≢◌, ◌<◌, ◌≤◌, ◌+◌, ◌-◌, ◌&&◌, ◌⊎◌, not, ℕ, Bool, true, false, ⊤, List, [], ◌∷◌, ◌++◌, Option}
 use Rattle.std.specs.Prelude.{None, Some, drop, is_none, length, slice_index}
 use Rattle.hart_frame.specs.heard.Character.{Character, faultless}
 use Rattle.hart_frame.specs.heard.Miss.{body_miss}
@@ -15,13 +15,12 @@ use Rattle.hart_frame.specs.declared.heard.miss.Miss.{Miss}
 use Rattle.hart_frame.specs.declared.heard.miss.Miss.TheVariants.{OnePreamble}
 use Rattle.hart_frame.specs.declared.scan.sighting.After.{After}
 use Rattle.hart_frame.specs.declared.scan.sighting.After.TheVariants.{Damaged, End, More}
-use Rattle.hart_frame.specs.declared.scan.sighting.Sighting.{Sighting}
-use Rattle.hart_frame.specs.declared.scan.sighting.Sighting.TheVariants as given
 use Rattle.hart_frame.specs.declared.scan.sighting.Standing.{Standing}
 use Rattle.hart_frame.specs.declared.scan.sighting.Standing.TheVariants as standing
 use Rattle.hart_frame.specs.declared.scan.sighting.Standing.TheVariants.{Nothing, Open}
 use Rattle.hart_frame.specs.declared.wire.prefix.Prefix.TheVariants.{Whole}
-use Rattle.hart_frame.specs.scan.Sighting.{NamesPlacesBelow, heard_with, is_end}
+use Rattle.hart_frame.specs.declared.scan.view.FoundView.{FoundView}
+use Rattle.hart_frame.specs.scan.Sighting.{NamesPlacesBelow, heard_with}
 
 -- A preamble byte stands right before a place that lies after another, and at it another byte, or a character with fault bits.
 pub record IsAsked (bytes : List ℕ) (after : After) (from place : ℕ) : Type 0 where
@@ -37,9 +36,15 @@ IsNextAsked bytes after from None = (place : ℕ) → IsAsked bytes after from p
 IsNextAsked bytes after from (Some next) =
     IsAsked bytes after from next × ((place : ℕ) → IsAsked bytes after from place → next ≤ place)
 
--- Whatever comes after bytes and what follows them, this holds of all characters. If they ended, nothing comes.
+-- What may follow bytes: anything if more may come, the character with fault bits first if one is known to come, or nothing.
+abbrev pub MayFollow : After → List Character → Type 0
+MayFollow More next = ⊤
+MayFollow (Damaged character) next = (character.faults ≢ 0) × (more : List Character) × (next ≡ character ∷ more)
+MayFollow End next = next ≡ []
+
+-- Whatever follows bytes, this holds of all characters.
 abbrev pub Whatever : List ℕ → After → (List Character → Type 0) → Type 0
-Whatever bytes after holds = (more : List Character) → (IsTrue (is_end after) → more ≡ []) → holds (heard_with bytes after ++ more)
+Whatever bytes after holds = (next : List Character) → MayFollow after next → holds (faultless bytes ++ next)
 
 -- What begins at a place of some characters has this miss, or is a whole body.
 abbrev pub HasBodyMiss : ℕ → Option Miss → List Character → Type 0
@@ -93,11 +98,12 @@ IsStandingAt bytes after from start standing =
     ⊎ ((FollowsTwo bytes from start → ⊥) × IsAfterOne bytes after start standing)
 
 -- A message starts at a place and stops at another, and the body between them is that of its frame.
-abbrev pub IsMessageAt : List ℕ → ℕ → ℕ → Sighting → Type 0
-IsMessageAt bytes start stop (given.Message view) =
-    (view.start ≡ start) × (view.stop ≡ stop) × (start < stop) × (stop ≤ length bytes)
-    × IsBody (parts_of view.frame) (slice_range bytes start stop)
-IsMessageAt bytes start stop (given.Missed place miss) = ⊥
+pub record IsMessageAt (bytes : List ℕ) (start stop : ℕ) (view : FoundView) : Type 0 where
+  pub start_is : view.start ≡ start
+  pub stop_is : view.stop ≡ stop
+  pub order : start < stop
+  pub within : stop ≤ length bytes
+  pub body : IsBody (parts_of view.frame) (slice_range bytes start stop)
 
 -- The list is used up to a place after another: to its end, or to the last preamble bytes, two at most.
 abbrev pub IsUsed : List ℕ → ℕ → ℕ → Type 0

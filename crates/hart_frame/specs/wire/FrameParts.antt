@@ -35,12 +35,4 @@ request_parts master address command payload = record {
 -- A reply to a frame is an ACK with its master bit, its address and its command, with the burst bit clear and no
 -- expansion bytes.
 abbrev pub reply_parts : FrameParts → List ℕ → FrameParts
-reply_parts frame payload = record {
-  kind = Ack;
-  master = frame.master;
-  burst = false;
-  address = frame.address;
-  expansion = [];
-  command = frame.command;
-  payload = payload;
-}
+reply_parts frame payload = record (request_parts frame.master frame.address frame.command payload) { kind = Ack }

@@ -2,13 +2,11 @@
 ghost use Rattle.std.specs.Prelude.{◌≡◌, ◌≢◌, ◌+◌, ◌^◌, ◌<◌, ◌≤◌, ◌⊎◌, ◌↔◌, ℕ, List, [], ◌∷◌, ◌++◌, None, Some, length, drop, insert, set};
 ghost use Rattle.std.specs.Prelude.{All, IsSome, MatchOption, slice_get};
 ghost use Rattle.hart_frame.specs.heard.Character.{Character, faultless, faultless_bytes};
-ghost use Rattle.hart_frame.specs.heard.InTheWay.{FollowsOnePreamble, HasBodyAt, IsInTheWay, IsMiss, bytes_from};
+ghost use Rattle.hart_frame.specs.heard.InTheWay.{FollowsOnePreamble, HasBodyAt, IsInTheWay, IsMiss, bytes_from, fault_of};
 ghost use Rattle.hart_frame.specs.private.Miss.{IsOfBytes, cut_miss, wrong_miss};
 ghost use Rattle.hart_frame.specs.private.Prefix.{shown_by};
 ghost use Rattle.hart_frame.specs.heard.Place.{HasFrameAt, HasFrameUpTo};
-ghost use Rattle.hart_frame.specs.heard.Miss.{body_miss, delimiter_miss, faulty_or};
-ghost use Rattle.hart_frame.specs.heard.InTheWay.{fault_of};
-ghost use Rattle.hart_frame.specs.heard.Miss.{follows_one_preamble, follows_preamble, miss_of};
+ghost use Rattle.hart_frame.specs.heard.Miss.{body_miss, delimiter_miss, faulty_or, follows_one_preamble, follows_preamble, miss_of};
 ghost use Rattle.hart_frame.specs.heard.Start.{IsStart};
 ghost use Rattle.hart_frame.specs.wire.Parity.{IsCheckByte};
 ghost use Rattle.hart_frame.specs.wire.Refusal.{IsRefusedWith};

@@ -1,18 +1,17 @@
 //! The next message in bytes that were heard, or the next place at which one seems to start and none stands.
-ghost use Rattle.std.specs.Prelude.{None, Some, ◌≡◌, ◌↔◌, ◌<◌, ◌≤◌, ◌+◌, ◌-◌, ◌^◌, ◌++◌, [], ℕ, Bool, List, false, IfSome, IsSome};
+ghost use Rattle.std.specs.Prelude.{None, Some, ◌≡◌, ◌↔◌, ◌<◌, ◌≤◌, ◌+◌, ◌-◌, ◌^◌, ◌++◌, [], ℕ, Bool, List, false, IfSome};
 ghost use Rattle.std.specs.Prelude.{IsTrue, drop, length, map, take};
 ghost use Rattle.hart_frame.specs.heard.Character.{Character, faultless};
 ghost use Rattle.hart_frame.specs.heard.Sighting.{AreSightings, IsUndecidedSighting, Seen, SeesOn, has_two_preambles, moved_seen};
 ghost use Rattle.hart_frame.specs.private.Prefix.{IsPrefix, IsWholeBody};
-ghost use Rattle.hart_frame.specs.scan.Sighting.{AfterIsValid, EndsAt};
-ghost use Rattle.hart_frame.specs.private.Sighting.{HasBodyMiss, IsAfterOne, IsAfterTwo, IsAsked, IsNextAsked};
-ghost use Rattle.hart_frame.specs.private.Sighting.{IsMessageAt, IsPassed, IsStandingAt, LacksOnePreamble, MayStandAlone};
-ghost use Rattle.hart_frame.specs.private.Sighting.{Whatever, stands_alone};
-ghost use Rattle.hart_frame.specs.scan.Sighting.{heard_with, is_end, sightings_of};
+ghost use Rattle.hart_frame.specs.scan.Sighting.{AfterIsValid, EndsAt, heard_with, is_end, sightings_of};
+ghost use Rattle.hart_frame.specs.private.Sighting.{HasBodyMiss, IsAfterOne, IsAfterTwo, IsAsked, IsNextAsked, IsMessageAt, IsPassed};
+ghost use Rattle.hart_frame.specs.private.Sighting.{IsStandingAt, LacksOnePreamble, MayStandAlone, Whatever, stands_alone};
 ghost use Rattle.hart_frame.specs.wire.Layout.{body_length};
 ghost use Rattle.hart_frame.specs.private.Layout.{layout_length};
 ghost use Rattle.hart_frame.specs.declared.scan.sighting.After.TheVariants.{More};
-ghost use Rattle.hart_frame.specs.declared.scan.sighting.Sighting.TheVariants.{Missed};
+ghost use Rattle.hart_frame.specs.declared.scan.sighting.Sighting.TheVariants.{Message, Missed};
+ghost use Rattle.hart_frame.specs.declared.scan.view.FoundView.{FoundView};
 ghost use Rattle.hart_frame.specs.declared.wire.prefix.Prefix.TheVariants.{Cut};
 
 use crate::heard::miss::{cut_miss, wrong_miss};
@@ -115,8 +114,7 @@ fn message_at(bytes: &[u8], start: usize, layout: Layout) -> NextSighting<'_>
     requires places { length bytes.now < 2 ^ 64 - 1 }
     requires within { layout_length layout ≤ length (drop start bytes.now) }
     requires whole { IsWholeBody layout (take (layout_length layout) (drop start bytes.now)) }
-    ensures message { IfSome result.sighting (IsMessageAt bytes.now start result.used) }
-    ensures some { IsSome result.sighting }
+    ensures message { (view : FoundView) × (result.sighting ≡ Some (Message view)) × IsMessageAt bytes.now start result.used view }
     ensures used { result.used ≡ start + layout_length layout }
 {
     let stop = start + layout.body_len();
@@ -146,7 +144,6 @@ pub(crate) enum Standing {
 /// Returns what stands at `start`.
 fn standing_at(bytes: &[u8], after: &After, from: usize, start: usize) -> Standing
     requires asked { IsAsked bytes.now after.now from start }
-    requires valid { AfterIsValid after.now }
     requires places { length bytes.now < 2 ^ 64 - 1 }
     ensures { IsStandingAt bytes.now after.now from start result }
 {
@@ -160,7 +157,6 @@ fn standing_at(bytes: &[u8], after: &After, from: usize, start: usize) -> Standi
 fn after_two(bytes: &[u8], after: &After, start: usize) -> Standing
     requires two { 2 ≤ start }
     requires within { start ≤ length bytes.now }
-    requires valid { AfterIsValid after.now }
     requires places { length bytes.now < 2 ^ 64 - 1 }
     ensures { IsAfterTwo bytes.now after.now start result }
 {
@@ -183,7 +179,6 @@ fn after_two(bytes: &[u8], after: &After, start: usize) -> Standing
 fn after_one(bytes: &[u8], after: &After, start: usize) -> Standing
     requires one { 1 ≤ start }
     requires within { start ≤ length bytes.now }
-    requires valid { AfterIsValid after.now }
     requires places { length bytes.now < 2 ^ 64 - 1 }
     ensures { IsAfterOne bytes.now after.now start result }
 {
@@ -209,7 +204,6 @@ fn lone_body(bytes: &[u8], after: &After, start: usize, stop: usize) -> Standing
     requires body { body_length (drop start bytes.now) ≡ stop - start }
     requires long { stop ≤ start + 267 }
     requires whole { Whatever bytes.now after.now (HasBodyMiss start None) }
-    requires valid { AfterIsValid after.now }
     requires places { length bytes.now < 2 ^ 64 - 1 }
     ensures { IsAfterOne bytes.now after.now start result }
 {

@@ -1,7 +1,6 @@
 //! Addresses in a view, which may hold no value with a model of its own.
 ghost use Rattle.std.specs.Prelude.{◌≡◌};
-ghost use Rattle.hart_frame.specs.wire.PlainAddress.{address_of};
-ghost use Rattle.hart_frame.specs.private.Address.{IsInRange};
+ghost use Rattle.hart_frame.specs.private.Address.{IsInRange, address_of};
 
 use hart_values::Address;
 

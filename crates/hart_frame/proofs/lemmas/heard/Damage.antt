@@ -7,7 +7,7 @@ use Rattle.std.proofs.lemmas.Slice.Zip.{AllZip-long}
 use Rattle.std.specs.List.{AllZip}
 use Rattle.hart_frame.specs.declared.heard.found.Found.{Found}
 use Rattle.hart_frame.specs.heard.Character.{Character, faultless}
-use Rattle.hart_frame.specs.heard.Damage.{HasNoTwoPreambles, IsCheckDamage, IsHeardOrMarked, IsMarkedDamage, after_delimiter}
+use Rattle.hart_frame.specs.heard.Damage.{HasNoTwoPreambles, IsCheckDamage, IsHeardOrMarked, IsMarkedDamage}
 use Rattle.hart_frame.specs.heard.Frames.{AreFrames, none, first}
 use Rattle.hart_frame.specs.heard.Place.{StandsIn}
 use Rattle.hart_frame.specs.wire.Body.{IsBody}
@@ -18,7 +18,8 @@ use Rattle.hart_frame.proofs.lemmas.heard.Body.{head_of}
 use Rattle.hart_frame.proofs.lemmas.heard.FramesFound.{AreFrames-found}
 use Rattle.hart_frame.proofs.lemmas.heard.Place.{HasNoFrame-end}
 use Rattle.hart_frame.proofs.lemmas.wire.Refusal.{Says, says}
-use Rattle.hart_frame.proofs.lemmas.wire.UnambiguousBodies.{BeginsWithBody-append}
+use Rattle.hart_frame.proofs.lemmas.wire.UnambiguousBodies.{BeginsWithBody-append, bodies_are_unambiguous-no_proper_prefix}
+use Rattle.hart_frame.proofs.lemmas.wire.UnambiguousBodies.{bodies_are_unambiguous-one_frame}
 
 -- a faultless character
 abbrev pub clear : ℕ → Character
@@ -67,7 +68,7 @@ stood left body chars found from delimiter heard stands =
 
 -- so it starts at the delimiter if no two preamble bytes are heard after that
 stands_there : (left : ℕ) (body : List ℕ) (chars : List Character) (found : Found) (from : ℕ) → delimiter_in body ≢ 255
-    → AllZip IsHeardOrMarked (replicate left 255 ++ body) chars → HasNoTwoPreambles (after_delimiter left chars)
+    → AllZip IsHeardOrMarked (replicate left 255 ++ body) chars → HasNoTwoPreambles (drop (left + 1) chars)
     → (stands : StandsIn found chars from) → (rest : List ℕ) × (length stands.prefix + 2 ≡ left) × (body ≡ stands.body ++ rest)
 stands_there left body chars found from delimiter heard no_two_preambles stands =
     let none = no_two_preambles (drop (left + 1) stands.prefix) (faultless stands.body ++ stands.rest) in
@@ -75,25 +76,20 @@ stands_there left body chars found from delimiter heard no_two_preambles stands 
     grind (arith, common_steps, stands.split, drop-append-le, append_assoc)
 
 -- MARKED DAMAGE
--- what keeps bodies unambiguous
-pub record BodyLaws : Type 0 where
-  pub one_frame : (f g : FrameParts) (bytes : List ℕ) → IsBody f bytes → IsBody g bytes → f ≡ g
-  pub no_proper_prefix : (f g : FrameParts) (bytes rest : List ℕ) → IsBody f bytes → IsBody g (bytes ++ rest) → rest ≡ []
-
 -- the message's own frame, in its place
 abbrev own : FrameParts → ℕ → List Character → Found
 own frame left chars = record { start = left; stop = length chars; frame = frame }
 
 -- a frame that stands there is the message's own
-marked_own : BodyLaws → (frame : FrameParts) (preambles : ℕ) (chars : List Character) (damage : IsMarkedDamage frame preambles chars)
+marked_own : (frame : FrameParts) (preambles : ℕ) (chars : List Character) (damage : IsMarkedDamage frame preambles chars)
     → (found : Found) (from : ℕ) → StandsIn found chars from → found ≡ own frame damage.left chars
-marked_own laws frame preambles chars damage found from stands =
+marked_own frame preambles chars damage found from stands =
     let (others, begins, low) = head_of frame damage.body damage.is_body in
     let (rest, start, same) =
     stands_there damage.left damage.body chars found from (grind arith) damage.heard damage.no_two_preambles stands in
-    let whole : rest ≡ [] = grind (arith, laws.no_proper_prefix found.frame frame stands.body rest) in
+    let whole : rest ≡ [] = grind (arith, bodies_are_unambiguous-no_proper_prefix found.frame frame stands.body rest) in
     let long = AllZip-long IsHeardOrMarked (replicate damage.left 255 ++ damage.body) chars damage.heard in
-    grind (arith, laws.one_frame found.frame frame stands.body, append-nil, length-append, length-replicate)
+    grind (arith, bodies_are_unambiguous-one_frame found.frame frame stands.body, append-nil, length-append, length-replicate)
 
 -- if each frame that stands is one that ends the list, the list has none or that one alone
 none_or_own : (chars : List Character) (from : ℕ) (one : Found) → ((found : Found) → StandsIn found chars from → found ≡ one)
@@ -103,13 +99,13 @@ none_or_own chars from one alone end frames (none place empty) = inl (none place
 none_or_own chars from one alone end frames (first place found later is_first others) =
     inr (first place one [] (rw (alone found is_first.stands) at is_first) (none one.stop (HasNoFrame-end chars one.stop end)))
 
-pub AreFrames-marked : BodyLaws → (frame : FrameParts) (preambles : ℕ) (chars : List Character)
-    → (damage : IsMarkedDamage frame preambles chars)
+pub AreFrames-marked : (frame : FrameParts) (preambles : ℕ) (chars : List Character)
+    (damage : IsMarkedDamage frame preambles chars)
     → AreFrames chars 0 [] ⊎ AreFrames chars 0 (own frame damage.left chars ∷ [])
-AreFrames-marked laws frame preambles chars damage =
+AreFrames-marked frame preambles chars damage =
     let found = AreFrames-found chars 0 in
     none_or_own chars 0 (own frame damage.left chars)
-    (λ other stands. marked_own laws frame preambles chars damage other 0 stands) (omega arith) found.0 found.1
+    (λ other stands. marked_own frame preambles chars damage other 0 stands) (omega arith) found.0 found.1
 
 -- CHECK DAMAGE
 -- a body gives its delimiter and its length
@@ -121,8 +117,9 @@ pub AreFrames-check : (frame : FrameParts) (preambles : ℕ) (chars : List Chara
     → AreFrames chars 0 []
 AreFrames-check frame preambles chars damage = none 0 (λ found stands.
     let (others, begins, low) = head_of frame damage.body damage.is_body in
+    let (bytes, replaces, all, odd) = damage.heard in
     let (rest, start, same) =
-    stands_there damage.left damage.bytes chars found 0 (grind arith) (grind (arith, heard_faultless)) damage.no_two_preambles stands in
+    stands_there damage.left bytes chars found 0 (grind arith) (grind (arith, heard_faultless)) damage.no_two_preambles stands in
     let sent = says_of frame damage.body damage.is_body in
     let said = says (stands.body ++ rest) found.frame (length stands.body)
     (BeginsWithBody-append found.frame stands.body rest stands.is_body) in

@@ -1,19 +1,16 @@
 -- The frames of a delivery, by the first of them.
-use Rattle.std.proofs.Common.{arith, ◌≡◌, ℕ, List, [], ◌∷◌}
+use Rattle.std.proofs.Common.{arith, ◌≡◌, List, [], ◌∷◌}
 use Rattle.hart_frame.specs.declared.scan.first.LoneFrame.{LoneFrame}
 use Rattle.hart_frame.specs.declared.heard.found.Found.{Found}
 use Rattle.hart_frame.specs.heard.Character.{Character}
 use Rattle.hart_frame.specs.heard.Delivery.{IsLone, lone_of}
 use Rattle.hart_frame.specs.heard.Frames.{AreFrames, HasNoFrame, IsFirst, none, first}
-
--- a list of characters has one list of frames
-abbrev pub OneList : Type 0
-OneList = (chars : List Character) (from : ℕ) (xs ys : List Found) → AreFrames chars from xs → AreFrames chars from ys → xs ≡ ys
+use Rattle.hart_frame.proofs.lemmas.heard.UnambiguousFrames.{AreFrames-one}
 
 -- what is said of some frames is said of all that a delivery has
-pub only_said : OneList → (delivery : List Character) (said : LoneFrame) → IsLone delivery said
+pub only_said : (delivery : List Character) (said : LoneFrame) → IsLone delivery said
     → (frames : List Found) → AreFrames delivery 0 frames → said ≡ lone_of frames
-only_said one_list delivery said are frames others = grind arith
+only_said delivery said are frames others = grind (arith, AreFrames-one)
 
 pub no_frame : (delivery : List Character) → HasNoFrame delivery 0 → AreFrames delivery 0 []
 no_frame delivery no_first = none 0 no_first

@@ -1,21 +1,19 @@
 -- The request that shows what damage is.
-use Rattle.std.proofs.Common.{◌⊎◌, ◌≡◌, ℕ, ◌<◌, inl, List, [], ◌∷◌, ◌++◌, length, drop, replicate, refl, ap, ◌∙◌, arith}
-use Rattle.std.proofs.Common.{length-append, subst}
+use Rattle.std.proofs.Common.{◌⊎◌, ◌≡◌, ℕ, ◌<◌, inl, List, [], ◌∷◌, ◌++◌, length, drop, replicate, refl, ap, arith, length-append, subst}
 use Rattle.std.proofs.lemmas.List.{drop_at, length-replicate}
 use Rattle.std.proofs.lemmas.List.Elements.{All-from_recursion}
 use Rattle.std.proofs.lemmas.Slice.Zip.{AllZip-long}
 use Rattle.std.specs.Int.{bit_at}
 use Rattle.std.specs.List.{AllByRecursion}
 use Rattle.hart_frame.specs.heard.Character.{Character, IsFaultBit, faultless}
-use Rattle.hart_frame.specs.heard.Damage.{HasNoTwoPreambles, IsCheckDamage, IsHeardOrMarked, IsMarkedDamage, after_delimiter}
+use Rattle.hart_frame.specs.heard.Damage.{HasNoTwoPreambles, IsCheckDamage, IsHeardOrMarked, IsMarkedDamage}
 use Rattle.hart_frame.specs.heard.DamageExamples.{faulty_address, identity_request, other_address, other_request, preamble_in_body}
 use Rattle.hart_frame.specs.wire.Body.{IsBody}
-use Rattle.hart_frame.specs.wire.FrameParts.{FrameParts}
 use Rattle.hart_frame.specs.wire.Parity.{HasEvenParity}
 use Rattle.hart_frame.proofs.lemmas.heard.Body.{faultless-one}
-use Rattle.hart_frame.proofs.lemmas.heard.Damage.{clear_is}
 use Rattle.hart_frame.proofs.lemmas.heard.Place.{preamble}
 use Rattle.hart_frame.proofs.lemmas.wire.Body.{IsBody-push}
+use Rattle.hart_frame.proofs.lemmas.wire.UnambiguousBodies.{bodies_are_unambiguous-one_body}
 use Rattle.hart_frame.proofs.lemmas.wire.Parity.{IsCheckByte-fold, even-check, fits_at}
 
 -- the body that is sent
@@ -71,41 +69,34 @@ other_is_check = record {
   left_within = omega arith;
   body = request_body;
   is_body = request_is;
-  bytes = other_bytes 130;
-  replaces = let fits = All-from_recursion IsByte (other_bytes 130) (grind arith) in grind arith;
-  heard = refl;
-  parity = λ even. omega (arith, even.even 0 (omega arith));
+  heard =
+      let fits = All-from_recursion IsByte (other_bytes 130) (grind arith) in
+      (other_bytes 130, grind arith, refl, λ even. omega (arith, even.even 0 (omega arith)));
   no_two_preambles = none_in_row _ (grind arith);
 }
 
--- a frame has one body
-abbrev pub OneBody : Type 0
-OneBody = (f : FrameParts) (bytes others : List ℕ) → IsBody f bytes → IsBody f others → bytes ≡ others
+pub other_is_not_marked : IsMarkedDamage identity_request 5 other_address → ⊥
+other_is_not_marked damage = grind (arith, AllZip-long, length-append, length-replicate)
 
-pub other_is_not_marked : OneBody → IsMarkedDamage identity_request 5 other_address → ⊥
-other_is_not_marked one_body damage = grind (arith, request_is, AllZip-long, length-append, length-replicate, clear_is)
-
--- of what is as long as these two preamble bytes are left
-two_left : OneBody → (row : List ℕ) → length row ≡ 7 → (damage : IsCheckDamage identity_request 5 (faultless row)) → damage.left ≡ 2
-two_left one_body row seven damage =
+-- of what is as long as these two preamble bytes are left, and then come the bytes
+after_two : (row : List ℕ) → length row ≡ 7 → (damage : IsCheckDamage identity_request 5 (faultless row))
+    → (damage.left ≡ 2) × (drop 2 row ≡ damage.heard.0)
+after_two row seven damage =
+    let (bytes, replaces, all, odd) = damage.heard in
     let prefix : List ℕ = replicate damage.left 255 in
-    let same : row ≡ prefix ++ damage.bytes = faultless-one row (prefix ++ damage.bytes) damage.heard in
-    grind (arith, length-replicate, request_is, length-append)
+    let same : row ≡ prefix ++ bytes = faultless-one row (prefix ++ bytes) all in
+    grind (arith, bodies_are_unambiguous-one_body, length-replicate, request_is, length-append, drop_at)
 
-pub request_is_not_check : OneBody → IsCheckDamage identity_request 5 other_request → ⊥
-request_is_not_check one_body damage =
-    let row : List ℕ = 255 ∷ 255 ∷ other_bytes 131 in
-    let prefix : List ℕ = replicate damage.left 255 in
-    let two : length prefix ≡ 2 = length-replicate damage.left 255 ∙ two_left one_body row refl damage in
-    let bytes : other_bytes 131 ≡ damage.bytes =
-    ap (drop 2) (faultless-one row (prefix ++ damage.bytes) damage.heard) ∙ drop_at prefix damage.bytes 2 two in
+pub request_is_not_check : IsCheckDamage identity_request 5 other_request → ⊥
+request_is_not_check damage =
+    let bytes = (after_two (255 ∷ 255 ∷ other_bytes 131) refl damage).1 in
     let fits = fits_at (other_bytes 131) (All-from_recursion IsByte (other_bytes 131) (grind arith)) in
     let check = IsCheckByte-fold (other_bytes 131) 0 fits refl in
-    damage.parity (subst HasEvenParity bytes (even-check (other_bytes 131) check))
+    let (own, replaces, all, odd) = damage.heard in
+    odd (subst HasEvenParity bytes (even-check (other_bytes 131) check))
 
-pub preamble_is_not_check : OneBody → IsCheckDamage identity_request 5 preamble_in_body → ⊥
-preamble_is_not_check one_body damage =
+pub preamble_is_not_check : IsCheckDamage identity_request 5 preamble_in_body → ⊥
+preamble_is_not_check damage =
     let row : List ℕ = 255 ∷ 255 ∷ 2 ∷ 255 ∷ 255 ∷ 0 ∷ 130 ∷ [] in
-    let after : after_delimiter damage.left (faultless row) ≡ faultless (255 ∷ 255 ∷ 0 ∷ 130 ∷ []) =
-    ap (λ (n : ℕ). after_delimiter n (faultless row)) (two_left one_body row refl damage) in
-    damage.no_two_preambles [] (faultless (0 ∷ 130 ∷ [])) after
+    let two = (after_two row refl damage).0 in
+    damage.no_two_preambles [] (faultless (0 ∷ 130 ∷ [])) (rw two refl)

@@ -7,8 +7,7 @@ use Rattle.hart_frame.specs.declared.heard.found.Found.{Found}
 use Rattle.hart_frame.specs.heard.Character.{Character, faultless, faultless_bytes}
 use Rattle.hart_frame.specs.heard.Frames.{none, first, AreFrames, IsFirst}
 use Rattle.hart_frame.specs.heard.InTheWay.{bytes_from, HasBodyAt}
-use Rattle.hart_frame.specs.heard.Place.{HasFrameAt, HasFrameUpTo}
-use Rattle.hart_frame.specs.heard.Place.{StandsIn}
+use Rattle.hart_frame.specs.heard.Place.{HasFrameAt, HasFrameUpTo, StandsIn}
 use Rattle.hart_frame.specs.heard.Start.{IsStart}
 use Rattle.hart_frame.specs.wire.Body.{IsBody, BeginsWithBody}
 use Rattle.hart_frame.specs.wire.FrameParts.{FrameParts}
@@ -82,8 +81,7 @@ body_of chars found from stands = record {
 
 pub start_of : (chars : List Character) (found : Found) (from : ℕ) → StandsIn found chars from → IsStart found.start chars
 start_of chars found from stands =
-    let (others, begins, low) = head_of found.frame stands.body stands.is_body in
-    let parts = parts_of chars found from stands in grind (arith, common_steps, append_assoc, preamble)
+    grind (arith, common_steps, head_of found.frame stands.body stands.is_body, parts_of chars found from stands, append_assoc)
 
 -- whether a frame starts at a place
 frame_decided : (chars : List Character) (start : ℕ) → HasFrameAt chars start ⊎ (HasFrameAt chars start → ⊥)

@@ -3,7 +3,7 @@ use Rattle.std.proofs.Common.{◌≡◌, ◌≢◌, ℕ, fold, bit_xor, ◌+◌,
 use Rattle.std.proofs.Common.{set, true, ap, inl, inr, sym, ◌∙◌, None, Option, Some, refl, arith, append_assoc, length-append, ◌↔◌}
 use Rattle.std.proofs.lemmas.Bool.Decides.{nat_tests}
 use Rattle.std.proofs.lemmas.Grind.{common_steps}
-use Rattle.std.proofs.lemmas.List.{length-set, drop_all, length-drop, take_at, append-nil, drop_more, get_or-set_same, length-take-le}
+use Rattle.std.proofs.lemmas.List.{length-set, drop_all, length-drop, append-nil, drop_more, get_or-set_same, length-take-le}
 use Rattle.std.proofs.lemmas.List.{map-append, set_at, take-append-drop, take-take, take_more}
 use Rattle.std.proofs.lemmas.List.Elements.{All-append, All-drop, All-take}
 use Rattle.std.proofs.lemmas.Option.{get_or_from_slice_get, slice_get_within}
@@ -14,26 +14,25 @@ use Rattle.hart_frame.specs.declared.heard.miss.Miss.TheVariants.{BadCheck, Faul
 use Rattle.hart_frame.specs.heard.Character.{Character, faultless, faultless_bytes}
 use Rattle.hart_frame.specs.heard.InTheWay.{bytes_from, FollowsOnePreamble, HasBodyAt, IsMiss}
 use Rattle.hart_frame.specs.heard.Place.{HasFrameAt, HasFrameUpTo}
-use Rattle.hart_frame.specs.heard.Miss.{body_miss, check_byte_in, fitting_check_byte, miss_of}
+use Rattle.hart_frame.specs.heard.Miss.{body_miss, check_miss, miss_of}
 use Rattle.hart_frame.specs.heard.Start.{IsStart}
 use Rattle.hart_frame.specs.private.Miss.{IsOfBytes}
-use Rattle.hart_frame.specs.wire.Body.{IsBody, BeginsWithBody}
-use Rattle.hart_frame.specs.wire.FrameParts.{FrameParts}
+use Rattle.hart_frame.specs.wire.Body.{BeginsWithBody}
 use Rattle.hart_frame.specs.wire.Layout.{body_length}
 use Rattle.hart_frame.specs.wire.Parity.{IsCheckByte}
 use Rattle.hart_frame.specs.wire.Refusal.{HasCheckByte}
 use Rattle.hart_frame.proofs.lemmas.heard.FramesFound.{body_at, body_frame, frame_up_to, starts}
 use Rattle.hart_frame.proofs.lemmas.heard.Front.{faultless_fit, heard_parts, length-faultless_bytes, of_chars, take_heard}
 use Rattle.hart_frame.proofs.lemmas.heard.InTheWay.{in_the_way, way_of}
-use Rattle.hart_frame.proofs.lemmas.heard.Missed.{miss_of-some, miss_of-start, one_preamble-is, one_preamble-yes, none_of}
+use Rattle.hart_frame.proofs.lemmas.heard.Missed.{miss_of-some, miss_of-start, none_of, preamble_before}
 use Rattle.hart_frame.proofs.lemmas.heard.Place.{preamble}
 use Rattle.hart_frame.proofs.lemmas.wire.Parity.{IsCheckByte-fold, fits-is, fits_at}
 use Rattle.hart_frame.proofs.lemmas.wire.Prefix.{HasGoodByteCount-more, good_prefix, length_more}
-use Rattle.hart_frame.proofs.lemmas.wire.Truncated.{fitted}
+use Rattle.hart_frame.proofs.lemmas.wire.Truncated.{Fitted, fitted}
 
 -- bytes up to a check byte that fits are a body
 whole_body : (bytes : List ℕ) → All (λ byte. byte < 256) (take (body_length bytes) bytes) → HasCheckByte bytes
-    → (frame : FrameParts) × IsBody frame (take (body_length bytes - 1) bytes ++ fitting_check_byte bytes ∷ [])
+    → Fitted (take (body_length bytes - 1) bytes)
 whole_body bytes fit has =
     let n = body_length bytes - 1 in
     let good = good_prefix bytes n has (omega arith) (omega (arith, has.1)) in
@@ -42,13 +41,13 @@ whole_body bytes fit has =
     fitted (take n bytes) fits good.0 (grind (arith, good.1, length-take-le))
 
 heard_body : (chars : List Character) (start : ℕ) → IsOfBytes (drop start chars)
-    → HasCheckByte (bytes_from chars start) → check_byte_in (bytes_from chars start) ≡ fitting_check_byte (bytes_from chars start)
-    → HasBodyAt chars start
+    → HasCheckByte (bytes_from chars start) → check_miss (bytes_from chars start) start ≡ None → HasBodyAt chars start
 heard_body chars start fits has same =
     let bytes = bytes_from chars start in
     let n = body_length bytes in
     let (frame, body) = whole_body bytes fits has in
-    let begin : take n bytes ≡ take (n - 1) bytes ++ fitting_check_byte bytes ∷ [] = grind (arith, common_steps, take_more) in
+    let begin : take n bytes ≡ take (n - 1) bytes ++ fold bit_xor 0 (take (n - 1) bytes) ∷ [] =
+    grind (arith, nat_tests, common_steps, take_more) in
     let begins : BeginsWithBody bytes frame n = grind arith in
     body_at chars start frame n begins
 
@@ -70,18 +69,11 @@ frame_or_miss place chars fit is =
 -- after one preamble byte alone a whole body stands
 one_stands : (start : ℕ) (chars : List Character) → IsOfBytes (drop start chars) → miss_of chars start ≡ Some OnePreamble
     → FollowsOnePreamble chars start × HasBodyAt chars start
-one_stands start chars fit is =
-    grind (
-      arith,
-      miss_of-some chars start OnePreamble is,
-      in_the_way start chars OnePreamble fit,
-      body_or_miss chars start fit,
-      one_preamble-is chars start,
-    )
+one_stands start chars fit is = grind (arith, in_the_way start chars OnePreamble fit, body_or_miss chars start fit)
 
 one_told : (start : ℕ) (chars : List Character) → FollowsOnePreamble chars start → HasBodyAt chars start
     → miss_of chars start ≡ Some OnePreamble
-one_told start chars one has = grind (arith, one_preamble-yes chars start one, none_of chars start has)
+one_told start chars one has = grind (arith, none_of chars start has)
 
 pub one_alone : (start : ℕ) (chars : List Character) → All (λ c. c.byte < 256) chars
     → (miss_of chars start ≡ Some OnePreamble) ↔ (FollowsOnePreamble chars start × HasBodyAt chars start)
@@ -124,9 +116,11 @@ pub one_preamble_fits : (start : ℕ) (chars : List Character) → All (λ c. c.
     → HasFrameAt (insert chars start preamble) (start + 1)
 one_preamble_fits start chars fit is =
     let (one, has) = one_stands start chars (of_chars chars start fit) is in
-    let split : insert chars start preamble ≡ one.prefix ++ faultless (255 ∷ 255 ∷ has.body) ++ has.rest =
-    grind (arith, common_steps, preamble, append_assoc, take_at) in
-    let found = frame_up_to (insert chars start preamble) one.prefix has.rest has.body has.frame (start + 1) _ has.is_body split
+    let prefix : List Character = take (start - 1) chars in
+    let (parts, long) = preamble_before chars start one in
+    let split : insert chars start preamble ≡ prefix ++ faultless (255 ∷ 255 ∷ has.body) ++ has.rest =
+    grind (arith, common_steps, preamble, append_assoc) in
+    let found = frame_up_to (insert chars start preamble) prefix has.rest has.body has.frame (start + 1) _ has.is_body split
     (grind arith) refl in
     (found.0, found.1, found.2)
 
@@ -152,7 +146,7 @@ bad_check_fits start place byte fits chars fit is =
     let split : chars ≡ front ++ get_or heard n preamble ∷ others = grind (arith, common_steps, preamble, append_assoc) in
     let body = whole_body bytes (All-take (λ byte. byte < 256) (body_length bytes) bytes bytes_fit) has in
     let fits_is = fits-is checked fits (All-take (λ byte. byte < 256) n bytes bytes_fit) check in
-    let last = fitting_check_byte bytes in
+    let last = fold bit_xor 0 checked in
     let changed : set chars place c ≡ begins.prefix ++ faultless (255 ∷ 255 ∷ (checked ++ last ∷ [])) ++ others =
     grind (arith, common_steps, set_at, append_assoc, map-append) in
     frame_up_to (set chars place c) begins.prefix others (checked ++ last ∷ []) body.0 start (place + 1) body.1 changed begins.at

@@ -1,6 +1,6 @@
 -- A miss where a body may start is what stands in the way there, and comes from the fault with which the bytes there are refused.
-use Rattle.std.proofs.Common.{◌≡◌, ◌≢◌, ℕ, ◌+◌, ◌-◌, ◌<◌, ◌≤◌, ◌⊎◌, List, length, take, ◌↔◌, drop, get_or, None, Some, refl}
-use Rattle.std.proofs.Common.{sym, arith, Option, ◌∙◌}
+use Rattle.std.proofs.Common.{◌≡◌, ◌≢◌, ℕ, ◌+◌, ◌-◌, ◌<◌, ◌⊎◌, List, fold, bit_xor, length, take, ◌↔◌, drop, get_or, None, Some, refl}
+use Rattle.std.proofs.Common.{arith, Option, ◌∙◌}
 use Rattle.std.proofs.lemmas.Bool.Decides.{nat_tests}
 use Rattle.std.proofs.lemmas.Grind.{common_steps}
 use Rattle.std.proofs.lemmas.List.{get_or-drop, length-append, length-drop, take-take}
@@ -11,9 +11,8 @@ use Rattle.hart_frame.specs.declared.heard.miss.Miss.{Miss}
 use Rattle.hart_frame.specs.declared.heard.miss.Miss.TheVariants.{BadCheck, EndsBeforeByteCount, Faulty, Missing, OnePreamble}
 use Rattle.hart_frame.specs.declared.wire.fault.FrameFault.{FrameFault}
 use Rattle.hart_frame.specs.heard.Character.{Character, faultless_bytes}
-use Rattle.hart_frame.specs.heard.InTheWay.{ComeToTheEnd, HasFaultsAt, IsInTheWay, bytes_from}
-use Rattle.hart_frame.specs.heard.InTheWay.{fault_of}
-use Rattle.hart_frame.specs.heard.Miss.{miss_in, body_miss, faulty_or, fitting_check_byte, miss_of}
+use Rattle.hart_frame.specs.heard.InTheWay.{ComeToTheEnd, HasFaultsAt, IsInTheWay, bytes_from, fault_of}
+use Rattle.hart_frame.specs.heard.Miss.{miss_in, body_miss, faulty_or, miss_of}
 use Rattle.hart_frame.specs.heard.Start.{IsStart}
 use Rattle.hart_frame.specs.private.Miss.{IsOfBytes}
 use Rattle.hart_frame.specs.wire.Layout.{body_length}
@@ -21,24 +20,18 @@ use Rattle.hart_frame.specs.wire.Parity.{IsCheckByte}
 use Rattle.hart_frame.specs.wire.Refusal.{IsRefusedWith}
 use Rattle.hart_frame.proofs.lemmas.heard.Front.{char_at, after_faultless, length-faultless_bytes}
 use Rattle.hart_frame.proofs.lemmas.heard.Missed.{miss_of-some, miss_of-start}
-use Rattle.hart_frame.proofs.lemmas.heard.Place.{preamble}
+use Rattle.hart_frame.proofs.lemmas.heard.Place.{preamble, rest_at}
 use Rattle.hart_frame.proofs.lemmas.wire.Parity.{IsCheckByte-fold, fits-is, fits_at, odd}
-
--- a character of the rest of a list
-rest_at : (chars : List Character) (start n : ℕ) → slice_get (drop start chars) n ≡ slice_get chars (start + n)
-rest_at chars start n = grind (arith, common_steps, slice_get_cases, slice_get-get_or, get_or-drop, length-drop)
 
 -- a byte up to the first character with fault bits is that of the faultless character at its place
 heard_at : (chars : List Character) (start i place : ℕ) → place ≡ start + i → i < length (bytes_from chars start)
     → slice_get chars place ≡ Some (record { byte = get_or (bytes_from chars start) i 0; faults = 0 })
 heard_at chars start i place is below =
-    let heard = drop start chars in
     grind (
       arith,
-      slice_get_cases chars place,
       slice_get-get_or chars place preamble,
-      char_at heard i preamble below,
-      length-faultless_bytes heard,
+      char_at (drop start chars) i preamble below,
+      length-faultless_bytes (drop start chars),
       length-drop start chars,
       get_or-drop,
     )
@@ -53,19 +46,15 @@ stops : (chars : List Character) (start : ℕ) (at_end : Miss) → IsStart start
     × (faulty_or (slice_get (drop start chars) (length (bytes_from chars start))) (start + length (bytes_from chars start)) at_end
     ≡ Faulty (start + length (bytes_from chars start)) faults))
 stops chars start at_end is =
-    let heard = drop start chars in
-    let within : start ≤ length chars = grind (arith, common_steps, length-append, preamble) in
-    let n = length (faultless_bytes heard) in
     grind (
       arith,
-      slice_get_cases heard n,
-      slice_get_cases chars (start + n),
-      slice_get-get_or heard n preamble,
-      slice_get-get_or chars (start + n) preamble,
-      rest_at chars start n,
-      after_faultless heard,
+      length-append,
+      slice_get_cases chars (start + (length (faultless_bytes (drop start chars)))),
+      slice_get-get_or chars (start + (length (faultless_bytes (drop start chars)))) preamble,
+      rest_at chars start (length (faultless_bytes (drop start chars))),
+      after_faultless (drop start chars),
       length-drop start chars,
-      length-faultless_bytes heard,
+      length-faultless_bytes (drop start chars),
     )
 
 -- the bytes that the check byte covers
@@ -84,9 +73,8 @@ said : (chars : List Character) (start : ℕ) (miss : Miss)
 said chars start miss fit is told =
     let bytes = bytes_from chars start in
     let n = body_length bytes - 1 in
-    let same : (place byte fits : ℕ) → miss ≡ BadCheck place byte fits → IsCheckByte (take n bytes) (fitting_check_byte bytes) =
-    λ place byte fits is. IsCheckByte-fold (take n bytes) (fitting_check_byte bytes)
-    (fits_at (take n bytes) (covered chars start (fit place byte fits is))) refl in
+    let same : (place byte fits : ℕ) → miss ≡ BadCheck place byte fits → IsCheckByte (take n bytes) (fold bit_xor 0 (take n bytes)) =
+    λ place byte fits is. IsCheckByte-fold (take n bytes) _ (fits_at (take n bytes) (covered chars start (fit place byte fits is))) refl in
     let missing = stops chars start (Missing (body_length bytes - length bytes)) is in
     grind (arith, nat_tests, stops chars start EndsBeforeByteCount is, heard_at chars start n, same (start + n))
 
@@ -105,8 +93,7 @@ only chars start miss fit is way =
 pub in_the_way : (start : ℕ) (chars : List Character) (miss : Miss) → IsOfBytes (drop start chars) → IsStart start chars
     → (miss_of chars start ≡ Some miss) ↔ IsInTheWay chars start miss
 in_the_way start chars miss fit is =
-    rw (sym (miss_of-start chars (drop start chars) start refl is))
-    (said chars start miss (λ place byte fits same. fit) is, only chars start miss fit is)
+    grind (arith, nat_tests, common_steps, miss_of-start chars (drop start chars) start, said, only chars start miss fit is)
 
 -- a miss but that of one preamble byte is of a place where a body may start
 pub way_of : (start : ℕ) (chars : List Character) (miss : Miss)

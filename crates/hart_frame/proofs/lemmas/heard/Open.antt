@@ -6,10 +6,9 @@ use Rattle.std.specs.List.{All}
 use Rattle.hart_frame.specs.declared.heard.found.Found.{Found}
 use Rattle.hart_frame.specs.heard.Character.{Character, faultless}
 use Rattle.hart_frame.specs.heard.Place.{IsOpen, StandsIn}
-use Rattle.hart_frame.specs.wire.Body.{CanBecomeBody}
-use Rattle.hart_frame.specs.wire.Refusal.{IsTruncated}
 use Rattle.hart_frame.proofs.lemmas.heard.FramesFound.{frame_up_to}
 use Rattle.hart_frame.proofs.lemmas.heard.Place.{preamble}
+use Rattle.hart_frame.proofs.lemmas.wire.Truncated.{CanBecomeBody-truncated}
 
 -- the bytes of characters whose bytes fit
 open_fits : (place : ℕ) (chars : List Character) → All (λ character. character.byte < 256) chars → (opened : IsOpen place chars)
@@ -18,17 +17,11 @@ open_fits place chars all opened = All-from_get_or (λ byte. byte < 256) opened.
     let there = all (length opened.prefix + suc (suc k)) preamble (grind (arith, length-append, length-map)) in
     grind (arith, get_or-append-add, get_or-map))
 
--- a frame that stands at a place of a list with more characters
-pub record CanBegin (place : ℕ) (chars : List Character) : Type 0 where
-  pub more : List Character
-  pub found : Found
-  pub stands : StandsIn found (chars ++ more) 0
-  pub start : found.start ≡ place
-
-pub open_begins : ((bytes : List ℕ) → All (λ byte. byte < 256) bytes → IsTruncated bytes → CanBecomeBody bytes)
-    → (place : ℕ) (chars : List Character) → All (λ character. character.byte < 256) chars → IsOpen place chars → CanBegin place chars
-open_begins becomes place chars all opened =
-    let can = becomes opened.bytes (open_fits place chars all opened) opened.truncated in
+-- a frame stands at an open place of a list with more characters
+pub open_begins : (place : ℕ) (chars : List Character) → All (λ character. character.byte < 256) chars → IsOpen place chars
+    → (more : List Character) × (found : Found) × StandsIn found (chars ++ more) 0 × (found.start ≡ place)
+open_begins place chars all opened =
+    let can = CanBecomeBody-truncated opened.bytes (open_fits place chars all opened) opened.truncated in
     let bytes = opened.bytes ++ can.rest in
     let body = take can.count bytes in
     let rest = faultless (drop can.count bytes) in
@@ -39,4 +32,4 @@ open_begins becomes place chars all opened =
     let (found, stands, start, stop) =
     frame_up_to (chars ++ faultless can.rest) opened.prefix rest body can.frame place (place + length body) can.begins.body
     (grind (arith, append_assoc, preamble)) opened.start refl in
-    record { more = faultless can.rest; found = found; stands = stands; start = start }
+    (faultless can.rest, found, stands, start)

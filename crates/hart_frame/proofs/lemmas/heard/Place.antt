@@ -1,10 +1,15 @@
 -- Where a frame stands, and where the body begins that is heard there.
-use Rattle.std.proofs.Common.{◌≡◌, ℕ, ◌+◌, ◌<◌, ◌≤◌, List, ◌∷◌, ◌++◌, length, drop, arith, append_assoc, length-append}
-use Rattle.std.proofs.lemmas.List.{drop_at, length-map}
+use Rattle.std.proofs.Common.{◌≡◌, ℕ, ◌+◌, ◌<◌, ◌≤◌, List, ◌∷◌, ◌++◌, length, drop, take, ap, sym, ◌∙◌, arith, append_assoc, length-append}
+use Rattle.std.proofs.lemmas.Grind.{common_steps}
+use Rattle.std.proofs.lemmas.List.{drop_at, get_or-drop, length-drop, length-map, length-take-le, take-append-drop}
+use Rattle.std.proofs.lemmas.Option.{slice_get-get_or, slice_get_cases}
+use Rattle.std.specs.List.{slice_get}
 use Rattle.hart_frame.specs.declared.heard.found.Found.{Found}
 use Rattle.hart_frame.specs.heard.Character.{Character, faultless}
 use Rattle.hart_frame.specs.heard.Frames.{HasNoFrame}
 use Rattle.hart_frame.specs.heard.Place.{StandsIn}
+use Rattle.hart_frame.specs.wire.Body.{IsBody}
+use Rattle.hart_frame.specs.wire.FrameParts.{FrameParts}
 
 -- a faultless preamble byte
 abbrev pub preamble : Character
@@ -14,6 +19,23 @@ preamble = record { byte = 255; faults = 0 }
 pub StandsIn-at : (chars : List Character) (place from : ℕ) (found : Found) (stands : StandsIn found chars from)
     → found.start ≡ place + 2 → drop place chars ≡ faultless (255 ∷ 255 ∷ stands.body) ++ stands.rest
 StandsIn-at chars place from found stands start = grind (arith, append_assoc, drop_at)
+
+-- a frame stands at a place where two preamble bytes and its body begin
+pub stands_at : (chars : List Character) (place : ℕ) (f : FrameParts) (body : List ℕ) (rest : List Character) → place ≤ length chars
+    → drop place chars ≡ faultless (255 ∷ 255 ∷ body) ++ rest → IsBody f body
+    → StandsIn (record { start = place + 2; stop = place + 2 + length body; frame = f }) chars place
+stands_at chars place f body rest within parts is =
+    let long = length-take-le place chars within in record {
+      prefix = take place chars;
+      body = body;
+      rest = rest;
+      split = rw (append_assoc (take place chars)) (sym (take-append-drop place chars)
+          ∙ ap (λ (cs : List Character). take place chars ++ cs) parts);
+      is_body = is;
+      after = omega (arith, long);
+      start = omega (arith, long);
+      stop = omega (arith, long);
+    }
 
 -- what stands after a place stands in the list from that place on
 pub StandsIn-from : (found : Found) (chars : List Character) (place from : ℕ) → StandsIn found chars place → from + 2 ≤ found.start
@@ -32,3 +54,7 @@ StandsIn-within found chars from stands = grind (arith, length-append, length-ma
 -- none stands from the end of the list on
 pub HasNoFrame-end : (chars : List Character) (from : ℕ) → length chars ≤ from → HasNoFrame chars from
 HasNoFrame-end chars from end found stands = grind (arith, StandsIn-within found chars from stands)
+
+-- a character of the rest of a list
+pub rest_at : (chars : List Character) (start n : ℕ) → slice_get (drop start chars) n ≡ slice_get chars (start + n)
+rest_at chars start n = grind (arith, common_steps, slice_get_cases, slice_get-get_or, get_or-drop, length-drop)

@@ -79,9 +79,7 @@ rest_frames place chars frames are =
 -- and those are all frames from that place on
 pub rest_all : (place : ℕ) (chars : List Character) (frames : List Found) → AreFrames chars place frames
     → (own : List Found) × AreFrames (drop place chars) 0 own × (frames ≡ map (moved place) own)
-rest_all place chars frames are =
-    let (own, is) = AreFrames-found (drop place chars) 0 in
-    (own, is, AreFrames-one chars place frames (map (moved place) own) are (rest_frames place chars own is))
+rest_all place chars frames are = grind (arith, common_steps, AreFrames-found (drop place chars) 0, AreFrames-one, rest_frames)
 
 pub rest_only : (place : ℕ) (chars : List Character) (frames : List Found) → AreFrames chars place (map (moved place) frames)
     → AreFrames (drop place chars) 0 frames

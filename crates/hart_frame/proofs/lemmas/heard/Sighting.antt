@@ -1,13 +1,11 @@
 -- What is seen of the rest of a list, and after a character that is no preamble byte.
 use Rattle.std.proofs.Common.{◌≡◌, ℕ, zero, suc, ◌+◌, ◌-◌, ◌<◌, ◌≤◌, Bool, true, false, List, [], ◌∷◌, length, map, drop, Option, None}
-use Rattle.std.proofs.Common.{Some}
-use Rattle.std.proofs.Common.{◌∙◌, ◌⊎◌, inl, inr, ap, sym, arith, refl, length-drop}
+use Rattle.std.proofs.Common.{Some, ◌∙◌, ◌⊎◌, inl, inr, ap, sym, arith, refl, length-drop}
 use Rattle.std.proofs.lemmas.Bool.Decides.{nat_tests}
 use Rattle.std.proofs.lemmas.Grind.{common_steps}
-use Rattle.std.proofs.lemmas.List.{drop_all, drop_more, drop-drop, get_or-drop, map-append}
+use Rattle.std.proofs.lemmas.List.{drop_all, drop_more, drop-drop, map-append}
 use Rattle.hart_frame.proofs.lemmas.heard.Front.{faultless_bytes-more}
-use Rattle.hart_frame.proofs.lemmas.heard.Place.{preamble}
-use Rattle.std.proofs.lemmas.Option.{slice_get-get_or, slice_get_cases}
+use Rattle.hart_frame.proofs.lemmas.heard.Place.{preamble, rest_at}
 use Rattle.std.specs.List.{flat_map, range_with_len, slice_get}
 use Rattle.std.specs.Option.{option_map_or}
 use Rattle.std.specs.Prelude.{◌&&◌, if◌then◌else◌, is_none, nat_lt, not, option_map}
@@ -19,7 +17,8 @@ use Rattle.hart_frame.specs.heard.Frames.{moved}
 use Rattle.hart_frame.specs.heard.Miss.{body_miss, follows_preamble, is_preamble}
 use Rattle.hart_frame.specs.private.Sighting.{stands_alone}
 use Rattle.hart_frame.proofs.lemmas.heard.Start.{tested}
-use Rattle.hart_frame.specs.heard.Sighting.{Missed, missed, missed_at, miss_in_whole, moved_seen, seen_miss, sightings, two_begin_in_body}
+use Rattle.hart_frame.specs.heard.Sighting.{Missed, Seen, missed, missed_at, miss_in_whole, moved_seen, seen_miss, sightings}
+use Rattle.hart_frame.specs.heard.Sighting.{two_begin_in_body}
 
 -- a place that is told is told so many places later
 told_moved : (n from p : ℕ) (m : Option Miss) → option_map_or (λ miss. Missed (n + p) (miss_in_whole (n + from) miss) ∷ []) m []
@@ -58,10 +57,6 @@ sightings_moved chars n from (found ∷ later) =
 pub body_moved : (n start : ℕ) (heard : List Character) → option_map (miss_in_whole n) (body_miss start heard) ≡ body_miss (n + start) heard
 body_moved n start heard = grind (arith, nat_tests)
 
--- a character of the rest of a list
-rest_at : (chars : List Character) (start n : ℕ) → slice_get (drop start chars) n ≡ slice_get chars (start + n)
-rest_at chars start n = grind (arith, common_steps, slice_get_cases, slice_get-get_or, get_or-drop, length-drop)
-
 -- whether a faultless FF stands at a place, and right before a place of the rest of a list
 abbrev pub is_preamble_at : List Character → ℕ → Bool
 is_preamble_at chars place = option_map_or is_preamble (slice_get chars place) false
@@ -78,13 +73,12 @@ follows_at chars from place (suc k) is =
 follows_is : (chars : List Character) (from place : ℕ) → follows_preamble (drop from chars) (place - from) ≡ follows_from chars from place
 follows_is chars from place = follows_at chars from place (place - from) refl
 
--- the miss that is seen at a place, in places of the whole list, by whether two or one FF stand before it, and whether a character stands
--- there that is none
+-- the miss that is seen at a place, in places of the whole list, by whether one FF and then a second one stand before it, and whether a
+-- character stands there that is none
 abbrev pub whole_miss : List Character → ℕ → Bool → Bool → Bool → Option Miss
 whole_miss chars place one two asked =
-    if (one && not two) && two_begin_in_body chars place then None
-    else if (one && two) && asked then body_miss place (drop place chars)
-    else if (one && not two) && is_none (body_miss place (drop place chars)) then Some OnePreamble
+    if one then if two then if asked then body_miss place (drop place chars) else None
+    else if stands_alone chars place then Some OnePreamble else None
     else None
 
 abbrev pub is_other_at : List Character → ℕ → Bool
@@ -98,15 +92,13 @@ is_none-map f (Some x) = refl
 pick : (f : Miss → Miss) (m told : Option Miss) (one two asked crossed : Bool) → option_map f m ≡ told → f OnePreamble ≡ OnePreamble
     → option_map f (if (one && not two) && crossed then None
     else if (one && two) && asked then m else if (one && not two) && is_none m then Some OnePreamble else None)
-    ≡ (if (one && not two) && crossed then None
-    else if (one && two) && asked then told else if (one && not two) && is_none told then Some OnePreamble else None)
+    ≡ (if one then if two then if asked then told else None else if is_none told && not crossed then Some OnePreamble else None else None)
 pick f m told true true true crossed is same = is
 pick f m told true true false crossed is same = refl
-pick f m told true false asked true is same = refl
-pick f m told true false asked false is same = grind (arith, is_none-map)
+pick f m told true false asked crossed is same = grind (arith, nat_tests, is_none-map f m)
 pick f m told false two asked crossed is same = refl
 
-pub miss_is : (chars : List Character) (from place : ℕ) → from ≤ place
+miss_is : (chars : List Character) (from place : ℕ) → from ≤ place
     → option_map (miss_in_whole from) (seen_miss (drop from chars) (place - from))
     ≡ whole_miss chars place (follows_from chars from place) (follows_from chars from (place - 1)) (is_other_at chars place)
 miss_is chars from place after =
@@ -120,10 +112,18 @@ miss_is chars from place after =
     told refl)
 
 -- a place is told by its miss
+abbrev told : ℕ → Option Miss → List Seen
+told place m = option_map_or (λ miss. Missed place miss ∷ []) m []
+
 told_is : (from place : ℕ) (m : Option Miss) → option_map_or (λ miss. Missed place (miss_in_whole from miss) ∷ []) m []
-    ≡ option_map_or (λ miss. Missed place miss ∷ []) (option_map (miss_in_whole from) m) []
+    ≡ told place (option_map (miss_in_whole from) m)
 told_is from place None = refl
 told_is from place (Some miss) = refl
+
+told_at : (chars : List Character) (from place : ℕ) → from ≤ place → missed_at chars from place
+    ≡ told place (whole_miss chars place (follows_from chars from place) (follows_from chars from (place - 1)) (is_other_at chars place))
+told_at chars from place after =
+    told_is from place (seen_miss (drop from chars) (place - from)) ∙ ap (told place) (miss_is chars from place after)
 
 -- so two places from which a list is looked at tell the same of a place if the same stands before it
 same_miss : (chars : List Character) (place : ℕ) (one two other asked : Bool) → (one ≡ true → two ≡ other)
@@ -131,34 +131,20 @@ same_miss : (chars : List Character) (place : ℕ) (one two other asked : Bool) 
 same_miss chars place true two other asked same = rw (same refl) refl
 same_miss chars place false two other asked same = refl
 
-pub same_at : (chars : List Character) (from to place : ℕ) → from ≤ place → to ≤ place
+same_at : (chars : List Character) (from to place : ℕ) → from ≤ place → to ≤ place
     → follows_from chars from place ≡ follows_from chars to place
     → (follows_from chars to place ≡ true → follows_from chars from (place - 1) ≡ follows_from chars to (place - 1))
     → missed_at chars from place ≡ missed_at chars to place
 same_at chars from to place after later one two =
-    rw (
-      told_is from place (seen_miss (drop from chars) (place - from)),
-      told_is to place (seen_miss (drop to chars) (place - to)),
-      miss_is chars from place after,
-      miss_is chars to place later,
-      one,
-      same_miss chars place (follows_from chars to place) _ _ (is_other_at chars place) two,
-    ) refl
-
--- a place has the miss that is seen there
-pub told_at : (chars : List Character) (from place : ℕ) → from ≤ place → missed_at chars from place
-    ≡ option_map_or (λ miss. Missed place miss ∷ []) (whole_miss chars place (follows_from chars from place)
-    (follows_from chars from (place - 1)) (is_other_at chars place)) []
-told_at chars from place after =
-    told_is from place (seen_miss (drop from chars) (place - from))
-    ∙ ap (λ (m : Option Miss). option_map_or (λ miss. Missed place miss ∷ []) m []) (miss_is chars from place after)
+    rw (told_at chars from place after, told_at chars to place later, one)
+    (ap (told place) (same_miss chars place (follows_from chars to place) _ _ (is_other_at chars place) two))
 
 -- nothing is seen at a place unless a preamble byte stands before it, and another character at it
 pub unasked : (chars : List Character) (from place : ℕ) → from ≤ place → follows_from chars from place ≡ false
     → missed_at chars from place ≡ []
 unasked chars from place after not = told_at chars from place after ∙ rw not refl
 
-no_body : (chars : List Character) (place : ℕ) → is_other_at chars place ≡ false → is_none (body_miss place (drop place chars)) ≡ false
+no_body : (chars : List Character) (place : ℕ) → is_other_at chars place ≡ false → stands_alone chars place ≡ false
 no_body chars place is =
     let cases : (is_preamble_at chars place ≡ true) ⊎ (length chars ≤ place) = grind (arith, nat_tests, tested chars place) in
     elim cases [
@@ -168,42 +154,25 @@ no_body chars place is =
       | inr end ↦ rw (drop_all place chars end) refl
     ]
 
-pick_other : (m : Option Miss) (one two crossed : Bool) → is_none m ≡ false
-    → (if (one && not two) && crossed then None
-    else if (one && two) && false then m else if (one && not two) && is_none m then Some OnePreamble else None) ≡ None
-pick_other m false two crossed is = refl
-pick_other m true true crossed is = refl
-pick_other m true false true is = refl
-pick_other None true false false is = absurd cc
-pick_other (Some miss) true false false is = refl
+none_other : (place : ℕ) (one two : Bool) → told place (if one then if two then None else None else None) ≡ []
+none_other place true true = refl
+none_other place true false = refl
+none_other place false two = refl
 
 pub not_other : (chars : List Character) (from place : ℕ) → from ≤ place → is_other_at chars place ≡ false
     → missed_at chars from place ≡ []
-not_other chars from place after is =
-    told_at chars from place after ∙ rw is (ap (λ (m : Option Miss). option_map_or (λ miss. Missed place miss ∷ []) m [])
-    (pick_other (body_miss place (drop place chars)) (follows_from chars from place) (follows_from chars from (place - 1))
-    (two_begin_in_body chars place) (no_body chars place is)))
+not_other chars from place after is = told_at chars from place after ∙ rw (is, no_body chars place is)
+    (none_other place (follows_from chars from place) (follows_from chars from (place - 1)))
 
 -- after one preamble byte alone it is whether a body stands alone
-pick_one : (m : Option Miss) (one asked crossed : Bool) → (is_none m && not crossed) ≡ false
-    → (if (one && not false) && crossed then None
-    else if (one && false) && asked then m else if (one && not false) && is_none m then Some OnePreamble else None) ≡ None
-pick_one m false asked crossed is = refl
-pick_one m true asked true is = refl
-pick_one None true asked false is = absurd cc
-pick_one (Some miss) true asked false is = refl
-
-pub after_one-none : (chars : List Character) (from place : ℕ) → from ≤ place → follows_from chars from (place - 1) ≡ false
-    → stands_alone chars place ≡ false → missed_at chars from place ≡ []
-after_one-none chars from place after one alone =
-    told_at chars from place after ∙ rw one (ap (λ (m : Option Miss). option_map_or (λ miss. Missed place miss ∷ []) m [])
-    (pick_one (body_miss place (drop place chars)) (follows_from chars from place) (is_other_at chars place)
-    (two_begin_in_body chars place) alone))
+pub after_one-none : (chars : List Character) (from place : ℕ) → from ≤ place → follows_from chars from place ≡ true
+    → follows_from chars from (place - 1) ≡ false → stands_alone chars place ≡ false → missed_at chars from place ≡ []
+after_one-none chars from place after follows one alone = told_at chars from place after ∙ rw (follows, one, alone) refl
 
 pub after_one-miss : (chars : List Character) (from place : ℕ) → from ≤ place → follows_from chars from place ≡ true
     → follows_from chars from (place - 1) ≡ false → stands_alone chars place ≡ true
     → missed_at chars from place ≡ Missed place OnePreamble ∷ []
-after_one-miss chars from place after follows one alone = told_at chars from place after ∙ grind (arith, nat_tests)
+after_one-miss chars from place after follows one alone = told_at chars from place after ∙ rw (follows, one, alone) refl
 
 -- and after two it is the miss of what begins there
 pub after_two-miss : (chars : List Character) (from place : ℕ) (miss : Miss) → from ≤ place → follows_from chars from place ≡ true

@@ -1,6 +1,5 @@
 -- The miss of a place by how the bytes there begin.
-use Rattle.std.proofs.Common.{◌≡◌, ℕ, ◌+◌, ◌<◌, ◌≤◌, List, ◌++◌, Option, None, Some, drop, get_or, length, take}
-use Rattle.std.proofs.Common.{◌∙◌, sym, arith, length-append}
+use Rattle.std.proofs.Common.{◌≡◌, ℕ, ◌+◌, ◌<◌, ◌≤◌, List, ◌++◌, Option, None, Some, drop, get_or, length, take, ◌∙◌, arith, length-append}
 use Rattle.std.proofs.lemmas.Bool.Decides.{nat_tests}
 use Rattle.std.proofs.lemmas.List.{get_or-take, get_or_append_left, length-take, take_all, take-append-drop, take-append-le, take-take}
 use Rattle.std.proofs.lemmas.List.Elements.{All-from_get_or, All-take}
@@ -17,8 +16,7 @@ use Rattle.hart_frame.specs.private.Prefix.{IsPrefix, IsWrong}
 use Rattle.hart_frame.specs.wire.Layout.{body_length, byte_count_place}
 use Rattle.hart_frame.specs.wire.Refusal.{HasCheckByte}
 use Rattle.hart_frame.proofs.lemmas.wire.Parity.{odd}
-use Rattle.hart_frame.proofs.lemmas.wire.Reading.{cut_truncated, fold_fits, whole_has}
-use Rattle.hart_frame.proofs.lemmas.wire.Truncated.{truncated_few}
+use Rattle.hart_frame.proofs.lemmas.wire.Reading.{fold_fits, whole_has}
 
 -- the check byte is judged alike whatever follows it
 same_check : (xs ys : List ℕ) (start : ℕ) → HasCheckByte xs → check_miss (xs ++ ys) start ≡ check_miss xs start
@@ -70,10 +68,7 @@ module _ (heard : List Character) (start most : ℕ) (front : List ℕ) (is_fron
 
   pub front_cut : (missing : Option ℕ) → IsPrefix front (Cut missing)
       → body_miss start heard ≡ Some (faulty_or (slice_get heard (length front)) (start + length front) (cut_miss missing))
-  front_cut missing is =
-      let few : length front < most = omega (arith, truncated_few front fits (cut_truncated front missing is), enough) in
-      let same : faultless_bytes heard ≡ front = sym (is_front ∙ short_front (faultless_bytes heard) most (rw is_front at few)) in
-      rw same (cut_told front missing (slice_get heard (length front)) (start + length front) start is)
+  front_cut missing is = grind (arith, short_front)
 
   fits_within : (i : ℕ) → i < most → get_or (faultless_bytes heard) i 0 < 256
   fits_within i below = let same = get_or-take most (faultless_bytes heard) i 0 below in rw same at (rw is_front at (fits i))

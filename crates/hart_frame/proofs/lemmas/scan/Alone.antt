@@ -1,25 +1,22 @@
 -- When a whole body ends before two preamble bytes in a row begin.
-use Rattle.std.proofs.Common.{◌≡◌, ◌≢◌, ℕ, ◌+◌, ◌-◌, ◌<◌, ◌≤◌, ◌⊎◌, inl, inr, true, false, List, [], ◌∷◌, ◌++◌, length, take, drop}
-use Rattle.std.proofs.Common.{get_or, min}
-use Rattle.std.proofs.Common.{◌∙◌, add-zero, ap, sym, arith, refl, length-append, length-drop, None, Option}
+use Rattle.std.proofs.Common.{◌≡◌, ◌≢◌, ℕ, ◌+◌, ◌-◌, ◌<◌, ◌≤◌, ◌⊎◌, true, false, List, [], ◌∷◌, ◌++◌, length, take, drop, get_or, min, ◌∙◌}
+use Rattle.std.proofs.Common.{add-zero, ap, sym, arith, refl, length-append, length-drop, None, Option}
 use Rattle.std.proofs.lemmas.Bool.Decides.{nat_tests}
 use Rattle.std.proofs.lemmas.List.{append-nil, get_or_append_left, take_all, take-append-le}
 use Rattle.std.proofs.Math.Seq.{take-append-add}
-use Rattle.std.specs.Prelude.{◌==◌, ◌&&◌, ◌||◌, IsTrue, is_none}
+use Rattle.std.specs.Prelude.{◌==◌, ◌&&◌, ◌||◌, is_none}
 use Rattle.hart_frame.specs.declared.scan.sighting.After.{After}
 use Rattle.hart_frame.specs.declared.scan.sighting.After.TheVariants.{Damaged, End, More}
 use Rattle.hart_frame.specs.heard.Character.{Character, faultless, faultless_bytes}
 use Rattle.hart_frame.specs.heard.Miss.{body_miss, check_miss, miss_in}
-use Rattle.hart_frame.specs.heard.Sighting.{has_two_preambles, two_begin_in_body}
-use Rattle.hart_frame.specs.scan.Sighting.{AfterIsValid, heard_with, is_end}
-use Rattle.hart_frame.specs.private.Sighting.{HasBodyMiss, MayStandAlone, Whatever, stands_alone}
+use Rattle.hart_frame.specs.heard.Sighting.{has_two_preambles, two_begin_in_body, miss_in_whole}
+use Rattle.hart_frame.specs.private.Sighting.{HasBodyMiss, MayFollow, MayStandAlone, Whatever, stands_alone}
 use Rattle.hart_frame.specs.wire.Layout.{body_length}
 use Rattle.hart_frame.specs.wire.Refusal.{HasCheckByte, IsTruncated}
 use Rattle.hart_frame.proofs.lemmas.heard.Place.{preamble}
 use Rattle.hart_frame.proofs.lemmas.heard.Front.{faultless_bytes-end}
-use Rattle.hart_frame.specs.heard.Sighting.{miss_in_whole}
 use Rattle.hart_frame.proofs.lemmas.heard.Sighting.{body_moved, is_none-map}
-use Rattle.hart_frame.proofs.lemmas.scan.BodyAt.{bytes_from-heard, drop-heard, following}
+use Rattle.hart_frame.proofs.lemmas.scan.BodyAt.{bytes_from-heard, drop-heard}
 use Rattle.hart_frame.proofs.lemmas.wire.Prefix.{length_more}
 
 -- no bytes hold two preamble bytes in a row, and others do by their first two, or without the first
@@ -68,22 +65,16 @@ two_push (x ∷ []) y none other = grind (arith, nat_tests, two_step, two_none)
 two_push (x ∷ z ∷ xs) y none other = grind (arith, nat_tests, two_step, two_push (z ∷ xs) y)
 
 -- the bytes of what is heard from a place on, up to a body and one byte more
-pub two_in : (bytes : List ℕ) (after : After) (more : List Character) (start n : ℕ) → start ≤ length bytes
-    → body_length (drop start bytes) ≡ n → n ≤ length (drop start bytes)
-    → two_begin_in_body (heard_with bytes after ++ more) start
-    ≡ has_two_preambles (take (n + 1) (drop start bytes ++ faultless_bytes (following after more)))
-two_in bytes after more start n within long whole =
-    let xs = drop start bytes in
-    let ys = faultless_bytes (following after more) in
-    let same : body_length (xs ++ ys) ≡ n = length_more xs ys (omega (arith, long, whole)) ∙ long in
-    rw (bytes_from-heard bytes after more start within, same) refl
+pub two_in : (bytes : List ℕ) (next : List Character) (start n : ℕ) → start ≤ length bytes → body_length (drop start bytes) ≡ n
+    → n ≤ length (drop start bytes)
+    → two_begin_in_body (faultless bytes ++ next) start ≡ has_two_preambles (take (n + 1) (drop start bytes ++ faultless_bytes next))
+two_in bytes next start n within long whole = grind (arith, nat_tests, bytes_from-heard, length_more)
 
 -- a byte follows only if more may come
-more_of : (after : After) (more : List Character) → AfterIsValid after → (IsTrue (is_end after) → more ≡ [])
-    → 0 < length (faultless_bytes (following after more)) → after ≡ More
-more_of More more valid closed some = refl
-more_of End more valid closed some = let ends : more ≡ [] = closed refl in absurd (omega (arith, rw ends at some))
-more_of (Damaged c) more valid closed some = absurd (omega (arith, rw (faultless_bytes-end c more valid) at some))
+more_of : (after : After) (next : List Character) → MayFollow after next → 0 < length (faultless_bytes next) → after ≡ More
+more_of More next follows some = refl
+more_of End next ends some = absurd (omega (arith, rw ends at some))
+more_of (Damaged c) next (valid, more, same) some = absurd (omega (arith, rw (same, faultless_bytes-end c more valid) at some))
 
 end_none : (xs ys : List ℕ) → has_two_preambles xs ≡ false → (0 < length ys → get_or xs (length xs - 1) 0 ≢ 255)
     → has_two_preambles (xs ++ take 1 ys) ≡ false
@@ -96,55 +87,21 @@ module _ (bytes : List ℕ) (after : After) (start n : ℕ) (within : start ≤ 
   part : (ys : List ℕ) → ((n + 1 ≤ length (drop start bytes)) × (take (n + 1) (drop start bytes ++ ys) ≡ take (n + 1) (drop start bytes)))
       ⊎ ((n ≡ length (drop start bytes)) × (take (n + 1) (drop start bytes ++ ys) ≡ drop start bytes ++ take 1 ys)
       × (take (n + 1) (drop start bytes) ≡ drop start bytes))
-  part ys =
-      let xs = drop start bytes in
-      let cases : (n + 1 ≤ length xs) ⊎ (n ≡ length xs) = grind arith in
-      elim cases [
-        | inl fits ↦ inl (fits, take-append-le (n + 1) xs ys fits)
-        | inr all ↦ inr (all, rw all (take-append-add xs ys 1), take_all (n + 1) xs (omega (arith, all)))
-      ]
+  part ys = grind (arith, nat_tests, take-append-le, take-append-add (drop start bytes) ys 1, take_all)
 
   pub crossed : has_two_preambles (take (n + 1) (drop start bytes)) ≡ true
       → Whatever bytes after (λ chars. stands_alone chars start ≡ false)
-  crossed two more closed =
-      let ys = faultless_bytes (following after more) in
-      let is = two_in bytes after more start n within long enough in
-      let cases = part ys in
-      let both : two_begin_in_body (heard_with bytes after ++ more) start ≡ true = elim cases [
-        | inl (fits, same) ↦ is ∙ ap has_two_preambles same ∙ two
-        | inr (all, same, own) ↦ is ∙ ap has_two_preambles same ∙ two_more (drop start bytes) (take 1 ys) (rw own at two)
-      ] in
-      grind (arith, nat_tests)
+  crossed two next follows = grind (arith, nat_tests, two_in bytes next start n within long enough, part, two_more)
 
-  pub alone : AfterIsValid after → has_two_preambles (take (n + 1) (drop start bytes)) ≡ false
+  pub alone : has_two_preambles (take (n + 1) (drop start bytes)) ≡ false
       → (after ≡ More → n ≡ length (drop start bytes) → get_or (drop start bytes) (n - 1) 0 ≢ 255)
       → Whatever bytes after (λ chars. stands_alone chars start ≡ true)
-  alone valid none last more closed =
-      let xs = drop start bytes in
-      let ys = faultless_bytes (following after more) in
-      let is = two_in bytes after more start n within long enough in
-      let cases = part ys in
-      let not : two_begin_in_body (heard_with bytes after ++ more) start ≡ false = elim cases [
-        | inl (fits, same) ↦ is ∙ ap has_two_preambles same ∙ none
-        | inr (all, same, own) ↦ is ∙ ap has_two_preambles same ∙ end_none xs ys (rw own at none)
-            (λ some. rw all at (last (more_of after more valid closed some) all))
-      ] in
-      let stands = whole more closed in
-      grind (arith, nat_tests)
+  alone none last next follows = grind (arith, nat_tests, two_in bytes next start n within long enough, part, end_none, more_of)
 
 -- the bytes of a body that are looked at, and one more
 pub looked_at : (bytes : List ℕ) (start stop : ℕ) → start < stop → stop ≤ length bytes
     → take (min (length bytes) (stop + 1) - start) (drop start bytes) ≡ take (stop - start + 1) (drop start bytes)
-looked_at bytes start stop order within =
-    let cases : (stop + 1 ≤ length bytes) ⊎ (stop ≡ length bytes) = grind arith in
-    elim cases [
-      | inl fits ↦
-          let same : min (length bytes) (stop + 1) - start ≡ stop - start + 1 = omega (arith, fits, order) in
-          ap (λ (k : ℕ). take k (drop start bytes)) same
-      | inr all ↦
-          let long = length-drop start bytes in
-          take_all _ (drop start bytes) (omega (arith, long, all)) ∙ sym (take_all _ (drop start bytes) (omega (arith, long, all, order)))
-    ]
+looked_at bytes start stop order within = grind (arith, nat_tests, length-drop, take_all)
 
 -- a whole body that ends in a preamble byte at the end may or may not stand alone
 pub lone_open : (bytes : List ℕ) (start n : ℕ) → start ≤ length bytes → body_length (drop start bytes) ≡ n → n ≡ length (drop start bytes)
@@ -156,12 +113,12 @@ lone_open bytes start n within long all whole none last =
     let clear : has_two_preambles xs ≡ false = rw own at none in
     let ends : get_or xs (length xs - 1) 0 ≡ 255 = rw all at last in
     let one : two_begin_in_body (faultless bytes ++ []) start ≡ false =
-    two_in bytes More [] start n within long (omega (arith, all)) ∙ rw (append-nil xs, own) clear in
+    two_in bytes [] start n within long (omega (arith, all)) ∙ rw (append-nil xs, own) clear in
     let longer : take (n + 1) (xs ++ 255 ∷ []) ≡ xs ++ 255 ∷ [] = take_all (n + 1) (xs ++ 255 ∷ [])
     (omega (arith, all, length-append xs (255 ∷ []))) in
     let two : two_begin_in_body (faultless bytes ++ preamble ∷ []) start ≡ true =
-    two_in bytes More (preamble ∷ []) start n within long (omega (arith, all)) ∙ rw longer (two_last xs [] ends) in
-    let stands = whole [] (λ _. refl) in
+    two_in bytes (preamble ∷ []) start n within long (omega (arith, all)) ∙ rw longer (two_last xs [] ends) in
+    let stands = whole [] tt in
     record {
       one = [];
       alone = grind (arith, nat_tests);

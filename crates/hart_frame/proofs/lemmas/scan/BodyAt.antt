@@ -1,6 +1,7 @@
 -- What stands at a place of bytes, whatever comes after them.
+use Rattle.hart_frame.proofs.lemmas.heard.Front.{faultless_bytes-end, faultless_bytes-append}
 use Rattle.std.proofs.Common.{◌≡◌, ◌≢◌, ℕ, ◌+◌, ◌≤◌, false, List, [], ◌∷◌, ◌++◌, length, drop, None, Some, Option}
-use Rattle.std.proofs.Common.{◌∙◌, ap, arith, refl, append_assoc, length-append, length-drop}
+use Rattle.std.proofs.Common.{◌∙◌, arith, refl, length-append, length-drop}
 use Rattle.std.proofs.lemmas.Bool.Decides.{nat_tests}
 use Rattle.std.proofs.lemmas.List.{append-nil, drop-append-le, drop-map, get_or_at, length-map}
 use Rattle.std.proofs.lemmas.Option.{slice_get-get_or, slice_get_cases}
@@ -18,39 +19,20 @@ use Rattle.hart_frame.specs.heard.Miss.{body_miss, miss_in}
 use Rattle.hart_frame.specs.private.Miss.{cut_miss, wrong_miss}
 use Rattle.hart_frame.specs.private.Prefix.{IsPrefix, IsWrong}
 use Rattle.hart_frame.specs.private.Sighting.{HasBodyMiss, Whatever, stands_alone}
-use Rattle.hart_frame.specs.scan.Sighting.{AfterIsValid, NamesPlacesBelow, heard_with}
-use Rattle.hart_frame.proofs.lemmas.heard.Front.{faultless_bytes-append, faultless_bytes-end}
+use Rattle.hart_frame.specs.scan.Sighting.{NamesPlacesBelow, heard_with}
 use Rattle.hart_frame.proofs.lemmas.heard.Told.{cut_told, whole_told, wrong_told}
-use Rattle.hart_frame.proofs.lemmas.scan.Sighted.{length-heard}
+use Rattle.hart_frame.proofs.lemmas.scan.Sighted.{heard_few}
 use Rattle.hart_frame.proofs.lemmas.wire.Reading.{wrong_within}
 
--- what is left of characters that are made of bytes, and others after them
+-- what is heard from a place on
 pub drop-heard : (bytes : List ℕ) (rest : List Character) (start : ℕ) → start ≤ length bytes
     → drop start (faultless bytes ++ rest) ≡ faultless (drop start bytes) ++ rest
-drop-heard bytes rest start within =
-    let make = λ (byte : ℕ). let c : Character = record { byte = byte; faults = 0 } in c in
-    let long : start ≤ length (faultless bytes) = grind (arith, length-map) in
-    drop-append-le start (faultless bytes) rest long ∙ ap (λ (xs : List Character). xs ++ rest) (drop-map make start bytes)
-
--- what follows the bytes, once it is known
-abbrev pub following : After → List Character → List Character
-following More more = more
-following (Damaged character) more = character ∷ more
-following End more = more
-
--- what is heard from a place on
-pub heard_from : (bytes : List ℕ) (after : After) (more : List Character) (start : ℕ) → start ≤ length bytes
-    → drop start (heard_with bytes after ++ more) ≡ faultless (drop start bytes) ++ following after more
-heard_from bytes More more start within = drop-heard bytes more start within
-heard_from bytes End more start within = drop-heard bytes more start within
-heard_from bytes (Damaged character) more start within =
-    rw (append_assoc (faultless bytes) (character ∷ []) more) (drop-heard bytes (character ∷ more) start within)
+drop-heard bytes rest start within = grind (arith, drop-append-le, drop-map, length-map)
 
 -- the bytes of what is heard from a place on
-pub bytes_from-heard : (bytes : List ℕ) (after : After) (more : List Character) (start : ℕ) → start ≤ length bytes
-    → faultless_bytes (drop start (heard_with bytes after ++ more)) ≡ drop start bytes ++ faultless_bytes (following after more)
-bytes_from-heard bytes after more start within =
-    rw (heard_from bytes after more start within) (faultless_bytes-append (drop start bytes) (following after more))
+pub bytes_from-heard : (bytes : List ℕ) (next : List Character) (start : ℕ) → start ≤ length bytes
+    → faultless_bytes (drop start (faultless bytes ++ next)) ≡ drop start bytes ++ faultless_bytes next
+bytes_from-heard bytes next start within = rw (drop-heard bytes next start within) (faultless_bytes-append (drop start bytes) next)
 
 -- the miss of what is heard, by its bytes
 pub miss_more : (xs : List ℕ) (rest : List Character) (start : ℕ) → body_miss start (faultless xs ++ rest)
@@ -60,9 +42,7 @@ miss_more xs rest start = rw (faultless_bytes-append xs rest) refl
 
 pub miss_end : (xs : List ℕ) (start : ℕ) → body_miss start (faultless xs) ≡ miss_in xs None (start + length xs) start
 miss_end xs start =
-    let all : faultless_bytes (faultless xs) ≡ xs = grind (arith, append-nil, faultless_bytes-append xs []) in
-    let none : slice_get (faultless xs) (length xs) ≡ None = grind (arith, length-map, slice_get_cases (faultless xs) (length xs)) in
-    rw (all, none) refl
+    grind (arith, nat_tests, append-nil, faultless_bytes-append xs [], length-map, slice_get_cases (faultless xs) (length xs))
 
 pub miss_faulty : (xs : List ℕ) (c : Character) (more : List Character) (start : ℕ) → c.faults ≢ 0
     → body_miss start (faultless xs ++ c ∷ more) ≡ miss_in xs (Some c) (start + length xs) start
@@ -77,9 +57,8 @@ miss_faulty xs c more start bad =
 whatever : (bytes : List ℕ) (after : After) (start : ℕ) (miss : Option Miss) → start ≤ length bytes
     → ((ys : List ℕ) (f : Option Character) (fp : ℕ) → miss_in (drop start bytes ++ ys) f fp start ≡ miss)
     → Whatever bytes after (HasBodyMiss start miss)
-whatever bytes after start miss within is more closed =
-    rw (heard_from bytes after more start within)
-    (miss_more (drop start bytes) (following after more) start ∙ is (faultless_bytes (following after more)) _ _)
+whatever bytes after start miss within is next follows =
+    rw (drop-heard bytes next start within) (miss_more (drop start bytes) next start ∙ is (faultless_bytes next) _ _)
 
 pub whole_seen : (bytes : List ℕ) (after : After) (start : ℕ) (layout : Layout) → start ≤ length bytes
     → IsPrefix (drop start bytes) (Whole layout) → Whatever bytes after (HasBodyMiss start None)
@@ -98,37 +77,31 @@ wrong_below bytes after start (BadDelimiter byte) within is = grind (arith, nat_
 wrong_below bytes after start (ShortReply len count) within is = tt
 wrong_below bytes after start (BadCheck len byte fits) within is =
     let inside = wrong_within (drop start bytes) (BadCheck len byte fits) is in
-    omega (arith, inside, within, length-drop start bytes, length-heard bytes after [])
+    omega (arith, inside, within, length-drop start bytes, heard_few bytes after)
 
 -- where bytes end too early, the end or the character after them is the miss
 pub cut_ended : (bytes : List ℕ) (start : ℕ) (missing : Option ℕ) → start ≤ length bytes → IsPrefix (drop start bytes) (Cut missing)
     → Whatever bytes End (HasBodyMiss start (Some (cut_miss missing)))
-cut_ended bytes start missing within is more closed =
-    let ends : more ≡ [] = closed refl in
-    let heard : drop start (heard_with bytes End ++ more) ≡ faultless (drop start bytes) =
-    grind (arith, append-nil, heard_from bytes End more start within) in
+cut_ended bytes start missing within is next ends =
+    let heard : drop start (faultless bytes ++ next) ≡ faultless (drop start bytes) = grind (arith, append-nil, drop-heard) in
     rw heard (miss_end (drop start bytes) start ∙ cut_told (drop start bytes) missing None (start + length (drop start bytes)) start is)
 
-pub cut_damaged : (bytes : List ℕ) (c : Character) (start : ℕ) (missing : Option ℕ) → start ≤ length bytes → c.faults ≢ 0
+pub cut_damaged : (bytes : List ℕ) (c : Character) (start : ℕ) (missing : Option ℕ) → start ≤ length bytes
     → IsPrefix (drop start bytes) (Cut missing) → Whatever bytes (Damaged c) (HasBodyMiss start (Some (Faulty (length bytes) c.faults)))
-cut_damaged bytes c start missing within valid is more closed =
+cut_damaged bytes c start missing within is next (valid, more, same) =
     let place : start + length (drop start bytes) ≡ length bytes = omega (arith, length-drop start bytes, within) in
     let faulty = miss_faulty (drop start bytes) c more start valid ∙ cut_told (drop start bytes) missing (Some c)
     (start + length (drop start bytes)) start is in
-    rw (heard_from bytes (Damaged c) more start within) (rw place at faulty)
+    rw (same, drop-heard bytes (c ∷ more) start within) (rw place at faulty)
 
 -- what has a miss does not stand alone
-not_alone : (chars : List Character) (start : ℕ) (miss : Miss) → HasBodyMiss start (Some miss) chars → stands_alone chars start ≡ false
-not_alone chars start miss is = grind arith
-
-pub wrong_not_alone : (bytes : List ℕ) (after : After) (start : ℕ) (w : Wrong) → start ≤ length bytes → IsWrong (drop start bytes) w
+pub not_alone : (bytes : List ℕ) (after : After) (start : ℕ) (miss : Miss) → Whatever bytes after (HasBodyMiss start (Some miss))
     → Whatever bytes after (λ chars. stands_alone chars start ≡ false)
-wrong_not_alone bytes after start w within is more closed = not_alone _ start _ (wrong_seen bytes after start w within is more closed)
+not_alone bytes after start miss is next follows = let same = is next follows in grind arith
 
-pub cut_not_alone : (bytes : List ℕ) (after : After) (start : ℕ) (missing : Option ℕ) → start ≤ length bytes → AfterIsValid after
-    → (after ≡ More → ⊥) → IsPrefix (drop start bytes) (Cut missing) → Whatever bytes after (λ chars. stands_alone chars start ≡ false)
-cut_not_alone bytes More start missing within valid over is more closed = absurd (over refl)
-cut_not_alone bytes End start missing within valid over is more closed =
-    not_alone _ start _ (cut_ended bytes start missing within is more closed)
-cut_not_alone bytes (Damaged c) start missing within valid over is more closed =
-    not_alone _ start _ (cut_damaged bytes c start missing within valid is more closed)
+pub cut_not_alone : (bytes : List ℕ) (after : After) (start : ℕ) (missing : Option ℕ) → start ≤ length bytes → (after ≡ More → ⊥)
+    → IsPrefix (drop start bytes) (Cut missing) → Whatever bytes after (λ chars. stands_alone chars start ≡ false)
+cut_not_alone bytes More start missing within over is = absurd (over refl)
+cut_not_alone bytes End start missing within over is = not_alone bytes End start _ (cut_ended bytes start missing within is)
+cut_not_alone bytes (Damaged c) start missing within over is =
+    not_alone bytes (Damaged c) start _ (cut_damaged bytes c start missing within is)

@@ -1,7 +1,6 @@
 -- What is known of bytes by how they begin.
-use Rattle.std.proofs.Common.{◌≡◌, ◌≢◌, ℕ, zero, suc, ◌+◌, ◌<◌, ◌≤◌, inl, inr, List, [], ◌∷◌, ◌++◌, length, take, drop, get_or}
-use Rattle.std.proofs.Common.{refl, sym, ap, ◌∙◌}
-use Rattle.std.proofs.Common.{arith, append_assoc}
+use Rattle.std.proofs.Common.{◌≡◌, ◌≢◌, ℕ, zero, suc, ◌+◌, ◌<◌, ◌≤◌, inl, inr, List, [], ◌∷◌, ◌++◌, length, take, drop, get_or, refl, sym}
+use Rattle.std.proofs.Common.{ap, ◌∙◌, arith, append_assoc}
 use Rattle.std.proofs.Math.Seq.{take-append-add}
 use Rattle.std.proofs.lemmas.List.{append-nil, length-drop, map-append, take_rest, take-append-drop}
 use Rattle.std.specs.List.{slice_range}
@@ -13,8 +12,7 @@ use Rattle.hart_frame.specs.declared.wire.prefix.Wrong.{Wrong}
 use Rattle.hart_frame.specs.private.Body.{bytes_of}
 use Rattle.hart_frame.specs.heard.Character.{Character, faultless, faultless_bytes}
 use Rattle.hart_frame.specs.heard.Frames.{IsUndecided}
-use Rattle.hart_frame.specs.private.Candidate.{BeginWithNone, IsCandidate, IsWhole, MayBegin, MayBeginBefore}
-use Rattle.hart_frame.specs.private.Candidate.{NothingFollows, NeverBegin}
+use Rattle.hart_frame.specs.private.Candidate.{BeginWithNone, IsCandidate, IsWhole, MayBegin, MayBeginBefore, NothingFollows, NeverBegin}
 use Rattle.hart_frame.specs.private.Layout.{layout_length}
 use Rattle.hart_frame.specs.private.Prefix.{IsPrefix, IsWrong, fault_in, shown_by}
 use Rattle.hart_frame.specs.wire.Refusal.{IsTruncated}

@@ -1,7 +1,6 @@
 -- Whether bytes that end too early for a body may become one that stands alone.
-use Rattle.std.proofs.Common.{◌≡◌, ◌≢◌, ℕ, zero, suc, ◌+◌, ◌-◌, ◌<◌, ◌≤◌, inl, inr, true, false, List, [], ◌∷◌, ◌++◌, length, take}
-use Rattle.std.proofs.Common.{get_or, fold, bit_xor}
-use Rattle.std.proofs.Common.{None, ◌∙◌, ap, sym, arith, refl, append_assoc, length-append, replicate}
+use Rattle.std.proofs.Common.{◌≡◌, ◌≢◌, ℕ, zero, suc, ◌+◌, ◌-◌, ◌<◌, ◌≤◌, inl, inr, true, false, List, [], ◌∷◌, ◌++◌, length, take, get_or}
+use Rattle.std.proofs.Common.{fold, bit_xor, None, ◌∙◌, ap, sym, arith, refl, append_assoc, length-append, replicate}
 use Rattle.std.proofs.Math.Seq.{take-append-add}
 use Rattle.std.proofs.lemmas.Bool.Decides.{nat_tests}
 use Rattle.std.proofs.lemmas.List.{append-nil, get_or_at, length-replicate, length-take-le, map-append, take-replicate, take_all, take_at}

@@ -1,15 +1,13 @@
 -- The next frames of characters: of those from a place on, of a list that grows, of its rest, and of bytes.
-use Rattle.std.proofs.Common.{◌≡◌, ℕ, ◌+◌, ◌-◌, ◌<◌, ◌≤◌, ◌⊎◌, inl, inr, Bool, false, true, IsTrue, List, [], ◌∷◌, ◌++◌, length, map, take, drop}
-use Rattle.std.proofs.Common.{append_assoc, arith, length-append, length-drop, refl, subst, sym, ◌∙◌}
-use Rattle.std.proofs.lemmas.List.{append-nil, drop-append-le, drop-drop, drop-map, length-map, length-take-le, map-append, take-append-drop}
-use Rattle.std.proofs.lemmas.List.{take_at}
+use Rattle.std.proofs.Common.{◌≡◌, ℕ, ◌+◌, ◌-◌, ◌<◌, ◌≤◌, ◌⊎◌, inl, inr, Bool, false, true, IsTrue, List, [], ◌∷◌, ◌++◌, length, map, drop}
+use Rattle.std.proofs.Common.{append_assoc, arith, length-append, length-drop, refl, subst, sym, ap, ◌∙◌}
+use Rattle.std.proofs.lemmas.List.{append-nil, drop-append-le, drop-drop, drop-map, length-map, length-take-le, map-append, take_at}
 use Rattle.std.proofs.lemmas.List.Elements.{All-append, All-cons, All-map, All-nil, All-weaker}
 use Rattle.std.specs.List.{All, slice_range}
 use Rattle.hart_frame.specs.declared.heard.found.Found.{Found}
 use Rattle.hart_frame.specs.declared.wire.layout.Layout.{Layout}
 use Rattle.hart_frame.specs.heard.Character.{Character, faultless}
 use Rattle.hart_frame.specs.heard.Frames.{AreFrames, moved, none, first}
-use Rattle.hart_frame.specs.heard.Place.{StandsIn}
 use Rattle.hart_frame.specs.private.Candidate.{BeginWithNone, IsWhole}
 use Rattle.hart_frame.specs.private.Layout.{layout_length}
 use Rattle.hart_frame.specs.private.Search.{NoneBeginThen}
@@ -17,7 +15,7 @@ use Rattle.hart_frame.specs.scan.Next.{AreNext}
 use Rattle.hart_frame.specs.wire.Body.{IsBody}
 use Rattle.hart_frame.specs.wire.FrameParts.{FrameParts}
 use Rattle.hart_frame.proofs.lemmas.heard.FramesFound.{AreFrames-earlier, AreFrames-found, head_first}
-use Rattle.hart_frame.proofs.lemmas.heard.Place.{StandsIn-at, StandsIn-from, StandsIn-within}
+use Rattle.hart_frame.proofs.lemmas.heard.Place.{StandsIn-at, StandsIn-from, StandsIn-within, stands_at}
 use Rattle.hart_frame.proofs.lemmas.heard.Rest.{frames_none, moved_twice, rest_all, rest_frames}
 
 -- a frame that stops at a place or before it
@@ -27,12 +25,7 @@ StopsBy place found = found.stop ≤ place
 -- WHAT THE NEXT FRAMES ARE
 -- at a place none come before that place
 pub next_nothing : (chars : List Character) (ended : Bool) (place : ℕ) → place ≤ length chars → AreNext chars ended place [] place
-next_nothing chars ended place within = record {
-  onward = omega arith;
-  within = within;
-  leads = λ more later closed frames. frames;
-  stops = All-nil (StopsBy place);
-}
+next_nothing chars ended place within = grind (arith, All-nil)
 
 -- some, and then others
 pub next_then : (chars : List Character) (ended : Bool) (from mid to : ℕ) (xs ys : List Found) → AreNext chars ended from xs mid
@@ -48,23 +41,12 @@ next_then chars ended from mid to xs ys p q = record {
 -- they stay so if more comes
 pub next_grown : (chars piece : List Character) (ended : Bool) (from to : ℕ) (given : List Found) → AreNext chars false from given to
     → AreNext (chars ++ piece) ended from given to
-next_grown chars piece ended from to given next = record {
-  onward = next.onward;
-  within = omega (arith, next.within, length-append chars piece);
-  leads = λ more later closed frames.
-      rw append_assoc (next.leads (piece ++ more) later (λ over. absurd cc) (rw (← append_assoc chars piece more) frames));
-  stops = next.stops;
-}
+next_grown chars piece ended from to given next = grind (arith, append_assoc, length-append)
 
 -- and if it is said that none comes
 pub next_ended : (chars : List Character) (ended : Bool) (from to : ℕ) (given : List Found) (closed : Bool)
     → (IsTrue ended → IsTrue closed) → AreNext chars ended from given to → AreNext chars closed from given to
-next_ended chars ended from to given closed says next = record {
-  onward = next.onward;
-  within = next.within;
-  leads = λ more later none. next.leads more later (λ over. none (says over));
-  stops = next.stops;
-}
+next_ended chars ended from to given closed says next = grind (arith)
 
 -- those of a rest are those of the whole from its place on
 pub next_of_rest : (n : ℕ) (chars : List Character) (ended : Bool) (given : List Found) (to : ℕ) → n ≤ length chars
@@ -98,15 +80,7 @@ all_stop chars from frames (first place found later is others) =
     (all_stop chars found.stop later others)
 
 pub next_whole : (chars : List Character) (given : List Found) → AreFrames chars 0 given → AreNext chars true 0 given (length chars)
-next_whole chars given are = record {
-  onward = omega arith;
-  within = omega arith;
-  leads = λ more later closed frames.
-      let alone : chars ++ more ≡ chars = rw (closed refl, append-nil) refl in
-      let nothing : later ≡ [] = frames_none chars (length chars) later (omega arith) (rw alone at frames) in
-      rw (nothing, append-nil, alone) are;
-  stops = all_stop chars 0 given are;
-}
+next_whole chars given are = grind (arith, all_stop, append-nil, frames_none)
 
 -- where there is one, some characters are used up
 pub next_some : (chars : List Character) (ended : Bool) (from to : ℕ) (found : Found) (more : List Found)
@@ -151,16 +125,9 @@ next_one chars ended place f body rest within parts is =
       onward = omega arith;
       within = grind (arith, length-append, length-map, length-drop place chars);
       leads = λ more later closed frames.
-          let stands : StandsIn found (chars ++ more) place = record {
-            prefix = take place chars;
-            body = body;
-            rest = rest ++ more;
-            split = grind (arith, append_assoc, take-append-drop place chars);
-            is_body = is;
-            after = omega (arith, long);
-            start = omega (arith, long);
-            stop = omega (arith, long);
-          } in
+          let parts = drop-append-le place chars more within ∙ ap (λ (cs : List Character). cs ++ more) parts in
+          let stands = stands_at (chars ++ more) place f body (rest ++ more) (omega (arith, within, length-append chars more))
+          (rw append_assoc at parts) is in
           AreFrames.first place found later
           (record { stands = stands; least = λ other there. (StandsIn-within other (chars ++ more) place there).after }) frames;
       stops = All-cons (StopsBy (place + 2 + length body)) found [] (omega arith) (All-nil (StopsBy (place + 2 + length body)));

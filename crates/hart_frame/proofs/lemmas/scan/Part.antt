@@ -1,6 +1,5 @@
 -- What a part of bytes is to a scanner that searches it together with what it holds.
-use Rattle.std.proofs.Common.{◌≡◌, ℕ, ◌+◌, ◌<◌, ◌⊎◌, inl, inr, false, List, ◌++◌, length, take, None, drop, refl}
-use Rattle.std.proofs.Common.{arith, length-append}
+use Rattle.std.proofs.Common.{◌≡◌, ℕ, ◌+◌, ◌<◌, ◌⊎◌, inl, inr, false, List, ◌++◌, length, take, None, drop, refl, arith, length-append}
 use Rattle.std.proofs.Math.Seq.{take-append-add}
 use Rattle.std.proofs.lemmas.List.{append-nil, map-append, take-map, length-map, length-take-le}
 use Rattle.hart_frame.specs.declared.scan.buffer.Buffer.{Buffer}

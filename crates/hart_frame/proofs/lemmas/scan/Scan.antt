@@ -14,15 +14,7 @@ use Rattle.hart_frame.proofs.lemmas.scan.Next.{next_grown, next_none, next_nothi
 
 -- nothing is let go
 pub moves_none : (old new : Scan) → new.held ≡ old.held → new.first ≡ old.first → new.finished ≡ old.finished → MovesPast old new []
-moves_none old new held firsts finished = record {
-  count = 0;
-  found = [];
-  next = next_nothing old.held old.finished 0 (omega arith);
-  given_are = refl;
-  first = omega (arith, firsts);
-  held = held;
-  finished = finished;
-}
+moves_none old new held firsts finished = grind (arith, next_nothing)
 
 -- it moves past some frames and then past others
 pub moves_then : (a b c : Scan) (xs ys : List Found) → MovesPast a b xs → MovesPast b c ys → MovesPast a c (xs ++ ys)

@@ -1,7 +1,6 @@
 -- What is known of bytes while they are searched, and what a search then finds.
 use Rattle.std.proofs.Common.{Some, None, ◌≡◌, ◌≢◌, ℕ, zero, suc, ◌+◌, ◌-◌, ◌<◌, ◌≤◌, ◌⊎◌, inl, inr, List, [], ◌∷◌, ◌++◌, length, take}
-use Rattle.std.proofs.Common.{drop, get_or, refl, ap, ◌∙◌, max, arith, append_assoc, length-append, length-drop}
-use Rattle.std.proofs.Common.{add-zero}
+use Rattle.std.proofs.Common.{drop, get_or, refl, ap, ◌∙◌, max, arith, append_assoc, length-append, length-drop, add-zero}
 use Rattle.std.proofs.Math.Seq.{take-add, take-append-add}
 use Rattle.std.proofs.lemmas.Grind.{common_steps}
 use Rattle.std.proofs.lemmas.List.{drop-append-le, drop-take, drop_more, length-take-le, take_rest}

@@ -1,142 +1,92 @@
 -- What is next in bytes, as what is seen of the characters that are heard.
-use Rattle.std.proofs.Common.{◌≡◌, ◌≢◌, ℕ, ◌+◌, ◌-◌, ◌<◌, ◌≤◌, ◌⊎◌, inl, inr, Bool, true, false, List, [], ◌++◌, length, get_or}
-use Rattle.std.proofs.Common.{arith, refl, append_assoc, length-append}
+use Rattle.std.proofs.Common.{◌≡◌, ◌≢◌, ℕ, ◌-◌, ◌<◌, ◌≤◌, ◌⊎◌, inl, inr, Bool, true, false, List, ◌++◌, length, get_or}
+use Rattle.std.proofs.Common.{arith, refl, length-append}
 use Rattle.std.proofs.lemmas.Bool.Decides.{nat_tests}
 use Rattle.std.proofs.lemmas.List.{get_or_append_left, get_or_at, get_or-map, length-map}
-use Rattle.std.specs.Prelude.{IsTrue}
 use Rattle.hart_frame.specs.declared.heard.found.Found.{Found}
 use Rattle.hart_frame.specs.declared.scan.sighting.After.{After}
-use Rattle.hart_frame.specs.declared.scan.sighting.After.TheVariants.{Damaged, End, More}
-use Rattle.hart_frame.specs.heard.Character.{Character}
+use Rattle.hart_frame.specs.declared.scan.sighting.After.TheVariants.{Damaged}
+use Rattle.hart_frame.specs.heard.Character.{Character, faultless}
 use Rattle.hart_frame.specs.heard.Place.{StandsIn}
-use Rattle.hart_frame.specs.heard.Sighting.{missed_at}
-use Rattle.hart_frame.specs.scan.Sighting.{AfterIsValid, heard_with, is_end}
-use Rattle.hart_frame.specs.private.Sighting.{FollowsTwo, IsAsked, IsSilent}
+use Rattle.hart_frame.specs.scan.Sighting.{heard_with}
+use Rattle.hart_frame.specs.private.Sighting.{FollowsTwo, IsAsked, IsSilent, MayFollow}
 use Rattle.hart_frame.proofs.lemmas.heard.Place.{preamble}
 use Rattle.hart_frame.proofs.lemmas.heard.Seen.{NoneSeen, frame_at}
 use Rattle.hart_frame.proofs.lemmas.heard.Sighting.{after_one-none, follows_from, is_other_at, is_preamble_at, not_other, unasked}
 use Rattle.hart_frame.proofs.lemmas.heard.Start.{tested}
 
--- the characters of bytes, and the one with fault bits after them
-pub chars_at : (bytes : List ℕ) (after : After) (more : List Character) (i : ℕ) (d : Character) → i < length bytes
-    → get_or (heard_with bytes after ++ more) i d ≡ record { byte = get_or bytes i 0; faults = 0 }
-chars_at bytes More more i d below = grind (arith, get_or_append_left, get_or-map, length-map)
-chars_at bytes End more i d below = grind (arith, get_or_append_left, get_or-map, length-map)
-chars_at bytes (Damaged c) more i d below = grind (arith, get_or_append_left, get_or-map, length-map, length-append)
+-- the characters of bytes
+chars_at : (bytes : List ℕ) (next : List Character) (i : ℕ) (d : Character) → i < length bytes
+    → get_or (faultless bytes ++ next) i d ≡ record { byte = get_or bytes i 0; faults = 0 }
+chars_at bytes next i d below = grind (arith, get_or_append_left, get_or-map, length-map)
 
-chars_past : (bytes : List ℕ) (c : Character) (more : List Character) (d : Character)
-    → get_or (heard_with bytes (Damaged c) ++ more) (length bytes) d ≡ c
-chars_past bytes c more d = grind (arith, append_assoc, get_or_at, length-map)
+-- the bytes are some of the characters that are known
+pub heard_few : (bytes : List ℕ) (after : After) → length bytes ≤ length (heard_with bytes after)
+heard_few bytes after = grind (arith, length-append, length-map)
 
-pub length-heard : (bytes : List ℕ) (after : After) (more : List Character)
-    → (length bytes ≤ length (heard_with bytes after)) × (length (heard_with bytes after) ≤ length (heard_with bytes after ++ more))
-length-heard bytes More more = (grind (arith, length-map), grind (arith, length-append))
-length-heard bytes End more = (grind (arith, length-map), grind (arith, length-append))
-length-heard bytes (Damaged c) more = (grind (arith, length-append, length-map), grind (arith, length-append))
+-- those are heard, and none after the bytes is a preamble byte
+pub record Known (bytes : List ℕ) (after : After) (next : List Character) : Type 0 where
+  pub within : length (heard_with bytes after) ≤ length (faultless bytes ++ next)
+  pub none : (i : ℕ) → length bytes ≤ i → i < length (heard_with bytes after) → is_preamble_at (faultless bytes ++ next) i ≡ false
+
+pub known : (bytes : List ℕ) (after : After) (next : List Character) → MayFollow after next → Known bytes after next
+known bytes (Damaged c) next (valid, more, same) = record {
+  within = grind (arith, length-append);
+  none = λ i low high.
+      let here : i ≡ length bytes = grind (arith, length-append, length-map) in
+      grind (arith, nat_tests, tested (faultless bytes ++ next) i, get_or_at, length-map);
+}
+known bytes _ next follows = record {
+  within = grind (arith, length-append);
+  none = λ i low high. absurd (grind (arith, length-map));
+}
 
 -- a preamble byte is one of the bytes
-pub preamble_yes : (bytes : List ℕ) (after : After) (more : List Character) (i : ℕ) → i < length bytes → get_or bytes i 0 ≡ 255
-    → is_preamble_at (heard_with bytes after ++ more) i ≡ true
-preamble_yes bytes after more i below is =
-    grind (arith, nat_tests, tested (heard_with bytes after ++ more) i, chars_at bytes after more i preamble, length-heard bytes after more)
+pub preamble_yes : (bytes : List ℕ) (next : List Character) (i : ℕ) → i < length bytes → get_or bytes i 0 ≡ 255
+    → is_preamble_at (faultless bytes ++ next) i ≡ true
+preamble_yes bytes next i below is = grind (arith, nat_tests, chars_at, length-append, length-map, tested)
 
-pub preamble_no : (bytes : List ℕ) (after : After) (more : List Character) (i : ℕ) → AfterIsValid after
+pub preamble_no : (bytes : List ℕ) (after : After) (next : List Character) (i : ℕ) → MayFollow after next
     → i < length (heard_with bytes after) → (i < length bytes → get_or bytes i 0 ≢ 255)
-    → is_preamble_at (heard_with bytes after ++ more) i ≡ false
-preamble_no bytes More more i valid within other =
-    grind (arith, nat_tests, tested (heard_with bytes More ++ more) i, chars_at bytes More more i preamble, length-map)
-preamble_no bytes End more i valid within other =
-    grind (arith, nat_tests, tested (heard_with bytes End ++ more) i, chars_at bytes End more i preamble, length-map)
-preamble_no bytes (Damaged c) more i valid within other =
-    let cases : (i < length bytes) ⊎ (i ≡ length bytes) = grind (arith, length-append, length-map) in
-    grind (
-      arith,
-      nat_tests,
-      tested (heard_with bytes (Damaged c) ++ more) i,
-      chars_at bytes (Damaged c) more i preamble,
-      chars_past bytes c more preamble,
-    )
+    → is_preamble_at (faultless bytes ++ next) i ≡ false
+preamble_no bytes after next i follows within other =
+    let cases : (i < length bytes) ⊎ (length bytes ≤ i) = grind arith in
+    let none = (known bytes after next follows).none i in
+    grind (arith, nat_tests, tested (faultless bytes ++ next) i, chars_at bytes next i preamble, none)
 
-pub preamble_is : (bytes : List ℕ) (after : After) (more : List Character) (i : ℕ) → AfterIsValid after
-    → i < length (heard_with bytes after) → is_preamble_at (heard_with bytes after ++ more) i ≡ true
+pub preamble_is : (bytes : List ℕ) (after : After) (next : List Character) (i : ℕ) → MayFollow after next
+    → i < length (heard_with bytes after) → is_preamble_at (faultless bytes ++ next) i ≡ true
     → (i < length bytes) × (get_or bytes i 0 ≡ 255)
-preamble_is bytes More more i valid within is =
-    let below : i < length bytes = omega (arith, simp length-map at within) in
-    (below, grind (arith, nat_tests, tested (heard_with bytes More ++ more) i, chars_at bytes More more i preamble below))
-preamble_is bytes End more i valid within is =
-    let below : i < length bytes = omega (arith, simp length-map at within) in
-    (below, grind (arith, nat_tests, tested (heard_with bytes End ++ more) i, chars_at bytes End more i preamble below))
-preamble_is bytes (Damaged c) more i valid within is =
-    let cases : (i < length bytes) ⊎ (i ≡ length bytes) = grind (arith, length-append, length-map) in
-    elim cases [
-      | inl below ↦ (
-        below,
-        grind (
-          arith,
-          nat_tests,
-          tested (heard_with bytes (Damaged c) ++ more) i,
-          chars_at bytes (Damaged c) more i preamble
-              below,
-        ),
-      )
-      | inr end ↦
-          let there = rw (← end) at (chars_past bytes c more preamble) in
-          absurd (grind (arith, nat_tests, tested (heard_with bytes (Damaged c) ++ more) i))
-    ]
+preamble_is bytes after next i follows within is =
+    let cases : (i < length bytes) ⊎ (length bytes ≤ i) = grind arith in
+    let none = (known bytes after next follows).none i in
+    grind (arith, nat_tests, tested (faultless bytes ++ next) i, chars_at bytes next i preamble, none)
 
-pub other_yes : (bytes : List ℕ) (after : After) (more : List Character) (i : ℕ) → AfterIsValid after
+pub other_yes : (bytes : List ℕ) (after : After) (next : List Character) (i : ℕ) → MayFollow after next
     → i < length (heard_with bytes after) → (i < length bytes → get_or bytes i 0 ≢ 255)
-    → is_other_at (heard_with bytes after ++ more) i ≡ true
-other_yes bytes after more i valid within other =
-    grind (
-      arith,
-      nat_tests,
-      tested (heard_with bytes after ++ more) i,
-      preamble_no bytes after more i valid within other,
-      length-heard bytes after more,
-    )
+    → is_other_at (faultless bytes ++ next) i ≡ true
+other_yes bytes after next i follows within other =
+    let long = (known bytes after next follows).within in
+    grind (arith, nat_tests, tested (faultless bytes ++ next) i, preamble_no bytes after next i follows within other)
 
 -- a place that is asked in the characters is asked in the bytes
-pub asked : (bytes : List ℕ) (after : After) (more : List Character) (from place : ℕ) → AfterIsValid after
-    → place < length (heard_with bytes after) → follows_from (heard_with bytes after ++ more) from place ≡ true
-    → is_other_at (heard_with bytes after ++ more) place ≡ true → IsAsked bytes after from place
-asked bytes after more from place valid within follows other =
-    let chars = heard_with bytes after ++ more in
-    let order : from < place = grind (arith, nat_tests) in
-    let before : is_preamble_at chars (place - 1) ≡ true = grind (arith, nat_tests) in
-    let one = preamble_is bytes after more (place - 1) valid (omega (arith, within)) before in
-    record {
-      order = order;
-      within = omega (arith, one.0, order);
-      preamble = one.1;
-      other = λ below same. grind (arith, nat_tests, preamble_yes bytes after more place below same, tested chars place);
-      heard = within;
-    }
+pub asked : (bytes : List ℕ) (after : After) (next : List Character) (from place : ℕ) → MayFollow after next
+    → place < length (heard_with bytes after) → follows_from (faultless bytes ++ next) from place ≡ true
+    → is_other_at (faultless bytes ++ next) place ≡ true → IsAsked bytes after from place
+asked bytes after next from place may within follows other = grind (arith, preamble_is, preamble_yes)
 
-pub two_in : (bytes : List ℕ) (after : After) (more : List Character) (from place : ℕ) → AfterIsValid after → place ≤ length bytes
-    → follows_from (heard_with bytes after ++ more) from (place - 1) ≡ true → FollowsTwo bytes from place
-two_in bytes after more from place valid within follows =
-    let chars = heard_with bytes after ++ more in
-    let order : from + 2 ≤ place = grind (arith, nat_tests) in
-    let same : place - 1 - 1 ≡ place - 2 = omega arith in
-    let before : is_preamble_at chars (place - 2) ≡ true = grind (arith, nat_tests) in
-    let long = length-heard bytes after more in
-    (order, (preamble_is bytes after more (place - 2) valid (omega (arith, order, within, long.0)) before).1)
+pub two_in : (bytes : List ℕ) (after : After) (next : List Character) (from place : ℕ) → MayFollow after next → place ≤ length bytes
+    → follows_from (faultless bytes ++ next) from (place - 1) ≡ true → FollowsTwo bytes from place
+two_in bytes after next from place may within follows = grind (arith, nat_tests, heard_few, is_preamble_at, preamble_is, within)
 
-pub two_out : (bytes : List ℕ) (after : After) (more : List Character) (from place : ℕ) → place ≤ length bytes
-    → FollowsTwo bytes from place → follows_from (heard_with bytes after ++ more) from (place - 1) ≡ true
-two_out bytes after more from place within (order, is) =
-    let same : place - 1 - 1 ≡ place - 2 = omega arith in
-    let before = preamble_yes bytes after more (place - 2) (omega (arith, order, within)) is in
-    grind (arith, nat_tests)
+pub two_out : (bytes : List ℕ) (next : List Character) (from place : ℕ) → place ≤ length bytes → FollowsTwo bytes from place
+    → follows_from (faultless bytes ++ next) from (place - 1) ≡ true
+two_out bytes next from place within (order, is) = grind (arith, nat_tests, preamble_yes, within)
 
 -- a place that is asked in the bytes is asked in the characters
-pub follows_in : (bytes : List ℕ) (after : After) (more : List Character) (from place : ℕ) → IsAsked bytes after from place
-    → follows_from (heard_with bytes after ++ more) from place ≡ true
-follows_in bytes after more from place is =
-    let before = preamble_yes bytes after more (place - 1) (omega (arith, is.order, is.within)) is.preamble in
-    let order = is.order in
-    grind (arith, nat_tests)
+pub follows_in : (bytes : List ℕ) (after : After) (next : List Character) (from place : ℕ) → IsAsked bytes after from place
+    → follows_from (faultless bytes ++ next) from place ≡ true
+follows_in bytes after next from place is = grind (arith, nat_tests, preamble_yes)
 
 pub bool_cases : (b : Bool) → (b ≡ true) ⊎ (b ≡ false)
 bool_cases true = inl refl
@@ -146,39 +96,34 @@ bool_cases false = inr refl
 abbrev pub SilentBefore : List ℕ → After → ℕ → ℕ → Type 0
 SilentBefore bytes after from to = (place : ℕ) → IsAsked bytes after from place → place < to → IsSilent bytes after from place
 
--- whatever comes, nothing is seen before a place, and no frame stands there
-module _ (bytes : List ℕ) (after : After) (more : List Character) (from to : ℕ) (valid : AfterIsValid after)
-    (closed : IsTrue (is_end after) → more ≡ []) (silent : SilentBefore bytes after from to)
-    (within : to ≤ length (heard_with bytes after)) where
-  none_at : (place : ℕ) → from ≤ place → place < to → missed_at (heard_with bytes after ++ more) from place ≡ []
-  none_at place order below =
-      let chars = heard_with bytes after ++ more in
+-- whatever follows, nothing is seen before a place, and no frame stands there
+module _ (bytes : List ℕ) (after : After) (next : List Character) (from to : ℕ) (may : MayFollow after next)
+    (silent : SilentBefore bytes after from to) (within : to ≤ length (heard_with bytes after)) where
+  pub none_seen : NoneSeen (faultless bytes ++ next) from to
+  none_seen place order below =
+      let chars = faultless bytes ++ next in
       let here : place < length (heard_with bytes after) = omega (arith, below, within) in
       elim (bool_cases (follows_from chars from place)) [
         | inr not ↦ unasked chars from place order not
         | inl follows ↦ elim (bool_cases (is_other_at chars place)) [
           | inr not ↦ not_other chars from place order not
           | inl other ↦
-              let is = asked bytes after more from place valid here follows other in
+              let is = asked bytes after next from place may here follows other in
               let (two, alone) = silent place is below in
               elim (bool_cases (follows_from chars from (place - 1))) [
-                | inr single ↦ after_one-none chars from place order single (alone more closed)
-                | inl both ↦ absurd (two (two_in bytes after more from place valid is.within both))
+                | inr single ↦ after_one-none chars from place order follows single (alone next may)
+                | inl both ↦ absurd (two (two_in bytes after next from place may is.within both))
               ]
         ]
       ]
 
-  pub none_seen : NoneSeen (heard_with bytes after ++ more) from to
-  none_seen = none_at
-
-  pub late : (found : Found) → StandsIn found (heard_with bytes after ++ more) from → to ≤ found.start
+  pub late : (found : Found) → StandsIn found (faultless bytes ++ next) from → to ≤ found.start
   late found stands =
-      let chars = heard_with bytes after ++ more in
-      let at = frame_at chars from found stands in
+      let at = frame_at (faultless bytes ++ next) from found stands in
       let cases : (found.start < to) ⊎ (to ≤ found.start) = grind arith in
       elim cases [
         | inl below ↦
-            let is = asked bytes after more from found.start valid (omega (arith, below, within)) at.one at.other in
-            absurd ((silent found.start is below).0 (two_in bytes after more from found.start valid is.within at.two))
+            let is = asked bytes after next from found.start may (omega (arith, below, within)) at.one at.other in
+            absurd ((silent found.start is below).0 (two_in bytes after next from found.start may is.within at.two))
         | inr after ↦ after
       ]

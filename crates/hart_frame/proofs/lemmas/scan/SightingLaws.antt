@@ -1,24 +1,20 @@
 -- Sightings that are given one after another are all of a list, and a list has one list of sightings.
-use Rattle.std.proofs.Common.{◌≡◌, ◌≤◌, ℕ, Bool, false, List, [], ◌++◌, length, drop, map, ◌∙◌, add-zero, ap, sym, arith, refl}
-use Rattle.std.proofs.Common.{append_assoc}
+use Rattle.std.proofs.Common.{◌≡◌, ◌≤◌, ℕ, Bool, false, List, [], ◌++◌, length, drop, map, ap, sym, arith, refl, append_assoc}
 use Rattle.std.proofs.lemmas.List.{append-nil, drop-append-le}
 use Rattle.std.specs.Prelude.{IsTrue}
 use Rattle.hart_frame.specs.heard.Character.{Character}
-use Rattle.hart_frame.specs.heard.Frames.{AreFrames, moved}
+use Rattle.hart_frame.specs.heard.Frames.{AreFrames}
 use Rattle.hart_frame.specs.heard.Sighting.{AreSightings, Seen, SeesOn, moved_seen, sightings}
-use Rattle.hart_frame.proofs.lemmas.Laws.{frames_are_unambiguous-one_list, the_rest_has_the_later_frames}
 use Rattle.hart_frame.proofs.lemmas.heard.FramesFound.{AreFrames-found}
 use Rattle.hart_frame.proofs.lemmas.heard.Place.{HasNoFrame-end}
+use Rattle.hart_frame.proofs.lemmas.heard.Rest.{rest_frames}
 use Rattle.hart_frame.proofs.lemmas.heard.Seen.{missed_none}
 use Rattle.hart_frame.proofs.lemmas.heard.Sighting.{sightings_moved}
+use Rattle.hart_frame.proofs.lemmas.heard.UnambiguousFrames.{AreFrames-one}
 
 pub rest : (place : ℕ) (chars : List Character) (seen : List Seen)
     → AreSightings (drop place chars) 0 seen → AreSightings chars place (map (moved_seen place) seen)
-rest place chars seen are = record {
-  frames = map (moved place) are.frames;
-  are_frames = (the_rest_has_the_later_frames place chars are.frames).0 are.are_frames;
-  seen_is = ap (map (moved_seen place)) are.seen_is ∙ rw (add-zero place) at (sym (sightings_moved chars place 0 are.frames));
-}
+rest place chars seen are = grind (arith, rest_frames place chars are.frames, sightings_moved chars place 0 are.frames)
 
 pub onward : (chars : List Character) (ended : Bool) (from to after : ℕ) (given found : List Seen)
     → SeesOn chars ended from given to → SeesOn chars ended to found after → SeesOn chars ended from (given ++ found) after
@@ -50,11 +46,7 @@ all chars ended given sees =
     rw (append-nil given) at (rw same at whole)
 
 pub one : (chars : List Character) (from : ℕ) (xs ys : List Seen) → AreSightings chars from xs → AreSightings chars from ys → xs ≡ ys
-one chars from xs ys first second =
-    first.seen_is
-    ∙ ap (sightings chars from)
-    (frames_are_unambiguous-one_list chars from first.frames second.frames first.are_frames second.are_frames)
-    ∙ sym second.seen_is
+one chars from xs ys first second = grind (arith, AreFrames-one)
 
 pub some : (chars : List Character) (from : ℕ) → (seen : List Seen) × AreSightings chars from seen
 some chars from =

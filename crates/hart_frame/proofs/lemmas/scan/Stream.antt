@@ -1,6 +1,5 @@
 -- The frames given since a scanner was new are the next ones of what was pushed, and all of them after the finish.
-use Rattle.std.proofs.Common.{◌≡◌, ◌+◌, Bool, true, false, IsTrue, ℕ, List, [], ◌∷◌, ◌++◌, length, map, drop, refl, sym, arith}
-use Rattle.std.proofs.Common.{length-drop}
+use Rattle.std.proofs.Common.{◌≡◌, ◌+◌, Bool, true, false, IsTrue, ℕ, List, [], ◌∷◌, ◌++◌, length, map, drop, refl, sym, arith, length-drop}
 use Rattle.std.proofs.lemmas.List.{append-nil, drop-append-le, drop-drop}
 use Rattle.hart_frame.specs.declared.heard.found.Found.{Found}
 use Rattle.hart_frame.specs.heard.Character.{Character}
@@ -64,11 +63,7 @@ history_held past scan given history = (streamed past scan given history).held
 pub history_first : (past more : List Character) (scan : Scan) (given frames : List Found) → IsHistory past scan given
     → (IsTrue scan.finished → more ≡ []) → AreFrames (past ++ more) 0 frames → (later : List Found) × (frames ≡ given ++ later)
 history_first past more scan given frames history ended are =
-    let (later, after) = AreFrames-found (past ++ more) scan.first in (
-      later,
-      AreFrames-one (past ++ more) 0 frames (given ++ later) are
-          ((history_next past scan given history).leads more later ended after),
-    )
+    grind (arith, AreFrames-found (past ++ more) scan.first, AreFrames-one, history_next past scan given history)
 
 -- what was pushed was let go or is held
 pub history_length : (past : List Character) (scan : Scan) (given : List Found) → IsHistory past scan given
@@ -88,6 +83,4 @@ history_all past given whole =
 -- the frames to come are those of what is left, and of what is still to come
 pub next_rest : (chars more : List Character) (ended : Bool) (given later : List Found) (to : ℕ) → AreNext chars ended 0 given to
     → (IsTrue ended → more ≡ []) → AreFrames (drop to chars ++ more) 0 later → AreFrames (chars ++ more) 0 (given ++ map (moved to) later)
-next_rest chars more ended given later to next closed are =
-    next.leads more (map (moved to) later) closed
-    (rest_frames to (chars ++ more) later (rw (drop-append-le to chars more next.within) are))
+next_rest chars more ended given later to next closed are = grind (arith, next, rest_frames, drop-append-le to chars more next.within)

@@ -25,19 +25,13 @@ use Rattle.hart_frame.proofs.lemmas.heard.FramesFound.{AreFrames-found}
 use Rattle.hart_frame.proofs.lemmas.heard.Open.{open_begins}
 use Rattle.hart_frame.proofs.lemmas.heard.Place.{StandsIn-within}
 use Rattle.hart_frame.proofs.lemmas.heard.Seen.{message_on, missed_none, passes_on}
-use Rattle.hart_frame.proofs.lemmas.heard.Sighting.{after_one-none, not_both, not_other, unasked}
+use Rattle.hart_frame.proofs.lemmas.heard.Sighting.{after_one-none, not_both, not_other}
 use Rattle.hart_frame.proofs.lemmas.heard.Told.{cut_told}
 use Rattle.hart_frame.proofs.lemmas.scan.BodyAt.{miss_end}
+use Rattle.hart_frame.proofs.lemmas.scan.SightingLaws.{some as some_sightings}
 use Rattle.hart_frame.proofs.lemmas.wire.Reading.{truncated_cut}
-use Rattle.hart_frame.proofs.lemmas.scan.NextSeen.{miss_one, miss_two}
+use Rattle.hart_frame.proofs.lemmas.scan.NextSeen.{miss_one, miss_two, two_parts}
 use Rattle.hart_frame.proofs.lemmas.scan.Sighted.{SilentBefore, late, none_seen, preamble_yes}
-use Rattle.hart_frame.proofs.lemmas.wire.Truncated.{CanBecomeBody-truncated}
-
--- every list has its sightings
-seen_found : (chars : List Character) (from : ℕ) → (seen : List Seen) × AreSightings chars from seen
-seen_found chars from =
-    let (frames, are) = AreFrames-found chars from in
-    (sightings chars from frames, record { frames = frames; are_frames = are; seen_is = refl })
 
 -- bytes that end too early have a miss at the end
 truncated_miss : (xs : List ℕ) (fp start : ℕ) → IsTruncated xs → (miss : Miss) × (miss_in xs None fp start ≡ Some miss)
@@ -50,13 +44,7 @@ module _ (rest : List ℕ) (fit : All (λ byte. byte < 256) rest) (truncated : I
   bytes = 255 ∷ 255 ∷ rest
 
   asked_two : IsAsked (255 ∷ 255 ∷ rest) More 0 2
-  asked_two = record {
-    order = omega arith;
-    within = omega arith;
-    preamble = refl;
-    other = λ below same. grind arith;
-    heard = grind (arith, length-map);
-  }
+  asked_two = grind (arith, length-map)
 
   silent_two : SilentBefore (255 ∷ 255 ∷ rest) More 0 2
   silent_two zero is below = absurd (omega (arith, is.order))
@@ -75,73 +63,54 @@ module _ (rest : List ℕ) (fit : All (λ byte. byte < 256) rest) (truncated : I
       let (miss, is) = truncated_miss rest (2 + length rest) 2 truncated in
       let wrong : body_miss 2 (drop 2 (whole ++ [])) ≡ Some miss =
       ap (λ (xs : List Character). body_miss 2 xs) (append-nil (faultless rest)) ∙ miss_end rest 2 ∙ is in
-      let passes = miss_two (255 ∷ 255 ∷ rest) More [] 0 2 tt (λ over. absurd cc) silent_two asked_two miss follows_two wrong in
-      let (later, are) = seen_found (whole ++ []) 3 in
+      let passes = miss_two (255 ∷ 255 ∷ rest) More [] 0 2 tt silent_two asked_two miss follows_two wrong in
+      let (later, are) = some_sightings (whole ++ []) 3 in
       let one = always [] _ (passes_on (whole ++ []) 0 3 _ later passes are) in
       let fits : All (λ character. character.byte < 256) whole =
       All-map (λ (c : Character). c.byte < 256) (λ (byte : ℕ). let c : Character = record { byte = byte; faults = 0 } in c)
       (255 ∷ 255 ∷ rest)
       (All-cons (λ byte. byte < 256) 255 (255 ∷ rest) (omega arith) (All-cons (λ byte. byte < 256) 255 rest (omega arith) fit)) in
-      let can = open_begins CanBecomeBody-truncated 2 whole fits
+      let (more, found, stands, at) = open_begins 2 whole fits
       (record { prefix = []; bytes = rest; split = refl; start = refl; truncated = truncated }) in
-      let chars = whole ++ can.more in
-      let at = can.start in
-      let silent = none_seen (255 ∷ 255 ∷ rest) More can.more 0 2 tt (λ over. absurd cc) silent_two heard_two in
-      let first_frame = λ (other : Found) (stands : StandsIn other chars 0). late (255 ∷ 255 ∷ rest) More can.more 0 2 tt
-      (λ over. absurd cc) silent_two heard_two other stands in
-      let (after, are_after) = seen_found chars can.found.stop in
-      let two = always can.more _ (message_on chars 0 can.found after
-      (missed_none chars 0 can.found.start (λ p low high. silent p low (omega (arith, high, at))))
-      (record { stands = can.stands; least = λ other stands. omega (arith, at, first_frame other stands) }) are_after) in
+      let chars = whole ++ more in
+      let silent = none_seen (255 ∷ 255 ∷ rest) More more 0 2 tt silent_two heard_two in
+      let first_frame = λ (other : Found) (stands : StandsIn other chars 0). late (255 ∷ 255 ∷ rest) More more 0 2 tt
+      silent_two heard_two other stands in
+      let (after, are_after) = some_sightings chars found.stop in
+      let two = always more _ (message_on chars 0 found after
+      (missed_none chars 0 found.start (λ p low high. silent p low (omega (arith, high, at))))
+      (record { stands = stands; least = λ other stands. omega (arith, at, first_frame other stands) }) are_after) in
       cc (one.1, two.1)
 
--- where nothing is seen at the first two places, no miss of the second one comes first
+-- where nothing is seen at a place, no miss of it comes first
 form : (m : Option Miss) (from place : ℕ)
     → (option_map_or (λ miss. Missed place (miss_in_whole from miss) ∷ []) m [] ≡ [])
     ⊎ ((miss : Miss) × (option_map_or (λ miss. Missed place (miss_in_whole from miss) ∷ []) m [] ≡ Missed place miss ∷ []))
 form None from place = inl refl
 form (Some miss) from place = inr (_, refl)
 
-late_head : (chars : List Character) (a k : ℕ) (tail later : List Seen) (miss : Miss) → 2 ≤ a → (tail ≡ Missed 1 miss ∷ later → ⊥)
+not_first : (chars : List Character) (a k : ℕ) (tail later : List Seen) (miss : Miss) → missed_at chars 0 1 ≡ []
+    → (tail ≡ Missed 1 miss ∷ later → ⊥)
     → flat_map (λ p. missed_at chars 0 p) (range_with_len a k) ++ tail ≡ Missed 1 miss ∷ later → ⊥
-late_head chars a zero tail later miss after not is = not is
-late_head chars a (suc k) tail later miss after not is = elim (form (seen_miss (drop 0 chars) (a - 0)) 0 a) [
-  | inl nil ↦ late_head chars (a + 1) k tail later miss (omega (arith, after)) not (rw nil at is)
+not_first chars a zero tail later miss none not is = not is
+not_first chars a (suc k) tail later miss none not is = elim (form (seen_miss (drop 0 chars) (a - 0)) 0 a) [
+  | inl nil ↦ not_first chars (a + 1) k tail later miss none not (rw nil at is)
   | inr (other, one) ↦
       let both = rw one at is in
-      let same : a ≡ 1 = cc in omega (arith, after, same)
+      let same : a ≡ 1 = cc in
+      let clash = sym none ∙ rw same at one in cc (clash)
 ]
 
-skip : (xs rest tail target : List Seen) → xs ≡ [] → (xs ++ rest) ++ tail ≡ target → rest ++ tail ≡ target
-skip xs rest tail target none is = sym (ap (λ (ys : List Seen). (ys ++ rest) ++ tail) none) ∙ is
-
-not_first : (chars : List Character) (k : ℕ) (tail later : List Seen) (miss : Miss) → missed_at chars 0 0 ≡ [] → missed_at chars 0 1 ≡ []
-    → (tail ≡ Missed 1 miss ∷ later → ⊥)
-    → flat_map (λ p. missed_at chars 0 p) (range_with_len 0 k) ++ tail ≡ Missed 1 miss ∷ later → ⊥
-not_first chars zero tail later miss zeroth first not is = not is
-not_first chars (suc zero) tail later miss zeroth first not is = not (skip (missed_at chars 0 0) [] tail _ zeroth is)
-not_first chars (suc (suc k)) tail later miss zeroth first not is =
-    let rest = flat_map (λ p. missed_at chars 0 p) (range_with_len 2 k) in
-    late_head chars 2 k tail later miss (omega arith) not
-    (skip (missed_at chars 0 1) rest tail _ first (skip (missed_at chars 0 0) (missed_at chars 0 1 ++ rest) tail _ zeroth is))
-
-not_one : (chars : List Character) (frames : List Found) (later : List Seen) (miss : Miss) → missed_at chars 0 0 ≡ []
-    → missed_at chars 0 1 ≡ [] → sightings chars 0 frames ≡ Missed 1 miss ∷ later → ⊥
-not_one chars [] later miss zeroth first is =
-    not_first chars (length chars - 0) [] later miss zeroth first (λ same. cc) (append-nil _ ∙ is)
-not_one chars (found ∷ frames) later miss zeroth first is =
-    not_first chars (found.start - 0) (Message found ∷ sightings chars found.stop frames) later miss zeroth first (λ same. cc) is
+not_one : (chars : List Character) (frames : List Found) (later : List Seen) (miss : Miss) → missed_at chars 0 1 ≡ []
+    → sightings chars 0 frames ≡ Missed 1 miss ∷ later → ⊥
+not_one chars [] later miss none is = not_first chars 0 (length chars - 0) [] later miss none (λ same. cc) (append-nil _ ∙ is)
+not_one chars (found ∷ frames) later miss none is =
+    not_first chars 0 (found.start - 0) (Message found ∷ sightings chars found.stop frames) later miss none (λ same. cc) is
 
 -- after one preamble byte alone, what may stand alone
 module _ (rest : List ℕ) (some : 0 < length rest) (other : get_or rest 0 0 ≢ 255) (may : MayStandAlone (255 ∷ rest) 1) where
   asked_one : IsAsked (255 ∷ rest) More 0 1
-  asked_one = record {
-    order = omega arith;
-    within = omega arith;
-    preamble = refl;
-    other = λ below. other;
-    heard = grind (arith, length-map);
-  }
+  asked_one = grind (arith, length-map)
 
   silent_one : SilentBefore (255 ∷ rest) More 0 1
   silent_one zero is below = absurd (omega (arith, is.order))
@@ -150,17 +119,16 @@ module _ (rest : List ℕ) (some : 0 < length rest) (other : get_or rest 0 0 ≢
   pub undecided_one : IsUndecidedSighting (faultless (255 ∷ rest))
   undecided_one first always =
       let whole = faultless (255 ∷ rest) in
-      let passes = miss_one (255 ∷ rest) More may.one 0 1 tt (λ over. absurd cc) silent_one asked_one (λ two. omega (arith, two.0))
+      let passes = miss_one (255 ∷ rest) More may.one 0 1 tt silent_one asked_one (λ two. omega (arith, two.0))
       may.alone in
-      let (later, are) = seen_found (whole ++ may.one) 2 in
+      let (later, are) = some_sightings (whole ++ may.one) 2 in
       let one = always may.one _ (passes_on (whole ++ may.one) 0 2 _ later passes are) in
       let chars = whole ++ may.other in
       let (frames, are_frames) = AreFrames-found chars 0 in
       let two = always may.other (sightings chars 0 frames) (record { frames = frames; are_frames = are_frames; seen_is = refl }) in
-      let zeroth = unasked chars 0 0 (omega arith) refl in
-      let none = after_one-none chars 0 1 (omega arith) refl may.not_alone in
+      let none = after_one-none chars 0 1 (omega arith) refl refl may.not_alone in
       let same : first ≡ Missed 1 OnePreamble = cc (one.1) in
-      not_one chars frames two.0 OnePreamble zeroth none (rw same at two.1)
+      not_one chars frames two.0 OnePreamble none (rw same at two.1)
 
 -- a few preamble bytes
 pub undecided_few : (bytes : List ℕ) → length bytes ≤ 2 → ((i : ℕ) → i < length bytes → get_or bytes i 0 ≡ 255)
@@ -174,7 +142,7 @@ undecided_few bytes few preambles first always =
           let at = StandsIn-within found chars 0 stands in omega (arith, at.after, at.some, at.within, long, few));
       seen_is = sym (missed_none chars 0 (length chars) (λ p low high.
           not_other chars 0 p low (not_both chars p
-          (preamble_yes bytes More [] p (omega (arith, high, long)) (preambles p (omega (arith, high, long)))))));
+          (preamble_yes bytes [] p (omega (arith, high, long)) (preambles p (omega (arith, high, long)))))));
     } in
     let none = always [] [] are in
     cc (none.1)
@@ -193,21 +161,16 @@ undecided_used bytes from used (low, inr (inr (last, one, two))) =
     let here : (i ≡ 0) ⊎ (i ≡ 1) = grind arith in grind (arith, get_or-drop))
 
 -- what is left where something is open
-pub open_undecided : (bytes : List ℕ) (after : After) (from start used : ℕ) → All (λ byte. byte < 256) bytes
-    → IsAsked bytes after from start → after ≡ More → IsStandingAt bytes after from start (Open used)
+pub open_undecided : (bytes : List ℕ) (after : After) (place from start used : ℕ) → All (λ byte. byte < 256) bytes
+    → IsAsked bytes after place start → after ≡ More → IsStandingAt bytes after from start (Open used)
     → IsUndecidedSighting (faultless (drop used bytes))
-open_undecided bytes after from start used fit is more (inl (two, (more_is, at, truncated))) =
+open_undecided bytes after place from start used fit is more (inl (two, (more_is, at, truncated))) =
     let heard : length (heard_with bytes after) ≡ length bytes = rw more (grind (arith, length-map)) in
     let some : 0 < length (drop start bytes) = omega (arith, is.heard, heard, length-drop start bytes) in
-    let first : get_or bytes used 0 ≡ 255 = let same : start - 2 ≡ used = omega (arith, at) in rw same at two.1 in
-    let second : get_or bytes (used + 1) 0 ≡ 255 = let same : start - 1 ≡ used + 1 = omega (arith, at) in rw same at is.preamble in
-    let last : drop (used + 1 + 1) bytes ≡ drop start bytes = let same : used + 1 + 1 ≡ start = omega (arith, at) in rw same refl in
-    let parts : drop used bytes ≡ 255 ∷ 255 ∷ drop start bytes =
-    drop_more bytes used 0 (omega (arith, at, is.within))
-    ∙ ap (λ (xs : List ℕ). get_or bytes used 0 ∷ xs) (drop_more bytes (used + 1) 0 (omega (arith, at, is.within)))
-    ∙ rw (first, second, last) refl in
+    let same : start - 2 ≡ used = omega (arith, at) in
+    let parts = rw same at (two_parts bytes start (omega (arith, at)) is.within two.1 is.preamble) in
     rw parts (undecided_two (drop start bytes) (All-drop (λ byte. byte < 256) start bytes fit) truncated some)
-open_undecided bytes after from start used fit is more (inr (one, (more_is, at, few, may))) =
+open_undecided bytes after place from start used fit is more (inr (one, (more_is, at, few, may))) =
     let heard : length (heard_with bytes after) ≡ length bytes = rw more (grind (arith, length-map)) in
     let some : 0 < length (drop start bytes) = omega (arith, is.heard, heard, length-drop start bytes) in
     let here : get_or bytes used 0 ≡ 255 = let same : start - 1 ≡ used = omega (arith, at) in rw same at is.preamble in

@@ -1,13 +1,12 @@
 -- The parts that a layout cuts out of bytes are, joined again, the bytes.
-use Rattle.std.proofs.Common.{◌≡◌, ℕ, ◌+◌, ◌-◌, ◌<◌, ◌≤◌, List, ◌∷◌, ◌++◌, length, take, drop, get_or, arith}
-use Rattle.std.proofs.Common.{length-drop}
+use Rattle.hart_frame.specs.wire.Delimiter.{delimiter_of}
+use Rattle.std.proofs.Common.{◌≡◌, ℕ, ◌+◌, ◌-◌, ◌<◌, ◌≤◌, List, ◌∷◌, ◌++◌, length, take, drop, get_or, arith, length-drop}
 use Rattle.std.proofs.Math.Seq.{take-add}
 use Rattle.std.proofs.lemmas.List.{drop_more, drop-drop, length-take-le}
 use Rattle.std.specs.List.{slice_range}
 use Rattle.hart_values.specs.address.AddressBytes.{IsAddressBytes}
 use Rattle.hart_frame.specs.declared.wire.layout.Layout.{Layout}
 use Rattle.hart_frame.specs.wire.Body.{IsCheckedPart}
-use Rattle.hart_frame.specs.wire.Delimiter.{delimiter_of}
 use Rattle.hart_frame.specs.wire.FrameParts.{FrameParts, IsLongEnough}
 use Rattle.hart_frame.specs.private.Layout.{Describes}
 use Rattle.hart_frame.specs.wire.Layout.{body_length}
@@ -25,8 +24,7 @@ slice_range-first xs a c ac within = grind (arith, drop_more xs a 0, take-add 1 
 cut : (xs : List ℕ) (i j k : ℕ) → 1 ≤ i → i ≤ j → j + 2 ≤ k → k ≤ length xs
     → take k xs ≡ get_or xs 0 0 ∷ slice_range xs 1 i ++ slice_range xs i j ++ get_or xs j 0 ∷ get_or xs (j + 1) 0 ∷ slice_range xs (j + 2) k
 cut xs i j k low middle high within =
-    let join = slice_range-join xs 1 in
-    grind (arith, slice_range-first xs 0 k, slice_range-first xs j k, slice_range-first xs (j + 1) k, join i j, join j k)
+    grind (arith, slice_range-join xs 1, slice_range-first xs 0 k, slice_range-first xs j k, slice_range-first xs (j + 1) k)
 
 -- what stands in the bytes where the layout says
 pub record StandsByLayout (bytes : List ℕ) (layout : Layout) (frame : FrameParts) : Type 0 where

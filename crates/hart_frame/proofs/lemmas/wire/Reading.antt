@@ -13,7 +13,7 @@ use Rattle.hart_frame.specs.private.Prefix.{HasBadCheck, IsPrefix, IsWrong, faul
 use Rattle.hart_frame.specs.wire.Layout.{body_length, byte_count_place}
 use Rattle.hart_frame.specs.wire.Parity.{IsCheckByte}
 use Rattle.hart_frame.specs.wire.Refusal.{HasCheckByte, IsRefusedWith, IsTruncated}
-use Rattle.hart_frame.proofs.lemmas.wire.Parity.{IsCheckByte-fold, before_last, changed, even-check, fits-is, fits_at, odd}
+use Rattle.hart_frame.proofs.lemmas.wire.Parity.{IsCheckByte-fold, before_last, changed, even-check, fits-is, odd}
 use Rattle.hart_frame.proofs.lemmas.wire.Prefix.{Describes-prefix, HasCheckByte-prefix, HasGoodByteCount-more, good_prefix, length_more}
 use Rattle.hart_frame.proofs.lemmas.wire.Truncated.{truncated_check, truncated_count}
 
@@ -126,9 +126,9 @@ truncated_cut xs (inr (inr (good, early))) =
 pub whole_has : (xs : List ℕ) (layout : Layout) → IsPrefix xs (Whole layout)
     → HasCheckByte xs × (body_length xs ≡ layout_length layout) × (layout_length layout ≤ 267)
 whole_has xs layout (within, is) =
-    let n = layout_length layout in
-    let few = fits_at (take n xs) is.fits in
-    let more = take-append-drop n xs in
-    let long = length_more (take n xs) (drop n xs) is.checked.0.0.1 in
-    let good = HasGoodByteCount-more (take n xs) (drop n xs) is.checked.0 in
-    grind (arith, length-take-le n xs within, few 0, few (byte_count_place (take n xs)))
+    grind (
+      arith,
+      take-append-drop (layout_length layout) xs,
+      length_more (take (layout_length layout) xs) (drop (layout_length layout) xs) is.checked.0.0.1,
+      HasGoodByteCount-more (take (layout_length layout) xs) (drop (layout_length layout) xs) is.checked.0,
+    )

@@ -2,9 +2,8 @@
 use Rattle.std.proofs.Common.{◌≡◌, ℕ, ◌+◌, ◌*◌, ◌<◌, Bool, List, [], ◌∷◌, ◌++◌, fold, bit_xor, length, take, drop, refl, arith}
 use Rattle.std.proofs.Common.{append_assoc, length-append}
 use Rattle.std.proofs.Math.Seq.{drop-append_seam, take-append_seam}
-use Rattle.std.proofs.lemmas.List.{append-nil, append_cancel_right, length-take-le, take_at, take-append-drop}
-use Rattle.std.proofs.lemmas.List.{get_or_append_left, get_or_at, get_or_past}
-use Rattle.hart_values.proofs.lemmas.Laws.{address_bytes_are_unambiguous-one_list, address_bytes_are_unambiguous-one_reading}
+use Rattle.std.proofs.lemmas.List.{append-nil, length-take-le, take_at, take-append-drop, get_or_append_left, get_or_at, get_or_past}
+use Rattle.hart_values.proofs.lemmas.Laws.{address_bytes_are_unambiguous-one_list}
 use Rattle.hart_values.specs.address.AddressBytes.{IsAddressBytes}
 use Rattle.hart_values.specs.declared.address.Address.{Address}
 use Rattle.hart_values.specs.declared.master_id.MasterId.{MasterId}
@@ -43,10 +42,7 @@ spread f body rest is = rw (is.parts, is.checked_part.parts) (simp append_assoc)
 -- the same body of the same frame, and the same rest
 same_bodies : (f g : FrameParts) (body other rest more : List ℕ) → IsBody f body → IsBody g other → body ++ rest ≡ other ++ more
     → (f ≡ g) × (body ≡ other) × (rest ≡ more)
-same_bodies f g body other rest more p q whole =
-    let first = spread f body rest p in
-    let second = spread g other more q in
-    grind (arith, kind_code-is, address_type-lt, same_parts, length-address, address_bytes_are_unambiguous-one_reading, append_cancel_right)
+same_bodies f g body other rest more p q whole = grind (arith, spread f body rest p, spread g other more q, same_parts)
 
 pub bodies_are_unambiguous-one_frame : (f g : FrameParts) (bytes : List ℕ) → IsBody f bytes → IsBody g bytes → f ≡ g
 bodies_are_unambiguous-one_frame f g bytes p q = (same_bodies f g bytes bytes [] [] p q refl).0

@@ -5,9 +5,6 @@ use Rattle.hart_frame.proofs.lemmas.wire.Parity.{fits_at}
 use Rattle.hart_frame.proofs.lemmas.wire.Reading.{wrong_within}
 use Rattle.hart_frame.proofs.heard.miss.body_miss.Goals as goal
 
-pub wrong_miss-requires-clause-some : goal.wrong_miss-requires-clause-some
-wrong_miss-requires-clause-some c = grind (arith, wrong_within c.as_slice.result.now c.in-Wrong.wrong)
-
 pub wrong_miss-requires-clause-within : goal.wrong_miss-requires-clause-within
 wrong_miss-requires-clause-within c = grind (arith, wrong_within c.as_slice.result.now c.in-Wrong.wrong, length-front c.args.heard.now 267)
 
@@ -18,19 +15,15 @@ returns-in-Whole-clause-found c =
 
 pub returns-in-Wrong-clause-found : goal.returns-in-Wrong-clause-found
 returns-in-Wrong-clause-found c =
-    grind (
-      arith,
-      front_wrong c.args.heard.now c.args.start 267 c.as_slice.result.now (grind arith) (omega arith)
-          (fits_at _ c.as_slice.ensures.bytes) c.in-Wrong.wrong c.in-Wrong.ensures,
-    )
+    let is = front_wrong c.args.heard.now c.args.start 267 c.as_slice.result.now (grind arith) (omega arith)
+    (fits_at _ c.as_slice.ensures.bytes) c.in-Wrong.wrong c.in-Wrong.ensures in
+    grind (arith, is)
 
 pub returns-in-Cut-clause-found : goal.returns-in-Cut-clause-found
 returns-in-Cut-clause-found c =
-    grind (
-      arith,
-      front_cut c.args.heard.now c.args.start 267 c.as_slice.result.now (grind arith) (omega arith)
-          (fits_at _ c.as_slice.ensures.bytes) c.in-Cut.missing c.in-Cut.ensures,
-    )
+    let is = front_cut c.args.heard.now c.args.start 267 c.as_slice.result.now (grind arith) (omega arith)
+    (fits_at _ c.as_slice.ensures.bytes) c.in-Cut.missing c.in-Cut.ensures in
+    grind (arith, is)
 
 pub returns-in-Whole-clause-fit : goal.returns-in-Whole-clause-fit
 returns-in-Whole-clause-fit c =

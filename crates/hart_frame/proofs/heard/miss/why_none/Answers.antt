@@ -3,10 +3,8 @@ use Rattle.std.proofs.lemmas.List.{take_rest}
 use Rattle.hart_frame.specs.heard.Character.{Character}
 use Rattle.hart_frame.specs.heard.Miss.{miss_of}
 use Rattle.hart_frame.proofs.lemmas.heard.Hint.{is_told}
-use Rattle.hart_frame.specs.heard.Start.{IsStart}
 use Rattle.hart_frame.specs.private.Miss.{IsOfBytes}
-use Rattle.hart_frame.proofs.lemmas.heard.Place.{preamble}
-use Rattle.hart_frame.proofs.lemmas.heard.Start.{start_test, starts_at, tested}
+use Rattle.hart_frame.proofs.lemmas.heard.Start.{start_test, tested}
 use Rattle.hart_frame.proofs.heard.miss.why_none.Goals as goal
 
 -- there is no miss past the end
@@ -26,19 +24,8 @@ returns-then-is_none-clause-found c = grind (arith, take_rest c.args.chars.now c
 pub returns-clause-found : goal.returns-clause-found
 returns-clause-found c = grind (arith, take_rest c.args.chars.now c.args.start, start_test c.args.chars.now c.args.start)
 
-pub returns-in_err-heard-clause-miss : goal.returns-in_err-heard-clause-miss
-returns-in_err-heard-clause-miss c =
-    let chars = c.args.chars.now in
-    let start = c.args.start in
-    let past : IsStart start chars → ⊥ = λ is. let at = starts_at chars start preamble is in grind (arith, at.within) in
-    is_told chars start _ (λ either. elim either [ inl is ↦ absurd (past is) | inr some ↦ absurd (grind arith) ])
-    (returns-in_err-heard-clause-found c)
-
 pub returns-then-is_start-clause-miss : goal.returns-then-is_start-clause-miss
-returns-then-is_start-clause-miss c =
-    let heard : c.in_ok-heard.heard.now ≡ drop c.args.start c.args.chars.now = grind (arith, take_rest) in
-    let fit : IsOfBytes (drop c.args.start c.args.chars.now) = rw heard at c.body_miss.ensures.fit in
-    is_told c.args.chars.now c.args.start _ (λ either. fit) (returns-then-is_start-clause-found c)
+returns-then-is_start-clause-miss c = grind (arith, take_rest, is_told, returns-then-is_start-clause-found c)
 
 pub returns-then-is_none-clause-miss : goal.returns-then-is_none-clause-miss
 returns-then-is_none-clause-miss c =

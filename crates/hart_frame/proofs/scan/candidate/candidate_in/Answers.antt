@@ -1,8 +1,8 @@
-use Rattle.std.proofs.Common.{◌≤◌, inr, length, arith, length-drop}
+use Rattle.std.proofs.Common.{◌≤◌, length, arith, length-drop}
 use Rattle.std.proofs.lemmas.List.{take_rest}
 use Rattle.hart_frame.proofs.lemmas.scan.Candidate.{after_whole, after_wrong, second_never}
 use Rattle.hart_frame.proofs.lemmas.wire.Parity.{fits_drop}
-use Rattle.hart_frame.proofs.lemmas.wire.Reading.{cut_truncated, whole_has, wrong_few, wrong_within}
+use Rattle.hart_frame.proofs.lemmas.wire.Reading.{cut_truncated, wrong_few, wrong_within}
 use Rattle.hart_frame.proofs.lemmas.wire.Truncated.{truncated_few}
 use Rattle.hart_frame.proofs.scan.candidate.candidate_in.Goals as goal
 
@@ -13,13 +13,6 @@ pub returns-in-Whole-clause-candidate : goal.returns-in-Whole-clause-candidate
 returns-in-Whole-clause-candidate c =
     let long : 2 ≤ length c.args.bytes.now = omega (arith, c.requires.some, c.if-bytes-eq1.false) in
     after_whole c.args.bytes.now long c.requires.preamble c.if-bytes.false c.in-Whole.layout c.in-Whole.ensures
-
-pub returns-in-Whole-clause-few : goal.returns-in-Whole-clause-few
-returns-in-Whole-clause-few c = (whole_has _ c.in-Whole.layout c.in-Whole.ensures).2
-
-pub returns-in-Cut-clause-candidate : goal.returns-in-Cut-clause-candidate
-returns-in-Cut-clause-candidate c =
-    let truncated = rw (take_rest c.args.bytes.now 2) at (cut_truncated _ _ c.in-Cut.ensures) in inr (inr (grind arith))
 
 pub returns-in-Cut-clause-few : goal.returns-in-Cut-clause-few
 returns-in-Cut-clause-few c =

@@ -1,7 +1,7 @@
 use Rattle.std.proofs.Common.{arith}
 use Rattle.std.proofs.lemmas.List.{take_rest}
 use Rattle.hart_frame.specs.heard.Frames.{moved}
-use Rattle.hart_frame.proofs.lemmas.Laws.{every_list_has_frames, frames_are_unambiguous-one_list}
+use Rattle.hart_frame.proofs.lemmas.Laws.{every_list_has_frames}
 use Rattle.hart_frame.proofs.lemmas.heard.Delivery.{no_frame, one_frame, only_said, several_frames}
 use Rattle.hart_frame.proofs.lemmas.scan.First.{first_copied, first_later, no_later, some_first}
 use Rattle.hart_frame.proofs.scan.first.lone_frame.Goals as goal
@@ -11,7 +11,7 @@ returns-in_default-clause-lone c = no_frame c.args.delivery.now c.in_default.ens
 
 pub returns-in_default-clause-only : goal.returns-in_default-clause-only
 returns-in_default-clause-only c =
-    only_said frames_are_unambiguous-one_list c.args.delivery.now _ (returns-in_default-clause-lone c)
+    only_said c.args.delivery.now _ (returns-in_default-clause-lone c)
 
 pub returns-then-has_frame-clause-lone : goal.returns-then-has_frame-clause-lone
 returns-then-has_frame-clause-lone c =
@@ -26,7 +26,7 @@ returns-then-has_frame-clause-lone c =
 
 pub returns-then-has_frame-clause-only : goal.returns-then-has_frame-clause-only
 returns-then-has_frame-clause-only c =
-    only_said frames_are_unambiguous-one_list c.args.delivery.now _ (returns-then-has_frame-clause-lone c)
+    only_said c.args.delivery.now _ (returns-then-has_frame-clause-lone c)
 
 pub returns-clause-lone : goal.returns-clause-lone
 returns-clause-lone c =
@@ -41,4 +41,4 @@ returns-clause-lone c =
 
 pub returns-clause-only : goal.returns-clause-only
 returns-clause-only c =
-    only_said frames_are_unambiguous-one_list c.args.delivery.now _ (returns-clause-lone c)
+    only_said c.args.delivery.now _ (returns-clause-lone c)

@@ -33,6 +33,3 @@ returns-clause-frames c =
     next_past c.args.bytes.now c.args.ended c.args.from c.search_to_end-sighting.result.place c.body_len.result c.in-Some.layout
     (parts_of c.view_in.result) found.after found.within found.none (rw c.in-Some.is at found.stands) c.body_len.ensures
     c.view_in.ensures
-
-pub returns-clause-within : goal.returns-clause-within
-returns-clause-within c = grind (arith, ends_within)

@@ -1,33 +1,23 @@
-use Rattle.std.proofs.Common.{◌≡◌, ◌∙◌, arith, drop, length-drop}
+use Rattle.std.proofs.Common.{◌∙◌, arith, drop, length-drop}
 use Rattle.std.proofs.lemmas.List.{take_rest, get_or-drop}
-use Rattle.hart_frame.specs.declared.scan.sighting.After.TheVariants.{More}
 use Rattle.hart_frame.specs.private.Sighting.{MayStandAlone}
 use Rattle.hart_frame.specs.declared.wire.prefix.Prefix.TheVariants.{Cut}
 use Rattle.hart_frame.specs.private.Prefix.{IsPrefix}
 use Rattle.hart_frame.proofs.lemmas.scan.Alone.{alone_moved}
-use Rattle.hart_frame.proofs.lemmas.scan.BodyAt.{cut_not_alone, whole_seen, wrong_not_alone}
-use Rattle.hart_frame.proofs.lemmas.wire.Reading.{cut_truncated, whole_has}
+use Rattle.hart_frame.proofs.lemmas.scan.BodyAt.{cut_not_alone, not_alone, whole_seen, wrong_seen}
+use Rattle.hart_frame.proofs.lemmas.wire.Reading.{cut_truncated}
 use Rattle.hart_frame.proofs.lemmas.wire.Truncated.{truncated_few}
 use Rattle.hart_frame.proofs.scan.sighting.after_one.Goals.{else-eq-via-then-eq+else-can_stand_alone, else-eq-via-else-eq}
 use Rattle.hart_frame.proofs.scan.sighting.after_one.Goals as goal
 
 pub lone_body-requires-clause-whole : goal.lone_body-requires-clause-whole
-lone_body-requires-clause-whole c =
-    whole_seen c.args.bytes.now c.args.after.now c.args.start c.in-Whole.layout c.requires.within
-    (rw (take_rest c.args.bytes.now c.args.start) at c.in-Whole.ensures)
-
-pub lone_body-requires-clause-body : goal.lone_body-requires-clause-body
-lone_body-requires-clause-body c =
-    let has = whole_has _ c.in-Whole.layout (rw (take_rest c.args.bytes.now c.args.start) at c.in-Whole.ensures) in grind (arith, has)
-
-pub lone_body-requires-clause-long : goal.lone_body-requires-clause-long
-lone_body-requires-clause-long c =
-    let has = whole_has _ c.in-Whole.layout (rw (take_rest c.args.bytes.now c.args.start) at c.in-Whole.ensures) in grind (arith, has)
+lone_body-requires-clause-whole c = grind (arith, whole_seen, take_rest c.args.bytes.now c.args.start)
 
 pub returns-in-Wrong : goal.returns-in-Wrong
 returns-in-Wrong c =
-    wrong_not_alone c.args.bytes.now c.args.after.now c.args.start c.in-Wrong.field-0 c.requires.within
-    (rw (take_rest c.args.bytes.now c.args.start) at c.in-Wrong.ensures)
+    not_alone c.args.bytes.now c.args.after.now c.args.start _
+    (wrong_seen c.args.bytes.now c.args.after.now c.args.start c.in-Wrong.field-0 c.requires.within
+    (rw (take_rest c.args.bytes.now c.args.start) at c.in-Wrong.ensures))
 
 pub returns-then-can_stand_alone : goal.returns-then-can_stand_alone
 returns-then-can_stand_alone c =
@@ -56,10 +46,9 @@ returns-else-eq c =
     let rest = take_rest bytes start in
     let is : IsPrefix (drop start bytes) (Cut c.in-Cut.missing) = grind (arith, rest) in
     elim c.else-eq.branch [
-      | else-eq-via-then-eq+else-can_stand_alone w ↦ λ more closed.
-          let going : c.args.after.now ≡ More = grind arith in
-          let never = rw rest at (w.can_stand_alone.ensures.never w.if-can_stand_alone.false more) in
-          rw going (alone_moved bytes more start c.requires.within ∙ never)
+      | else-eq-via-then-eq+else-can_stand_alone w ↦ λ next follows.
+          alone_moved bytes next start c.requires.within
+          ∙ rw rest at (w.can_stand_alone.ensures.never w.if-can_stand_alone.false next)
       | else-eq-via-else-eq w ↦
-          cut_not_alone bytes c.args.after.now start c.in-Cut.missing c.requires.within c.requires.valid (grind arith) is
+          cut_not_alone bytes c.args.after.now start c.in-Cut.missing c.requires.within (grind arith) is
     ]

@@ -1,18 +1,15 @@
-use Rattle.std.proofs.Common.{arith, drop, length-append, length-drop}
+use Rattle.std.proofs.Common.{◌≡◌, ◌≤◌, ℕ, List, Option, length, drop, arith, length-append}
 use Rattle.std.proofs.lemmas.List.{length-map, take_rest}
+use Rattle.hart_frame.specs.declared.heard.miss.Miss.TheVariants.{Faulty}
+use Rattle.hart_frame.specs.declared.scan.sighting.After.{After}
+use Rattle.hart_frame.specs.declared.scan.sighting.After.TheVariants.{Damaged}
+use Rattle.hart_frame.specs.declared.scan.sighting.Standing.TheVariants.{Missed}
+use Rattle.hart_frame.specs.declared.wire.prefix.Prefix.TheVariants.{Cut}
+use Rattle.hart_frame.specs.heard.Character.{Character}
+use Rattle.hart_frame.specs.private.Prefix.{IsPrefix}
+use Rattle.hart_frame.specs.private.Sighting.{IsAfterTwo}
 use Rattle.hart_frame.proofs.lemmas.scan.BodyAt.{cut_damaged, cut_ended, wrong_below, wrong_seen}
-use Rattle.hart_frame.proofs.lemmas.wire.Reading.{cut_truncated, wrong_within}
 use Rattle.hart_frame.proofs.scan.sighting.after_two.Goals as goal
-
-pub returns-in-Whole : goal.returns-in-Whole
-returns-in-Whole c = rw take_rest at c.in-Whole.ensures
-
-pub wrong_miss-requires-clause-some : goal.wrong_miss-requires-clause-some
-wrong_miss-requires-clause-some c = grind (arith, take_rest, wrong_within (drop c.args.start c.args.bytes.now) c.in-Wrong.wrong)
-
-pub wrong_miss-requires-clause-within : goal.wrong_miss-requires-clause-within
-wrong_miss-requires-clause-within c =
-    grind (arith, take_rest, length-drop, wrong_within (drop c.args.start c.args.bytes.now) c.in-Wrong.wrong)
 
 pub returns-in-Wrong : goal.returns-in-Wrong
 returns-in-Wrong c =
@@ -22,12 +19,16 @@ returns-in-Wrong c =
       wrong_below c.args.bytes.now c.args.after.now c.args.start c.in-Wrong.wrong c.requires.within is,
     )
 
-pub returns-in-More : goal.returns-in-More
-returns-in-More c =
-    grind (arith, take_rest, cut_truncated (drop c.args.start c.args.bytes.now) c.in-Cut.missing)
+-- a damaged character after bytes that end too early is the miss
+damaged_two : (bytes : List ℕ) (after : After) (start faults : ℕ) (missing : Option ℕ) → start ≤ length bytes
+    → IsPrefix (drop start bytes) (Cut missing) → (c : Character) × (after ≡ Damaged c) × (faults ≡ c.faults)
+    → IsAfterTwo bytes after start (Missed (Faulty (length bytes) faults))
+damaged_two bytes after start faults missing within is (c, same, bits) =
+    rw (same, bits) (cut_damaged bytes c start missing within is, grind (arith, length-append, length-map))
 
 pub returns-in-Damaged : goal.returns-in-Damaged
-returns-in-Damaged c = grind (arith, take_rest, length-append, length-map, cut_damaged)
+returns-in-Damaged c =
+    damaged_two c.args.bytes.now c.args.after.now c.args.start _ c.in-Cut.missing c.requires.within (grind (arith, take_rest)) (grind arith)
 
 pub returns-in-End : goal.returns-in-End
 returns-in-End c = grind (arith, take_rest, cut_ended)

@@ -21,6 +21,4 @@ returns-then-not-has_two_preambles-clause-never c = λ not more.
     never_lacks bytes more fit (c.lacks_one_preamble.ensures.0 lacks)
 
 pub returns-else-not-has_two_preambles-clause-never : goal.returns-else-not-has_two_preambles-clause-never
-returns-else-not-has_two_preambles-clause-never c = λ not more.
-    let two : has_two_preambles c.args.bytes.now ≡ true = grind arith in never_two c.args.bytes.now more
-    (cut_truncated c.args.bytes.now c.args.missing c.requires) two
+returns-else-not-has_two_preambles-clause-never c = grind (arith, never_two, cut_truncated c.args.bytes.now c.args.missing c.requires)

@@ -4,12 +4,6 @@ use Rattle.std.proofs.lemmas.List.{drop_all, drop_more}
 use Rattle.hart_frame.proofs.lemmas.scan.Alone.{two_none, two_step}
 use Rattle.hart_frame.proofs.scan.sighting.has_two_preambles.Goals as goal
 
-pub loop-byte-init : goal.loop-byte-init
-loop-byte-init c = grind (arith, nat_tests)
-
-pub returns-then-preamble : goal.returns-then-preamble
-returns-then-preamble c = grind (arith, nat_tests, drop_more c.args.bytes.now c.loop-byte.byte-index 0, two_step)
-
 pub loop-byte-preserved : goal.loop-byte-preserved
 loop-byte-preserved c = grind (arith, nat_tests, drop_more c.args.bytes.now c.loop-byte.byte-index 0, two_step)
 

@@ -1,37 +1,27 @@
-use Rattle.std.proofs.Common.{◌≡◌, ◌≢◌, ◌+◌, ◌-◌, None, arith, refl, drop, get_or, length, length-drop, take, true, false}
+use Rattle.std.proofs.Common.{◌≡◌, ◌≢◌, ◌+◌, ◌-◌, arith, refl, drop, get_or, length, length-drop, take, false}
 use Rattle.std.proofs.lemmas.List.{get_or-drop}
 use Rattle.hart_frame.specs.heard.Sighting.{has_two_preambles}
-use Rattle.hart_frame.specs.private.Sighting.{HasBodyMiss, Whatever}
 use Rattle.hart_frame.specs.declared.scan.sighting.After.TheVariants.{More}
 use Rattle.hart_frame.proofs.lemmas.scan.Alone.{alone, crossed, lone_open, looked_at}
 use Rattle.hart_frame.proofs.scan.sighting.lone_body.Goals as goal
 
 pub returns-then-has_two_preambles : goal.returns-then-has_two_preambles
 returns-then-has_two_preambles c =
-    let bytes = c.args.bytes.now in
-    let start = c.args.start in
-    let n = c.args.stop - start in
-    let same = looked_at bytes start c.args.stop c.requires.order c.requires.within in
-    let two : has_two_preambles (take (n + 1) (drop start bytes)) ≡ true = grind (arith, same) in
-    crossed bytes c.args.after.now start n (omega (arith, c.requires.order, c.requires.within)) c.requires.body
-    (omega (arith, length-drop start bytes, c.requires.within)) c.requires.whole two
+    grind (
+      arith,
+      looked_at c.args.bytes.now c.args.start c.args.stop c.requires.order c.requires.within,
+      crossed,
+      length-drop c.args.start c.args.bytes.now,
+    )
 
 pub returns-then-bytes-stop : goal.returns-then-bytes-stop
 returns-then-bytes-stop c =
-    let bytes = c.args.bytes.now in
-    let start = c.args.start in
-    let n = c.args.stop - start in
-    let same = looked_at bytes start c.args.stop c.requires.order c.requires.within in
-    let not : has_two_preambles (take (n + 1) (drop start bytes)) ≡ false = grind (arith, same) in
-    let ends : c.args.stop ≡ length bytes = grind arith in
-    let more : c.args.after.now ≡ More = grind arith in
-    let last : get_or (drop start bytes) (n - 1) 0 ≡ 255 = grind (arith, get_or-drop) in
-    let whole : Whatever bytes More (HasBodyMiss start None) = rw more at c.requires.whole in (
-      more,
-      omega (arith, c.requires.one),
-      omega (arith, c.requires.long, ends),
-      lone_open bytes start n (omega (arith, c.requires.order, c.requires.within)) c.requires.body
-          (omega (arith, length-drop start bytes, ends)) whole not last,
+    grind (
+      arith,
+      looked_at c.args.bytes.now c.args.start c.args.stop c.requires.order c.requires.within,
+      get_or-drop,
+      lone_open,
+      length-drop c.args.start c.args.bytes.now,
     )
 
 pub returns : goal.returns
@@ -45,5 +35,5 @@ returns c =
     λ more all same. grind (arith, get_or-drop, length-drop) in (
       refl,
       alone bytes c.args.after.now start n (omega (arith, c.requires.order, c.requires.within)) c.requires.body
-          (omega (arith, length-drop start bytes, c.requires.within)) c.requires.whole c.requires.valid not last,
+          (omega (arith, length-drop start bytes, c.requires.within)) c.requires.whole not last,
     )

@@ -3,9 +3,6 @@ use Rattle.hart_frame.proofs.lemmas.wire.Reading.{cut_truncated, wrong_refused}
 use Rattle.hart_frame.proofs.lemmas.wire.Refusal.{only}
 use Rattle.hart_frame.proofs.wire.body.decode.Goals as goal
 
-pub view_in-view-requires : goal.view_in-view-requires
-view_in-view-requires c = grind arith
-
 pub returns-in-Whole-clause-accepts : goal.returns-in-Whole-clause-accepts
 returns-in-Whole-clause-accepts c = grind arith
 

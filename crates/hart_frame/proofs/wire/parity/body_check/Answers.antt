@@ -7,5 +7,4 @@ loop-word-preserved c = grind (arith, xor_of-block 4 c.loop-word.word-index c.ar
 
 pub returns : goal.returns
 returns c =
-    let rest = c.as_chunks.result.1.now in
-    grind (arith, IsCheckByte-rest 4 c.loop-word.word-index c.args.bytes.now c.loop-word.lanes rest c.fold.result, c.type_inv.bytes)
+    grind (arith, IsCheckByte-rest 4 c.loop-word.word-index c.args.bytes.now c.loop-word.lanes c.as_chunks.result.1.now c.fold.result)

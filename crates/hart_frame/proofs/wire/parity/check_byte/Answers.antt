@@ -7,5 +7,4 @@ loop-block-preserved c = grind (arith, xor_of-block 32 c.loop-block.block-index 
 
 pub returns : goal.returns
 returns c =
-    let rest = c.as_chunks.result.1.now in
-    grind (arith, IsCheckByte-rest 32 c.loop-block.block-index c.args.bytes.now c.loop-block.lanes rest c.fold.result, c.type_inv.bytes)
+    grind (arith, IsCheckByte-rest 32 c.loop-block.block-index c.args.bytes.now c.loop-block.lanes c.as_chunks.result.1.now c.fold.result)

@@ -1,7 +1,5 @@
-use Rattle.std.proofs.Common.{◌<◌, length, length-drop, arith, rules}
-use Rattle.std.proofs.lemmas.List.{nil_from_length}
+use Rattle.std.proofs.Common.{◌<◌, length, arith, rules}
 use Rattle.hart_frame.specs.private.Decision.{IsHeldOpen}
-use Rattle.hart_frame.proofs.lemmas.scan.Buffer.{held_passed}
 use Rattle.hart_frame.proofs.lemmas.scan.Decision.{given_nothing, given_open, given_stands}
 use Rattle.hart_frame.proofs.scan.buffer.Buffer.decide_held.Goals as goal
 
@@ -20,12 +18,3 @@ returns-else-is_empty-clause-seen c =
     let some : 0 < length c.held.result.now = search rules in
     let opened : IsHeldOpen c.args.self.now found.result.place = search rules in
     rw c.pass.ensures.passed (given_open c.args.self.now found.result found.ensures opened (search (arith, some)))
-
-pub returns-in-Some-clause-sound : goal.returns-in-Some-clause-sound
-returns-in-Some-clause-sound c = grind (arith, held_passed)
-
-pub end-requires-clause-empty : goal.end-requires-clause-empty
-end-requires-clause-empty c = grind (arith, nil_from_length)
-
-pub returns-else-is_empty-clause-sound : goal.returns-else-is_empty-clause-sound
-returns-else-is_empty-clause-sound c = grind (arith, held_passed, length-drop)

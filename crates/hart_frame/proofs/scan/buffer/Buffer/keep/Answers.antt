@@ -1,5 +1,4 @@
-use Rattle.std.proofs.Common.{arith, length-append, length-drop}
-use Rattle.std.proofs.lemmas.List.{length-take-le}
+use Rattle.std.proofs.Common.{arith}
 use Rattle.hart_frame.proofs.lemmas.scan.Buffer.{kept_after, kept_past}
 use Rattle.hart_frame.proofs.scan.buffer.Buffer.keep.Goals as goal
 
@@ -8,9 +7,3 @@ returns-else-held-place-clause-held c = grind (arith, kept_after)
 
 pub returns-then-held-place-clause-held : goal.returns-then-held-place-clause-held
 returns-then-held-place-clause-held c = grind (arith, kept_past)
-
-pub returns-then-held-place-clause-stored : goal.returns-then-held-place-clause-stored
-returns-then-held-place-clause-stored c = grind (arith, length-append, length-drop)
-
-pub returns-else-held-place-clause-stored : goal.returns-else-held-place-clause-stored
-returns-else-held-place-clause-stored c = grind (arith, length-append, length-drop, length-take-le)

@@ -1,19 +1,14 @@
-use Rattle.std.proofs.Common.{◌≡◌, ℕ, List, length, drop, ◌∙◌, refl, sym, arith}
+use Rattle.std.proofs.Common.{◌≡◌, ℕ, List, length, drop, ◌∙◌, sym, arith}
 use Rattle.std.proofs.lemmas.Bool.{false≢true}
 use Rattle.std.proofs.lemmas.List.{drop-map, length-map, take_rest}
 use Rattle.std.specs.List.{slice_range}
 use Rattle.hart_frame.specs.heard.Character.{faultless}
-use Rattle.hart_frame.proofs.lemmas.scan.Chunk.{hearing_on, hears_all, hears_until, room_left}
+use Rattle.hart_frame.proofs.lemmas.scan.Chunk.{hearing_on, hears_all, hears_until}
 use Rattle.hart_frame.proofs.scan.buffer.Buffer.push_bytes.Goals as goal
 
 -- the characters of the rest of a chunk are the rest of its characters
 rest_of : (chunk : List ℕ) (n : ℕ) → faultless (slice_range chunk n (length chunk)) ≡ drop n (faultless chunk)
 rest_of chunk n = grind (arith, take_rest, drop-map)
-
-pub push_part-taken-requires-clause-room : goal.push_part-taken-requires-clause-room
-push_part-taken-requires-clause-room c =
-    room_left c.args.self.now c.loop-taken.self (faultless c.args.chunk.now) c.args.chunk.now c.loop-taken.taken (rw length-map refl)
-    c.loop-taken.invariant.2 c.requires.room
 
 pub returns-then-not-is_drained-clause-hears : goal.returns-then-not-is_drained-clause-hears
 returns-then-not-is_drained-clause-hears c =

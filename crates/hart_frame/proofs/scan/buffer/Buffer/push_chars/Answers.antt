@@ -1,13 +1,8 @@
-use Rattle.std.proofs.Common.{sym, ◌∙◌, arith, refl}
+use Rattle.std.proofs.Common.{sym, ◌∙◌, arith}
 use Rattle.std.proofs.lemmas.Bool.{false≢true}
 use Rattle.std.proofs.lemmas.List.{take_rest}
-use Rattle.hart_frame.proofs.lemmas.scan.Chunk.{hearing_on, hears_all, hears_until, room_left}
+use Rattle.hart_frame.proofs.lemmas.scan.Chunk.{hearing_on, hears_all, hears_until}
 use Rattle.hart_frame.proofs.scan.buffer.Buffer.push_chars.Goals as goal
-
-pub push_stretch-taken-requires-clause-room : goal.push_stretch-taken-requires-clause-room
-push_stretch-taken-requires-clause-room c =
-    room_left c.args.self.now c.loop-taken.self c.args.chunk.now c.args.chunk.now c.loop-taken.taken refl c.loop-taken.invariant.2
-    c.requires.room
 
 pub returns-then-not-is_drained-clause-hears : goal.returns-then-not-is_drained-clause-hears
 returns-then-not-is_drained-clause-hears c =

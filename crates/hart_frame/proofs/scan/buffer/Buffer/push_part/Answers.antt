@@ -1,5 +1,4 @@
 use Rattle.std.proofs.Common.{arith}
-use Rattle.std.proofs.lemmas.List.{length-map}
 use Rattle.hart_frame.specs.private.Buffer.{scan_of}
 use Rattle.hart_frame.proofs.lemmas.scan.Chunk.{bytes_heard}
 use Rattle.hart_frame.proofs.scan.buffer.Buffer.push_part.Goals as goal
@@ -7,6 +6,3 @@ use Rattle.hart_frame.proofs.scan.buffer.Buffer.push_part.Goals as goal
 pub returns-clause-hears : goal.returns-clause-hears
 returns-clause-hears c =
     grind (arith, bytes_heard (scan_of c.args.self.now) (scan_of c.settle-2.new.self) c.args.chunk.now c.min.result)
-
-pub returns-then-is_empty-clause-hears : goal.returns-then-is_empty-clause-hears
-returns-then-is_empty-clause-hears c = grind (arith, length-map)

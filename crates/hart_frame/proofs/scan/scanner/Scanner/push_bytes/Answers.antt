@@ -1,10 +1,8 @@
 use Rattle.std.proofs.Common.{arith}
-use Rattle.std.proofs.lemmas.Grind.{common_steps}
-use Rattle.std.proofs.lemmas.List.{length-map, take-map}
+use Rattle.std.proofs.lemmas.List.{take-map}
 use Rattle.hart_frame.specs.heard.Character.{faultless}
 use Rattle.hart_frame.specs.private.Buffer.{scan_of}
 use Rattle.hart_frame.specs.private.Chunk.{Hears}
-use Rattle.hart_frame.proofs.lemmas.scan.Chunk.{heard_length}
 use Rattle.hart_frame.proofs.scan.scanner.Scanner.push_bytes.Goals as goal
 
 hears : (c : goal.After-push_bytes) → Hears c.args.self.now (scan_of c.push_bytes.new.self) (faultless c.args.chunk.now) c.push_bytes.result
@@ -15,12 +13,3 @@ returns-clause-moves c = grind (arith, take-map)
 
 pub returns-clause-before : goal.returns-clause-before
 returns-clause-before c = simp take-map at (hears c).before
-
-pub returns-clause-pushed : goal.returns-clause-pushed
-returns-clause-pushed c = grind (arith, common_steps, hears, heard_length)
-
-pub returns-clause-stops : goal.returns-clause-stops
-returns-clause-stops c = simp length-map at (hears c).stops
-
-pub returns-clause-few : goal.returns-clause-few
-returns-clause-few c = grind (arith, common_steps)

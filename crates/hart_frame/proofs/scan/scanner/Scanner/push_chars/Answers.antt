@@ -1,8 +1,6 @@
 use Rattle.std.proofs.Common.{arith}
-use Rattle.std.proofs.lemmas.Grind.{common_steps}
 use Rattle.hart_frame.specs.private.Buffer.{scan_of}
 use Rattle.hart_frame.specs.private.Chunk.{Hears}
-use Rattle.hart_frame.proofs.lemmas.scan.Chunk.{heard_length}
 use Rattle.hart_frame.proofs.scan.scanner.Scanner.push_chars.Goals as goal
 
 hears : (c : goal.After-push_chars) → Hears c.args.self.now (scan_of c.push_chars.new.self) c.args.chunk.now c.push_chars.result
@@ -10,6 +8,3 @@ hears c = grind arith
 
 pub returns-clause-before : goal.returns-clause-before
 returns-clause-before c = (hears c).before
-
-pub returns-clause-pushed : goal.returns-clause-pushed
-returns-clause-pushed c = grind (arith, common_steps, hears, heard_length)
