@@ -2,11 +2,11 @@
 _hart() {
     local words
     case $COMP_CWORD:${COMP_WORDS[1]} in
-    1:*) words='answer dump explain serve sim encode help --help --version' ;;
-    *:help) words='answer dump explain serve sim encode help' ;;
+    1:*) words='answer dump explain serve sim request encode help --help --version' ;;
+    *:help) words='answer dump explain serve sim request encode help' ;;
     *:answer | *:serve | *:sim) words='--image --help' ;;
     *:explain) words='--raw --help' ;;
-    *:encode) words='--preambles --help' ;;
+    *:encode | *:request) words='--preambles --help' ;;
     *) words='--help' ;;
     esac
     mapfile -t COMPREPLY < <(compgen -W "$words" -- "${COMP_WORDS[COMP_CWORD]}")

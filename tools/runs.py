@@ -16,7 +16,7 @@ from typing import NamedTuple
 
 sys.dont_write_bytecode = True
 
-from rows import answer, dump, encode, explain, images, items, serve, sim, words  # noqa: E402
+from rows import answer, dump, encode, explain, images, items, request, serve, sim, words  # noqa: E402
 
 DONE, FAULT, NO_CALL = 0, 1, 2
 INPUT_LIMIT = 1_048_576
@@ -210,6 +210,8 @@ def words_give_a_message_or_the_first_bad_one(runner):
     rows = [*encode.ROWS]
     rows += [(["encode", "--", *four], line, "") for four, line in encode.REQUESTS]
     rows += [(["encode", "--", *four], "", f"bad word {number}\n") for four, number in encode.BAD_WORDS]
+    rows += [(["request", *given], line, "") for given, line in request.REQUESTS]
+    rows += [(["request", *given], "", f"bad word {fault}\n") for given, fault in request.BAD_WORDS]
     for call, wanted, fault in rows:
         run = runner.run(call, IDENTIFY, most_written=1)
         runner.hold(run.gave(FAULT if fault else DONE, wanted, fault) and run.reads == 0, call, run)

@@ -181,7 +181,7 @@ writes "$(printf 'counter 1\nimage %s' "$image")" sim --image "$image"
 writes "$(printf 'counter 1\nimage %s' "$image")" sim "--image=$image"
 writes "$(printf 'counter 1\nimage %s' "$image")" sim --image "$earlier"
 shows help --help
-for word in answer dump explain serve sim encode; do
+for word in answer dump explain serve sim request encode; do
     shows "help-$word" "$word" --help
 done
 shows help-help help help

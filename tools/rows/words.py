@@ -18,6 +18,7 @@ NO_CALLS = (
     ["help", "dump"],
     ["help", "encode"],
     ["help", "explain"],
+    ["help", "request"],
     ["help", "serve"],
     ["help", "sim"],
     ["answer", "--help"],
@@ -51,6 +52,9 @@ NO_CALLS = (
     ["encode", "P", "@0", "0", "--preambles"],
     ["encode", "P", "@0", "0", "--preambles=-7"],
     ["encode", "--preambles=7", "P", "@0", "0", "--preambles=7"],
+    ["request", "--help"],
+    ["request", "P", "@0"],
+    ["request", "P", "@0", "0", "--preambles", "4"],
 )
 
 # Words before a long word, and after it; then the status, and how what is said begins.

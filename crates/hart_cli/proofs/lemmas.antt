@@ -4,5 +4,6 @@ pub mod Writes
 pub mod dump
 pub mod explain
 pub mod input
+pub mod request
 pub mod serve
 pub mod text

@@ -2,9 +2,9 @@
 //!
 //! Each subcommand is a call. [`dump`] lists the messages in what was heard, [`explain`] says in words what they mean, [`answer`]
 //! gives the reply of the bench device to one delivery, [`serve`] gives those to many, a line for each line, [`simulate`] carries out
-//! a script, and [`encode_text`] and [`request`] write a message to send, of bytes or of the names of its fields. [`program`] makes the
-//! call that the words after the program's name ask for, and gives the exit status. Each call reads from a [`Source`] and writes to a [`Sink`]; [`Plain`] makes them of the readers
-//! and writers of the standard library. A call that cannot do all of its work gives a [`CliFault`].
+//! a script, [`encode_text`] writes a message to send, and [`request`] one by the names of its fields. [`program`] makes the call that
+//! the words after the program's name ask for, and gives the exit status. Each call reads from a [`Source`] and writes to a [`Sink`];
+//! [`Plain`] makes them of the readers and writers of the standard library. A call that cannot do all of its work gives a [`CliFault`].
 //!
 //! ```rust
 //! let mut reader = Plain::new(b"FF FF 02 80 00 00 82".as_slice());
@@ -43,7 +43,7 @@ pub use calls::explain::{explain, explain_raw, one_explanation};
 pub use calls::program::command_line::{one_call, words_are_calls};
 pub use calls::program::{DONE, FAULT, NO_CALL, program};
 pub use calls::request::fault::{BadField, FieldFault};
-pub use calls::request::laws::fields_of_requests_are_those_given;
+pub use calls::request::laws::{fields_of_requests_are_those_given, values_are_shown_as_given};
 pub use calls::request::{RequestWords, one_request, request};
 pub use calls::serve::{one_service, serve};
 pub use calls::sim::{one_simulation, simulate};

@@ -9,6 +9,7 @@ mod images;
 mod limits;
 mod plain;
 mod program;
+mod request;
 mod scripts;
 mod serve;
 mod streams;

@@ -35,6 +35,7 @@ has_name name word = option_map_or (λ parts. bytes_eq parts.0 name) (named word
 abbrev pub in_word : ℕ → ℕ
 in_word code = if code == 32 then 95 else code
 
+-- So a name is a word.
 abbrev pub name_word : List ℕ → List ℕ
 name_word name = map in_word name
 

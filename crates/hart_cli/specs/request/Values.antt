@@ -78,10 +78,11 @@ abbrev pub can_have : FieldKind → ℕ → Bool
 can_have PackedText code = nat_le 32 code && nat_lt code 96
 can_have _ code = is_printable code && nat_lt code 256
 
--- Four characters are packed into three bytes: those of a number of 24 bits, six for each character, the first on top.
+-- Four characters make a number of 24 bits, six for each character, the first on top.
 abbrev pub group_number : (w x y z : ℕ) → ℕ
 group_number w x y z = 262144 * (w % 64) + 4096 * (x % 64) + 64 * (y % 64) + z % 64
 
+-- They are packed into the three bytes of that number.
 abbrev pub packed_group : (w x y z : ℕ) → List ℕ
 packed_group w x y z =
     (group_number w x y z / 65536) ∷ (group_number w x y z / 256 % 256) ∷ (group_number w x y z % 256) ∷ []

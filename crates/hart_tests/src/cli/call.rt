@@ -1,7 +1,8 @@
 //! A call of hart_cli, which is made by its name or by words.
 
 use hart_cli::{
-    CliFault, Sink, Source, answer, dump, encode_text, explain, explain_raw, serve, simulate,
+    CliFault, RequestWords, Sink, Source, answer, dump, encode_text, explain, explain_raw, request,
+    serve, simulate,
 };
 use hart_frame::{LEAST_PREAMBLES, is_preamble_count};
 use std::alloc::{AllocError, Global};
@@ -14,6 +15,16 @@ pub struct Words<'a> {
     pub address: &'a str,
     pub command: &'a str,
     pub data: &'a str,
+    pub preambles: u8,
+}
+
+/// A message to send, by the names of its fields.
+#[derive(Clone, Copy)]
+pub struct Named<'a> {
+    pub who: &'a str,
+    pub address: &'a str,
+    pub command: &'a str,
+    pub fields: &'a [&'a str],
     pub preambles: u8,
 }
 
@@ -31,6 +42,7 @@ pub enum Call<'a> {
     /// With an image.
     Simulate(Option<&'a str>),
     Encode(Words<'a>),
+    Request(Named<'a>),
 }
 
 /// Appends a word to others.
@@ -54,21 +66,44 @@ pub fn strings_of(alloc: Global, words: &[&str]) -> Result<Vec<String>, AllocErr
     Ok(strings)
 }
 
-impl Words<'_> {
-    /// Appends the option that gives the number of preamble bytes, if there is a word for it.
-    fn push_preambles(self, alloc: Global, words: &mut Vec<String>) -> Result<(), AllocError> {
-        let preambles = self.preambles;
-        if preambles == LEAST_PREAMBLES {
-            return Ok(());
-        }
-        push_word(alloc, words, "--preambles")?;
-        words.push(format!(in alloc; "{preambles}")?)?;
-        Ok(())
+/// Appends the option that gives a number of preamble bytes, if there is a word for it.
+fn push_preambles(alloc: Global, words: &mut Vec<String>, preambles: u8) -> Result<(), AllocError> {
+    if preambles == LEAST_PREAMBLES {
+        return Ok(());
     }
+    push_word(alloc, words, "--preambles")?;
+    words.push(format!(in alloc; "{preambles}")?)?;
+    Ok(())
+}
 
+impl Named<'_> {
     /// Appends the words of the command line.
     fn push_to(self, alloc: Global, words: &mut Vec<String>) -> Result<(), AllocError> {
-        self.push_preambles(alloc, words)?;
+        push_preambles(alloc, words, self.preambles)?;
+        push_words(alloc, words, &[self.who, self.address, self.command])?;
+        push_words(alloc, words, self.fields)
+    }
+
+    /// Makes the call of `request`.
+    fn request<W: Sink>(self, alloc: Global, writer: &mut W) -> Result<Result<(), CliFault>, Fail> {
+        if !is_preamble_count(self.preambles) {
+            return Err("a number of preamble bytes".into());
+        }
+        let words = RequestWords {
+            who: self.who,
+            address: self.address,
+            command: self.command,
+            fields: Some(self.fields),
+            preambles: self.preambles,
+        };
+        Ok(request(alloc, &words, writer))
+    }
+}
+
+impl Words<'_> {
+    /// Appends the words of the command line.
+    fn push_to(self, alloc: Global, words: &mut Vec<String>) -> Result<(), AllocError> {
+        push_preambles(alloc, words, self.preambles)?;
         let all = [self.who, self.address, self.command, self.data];
         let given = if self.data.is_empty() { 3 } else { 4 };
         push_words(alloc, words, &all[..given])
@@ -101,6 +136,7 @@ impl Call<'_> {
             Call::Serve(_) => "serve",
             Call::Simulate(_) => "sim",
             Call::Encode(_) => "encode",
+            Call::Request(_) => "request",
         }
     }
 
@@ -119,6 +155,7 @@ impl Call<'_> {
             }
             Call::Encode(message) => message.push_to(alloc, words),
             Call::ExplainRaw => push_word(alloc, words, "--raw"),
+            Call::Request(named) => named.push_to(alloc, words),
             Call::Dump
             | Call::Explain
             | Call::Answer(None)
@@ -142,6 +179,7 @@ impl Call<'_> {
             Call::Serve(image) => Ok(make_serve(alloc, image, reader, writer)),
             Call::Simulate(image) => Ok(make_simulate(alloc, image, reader, writer)),
             Call::Encode(message) => message.encode(alloc, writer),
+            Call::Request(named) => named.request(alloc, writer),
         }
     }
 }

@@ -333,7 +333,7 @@ pub(super) const RAW_HELP: &str = "Read bytes as they are, and not as hex";
 
 pub(super) const REQUEST: Page = Page {
     about: "Write a request by the names of its fields, in hex",
-    usage: "hart request [OPTIONS] <WHO> <ADDRESS> <COMMAND> [NAME=VALUE]...",
+    usage: "hart request [OPTIONS] <WHO> <ADDRESS> <COMMAND> [FIELD]...",
     help: "\
 Write a request of a master to a device, ready to be sent, by the names and
 values of its fields, as hart explain shows them.
@@ -345,7 +345,7 @@ NAME=VALUE with _ for each space of the name. Standard input is not read.
   number       in decimal
   bytes        0x and two hex digits for each byte
   packed text  capital letters, digits, spaces and signs; spaces are added
-  long tag     any characters of Latin-1, spaces are added; or 0x and digits
+  long tag     characters of Latin-1, spaces are added; or 0x and 64 digits
   date         2026-11-27, or \"not set\"
 
 Output (stdout): the message in upper case hex, with its preamble bytes FF and
@@ -354,12 +354,16 @@ gives its number and why, as in bad word 4: unknown field: 1 is WHO, 2 ADDRESS,
 3 COMMAND, 4 the first field.",
     example: "\
 Examples:
-  hart request P @0 0
+  hart request P 37420A1B2C 19 final_assembly_number=0x012345
 writes
-  FF FF FF FF FF 02 80 00 00 82",
+  FF FF FF FF FF 82 B7 42 0A 1B 2C 13 03 01 23 45 3D
+and with texts and a date, a write of the tag, the descriptor and the date,
+  hart request P 37420A1B2C 18 tag=FT-1204 descriptor=\"FEED PUMP\" \\
+    date=2026-11-27",
 };
 
-pub(super) const FIELD_HELP: &str = "A field of the request, as date=2026-11-27";
+pub(super) const FIELD_HELP: &str =
+    "A field of the request as NAME=VALUE, for example date=2026-11-27";
 
 pub(super) const WHO_HELP: &str = "The master that asks: P for the primary, S for the secondary";
 

@@ -1,5 +1,12 @@
 //! What joins `hart request` and `hart explain`.
-ghost use Rattle.std.specs.Prelude.{◌≡◌};
+ghost use Rattle.std.specs.Prelude.{◌≡◌, ◌++◌, ◌*◌, ◌/◌, ℕ, List, None, Ok, Some, codes, decimal, encode_utf8_all};
+ghost use Rattle.std.specs.Str.{chars};
+ghost use Rattle.std.specs.Str.Parse.{digits_value, without_leading_plus};
+ghost use Rattle.hart_values.specs.packed_text.Packing.{IsPackedSize};
+ghost use Rattle.hart_commands.specs.declared.fields.FieldKind.TheVariants.{Bytes, LatinText, Number, PackedText};
+ghost use Rattle.hart_commands.specs.declared.fields.FieldSize.TheVariants.{Exactly};
+ghost use Rattle.hart_cli.specs.explain.Values.{value_words};
+ghost use Rattle.hart_cli.specs.request.Values.{hex_of, padded, value_of};
 ghost use Rattle.hart_commands.specs.Commands.{request_rows};
 ghost use Rattle.hart_commands.specs.Fields.{bytes_of, fields_of};
 ghost use Rattle.hart_frame.specs.wire.FrameParts.{FrameParts};
@@ -14,4 +21,16 @@ pub fn fields_of_requests_are_those_given()
         → AreGiven words.fields (request_rows frame.command) (fields_of (request_rows frame.command) frame.payload) }
     ensures whole { (words : GivenWords) (frame : FrameParts) → IsRequestByNames words frame
         → bytes_of (fields_of (request_rows frame.command) frame.payload) ≡ frame.payload }
+{}
+
+/// `hart explain` shows the bytes that a value writes as the value: a number as its number, a text as its characters and the spaces that
+/// were added, in double quotes, and bytes as those that were read.
+pub fn values_are_shown_as_given()
+    ensures numbers { (size : ℕ) (word bytes : List ℕ) → value_of Number (Exactly size) word ≡ Ok bytes
+        → value_words Number bytes ≡ decimal (digits_value 10 (without_leading_plus word)) }
+    ensures packed { (size : ℕ) (word bytes : List ℕ) → IsPackedSize size → value_of PackedText (Exactly size) word ≡ Ok bytes
+        → value_words PackedText bytes ≡ codes "\"" ++ padded (4 * size / 3) (chars word) ++ codes "\"" }
+    ensures latin { (word bytes : List ℕ) → hex_of word ≡ None → value_of LatinText (Exactly 32) word ≡ Ok bytes
+        → value_words LatinText bytes ≡ codes "\"" ++ encode_utf8_all (padded 32 (chars word)) ++ codes "\"" }
+    ensures bytes { (size : ℕ) (word bytes : List ℕ) → value_of Bytes (Exactly size) word ≡ Ok bytes → hex_of word ≡ Some bytes }
 {}

@@ -1,0 +1,2 @@
+-- Values of fields.
+pub mod Texts
