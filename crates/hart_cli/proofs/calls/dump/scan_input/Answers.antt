@@ -14,7 +14,9 @@ use Rattle.hart_cli.proofs.lemmas.Writes.{WritesAll-on, in_time_on}
 use Rattle.hart_cli.proofs.lemmas.dump.FrameLines.{keeps_nothing, keeps_within, new_waits}
 use Rattle.hart_cli.proofs.lemmas.dump.ScanInput.{ScannedUpTo, scanned_step, scans_all, stopped_writing}
 use Rattle.hart_cli.proofs.lemmas.input.Decoded.{more_read, read_on, rest_within}
-use Rattle.hart_cli.proofs.lemmas.text.InputChars.{may_begin-nil}
+use Rattle.hart_cli.specs.text.Items.{NoPieceBegins, ReadsUpTo}
+use Rattle.hart_cli.proofs.lemmas.text.InputChars.{item_laws}
+use Rattle.hart_cli.proofs.lemmas.text.Reads.{may_begin-nil}
 use Rattle.hart_cli.proofs.lemmas.text.Items.{NoPieceBegins-nil, ReadsUpTo-few}
 use Rattle.hart_cli.proofs.calls.dump.scan_input.Goals as goal
 
@@ -67,7 +69,7 @@ scanned g c =
 pub next_step-requires-clause-within : goal.next_step-requires-clause-within
 next_step-requires-clause-within g c =
     let now = scanned g (goal.at.next_step-requires-clause-within g c).After-scan_text-rest in
-    rest_within input_limit _ _ _ _ _ now.0.input now.0.chars now.0.decoded
+    rest_within ReadsUpTo NoPieceBegins item_laws input_limit _ _ _ _ _ now.0.input now.0.chars now.0.decoded
 
 pub returns-in_err-write_all : goal.returns-in_err-write_all
 returns-in_err-write_all g c =
