@@ -44,12 +44,14 @@ scanned_step r r1 r2 w w1 old new read ahead after rest text portion due none wr
       record {
         input = due.input ++ more.bytes;
         chars = due.chars ++ scans.chars;
-        decoded = decoded_step ReadsUpTo NoPieceBegins item_laws input_limit r r1 r2 ahead after rest read portion due.input due.chars scans.chars due.decoded may more
+        decoded = decoded_step ReadsUpTo NoPieceBegins item_laws input_limit r r1 r2 ahead after rest read portion due.input
+            due.chars scans.chars due.decoded may more
             few stops scans.reads;
         scans = keeps_on new_scan _ _ due.chars scans.chars _ _ _ refl due.waiting.going due.scans keeps;
         waiting = waiting;
       },
-      in_time_before ReadsUpTo NoPieceBegins item_laws AreDecidedLines input_limit r r1 w w1 ahead read due.input due.chars text more.bytes due.decoded may more.few
+      in_time_before ReadsUpTo NoPieceBegins item_laws AreDecidedLines input_limit r r1 w w1 ahead read due.input due.chars text
+          more.bytes due.decoded may more.few
           (record {
             frames = due.scans.given;
             decided = are_decided due.chars old.scanner due.scans.given due.scans.moves due.waiting.undecided;
@@ -80,7 +82,8 @@ scans_all r r2 w w1 frames end rest read text fault scanned none wrote in_time s
   input = scanned.input;
   chars = scanned.chars;
   text = text;
-  decodes = decodes_all ReadsUpTo NoPieceBegins item_laws input_limit r r2 end rest read scanned.input scanned.chars fault scanned.decoded step;
+  decodes = decodes_all ReadsUpTo NoPieceBegins item_laws input_limit r r2 end rest read scanned.input scanned.chars fault
+      scanned.decoded step;
   scans = scanned.scans;
   waiting = scanned.waiting;
   none_kept = none;

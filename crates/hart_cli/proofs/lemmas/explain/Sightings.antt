@@ -44,11 +44,6 @@ sees_later chars ended first used seen given within sees on more later closed ar
     rw (map-append, moved_twice first used last, same) refl in
     rw (append_assoc seen (map (moved_seen first) given) later) (sees more _ closed (rw order at told))
 
--- nothing comes after what has ended
-pub sees_ended : (chars : List Character) (ended : Bool) (from to : ℕ) (seen : List Seen) → SeesOn chars false from seen to
-    → SeesOn chars ended from seen to
-sees_ended chars ended from to seen sees more later closed are = sees more later (λ never. absurd cc) are
-
 -- nothing is decided before anything is heard
 pub undecided_nothing : IsUndecidedSighting []
 undecided_nothing first comes =

@@ -5,7 +5,8 @@ use Rattle.std.proofs.KnownBytes.{Appends-nil}
 use Rattle.std.proofs.lemmas.List.{drop-drop}
 use Rattle.hart_frame.specs.heard.Character.{Character}
 use Rattle.hart_cli.specs.declared.calls.explain.telling.Telling.{Telling}
-use Rattle.hart_cli.specs.explain.Telling.{FailsInAll, FailsInStretches, FailsInText, FailsToHear, Hears, HearsAll, HearsStretches, HearsText}
+use Rattle.hart_cli.specs.explain.Telling.{FailsInAll, FailsInStretches, FailsInText, FailsToHear, Hears, HearsAll}
+use Rattle.hart_cli.specs.explain.Telling.{HearsStretches, HearsText}
 use Rattle.hart_cli.specs.explain.Telling.{chars, nothing, silence}
 use Rattle.hart_cli.specs.stream.Stream.{FailsToWrite, Stream, WritesAll}
 use Rattle.hart_cli.specs.text.Heard as reading

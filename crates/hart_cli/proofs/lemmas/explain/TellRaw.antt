@@ -80,7 +80,8 @@ raw_in_time input bytes few text w w1 decided wrote = record {
 
 -- what one read gave is told of, and what was decided before it was written in time
 pub raw_step : (r r1 r2 w w1 w2 : Stream) (start old new : Telling) (read len : ℕ) (bytes : List ℕ) (end : Option InputEnd)
-    → IsNew start → len ≡ length bytes → RawUpTo r r1 start old None read w w1 → ReadsPortion r1 r2 bytes (raw_limit - read) end → length bytes ≤ most_at_once
+    → IsNew start → len ≡ length bytes → RawUpTo r r1 start old None read w w1
+    → ReadsPortion r1 r2 bytes (raw_limit - read) end → length bytes ≤ most_at_once
     → Hears old new (faultless bytes) false w1 w2 → IsWaiting new → new.kept ≡ []
     → (now : RawUpTo r r2 start new end (read + len) w w2)
     × WroteInTime (IsDecidedText raw_decoding IsDecidedExplanation) now.input w w1

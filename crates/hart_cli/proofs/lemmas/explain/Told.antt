@@ -5,7 +5,8 @@ use Rattle.std.proofs.lemmas.Grind.{flat_map-append}
 use Rattle.std.proofs.lemmas.List.{drop-append-le, drop-drop, map-append}
 use Rattle.hart_frame.specs.heard.Character.{Character, faultless}
 use Rattle.hart_frame.specs.heard.Sighting.{AreSightings, Seen, SeesOn, moved_seen}
-use Rattle.hart_frame.proofs.lemmas.scan.SightingLaws.{all as seen_to_the_end, grown, one as one_list, rest as rest_is_seen, some as some_list}
+use Rattle.hart_frame.proofs.lemmas.scan.SightingLaws.{all as seen_to_the_end, grown, one as one_list, rest as rest_is_seen}
+use Rattle.hart_frame.proofs.lemmas.scan.SightingLaws.{some as some_list}
 use Rattle.hart_cli.specs.declared.calls.explain.telling.Telling.{Telling}
 use Rattle.hart_cli.specs.explain.Explanation.{AreSightingsFrom, ComeFirst, IsDecidedExplanation, IsExplanationOf, explanation}
 use Rattle.hart_cli.specs.explain.Explanation.{seen_text}
@@ -32,7 +33,8 @@ after_nothing : (heard : List Heard) → after_chars [] (stretches heard) ≡ st
 after_nothing heard = let (first, later, is) = one_stretch heard in rw is refl
 
 -- characters after characters
-after_twice : (xs ys : List Character) (later : List (List Character)) → after_chars xs (after_chars ys later) ≡ after_chars (xs ++ ys) later
+after_twice : (xs ys : List Character) (later : List (List Character))
+    → after_chars xs (after_chars ys later) ≡ after_chars (xs ++ ys) later
 after_twice xs ys [] = refl
 after_twice xs ys (first ∷ later) = rw append_assoc refl
 

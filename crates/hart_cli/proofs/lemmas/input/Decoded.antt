@@ -34,7 +34,8 @@ read_to old new input limit None h = inl h
 read_to old new input limit (Some end) h = h
 
 -- an input was read and decoded up to a rest at whose beginning no piece stands
-pub record DecodedUpTo {Heard : Type 0} (Reads : List ℕ → List Heard → List ℕ → Type 0) (Stops : List ℕ → Type 0) (limit : ℕ) (old new : Stream) (end : Option InputEnd) (rest : List ℕ) (read : ℕ)
+pub record DecodedUpTo {Heard : Type 0} (Reads : List ℕ → List Heard → List ℕ → Type 0) (Stops : List ℕ → Type 0)
+    (limit : ℕ) (old new : Stream) (end : Option InputEnd) (rest : List ℕ) (read : ℕ)
     (input : List ℕ) (heard : List Heard) : Type 0 where
   pub came : MatchOption end (ReadsWell old new input × (length input ≤ limit)) (λ came. ReadsWithin limit old new input came)
   pub count : read ≡ length input
@@ -176,7 +177,8 @@ module _ {Heard : Type 0} (Reads : List ℕ → List Heard → List ℕ → Type
 
   -- the characters of what was read are decoded
   pub are_decoded : (limit : ℕ) (old new : Stream) (end : Option InputEnd) (rest : List ℕ) (read : ℕ) (input : List ℕ)
-      (chars : List Heard) → DecodedUpTo Reads Stops limit old new end rest read input chars → AreDecodedBy Reads input (ending_of end) chars
+      (chars : List Heard) → DecodedUpTo Reads Stops limit old new end rest read input chars
+      → AreDecodedBy Reads input (ending_of end) chars
   are_decoded limit old new end rest read input chars h = record { rest = rest; reads = h.reads; few = h.few }
 
   -- an input that is read no further was decoded with its fault, or none
@@ -236,7 +238,8 @@ module _ {Heard : Type 0} (Reads : List ℕ → List Heard → List ℕ → Type
 
 -- only these faults end an input
 fault_ends : {Heard : Type 0} (Reads : List ℕ → List Heard → List ℕ → Type 0) (Stops : List ℕ → Type 0) (limit : ℕ)
-    (IsText IsDecided : TextRelation (List Heard)) (r r' w w' : Stream) (input : List ℕ) (ending : Ending) (heard : List Heard) (fault : CliFault) → HasHeardBy Reads Stops input ending heard (Some fault)
+    (IsText IsDecided : TextRelation (List Heard)) (r r' w w' : Stream) (input : List ℕ) (ending : Ending)
+    (heard : List Heard) (fault : CliFault) → HasHeardBy Reads Stops input ending heard (Some fault)
     → (text : List ℕ) × ReadsText (decoding_by Reads Stops) limit IsText r r' (Some fault) text × WritesAll w w' text
     → LiveOutcome (decoding_by Reads Stops) limit IsText IsDecided r r' w w' (Err fault)
 fault_ends Reads Stops limit IsText IsDecided r r' w w' input _ _ _ (HasHeardBy.bad_hex _ place bad) wrote = wrote

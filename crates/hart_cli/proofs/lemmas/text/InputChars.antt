@@ -5,7 +5,8 @@ use Rattle.hart_cli.specs.declared.fault.CliFault.{CliFault}
 use Rattle.hart_cli.specs.input.Input.{Ending}
 use Rattle.hart_cli.specs.text.InputChars.{HasChars}
 use Rattle.hart_cli.specs.text.Items.{HasBadHex, NoPieceBegins, ReadsUpTo, nothing, piece, spelling}
-use Rattle.hart_cli.proofs.lemmas.text.Items.{NoPieceBegins-nil, ReadsUpTo-few, ReadsUpTo-more, ReadsUpTo-on, goes_on, spelling-length, stays}
+use Rattle.hart_cli.proofs.lemmas.text.Items.{NoPieceBegins-nil, ReadsUpTo-few, ReadsUpTo-more, ReadsUpTo-on}
+use Rattle.hart_cli.proofs.lemmas.text.Items.{goes_on, spelling-length, stays}
 use Rattle.hart_cli.proofs.lemmas.text.Reads.{Laws, not_read, one_bad, one_hearing}
 
 -- a reading that leaves as much as there was has read nothing

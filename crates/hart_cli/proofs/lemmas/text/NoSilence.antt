@@ -38,8 +38,8 @@ not_after last byte differ (x ∷ text) (b ∷ before) rest none is =
     not_after last byte differ text before rest (λ p r e. none (x ∷ p) r (ap (λ ys. x ∷ ys) e)) later
 
 -- nor has it a silence with a space after it
-no_silence_closed : (text before rest : List ℕ) → HasNoSilence text → closed text ≡ before ++ 47 ∷ rest → ⊥
-no_silence_closed text before rest none is = not_after 32 47 (λ same. omega (arith, same)) text before rest none is
+no_silence_closed : (text : List ℕ) → HasNoSilence text → HasNoSilence (closed text)
+no_silence_closed text none before rest is = not_after 32 47 (λ same. omega (arith, same)) text before rest none is
 
 -- more than something is something
 some_more : (rest more : List ℕ) → rest ≢ [] → rest ++ more ≢ []
@@ -70,10 +70,10 @@ bad_plain text heard chars place k rest read reads begins some more =
 pub plain_input : (text : List ℕ) (ending : Ending) (heard : List Heard) (fault : Option CliFault) → HasHeard text ending heard fault
     → HasNoSilence text → (chars : List Character) × (heard ≡ heard_chars chars) × HasChars text ending chars fault
 plain_input text _ _ _ (all heard h) none =
-    let (chars, is, reads) = reads_plain (closed text) heard [] h (λ before rest e. no_silence_closed text before rest none e) in
+    let (chars, is, reads) = reads_plain (closed text) heard [] h (no_silence_closed text none) in
     (chars, is, all chars reads)
 plain_input text _ _ _ (bad_hex heard place h) none =
-    let (chars, is, reads) = reads_plain (closed text) heard h.rest h.reads (λ before rest e. no_silence_closed text before rest none e) in (
+    let (chars, is, reads) = reads_plain (closed text) heard h.rest h.reads (no_silence_closed text none) in (
       chars,
       is,
       bad_hex chars place

@@ -58,7 +58,8 @@ scanned : (g : Over) (c : After-scan_text-rest g)
     c.scan_text-rest.new.self.scanner c.read_ahead-portion.result.end c.scan_text-rest.result.now
     (c.loop-frames.read + c.read_ahead-portion.result.len)
     (c.loop-frames.invariant.text ++ c.scan_text-rest.new.self.lines))
-    × WroteInTime (IsDecidedText item_decoding AreDecidedLines) now.input (g.W.Sink.stream c.args.writer.now) (g.W.Sink.stream c.loop-frames.writer)
+    × WroteInTime (IsDecidedText item_decoding AreDecidedLines) now.input (g.W.Sink.stream c.args.writer.now)
+    (g.W.Sink.stream c.loop-frames.writer)
 scanned g c =
     let loop = c.loop-frames.invariant in
     let scan = rw c.as_slice.ensures.value at c.scan_text-rest.ensures in

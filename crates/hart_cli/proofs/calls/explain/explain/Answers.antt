@@ -14,7 +14,8 @@ pub returns-in_err-finish : goal.returns-in_err-finish
 returns-in_err-finish g c =
     let stop = err_from_is_err_and c.from_residual-in_err-finish.result c.from_residual-in_err-finish.ensures.1 in
     rw (stop.1, stop.2)
-    (stops_at_rest heard_decoding stream_limit _ _ _ _ _ c.new-telling.result _ _ c.new-telling.ensures c.in_ok-fault.ensures c.in_err-finish.ensures)
+    (stops_at_rest heard_decoding stream_limit _ _ _ _ _ c.new-telling.result _ _ c.new-telling.ensures c.in_ok-fault.ensures
+    c.in_err-finish.ensures)
 
 pub returns-in-Some : goal.returns-in-Some
 returns-in-Some g c =
@@ -25,5 +26,6 @@ returns-in-Some g c =
 
 pub returns-in-None : goal.returns-in-None
 returns-in-None g c =
-    explains_all heard_decoding stream_limit _ _ _ _ _ c.new-telling.result _ _ c.new-telling.ensures (rw c.in-None.is at c.in_ok-fault.ensures)
+    explains_all heard_decoding stream_limit _ _ _ _ _ c.new-telling.result _ _ c.new-telling.ensures
+    (rw c.in-None.is at c.in_ok-fault.ensures)
     c.in_ok-finish.ensures

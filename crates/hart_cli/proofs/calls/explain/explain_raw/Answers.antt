@@ -12,7 +12,8 @@ pub returns-in_err-finish : goal.returns-in_err-finish
 returns-in_err-finish g c =
     let stop = err_from_is_err_and c.from_residual-in_err-finish.result c.from_residual-in_err-finish.ensures.1 in
     rw (stop.1, stop.2)
-    (stops_at_rest raw_decoding raw_limit _ _ _ _ _ c.new-telling.result _ _ c.new-telling.ensures c.in_ok-fault.ensures c.in_err-finish.ensures)
+    (stops_at_rest raw_decoding raw_limit _ _ _ _ _ c.new-telling.result _ _ c.new-telling.ensures c.in_ok-fault.ensures
+    c.in_err-finish.ensures)
 
 pub returns-in-Some : goal.returns-in-Some
 returns-in-Some g c =

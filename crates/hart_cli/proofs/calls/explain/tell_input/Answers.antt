@@ -38,7 +38,8 @@ told : (g : Over) (c : In_ok-place g)
     c.tell_text.new.self c.read_ahead-portion.result.end (drop c.in_ok-place.place c.read_ahead-portion.new.ahead)
     (c.loop-place.read + c.read_ahead-portion.result.len)
     (g.W.Sink.stream c.args.writer.now) (g.W.Sink.stream c.tell_text.new.writer))
-    × WroteInTime (IsDecidedText heard_decoding IsDecidedExplanation) now.input (g.W.Sink.stream c.args.writer.now) (g.W.Sink.stream c.loop-place.writer)
+    × WroteInTime (IsDecidedText heard_decoding IsDecidedExplanation) now.input (g.W.Sink.stream c.args.writer.now)
+    (g.W.Sink.stream c.loop-place.writer)
 told g c =
     let loop = c.loop-place.invariant in
     let text = rw c.as_slice.ensures.value at c.in_ok-place.ensures in

@@ -56,8 +56,8 @@ returns-in-Some g c =
     let now = told g (goal.at.returns-in-Some g c).In_ok-tell_bytes in
     let adds = c.in_ok-tell_bytes.ensures.hears.adds in
     rw c.fault.ensures
-    (raw_tells_all _ _ _ _ _ c.args.telling.now c.tell_bytes.new.self c.read_portion-portion.result.end c.in-Some.end _ c.requires c.in-Some.is
-    now.0
+    (raw_tells_all _ _ _ _ _ c.args.telling.now c.tell_bytes.new.self c.read_portion-portion.result.end c.in-Some.end _ c.requires
+    c.in-Some.is now.0
     now.1 adds.written adds.wrote)
 
 pub loop-end-preserved : goal.loop-end-preserved
