@@ -22,8 +22,16 @@ def explain_given(rng):
     if kind == "raw":
         words, text = [b"--raw"], bytes(char.byte for char in chars)
     else:
-        words, text = bad_explain_words(rng) if kind == "bad words" else [], inputs.input_text(rng, chars)
+        words, text = bad_explain_words(rng) if kind == "bad words" else [], with_silences(rng, inputs.input_text(rng, chars))
     return Given(words, None if rng.random() < 0.002 else text)
+
+
+def with_silences(rng, text):
+    """A text in which the line falls silent, or not."""
+    for _ in range(weighted(rng, (4, 0), (3, 1), (2, 2), (1, 5))):
+        place = rng.randrange(len(text) + 1)
+        text = text[:place] + b"/" + text[place:]
+    return text
 
 
 def bad_explain_words(rng):

@@ -1,5 +1,6 @@
 """What `hart explain` says of characters: of each message what it says, and of other places why no message stands there."""
 
+import itertools
 import pathlib
 import re
 
@@ -9,7 +10,7 @@ from .device import COMMUNICATION_FAULTS
 from .fields import bytes_text, said_of_fields
 from .frames import BROADCAST, Polling, faultless, frames_of
 from .misses import missed
-from .texts import NO_LIMIT, READ_FAULT, USAGE, done, failed, told
+from .texts import NO_LIMIT, READ_FAULT, USAGE, done, failed, read_heard, told
 
 EXAMPLES = (pathlib.Path(__file__).parents[2] / "docs" / "explained.txt").read_text(encoding="utf-8")
 
@@ -159,15 +160,30 @@ def explained_lines(heard):
 
 
 def explained(heard):
-    """What is said of some characters."""
-    return "".join(line + "\n" for line in explained_lines(heard)).encode()
+    """What is said of some characters, among which None says that the line fell silent: of each stretch by itself, with its places
+    counted on."""
+    text, first = "", 0
+    for is_silent, stretch in itertools.groupby(heard, lambda char: char is None):
+        chars = [] if is_silent else list(stretch)
+        text += "".join(moved_line(line, first) + "\n" for line in explained_lines(chars))
+        first += len(chars)
+    return text.encode()
+
+
+def moved_line(line, first):
+    """A line whose places are counted from a first place on: those at its head, and the one that a miss names."""
+    if line.startswith(" "):
+        return line
+    line = re.sub(r"^(\d+)-(\d+)", lambda places: f"{int(places[1]) + first}-{int(places[2]) + first}", line)
+    line = re.sub(r"^(\d+):", lambda place: f"{int(place[1]) + first}:", line)
+    return re.sub(r"(?<= at )(\d+)(?=( has the fault bits|, and ))", lambda place: str(int(place[1]) + first), line)
 
 
 def explain(given):
     """What `hart explain` does with an input, which is bytes that were heard if its one word says so, and otherwise hex."""
     if given.words == [b"--raw"]:
         return explain_raw(given.text)
-    return USAGE if given.words else told(given, explained, NO_LIMIT)
+    return USAGE if given.words else told(given, explained, NO_LIMIT, read_heard)
 
 
 def explain_raw(text):

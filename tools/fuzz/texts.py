@@ -92,6 +92,24 @@ def read_items(text, cut_short=False):
     return heard
 
 
+def read_heard(text, cut_short=False):
+    """What was heard in a text in which a `/` says that the line fell silent, where None stands; raises `BadHex`."""
+    heard, first = [], 0
+    *ended, last = text.split(b"/")
+    for stretch in ended:
+        heard += read_after(heard, first, stretch, False) + [None]
+        first += len(stretch) + 1
+    return heard + read_after(heard, first, last, cut_short)
+
+
+def read_after(heard, first, text, cut_short):
+    """The characters of a stretch whose text begins at this place, after what was heard; raises `BadHex`."""
+    try:
+        return read_items(text, cut_short)
+    except BadHex as bad:
+        raise BadHex(first + bad.place, heard + bad.before) from None
+
+
 def address_text(address):
     """An address as it is written."""
     if isinstance(address, Polling):
@@ -119,20 +137,20 @@ def dumped(heard):
     return "".join(lines).encode()
 
 
-def up_to_fault(text, limit):
-    """The characters of an input before its first fault in the order of its bytes, and this fault, None without one."""
+def up_to_fault(text, limit, read=read_items):
+    """What was heard in an input before its first fault in the order of its bytes, and this fault, None without one."""
     if text is None:
         return [], READ_FAULT
     too_long = len(text) > limit
     try:
-        return read_items(text[:limit], cut_short=too_long), TOO_LONG if too_long else None
+        return read(text[:limit], cut_short=too_long), TOO_LONG if too_long else None
     except BadHex as bad:
         return bad.before, bad.fault()
 
 
-def told(given, text_of, limit):
-    """What a call does that tells of its input: it writes the text of the characters before the first fault, and gives that fault."""
-    heard, fault = up_to_fault(given.text, limit)
+def told(given, text_of, limit, read=read_items):
+    """What a call does that tells of its input: it writes the text of what was heard before the first fault, and gives that fault."""
+    heard, fault = up_to_fault(given.text, limit, read)
     written = text_of(heard)
     return done(written) if fault is None else failed(fault, written)
 

@@ -140,6 +140,20 @@ ROWS = (
         "9: no message: it ends before its byte count\n",
         "bad hex at 33\n",
     ),
+    # The line fell silent: what was heard before is explained as ended, and places go on counting.
+    ("/", "", ""),
+    ("FF FF 02 80 00 00 82/", IDENTIFY, ""),
+    ("FF FF 02 80 00/00 82", "2: no message: it ends before its byte count\n", ""),
+    ("FF FF/02 80 00 00 82 FF/FF 02 80 00 00 82", "9: no message: only one 0xFF stands before it\n", ""),
+    (
+        "FF FF 82 B7 42 / FF FF 02 80 00 00 82 / FF FF 02 80 00 00 83",
+        "2: no message: it ends before its byte count\n"
+        "7-12: request of the primary master to the device at polling address 0, Command 0, read unique identifier\n"
+        "14: no message: the check byte is 0x83 at 18, and 0x82 would fit\n",
+        "",
+    ),
+    ("FF FF 02 80 00/0/", "2: no message: it ends before its byte count\n", "bad hex at 15\n"),
+    ("FF FF 02!/", "", "bad hex at 6\n"),
     ("FF FF 02 80 00 00 82!08", "2: no message: it lacks 1 character, its check byte\n", "bad hex at 18\n"),
     ("FF FF 0G", "", "bad hex at 6\n"),
     ("02!08", "", "bad hex at 0\n"),
@@ -154,6 +168,7 @@ FAILED_READS = (
     ("FF FF 02 80 00 00 82", "2: no message: it lacks 1 character, its check byte\n", "read fault\n"),
     ("FF FF 02 80 00 00 82 G", IDENTIFY, "bad hex at 21\n"),
     ("FF FF 02 80 00 00 82 8", IDENTIFY, "read fault\n"),
+    ("FF FF 02 80 00 00 82/8", IDENTIFY, "read fault\n"),
 )
 
 # What was heard as raw bytes, what is said of it, and the line of its fault, if it has one: no byte is bad hex, and none a separator.
@@ -194,6 +209,8 @@ FAILED_WRITES = (
     (MESSAGES, None, None, 0, 1, ""),
     ("FF FF 02 80 00!40 ", 1, None, 0, 18, ""),
     ("FF FF 02 80 00 00 83 ", 1, None, 0, 21, ""),
+    # A silence decides at once what is open.
+    ("FF FF 82 B7/FF FF FF ", 1, None, 0, 12, ""),
     (IN_OPEN_BODY, 1, None, 0, 48, ""),
 )
 

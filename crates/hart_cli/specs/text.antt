@@ -1,6 +1,7 @@
 -- Texts: hex items, and lines of words and bytes.
 pub mod Items
 pub mod InputChars
+pub mod Heard
 pub mod HexText
 pub mod DeviceDigits
 pub mod MessageLine

@@ -1,10 +1,11 @@
 -- `hart explain`.
-pub mod Heard
 pub mod Fields
 pub mod Units
 pub mod Gaps
 pub mod Sightings
 pub mod Decided
 pub mod Telling
+pub mod Stretches
+pub mod Told
 pub mod TellInput
 pub mod TellRaw

@@ -1,5 +1,8 @@
 -- Texts: pieces of hex text, and lines of bytes.
+pub mod Reads
 pub mod InputChars
+pub mod Heard
+pub mod NoSilence
 pub mod Items
 pub mod MessageLine
 pub mod PlainItems

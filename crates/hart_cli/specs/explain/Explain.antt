@@ -3,17 +3,17 @@ use Rattle.std.specs.Prelude.{ℕ, List, Option}
 use Rattle.hart_cli.specs.declared.fault.CliFault.{CliFault}
 use Rattle.hart_cli.specs.explain.Explanation.{IsDecidedExplanation, IsExplanationOf}
 use Rattle.hart_cli.specs.ImageWord.{OutcomeRelation}
-use Rattle.hart_cli.specs.input.Decoding.{item_decoding, raw_decoding, raw_limit}
+use Rattle.hart_cli.specs.input.Decoding.{heard_decoding, raw_decoding, raw_limit}
 use Rattle.hart_cli.specs.input.Input.{Ending, stream_limit}
 use Rattle.hart_cli.specs.input.LiveInput.{HasText, LiveOutcome}
 
--- An input that was read so far has this fault, if any, and this text: the explanation of its characters before the fault.
+-- An input that was read so far has this fault, if any, and this text: the explanation of what was heard before the fault.
 abbrev pub IsExplanation : List ℕ → Ending → Option CliFault → List ℕ → Type 0
-IsExplanation = HasText item_decoding IsExplanationOf
+IsExplanation = HasText heard_decoding IsExplanationOf
 
 -- A call of `explain` reads an input of at most 2^64 - 1 bytes, and writes its explanation as soon as it is decided.
 abbrev pub ExplainOutcome : OutcomeRelation
-ExplainOutcome = LiveOutcome item_decoding stream_limit IsExplanationOf IsDecidedExplanation
+ExplainOutcome = LiveOutcome heard_decoding stream_limit IsExplanationOf IsDecidedExplanation
 
 -- A raw input that was read so far has this fault, if any, and this text: the explanation of its bytes.
 abbrev pub IsRawExplanation : List ℕ → Ending → Option CliFault → List ℕ → Type 0

@@ -1,10 +1,11 @@
--- What `hart explain` says of characters (own profile).
-use Rattle.std.specs.Prelude.{◌≡◌, ◌≤◌, ℕ, false, List, drop, length}
+-- What `hart explain` says of what was heard (own profile).
+use Rattle.std.specs.Prelude.{◌≡◌, ◌+◌, ℕ, List, [], ◌∷◌, ◌++◌, length, map}
 use Rattle.std.specs.List.{flat_map}
 use Rattle.hart_frame.specs.heard.Character.{Character}
-use Rattle.hart_frame.specs.heard.Sighting.{AreSightings, IsUndecidedSighting, Message, Missed, Seen, SeesOn}
+use Rattle.hart_frame.specs.heard.Sighting.{AreSightings, Message, Missed, Seen, moved_seen}
 use Rattle.hart_cli.specs.explain.Message.{paragraph}
 use Rattle.hart_cli.specs.explain.Misses.{miss_line}
+use Rattle.hart_cli.specs.text.Heard.{Heard, stretches}
 
 -- What is said of a sighting is the paragraph of a message, or the line of a place that has none.
 abbrev pub seen_text : Seen → List ℕ
@@ -15,18 +16,32 @@ seen_text (Missed place miss) = miss_line place miss
 abbrev pub explanation : List Seen → List ℕ
 explanation seen = flat_map seen_text seen
 
--- The explanation of characters is what is said of the sightings in them.
-pub record IsExplanationOf (chars : List Character) (text : List ℕ) : Type 0 where
+-- The sightings of stretches are those of each by itself, with their places counted on from a first place.
+abbrev pub AreSightingsFrom : ℕ → List (List Character) → List Seen → Type 0
+AreSightingsFrom first [] seen = seen ≡ []
+AreSightingsFrom first (chars ∷ later) seen =
+    (own : List Seen) × AreSightings chars 0 own × (rest : List Seen) × AreSightingsFrom (first + length chars) later rest
+    × (seen ≡ map (moved_seen first) own ++ rest)
+
+-- The sightings of what was heard are those of its stretches.
+abbrev pub AreSightingsOf : List Heard → List Seen → Type 0
+AreSightingsOf heard seen = AreSightingsFrom 0 (stretches heard) seen
+
+-- The explanation of what was heard is what is said of the sightings in it.
+pub record IsExplanationOf (heard : List Heard) (text : List ℕ) : Type 0 where
   pub seen : List Seen
-  pub are_sightings : AreSightings chars 0 seen
+  pub are_sightings : AreSightingsOf heard seen
   pub text_is : text ≡ explanation seen
 
--- This explanation of some characters is decided: whatever is heard next, the sightings that it is of come first, and in the characters
--- after them, from a place on, no sighting is decided.
-pub record IsDecidedExplanation (chars : List Character) (text : List ℕ) : Type 0 where
+-- Sightings come first in what was heard, whatever is heard next.
+abbrev pub ComeFirst : List Heard → List Seen → Type 0
+ComeFirst heard seen =
+    (more : List Heard) (all : List Seen) → AreSightingsOf (heard ++ more) all → (later : List Seen) × (all ≡ seen ++ later)
+
+-- This explanation of what was heard is decided: whatever is heard next, the sightings that it is of come first, and with no other one
+-- after them they do.
+pub record IsDecidedExplanation (heard : List Heard) (text : List ℕ) : Type 0 where
   pub seen : List Seen
-  pub place : ℕ
-  pub within : place ≤ length chars
-  pub first : SeesOn chars false 0 seen place
-  pub undecided : IsUndecidedSighting (drop place chars)
+  pub first : ComeFirst heard seen
+  pub no_more : (next : Seen) → ComeFirst heard (seen ++ next ∷ []) → ⊥
   pub text_is : text ≡ explanation seen

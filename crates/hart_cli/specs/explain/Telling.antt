@@ -19,6 +19,7 @@ use Rattle.hart_cli.specs.input.Decoding.{Decoding}
 use Rattle.hart_cli.specs.input.LiveInput.{IsDecidedText, StopsWriting, WroteInTime}
 use Rattle.hart_cli.specs.stream.Kept.{AddsText}
 use Rattle.hart_cli.specs.stream.Stream.{FailsToWrite, Stream, WritesAll}
+use Rattle.hart_cli.specs.text.Heard.{Heard, ReadsHeard, Silence, heard_chars}
 use Rattle.hart_cli.specs.text.Items.{ReadsUpTo}
 
 -- The places of a sighting, and those that its miss names, are numbers of 64 bits when they are counted from a first place on.
@@ -120,20 +121,60 @@ pub record IsNew (telling : Telling) : Type 0 where
   pub held : telling.held ≡ []
   pub quiet : telling.kept ≡ []
 
+-- What was heard after other things, part by part: characters, or a silence, at which all that is held is told.
+pub data HearsAll (old : Telling) : Telling → List Heard → Stream → Stream → Type 0 where
+  nothing : (writer : Stream) → HearsAll old old [] writer writer
+  chars : (now new : Telling) (heard : List Heard) (chars : List Character) (w w1 w2 : Stream) → HearsAll old now heard w w1
+      → Hears now new chars false w1 w2 → HearsAll old new (heard ++ heard_chars chars) w w2
+  silence : (now new : Telling) (heard : List Heard) (w w1 w2 : Stream) → HearsAll old now heard w w1 → Hears now new [] true w1 w2
+      → new.held ≡ [] → HearsAll old new (heard ++ Silence ∷ []) w w2
+
+-- After some of what was heard a write failed, in what is said of characters, which may have come before a silence.
+pub record FailsInAll (old : Telling) (heard : List Heard) (writer writer_after : Stream) : Type 0 where
+  pub now : Telling
+  pub passed : List Heard
+  pub between : Stream
+  pub hears : HearsAll old now passed writer between
+  pub chars : List Character
+  pub ended : Bool
+  pub fails : FailsToHear now chars ended between writer_after
+  pub heard_is : heard ≡ passed ++ heard_chars chars
+
+-- What a text reads as was heard, up to a place in it.
+pub record HearsStretches (old new : Telling) (text : List ℕ) (place : ℕ) (writer writer_after : Stream) : Type 0 where
+  pub within : place ≤ length text
+  pub heard : List Heard
+  pub reads : ReadsHeard text heard (drop place text)
+  pub hears : HearsAll old new heard writer writer_after
+
+-- A write failed in what is said of the first part of a text.
+pub record FailsInStretches (old : Telling) (text : List ℕ) (writer writer_after : Stream) : Type 0 where
+  pub heard : List Heard
+  pub rest : List ℕ
+  pub reads : ReadsHeard text heard rest
+  pub fails : FailsInAll old heard writer writer_after
+
+-- What a text reads as was heard up to the place that is given, or a write failed.
+abbrev pub HearsStretchesOrFails : Telling → Telling → List ℕ → Stream → Stream → Result ℕ Failed → Type 0
+HearsStretchesOrFails old new text writer writer_after result =
+    MatchResult result
+    (λ place. HearsStretches old new text place writer writer_after)
+    (λ _. FailsInStretches old text writer writer_after)
+
 -- An input with a limit, decoded in one way, was read and told of up to its end or its first fault.
-pub record TellsAll (decoding : Decoding (List Character)) (limit : ℕ) (reader reader_after writer writer_after : Stream)
+pub record TellsAll (decoding : Decoding (List Heard)) (limit : ℕ) (reader reader_after writer writer_after : Stream)
     (old new : Telling) (fault : Option CliFault) : Type 0 where
   pub input : List ℕ
-  pub chars : List Character
-  pub decodes : DecodesAll decoding limit reader reader_after fault input chars
-  pub few : length chars < 2 ^ 64 - 1
-  pub hears : Hears old new chars false writer writer_after
+  pub heard : List Heard
+  pub decodes : DecodesAll decoding limit reader reader_after fault input heard
+  pub places : new.first + length new.held < 2 ^ 64 - 1
+  pub hears : HearsAll old new heard writer writer_after
   pub waiting : IsWaiting new
   pub quiet : new.kept ≡ []
   pub in_time : WroteInTime (IsDecidedText decoding IsDecidedExplanation) input writer writer_after
 
 -- An input was read and told of, or a write failed.
-abbrev pub TellsInput : Decoding (List Character) → ℕ → Stream → Stream → Stream → Stream → Telling → Telling
+abbrev pub TellsInput : Decoding (List Heard) → ℕ → Stream → Stream → Stream → Stream → Telling → Telling
     → Result (Option CliFault) Failed → Type 0
 TellsInput decoding limit reader reader_after writer writer_after old new (Ok fault) =
     TellsAll decoding limit reader reader_after writer writer_after old new fault

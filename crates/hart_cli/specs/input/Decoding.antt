@@ -5,8 +5,9 @@ use Rattle.hart_cli.specs.declared.fault.CliFault.{CliFault}
 use Rattle.hart_cli.specs.declared.fault.CliFault.TheVariants as faults
 use Rattle.hart_cli.specs.declared.input.InputEnd.TheVariants.{Ended, ReadFailed, TooLong}
 use Rattle.hart_cli.specs.input.Input.{CameTo, Ending, most_at_once}
-use Rattle.hart_cli.specs.text.InputChars.{HasChars}
-use Rattle.hart_cli.specs.text.Items.{ReadsSoFarAs, ReadsUpTo, closed}
+use Rattle.hart_cli.specs.text.Heard.{Heard, NothingBegins, ReadsHeard, heard_chars}
+use Rattle.hart_cli.specs.text.InputChars.{HasHeardBy}
+use Rattle.hart_cli.specs.text.Items.{NoPieceBegins, ReadsSoFarBy, ReadsUpTo, closed}
 
 -- A decoding says what was heard in an input up to its first fault, and which fault that is, if any; what can have been decoded of it
 -- when a write fails; what was heard so far in an input that may go on; and how many bytes at most are read and not yet decoded.
@@ -26,29 +27,44 @@ abbrev pub ended_text : List ℕ → Ending → List ℕ
 ended_text input (CameTo Ended) = closed input
 ended_text input _ = input
 
--- Characters can be those decoded of an input if it reads as them up to a rest that is no longer than what may be read ahead.
-pub record AreDecoded (input : List ℕ) (ending : Ending) (chars : List Character) : Type 0 where
+-- By a way to read texts, what can have been decoded of an input is what it reads as up to a rest that is no longer than what may be read
+-- ahead.
+pub record AreDecodedBy {Heard : Type 0} (Reads : List ℕ → List Heard → List ℕ → Type 0) (input : List ℕ) (ending : Ending)
+    (heard : List Heard) : Type 0 where
   pub rest : List ℕ
-  pub reads : ReadsUpTo (ended_text input ending) chars rest
+  pub reads : Reads (ended_text input ending) heard rest
   pub few : length rest ≤ most_ahead
+
+-- An input is decoded by a way to read texts.
+abbrev pub decoding_by : {Heard : Type 0} → (List ℕ → List Heard → List ℕ → Type 0) → (List ℕ → Type 0) → Decoding (List Heard)
+decoding_by Reads Stops = record {
+  Has = HasHeardBy Reads Stops;
+  Decoded = AreDecodedBy Reads;
+  SoFar = ReadsSoFarBy Reads Stops;
+  most_ahead = most_ahead;
+}
 
 -- An input of hex items is decoded as their characters.
 abbrev pub item_decoding : Decoding (List Character)
-item_decoding = record { Has = HasChars; Decoded = AreDecoded; SoFar = ReadsSoFarAs; most_ahead = most_ahead }
+item_decoding = decoding_by ReadsUpTo NoPieceBegins
 
--- The bytes of a raw input are the characters, without fault bits.
-abbrev pub AreRaw : List ℕ → List Character → Type 0
-AreRaw input chars = chars ≡ faultless input
+-- An input of hex items with silences is decoded as what was heard.
+abbrev pub heard_decoding : Decoding (List Heard)
+heard_decoding = decoding_by ReadsHeard NothingBegins
+
+-- The bytes of a raw input are characters without fault bits, in one stretch.
+abbrev pub AreRaw : List ℕ → List Heard → Type 0
+AreRaw input heard = heard ≡ heard_chars (faultless input)
 
 -- A raw input has its bytes as characters however it came to its end, and no fault but a failed read or the limit.
-pub data HasRawChars (input : List ℕ) : Ending → List Character → Option CliFault → Type 0 where
-  all : (chars : List Character) → AreRaw input chars → HasRawChars input (CameTo Ended) chars None
-  failure : (chars : List Character) → AreRaw input chars → HasRawChars input (CameTo ReadFailed) chars (Some faults.Read)
-  limit : (chars : List Character) → AreRaw input chars → HasRawChars input (CameTo TooLong) chars (Some faults.TooLong)
+pub data HasRaw (input : List ℕ) : Ending → List Heard → Option CliFault → Type 0 where
+  all : (heard : List Heard) → AreRaw input heard → HasRaw input (CameTo Ended) heard None
+  failure : (heard : List Heard) → AreRaw input heard → HasRaw input (CameTo ReadFailed) heard (Some faults.Read)
+  limit : (heard : List Heard) → AreRaw input heard → HasRaw input (CameTo TooLong) heard (Some faults.TooLong)
 
 -- A raw input is decoded as its bytes as soon as they are read.
-abbrev pub raw_decoding : Decoding (List Character)
-raw_decoding = record { Has = HasRawChars; Decoded = λ input ending chars. AreRaw input chars; SoFar = AreRaw; most_ahead = 0 }
+abbrev pub raw_decoding : Decoding (List Heard)
+raw_decoding = record { Has = HasRaw; Decoded = λ input ending heard. AreRaw input heard; SoFar = AreRaw; most_ahead = 0 }
 
 -- A raw input has at most 2^64 - 2 bytes.
 abbrev pub raw_limit : ℕ

@@ -1,24 +1,31 @@
 -- What characters an input has (own profile): those up to its first fault, and that fault. The fault bits of a character are no
 -- fault of the input.
-use Rattle.std.specs.Prelude.{◌≡◌, ℕ, ◌/◌, List, length, Option, Some, None}
+use Rattle.std.specs.Prelude.{◌≡◌, ℕ, ◌/◌, List, [], ◌++◌, length, Option, Some, None}
 use Rattle.hart_frame.specs.heard.Character.{Character}
 use Rattle.hart_cli.specs.input.Input.{CameTo, Ending, Left}
-use Rattle.hart_cli.specs.text.Items.{IsBadHexAt, IsDecidedBadHexAt, ReadsAs, ReadsSoFarAs}
+use Rattle.hart_cli.specs.text.Items.{HasBadHexBy, IsBadHexAt, NoPieceBegins, ReadsSoFarBy, ReadsUpTo, closed}
 use Rattle.hart_cli.specs.declared.fault.CliFault.{CliFault}
 use Rattle.hart_cli.specs.declared.fault.CliFault.TheVariants as faults
 use Rattle.hart_cli.specs.declared.input.InputEnd.TheVariants as ends
 
--- The characters of an input are those before its fault. One that ended reads as them, or has bad hex after them. One that the call
--- left has bad hex after them, decided by what was read. One in which a read failed, or that went past the limit, reads as the
--- characters of the items that are whole so far.
-pub data HasChars (text : List ℕ) : Ending → List Character → Option CliFault → Type 0 where
-  all : (chars : List Character) → ReadsAs text chars → HasChars text (CameTo ends.Ended) chars None
-  bad_hex : (chars : List Character) (place : ℕ) → IsBadHexAt text chars place
-      → HasChars text (CameTo ends.Ended) chars (Some (faults.BadHex place))
-  decided_bad_hex : (chars : List Character) (place : ℕ) → IsDecidedBadHexAt text chars place
-      → HasChars text Left chars (Some (faults.BadHex place))
-  failure : (chars : List Character) → ReadsSoFarAs text chars → HasChars text (CameTo ends.ReadFailed) chars (Some faults.Read)
-  limit : (chars : List Character) → ReadsSoFarAs text chars → HasChars text (CameTo ends.TooLong) chars (Some faults.TooLong)
+-- By a way to read texts, what was heard in an input is what stands before its fault. One that ended reads as that, or has bad hex after
+-- it. One that the call left has bad hex after it, decided by what was read. One in which a read failed, or that went past the limit,
+-- reads as what is whole so far.
+pub data HasHeardBy {Heard : Type 0} (Reads : List ℕ → List Heard → List ℕ → Type 0) (Stops : List ℕ → Type 0) (text : List ℕ)
+    : Ending → List Heard → Option CliFault → Type 0 where
+  all : (heard : List Heard) → Reads (closed text) heard [] → HasHeardBy Reads Stops text (CameTo ends.Ended) heard None
+  bad_hex : (heard : List Heard) (place : ℕ) → HasBadHexBy Reads Stops (closed text) heard place
+      → HasHeardBy Reads Stops text (CameTo ends.Ended) heard (Some (faults.BadHex place))
+  decided_bad_hex : (heard : List Heard) (place : ℕ) → ((more : List ℕ) → HasBadHexBy Reads Stops (text ++ more) heard place)
+      → HasHeardBy Reads Stops text Left heard (Some (faults.BadHex place))
+  failure : (heard : List Heard) → ReadsSoFarBy Reads Stops text heard
+      → HasHeardBy Reads Stops text (CameTo ends.ReadFailed) heard (Some faults.Read)
+  limit : (heard : List Heard) → ReadsSoFarBy Reads Stops text heard
+      → HasHeardBy Reads Stops text (CameTo ends.TooLong) heard (Some faults.TooLong)
+
+-- The characters of an input of items are those before its fault.
+abbrev pub HasChars : List ℕ → Ending → List Character → Option CliFault → Type 0
+HasChars = HasHeardBy ReadsUpTo NoPieceBegins
 
 -- The only fault of an input that was read to its end is bad hex, at its place, or refused memory for half as many characters as it
 -- has bytes.

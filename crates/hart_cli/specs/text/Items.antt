@@ -57,14 +57,20 @@ pub record MayBegin (text : List ℕ) : Type 0 where
   pub tail : List ℕ
   pub begins : BeginsWith (text ++ more) piece tail
 
--- A text has bad hex at a place, after these characters, if it reads as them up to there, and what begins there is
--- neither its end nor a piece.
-pub record HasBadHex (text : List ℕ) (chars : List Character) (place : ℕ) : Type 0 where
+-- A way to read texts says what a text reads as up to a rest, and at which rests it stops.
+-- By such a way a text has bad hex at a place, after what was heard, if it reads as that up to there, and reading stops before its end.
+pub record HasBadHexBy {Heard : Type 0} (Reads : List ℕ → List Heard → List ℕ → Type 0) (Stops : List ℕ → Type 0) (text : List ℕ)
+    (heard : List Heard) (place : ℕ) : Type 0 where
   pub rest : List ℕ
-  pub reads : ReadsUpTo text chars rest
+  pub reads : Reads text heard rest
   pub begins : place + length rest ≡ length text
   pub more : rest ≢ []
-  pub no_piece : NoPieceBegins rest
+  pub no_piece : Stops rest
+
+-- A text has bad hex at a place, after these characters, if it reads as them up to there, and what begins there is
+-- neither its end nor a piece.
+abbrev pub HasBadHex : List ℕ → List Character → ℕ → Type 0
+HasBadHex = HasBadHexBy ReadsUpTo NoPieceBegins
 
 -- The end of an input makes its last item whole, as a space after it would.
 abbrev pub closed : List ℕ → List ℕ
@@ -84,11 +90,16 @@ IsDecidedBadHexAt text chars place = (more : List ℕ) → HasBadHex (text ++ mo
 
 -- While an input may go on, it reads so far as the characters up to a rest, perhaps empty, at whose beginning no whole piece
 -- stands yet, though one would if the right bytes followed.
-pub record ReadsSoFarAs (text : List ℕ) (chars : List Character) : Type 0 where
+pub record ReadsSoFarBy {Heard : Type 0} (Reads : List ℕ → List Heard → List ℕ → Type 0) (Stops : List ℕ → Type 0) (text : List ℕ)
+    (heard : List Heard) : Type 0 where
   pub rest : List ℕ
-  pub reads : ReadsUpTo text chars rest
-  pub no_piece : NoPieceBegins rest
+  pub reads : Reads text heard rest
+  pub no_piece : Stops rest
   pub open_end : MayBegin rest
+
+-- So it is for items.
+abbrev pub ReadsSoFarAs : List ℕ → List Character → Type 0
+ReadsSoFarAs = ReadsSoFarBy ReadsUpTo NoPieceBegins
 
 -- For private calls alone: what reading one piece answers.
 

@@ -3,7 +3,7 @@ ghost use Rattle.std.specs.Prelude.{◌≡◌, ℕ, List, Option};
 ghost use Rattle.hart_cli.specs.declared.fault.CliFault.{CliFault};
 ghost use Rattle.hart_cli.specs.explain.Explain.{ExplainOutcome, IsExplanation, IsRawExplanation, RawExplainOutcome};
 ghost use Rattle.hart_cli.specs.explain.Telling.{IsNew, TellsInput};
-ghost use Rattle.hart_cli.specs.input.Decoding.{item_decoding, raw_decoding, raw_limit};
+ghost use Rattle.hart_cli.specs.input.Decoding.{heard_decoding, raw_decoding, raw_limit};
 ghost use Rattle.hart_cli.specs.input.Input.{Ending, stream_limit};
 
 use crate::calls::explain::telling::Telling;
@@ -31,6 +31,8 @@ const RAW_LIMIT: usize = usize::MAX - 1;
 
 /// Reads what was heard on a line as hex items, and writes in words what each message in it says, and why no message stands where
 /// one seems to start, as soon as it is decided.
+///
+/// An item `/` says that the line fell silent: what was heard before it is explained as ended, and no message crosses it.
 ///
 /// It reads a portion at a time, and before each read all is written that is decided by then, so that a live line is explained while it
 /// is heard. At most 268 characters that decide nothing yet are kept of it. It takes no memory.
@@ -106,7 +108,7 @@ fn tell_input<R: Source, W: Sink>(
     telling: &mut Telling,
 ) -> Result<Option<CliFault>, Failed>
     requires { IsNew telling.old }
-    ensures { TellsInput item_decoding stream_limit
+    ensures { TellsInput heard_decoding stream_limit
         (R.stream reader.old) (R.stream reader.new)
         (W.stream writer.old) (W.stream writer.new)
         telling.old telling.new result }

@@ -180,6 +180,18 @@ const EXPLAINED: &[Row] = &[
         Command 0, read unique identifier\n",
         NONE,
     ),
+    // The line fell silent.
+    (
+        "FF FF 82 B7 / FF FF 02 80 00 00 82",
+        "2: no message: it ends before its byte count\n6-11: request of the primary master \
+        to the device at polling address 0, Command 0, read unique identifier\n",
+        NONE,
+    ),
+    (
+        "FF FF 02 80 00 00/82",
+        "2: no message: it lacks 1 character, its check byte\n",
+        NONE,
+    ),
     (
         "FF FF 02 80!40 00 FF FF 02 80 00 00 82",
         "2: no message: the character at 3 has the fault bits 0x40\n7-12: request of the primary master \

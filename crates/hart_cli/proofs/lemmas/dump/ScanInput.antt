@@ -17,9 +17,10 @@ use Rattle.hart_cli.specs.input.Decoding.{item_decoding, most_ahead}
 use Rattle.hart_cli.specs.input.Input.{ending_of, input_limit}
 use Rattle.hart_cli.specs.input.LiveInput.{IsDecidedText, StopsWriting, WroteInTime}
 use Rattle.hart_cli.specs.stream.Stream.{FailsToWrite, Stream, WritesAll}
-use Rattle.hart_cli.specs.text.Items.{MayBegin, NoPieceBegins}
+use Rattle.hart_cli.specs.text.Items.{MayBegin, NoPieceBegins, ReadsUpTo}
 use Rattle.hart_cli.proofs.lemmas.Writes.{FailsToWrite-longer, FailsToWrite-on}
 use Rattle.hart_cli.proofs.lemmas.dump.FrameLines.{keeps_on, are_decided, first_frames}
+use Rattle.hart_cli.proofs.lemmas.text.InputChars.{item_laws}
 use Rattle.hart_cli.proofs.lemmas.input.Decoded.{DecodedUpTo, are_decoded, decoded_step, decodes_all, in_time_before, read_to, stops_in}
 
 -- an input was read and scanned up to a rest that is no piece yet, with these lines so far
@@ -27,7 +28,7 @@ pub record ScannedUpTo (old new : Stream) (scan : Scan) (end : Option InputEnd) 
     : Type 0 where
   pub input : List ℕ
   pub chars : List Character
-  pub decoded : DecodedUpTo input_limit old new end rest read input chars
+  pub decoded : DecodedUpTo ReadsUpTo NoPieceBegins input_limit old new end rest read input chars
   pub scans : KeepsLines (hearing new_scan chars) scan [] lines
   pub waiting : IsWaiting scan
 
@@ -43,12 +44,14 @@ scanned_step r r1 r2 w w1 old new read ahead after rest text portion due none wr
       record {
         input = due.input ++ more.bytes;
         chars = due.chars ++ scans.chars;
-        decoded = decoded_step input_limit r r1 r2 ahead after rest read portion due.input due.chars scans.chars due.decoded may more
+        decoded = decoded_step ReadsUpTo NoPieceBegins item_laws input_limit r r1 r2 ahead after rest read portion due.input
+            due.chars scans.chars due.decoded may more
             few stops scans.reads;
         scans = keeps_on new_scan _ _ due.chars scans.chars _ _ _ refl due.waiting.going due.scans keeps;
         waiting = waiting;
       },
-      in_time_before AreDecidedLines input_limit r r1 w w1 ahead read due.input due.chars text more.bytes due.decoded may more.few
+      in_time_before ReadsUpTo NoPieceBegins item_laws AreDecidedLines input_limit r r1 w w1 ahead read due.input due.chars text
+          more.bytes due.decoded may more.few
           (record {
             frames = due.scans.given;
             decided = are_decided due.chars old.scanner due.scans.given due.scans.moves due.waiting.undecided;
@@ -67,7 +70,7 @@ stopped_writing r r2 w w1 w2 scan end rest read text lines scanned wrote in_time
     let all = FailsToWrite-longer _ w2 (text ++ lines) (dump_text later.0) (FailsToWrite-on _ _ w2 text lines wrote fails) in
     stops_in item_decoding input_limit AreFrameLines AreDecidedLines r r2 w w1 w2 scanned.input (ending_of end) scanned.chars
     ((text ++ lines) ++ dump_text later.0) lines (read_to r r2 scanned.input input_limit end scanned.decoded.came)
-    (are_decoded input_limit r r2 end rest read scanned.input scanned.chars scanned.decoded)
+    (are_decoded ReadsUpTo NoPieceBegins item_laws input_limit r r2 end rest read scanned.input scanned.chars scanned.decoded)
     (grind (arith, common_steps)) in_time all fails
 
 -- the last step says the fault of an input that is read no further
@@ -79,7 +82,8 @@ scans_all r r2 w w1 frames end rest read text fault scanned none wrote in_time s
   input = scanned.input;
   chars = scanned.chars;
   text = text;
-  decodes = decodes_all input_limit r r2 end rest read scanned.input scanned.chars fault scanned.decoded step;
+  decodes = decodes_all ReadsUpTo NoPieceBegins item_laws input_limit r r2 end rest read scanned.input scanned.chars fault
+      scanned.decoded step;
   scans = scanned.scans;
   waiting = scanned.waiting;
   none_kept = none;

@@ -1,11 +1,10 @@
 -- Sightings that are found one after another, and what is said of them.
-use Rattle.std.proofs.Common.{◌≡◌, ◌≤◌, ◌+◌, ℕ, Bool, false, List, [], ◌∷◌, ◌++◌, length, map, drop, refl, sym, append_assoc, append-nil}
+use Rattle.std.proofs.Common.{◌≡◌, ◌≤◌, ◌+◌, ℕ, Bool, false, List, [], ◌∷◌, ◌++◌, length, map, drop, refl, append_assoc, append-nil}
 use Rattle.std.proofs.Common.{arith}
 use Rattle.std.proofs.lemmas.Grind.{common_steps, flat_map-append}
 use Rattle.std.proofs.lemmas.List.{drop-append-le, drop-drop, map-append}
 use Rattle.hart_frame.specs.heard.Character.{Character}
 use Rattle.hart_frame.specs.heard.Sighting.{AreSightings, IsUndecidedSighting, Message, Missed, Seen, SeesOn, moved_seen}
-use Rattle.hart_cli.specs.explain.Explanation.{IsExplanationOf, explanation}
 use Rattle.hart_cli.specs.explain.Telling.{text_from}
 use Rattle.hart_frame.proofs.lemmas.scan.SightingLaws.{all as seen_to_the_end, one as one_list, rest as rest_is_seen, some as some_list}
 
@@ -45,11 +44,6 @@ sees_later chars ended first used seen given within sees on more later closed ar
     rw (map-append, moved_twice first used last, same) refl in
     rw (append_assoc seen (map (moved_seen first) given) later) (sees more _ closed (rw order at told))
 
--- nothing comes after what has ended
-pub sees_ended : (chars : List Character) (ended : Bool) (from to : ℕ) (seen : List Seen) → SeesOn chars false from seen to
-    → SeesOn chars ended from seen to
-sees_ended chars ended from to seen sees more later closed are = sees more later (λ never. absurd cc) are
-
 -- nothing is decided before anything is heard
 pub undecided_nothing : IsUndecidedSighting []
 undecided_nothing first comes =
@@ -62,18 +56,5 @@ pub text_on : (first used : ℕ) (seen given : List Seen)
 text_on first used seen given = rw (map-append, flat_map-append, moved_twice first used given) refl
 
 -- nothing comes after the end
-at_end : (chars : List Character) (seen : List Seen) → AreSightings (chars ++ []) 0 seen → AreSightings chars 0 seen
+pub at_end : (chars : List Character) (seen : List Seen) → AreSightings (chars ++ []) 0 seen → AreSightings chars 0 seen
 at_end chars seen are = rw append-nil at are
-
--- what is said of the first sightings is a part of the explanation
-pub said_first : (chars : List Character) (ended : Bool) (seen : List Seen) (used : ℕ) → SeesOn chars ended 0 seen used
-    → (more : List ℕ) × IsExplanationOf chars (explanation seen ++ more)
-said_first chars ended seen used sees =
-    let (later, are) = some_list (chars ++ []) used in (
-      explanation later,
-      record {
-        seen = seen ++ later;
-        are_sightings = at_end chars (seen ++ later) (sees [] later (λ over. refl) are);
-        text_is = sym (flat_map-append _ seen later);
-      },
-    )

@@ -1,20 +1,24 @@
 -- A raw input that is read and told of, step by step.
 use Rattle.std.proofs.Common.{◌≡◌, ◌≤◌, ◌<◌, ◌+◌, ◌-◌, ◌^◌, ℕ, false, List, [], ◌++◌, length, Option, None, Some, MatchOption}
-use Rattle.std.proofs.Common.{refl, sym, arith, append-nil, length-append}
+use Rattle.std.proofs.Common.{◌∙◌, ap, refl, sym, arith, append-nil, length-append}
 use Rattle.std.proofs.KnownBytes.{Consumes-nil}
 use Rattle.hart_frame.specs.heard.Character.{faultless}
 use Rattle.hart_cli.specs.declared.calls.explain.telling.Telling.{Telling}
 use Rattle.hart_cli.specs.declared.input.InputEnd.{InputEnd}
 use Rattle.hart_cli.specs.declared.input.InputEnd.TheVariants.{Ended, ReadFailed, TooLong}
-use Rattle.hart_cli.specs.explain.Explanation.{IsDecidedExplanation, IsExplanationOf, explanation}
-use Rattle.hart_cli.specs.explain.Telling.{FailsToHear, Hears, IsNew, IsWaiting, TellsAll}
-use Rattle.hart_cli.specs.input.Decoding.{HasRawChars, raw_decoding, raw_limit}
+use Rattle.hart_cli.specs.explain.Explanation.{IsDecidedExplanation, IsExplanationOf}
+use Rattle.hart_cli.specs.explain.Telling as part
+use Rattle.hart_cli.specs.explain.Telling.{FailsToHear, Hears, HearsAll, IsNew, IsWaiting, TellsAll, nothing as nothing_heard}
+use Rattle.hart_cli.specs.text.Heard.{heard_chars}
+use Rattle.hart_cli.specs.input.Decoding.{HasRaw, raw_decoding, raw_limit}
 use Rattle.hart_cli.specs.input.Input.{CameTo, ReadsPortion, ReadsWell, ReadsWithin, ending_of, fault_of_end, most_at_once}
 use Rattle.hart_cli.specs.input.LiveInput.{IsDecidedText, StopsSoon, StopsWriting, WroteInTime}
 use Rattle.hart_cli.specs.stream.Stream.{Stream, WritesAll}
 use Rattle.hart_cli.proofs.lemmas.Writes.{in_time_on}
-use Rattle.hart_cli.proofs.lemmas.explain.TellInput.{held_within, new_waits, stops_explaining, told_is_decided}
-use Rattle.hart_cli.proofs.lemmas.explain.Telling.{fails_later, hears_nothing, hears_then, long_is}
+use Rattle.hart_cli.proofs.lemmas.explain.TellInput.{held_within, new_waits, stops_explaining}
+use Rattle.hart_cli.proofs.lemmas.explain.Told.{tell_all, told_is_decided}
+use Rattle.hart_cli.proofs.lemmas.text.Heard.{chars_on, count_chars}
+use Rattle.hart_cli.proofs.lemmas.explain.Telling.{long_is}
 use Rattle.hart_cli.proofs.lemmas.input.Decoded.{read_more, read_to, some_long}
 use Rattle.hart_cli.proofs.lemmas.input.Raw.{faultless_on}
 
@@ -24,7 +28,7 @@ pub record RawUpTo (old new : Stream) (start telling : Telling) (end : Option In
   pub input : List ℕ
   pub came : MatchOption end (ReadsWell old new input × (length input ≤ raw_limit)) (λ came. ReadsWithin raw_limit old new input came)
   pub count : read ≡ length input
-  pub hears : Hears start telling (faultless input) false writer writer_after
+  pub hears : HearsAll start telling (heard_chars (faultless input)) writer writer_after
   pub waiting : IsWaiting telling
   pub quiet : telling.kept ≡ []
 
@@ -34,7 +38,7 @@ raw_nothing r w start new = record {
   input = [];
   came = ((Consumes-nil _, refl), omega arith);
   count = refl;
-  hears = hears_nothing start w;
+  hears = nothing_heard w;
   waiting = new_waits start new;
   quiet = new.quiet;
 }
@@ -53,14 +57,15 @@ pub raw_fits : (r r1 r2 w w1 : Stream) (start telling : Telling) (read : ℕ) (b
     → RawUpTo r r1 start telling None read w w1 → ReadsPortion r1 r2 bytes (raw_limit - read) end
     → telling.first + length telling.held + length bytes < 2 ^ 64 - 1
 raw_fits r r1 r2 w w1 start telling read bytes end new due reads =
-    let long = held_within start telling (faultless due.input) w w1 new due.hears in
+    let long = held_within start telling (heard_chars (faultless due.input)) w w1 new due.hears in
+    let same = count_chars (faultless due.input) in
     let more = read_more r r1 r2 due.input bytes (raw_limit - read) raw_limit end due.came.0 (omega (arith, due.came.1, due.count)) reads in
     let within = raw_within r r2 end (due.input ++ bytes) more in
-    omega (arith, long, long_is due.input, within, length-append due.input bytes)
+    omega (arith, long, same, long_is due.input, within, length-append due.input bytes)
 
 -- what was decided before a read was written in time
 raw_in_time : (input bytes : List ℕ) → length bytes ≤ most_at_once → (text : List ℕ) (w w1 : Stream)
-    → IsDecidedExplanation (faultless input) text → WritesAll w w1 text
+    → IsDecidedExplanation (heard_chars (faultless input)) text → WritesAll w w1 text
     → WroteInTime (IsDecidedText raw_decoding IsDecidedExplanation) (input ++ bytes) w w1
 raw_in_time input bytes few text w w1 decided wrote = record {
   before = input;
@@ -68,29 +73,31 @@ raw_in_time input bytes few text w w1 decided wrote = record {
   split = refl;
   few = few;
   text = text;
-  decided = record { heard = faultless input; reads = refl; decided = decided };
+  decided = record { heard = heard_chars (faultless input); reads = refl; decided = decided };
   more = [];
   written = rw append-nil wrote.0;
 }
 
 -- what one read gave is told of, and what was decided before it was written in time
 pub raw_step : (r r1 r2 w w1 w2 : Stream) (start old new : Telling) (read len : ℕ) (bytes : List ℕ) (end : Option InputEnd)
-    → IsNew start → len ≡ length bytes → RawUpTo r r1 start old None read w w1 → ReadsPortion r1 r2 bytes (raw_limit - read) end → length bytes ≤ most_at_once
+    → IsNew start → len ≡ length bytes → RawUpTo r r1 start old None read w w1
+    → ReadsPortion r1 r2 bytes (raw_limit - read) end → length bytes ≤ most_at_once
     → Hears old new (faultless bytes) false w1 w2 → IsWaiting new → new.kept ≡ []
     → (now : RawUpTo r r2 start new end (read + len) w w2)
     × WroteInTime (IsDecidedText raw_decoding IsDecidedExplanation) now.input w w1
 raw_step r r1 r2 w w1 w2 start old new read len bytes end begun long due reads few hears waiting quiet =
-    let decided = told_is_decided start old (faultless due.input) w w1 begun due.hears due.waiting due.quiet in (
+    let told = tell_all start old (heard_chars (faultless due.input)) w w1 begun due.hears in
+    let decided = told_is_decided start old (heard_chars (faultless due.input)) w w1 begun told due.waiting due.quiet in (
       record {
         input = due.input ++ bytes;
         came = read_more r r1 r2 due.input bytes (raw_limit - read) raw_limit end due.came.0 (omega (arith, due.came.1, due.count)) reads;
         count = omega (arith, due.count, long, length-append due.input bytes);
-        hears = rw (faultless_on due.input bytes)
-            (hears_then start old new (faultless due.input) (faultless bytes) false w w1 w2 due.hears hears);
+        hears = rw (faultless_on due.input bytes, chars_on (faultless due.input) (faultless bytes))
+            (part.chars old new (heard_chars (faultless due.input)) (faultless bytes) w w1 w2 due.hears hears);
         waiting = waiting;
         quiet = quiet;
       },
-      raw_in_time due.input bytes few (explanation due.hears.seen) w w1 decided.0 decided.1,
+      raw_in_time due.input bytes few _ w w1 decided.0 decided.1,
     )
 
 -- a write failed in what is said of it
@@ -99,19 +106,20 @@ pub raw_stopped : (r r1 r2 w w1 w2 : Stream) (start old : Telling) (read : ℕ) 
     → FailsToHear old (faultless bytes) false w1 w2
     → StopsWriting raw_decoding raw_limit IsExplanationOf IsDecidedExplanation r r2 w w2
 raw_stopped r r1 r2 w w1 w2 start old read bytes end new due reads few k =
-    let decided = told_is_decided start old (faultless due.input) w w1 new due.hears due.waiting due.quiet in
+    let told = tell_all start old (heard_chars (faultless due.input)) w w1 new due.hears in
+    let decided = told_is_decided start old (heard_chars (faultless due.input)) w w1 new told due.waiting due.quiet in
     let came = read_more r r1 r2 due.input bytes (raw_limit - read) raw_limit end due.came.0 (omega (arith, due.came.1, due.count)) reads in
-    let in_time = raw_in_time due.input bytes few (explanation due.hears.seen) w w1 decided.0 decided.1 in
-    let fails = fails_later start old (faultless due.input) (faultless bytes) false w w1 w2 due.hears k in
-    stops_explaining raw_decoding raw_limit r r2 w w1 w2 start (due.input ++ bytes) (ending_of end)
-    (faultless due.input ++ faultless bytes) false _ new (read_to r r2 (due.input ++ bytes) raw_limit end came) (sym (faultless_on due.input bytes)) in_time
-    fails k.fails
+    let in_time = raw_in_time due.input bytes few _ w w1 decided.0 decided.1 in
+    let same = ap heard_chars (faultless_on due.input bytes) ∙ chars_on (faultless due.input) (faultless bytes) in
+    stops_explaining raw_decoding raw_limit r r2 w w1 w2 start old (due.input ++ bytes) (ending_of end)
+    (heard_chars (faultless due.input)) (faultless bytes) false w1 _ new (read_to r r2 (due.input ++ bytes) raw_limit end came) (sym same)
+    in_time due.hears k k.fails
 
 -- the end of a raw input says its fault
-raw_has : (end : InputEnd) (input : List ℕ) → HasRawChars input (CameTo end) (faultless input) (fault_of_end end)
-raw_has Ended input = HasRawChars.all (faultless input) refl
-raw_has ReadFailed input = HasRawChars.failure (faultless input) refl
-raw_has TooLong input = HasRawChars.limit (faultless input) refl
+raw_has : (end : InputEnd) (input : List ℕ) → HasRaw input (CameTo end) (heard_chars (faultless input)) (fault_of_end end)
+raw_has Ended input = HasRaw.all (heard_chars (faultless input)) refl
+raw_has ReadFailed input = HasRaw.failure (heard_chars (faultless input)) refl
+raw_has TooLong input = HasRaw.limit (heard_chars (faultless input)) refl
 
 -- and none is bad hex
 raw_soon : (end : InputEnd) (input : List ℕ) → StopsSoon 0 input (fault_of_end end)
@@ -121,12 +129,12 @@ raw_soon TooLong input = tt
 
 -- a raw input was told of to its end
 pub raw_tells_all : (r r2 w w1 w2 : Stream) (start telling : Telling) (last : Option InputEnd) (end : InputEnd) (read : ℕ)
-    → last ≡ Some end → (told : RawUpTo r r2 start telling last read w w2)
+    → IsNew start → last ≡ Some end → (told : RawUpTo r r2 start telling last read w w2)
     → WroteInTime (IsDecidedText raw_decoding IsDecidedExplanation) told.input w w1 → (text : List ℕ) → WritesAll w1 w2 text
     → TellsAll raw_decoding raw_limit r r2 w w2 start telling (fault_of_end end)
-raw_tells_all r r2 w w1 w2 start telling last end read is told in_time text wrote = record {
+raw_tells_all r r2 w w1 w2 start telling last end read new is told in_time text wrote = record {
   input = told.input;
-  chars = faultless told.input;
+  heard = heard_chars (faultless told.input);
   decodes = record {
     ending = CameTo end;
     reads = rw is at told.came;
@@ -134,7 +142,13 @@ raw_tells_all r r2 w w1 w2 start telling last end read is told in_time text wrot
     decoded = refl;
     soon = raw_soon end told.input;
   };
-  few = omega (arith, raw_within r r2 last told.input told.came, long_is told.input);
+  places = omega (
+    arith,
+    raw_within r r2 last told.input told.came,
+    long_is told.input,
+    count_chars (faultless told.input),
+    held_within start telling (heard_chars (faultless told.input)) w w2 new told.hears,
+  );
   hears = told.hears;
   waiting = told.waiting;
   quiet = told.quiet;

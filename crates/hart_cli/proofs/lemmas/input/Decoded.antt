@@ -4,7 +4,6 @@ use Rattle.std.proofs.Common.{◌≢◌, ◌<◌, ◌∷◌, Err, append_assoc, 
 use Rattle.std.proofs.KnownBytes.{Consumes-trans}
 use Rattle.std.proofs.lemmas.Grind.{common_steps}
 use Rattle.std.specs.Io.KnownBytes.{Appends}
-use Rattle.hart_frame.specs.heard.Character.{Character}
 use Rattle.hart_cli.specs.declared.fault.CliFault.{CliFault}
 use Rattle.hart_cli.specs.declared.input.InputEnd.{InputEnd}
 use Rattle.hart_cli.specs.declared.input.InputEnd.TheVariants.{Ended, ReadFailed, TooLong}
@@ -12,14 +11,13 @@ use Rattle.hart_cli.specs.declared.input.Portion.{Portion}
 use Rattle.hart_cli.specs.declared.input.ahead.NextStep.TheVariants.{ReadOn, Stop}
 use Rattle.hart_cli.specs.input.Ahead.{DecodesAll, IsNextStep, ReadsAhead, ended_length}
 use Rattle.hart_cli.specs.input.Input.{CameTo, Ending, Left, ReadsPortion, ReadsToWithin, ReadsWell, ReadsWithin, ending_of, most_at_once}
-use Rattle.hart_cli.specs.input.Decoding.{AreDecoded, Decoding, ended_text, item_decoding, most_ahead}
+use Rattle.hart_cli.specs.input.Decoding.{AreDecodedBy, Decoding, decoding_by, ended_text, most_ahead}
 use Rattle.hart_cli.specs.input.LiveInput.{IsDecidedText, LiveOutcome, ReadsText, StopsSoon, StopsWriting, TextRelation, WroteInTime}
 use Rattle.hart_cli.specs.stream.Stream.{FailsToWrite, Stream, WritesAll}
-use Rattle.hart_cli.specs.text.InputChars.{HasChars}
-use Rattle.hart_cli.specs.text.Items.{MayBegin, NoPieceBegins, ReadsUpTo}
+use Rattle.hart_cli.specs.text.InputChars.{HasHeardBy, all, bad_hex, decided_bad_hex, failure}
+use Rattle.hart_cli.specs.text.Items.{MayBegin}
 use Rattle.hart_cli.proofs.lemmas.Writes.{in_time_on}
-use Rattle.hart_cli.proofs.lemmas.text.InputChars.{decided_rest}
-use Rattle.hart_cli.proofs.lemmas.text.Items.{ReadsUpTo-few, ReadsUpTo-more, ReadsUpTo-on, stays}
+use Rattle.hart_cli.proofs.lemmas.text.Reads.{Laws, decided_rest}
 
 -- one read more
 pub read_more : (a b c : Stream) (text bytes : List ℕ) (room limit : ℕ) (end : Option InputEnd) → ReadsWell a b text
@@ -36,12 +34,13 @@ read_to old new input limit None h = inl h
 read_to old new input limit (Some end) h = h
 
 -- an input was read and decoded up to a rest at whose beginning no piece stands
-pub record DecodedUpTo (limit : ℕ) (old new : Stream) (end : Option InputEnd) (rest : List ℕ) (read : ℕ) (input : List ℕ)
-    (chars : List Character) : Type 0 where
+pub record DecodedUpTo {Heard : Type 0} (Reads : List ℕ → List Heard → List ℕ → Type 0) (Stops : List ℕ → Type 0)
+    (limit : ℕ) (old new : Stream) (end : Option InputEnd) (rest : List ℕ) (read : ℕ)
+    (input : List ℕ) (heard : List Heard) : Type 0 where
   pub came : MatchOption end (ReadsWell old new input × (length input ≤ limit)) (λ came. ReadsWithin limit old new input came)
   pub count : read ≡ length input
-  pub reads : ReadsUpTo (ended_text input (ending_of end)) chars rest
-  pub no_piece : NoPieceBegins rest
+  pub reads : Reads (ended_text input (ending_of end)) heard rest
+  pub no_piece : Stops rest
   pub few : length rest ≤ most_ahead
   pub still_open : end ≡ Some ReadFailed → MayBegin rest
 
@@ -52,130 +51,10 @@ ended_long input (Some Ended) = length-append input _
 ended_long input (Some ReadFailed) = refl
 ended_long input (Some TooLong) = refl
 
--- the rest is no longer than what was read
-pub rest_within : (limit : ℕ) (old new : Stream) (end : Option InputEnd) (rest : List ℕ) (read : ℕ) (input : List ℕ)
-    (chars : List Character) → DecodedUpTo limit old new end rest read input chars → length rest ≤ ended_length end read
-rest_within limit old new end rest read input chars h =
-    rw h.count (omega (arith, ended_long input end, ReadsUpTo-few _ chars rest h.reads))
-
 -- a text of an input with the space that its end stands for
 ended_on : (input bytes : List ℕ) (end : Option InputEnd)
     → ended_text (input ++ bytes) (ending_of end) ≡ input ++ ended_text bytes (ending_of end)
 ended_on input bytes end = grind (arith, common_steps, append_assoc)
-
--- what one read gave reads on from what was read before
-reads_on : (input bytes ahead after rest : List ℕ) (end : Option InputEnd) (chars more : List Character) → ReadsUpTo input chars ahead
-    → after ≡ ahead ++ ended_text bytes (ending_of end) → ReadsUpTo after more rest
-    → ReadsUpTo (ended_text (input ++ bytes) (ending_of end)) (chars ++ more) rest
-reads_on input bytes ahead after rest end chars more before added reads =
-    let ended = ended_text bytes (ending_of end) in
-    rw (ended_on input bytes end)
-    (ReadsUpTo-on _ _ (ahead ++ ended) _ _ (ReadsUpTo-more _ _ _ ended before) (rw added at reads))
-
--- and was read within the limit
-came_on : (limit : ℕ) (r r1 r2 : Stream) (ahead after : List ℕ) (read : ℕ) (portion : Portion) (input : List ℕ) (chars : List Character)
-    → DecodedUpTo limit r r1 None ahead read input chars → (one : ReadsAhead r1 r2 ahead after (limit - read) portion)
-    → MatchOption portion.end (ReadsWell r r2 (input ++ one.bytes) × (length (input ++ one.bytes) ≤ limit))
-    (λ came. ReadsWithin limit r r2 (input ++ one.bytes) came)
-came_on limit r r1 r2 ahead after read portion input chars due one =
-    read_more r r1 r2 input one.bytes (limit - read) limit portion.end due.came.0 (omega (arith, due.came.1, due.count)) one.reads
-
--- a read and what it gave is decoded
-pub decoded_step : (limit : ℕ) (r r1 r2 : Stream) (ahead after rest : List ℕ) (read : ℕ) (portion : Portion) (input : List ℕ)
-    (chars more : List Character) → DecodedUpTo limit r r1 None ahead read input chars → MayBegin ahead
-    → (one : ReadsAhead r1 r2 ahead after (limit - read) portion) → length after ≤ most_ahead → NoPieceBegins rest
-    → ReadsUpTo after more rest
-    → DecodedUpTo limit r r2 portion.end rest (read + portion.len) (input ++ one.bytes) (chars ++ more)
-decoded_step limit r r1 r2 ahead after rest read portion input chars more due may one few stops reads = record {
-  came = came_on limit r r1 r2 ahead after read portion input chars due one;
-  count = omega (arith, due.count, one.count, length-append input one.bytes);
-  reads = reads_on input one.bytes ahead after rest portion.end chars more due.reads one.added reads;
-  no_piece = stops;
-  few = omega (arith, few, ReadsUpTo-few after more rest reads);
-  still_open = grind (arith, append-nil, one.reads, one.added, due.no_piece, may, stays);
-}
-
--- and a part of what it gave
-pub decoded_part : (limit : ℕ) (r r1 r2 : Stream) (ahead after rest : List ℕ) (read : ℕ) (portion : Portion) (input : List ℕ)
-    (chars more : List Character) → DecodedUpTo limit r r1 None ahead read input chars
-    → (one : ReadsAhead r1 r2 ahead after (limit - read) portion) → length after ≤ most_ahead → ReadsUpTo after more rest
-    → ReadsToWithin limit r r2 (input ++ one.bytes) (ending_of portion.end)
-    × AreDecoded (input ++ one.bytes) (ending_of portion.end) (chars ++ more)
-decoded_part limit r r1 r2 ahead after rest read portion input chars more due one few reads = (
-  read_to r r2 (input ++ one.bytes) limit portion.end (came_on limit r r1 r2 ahead after read portion input chars due one),
-  record {
-    rest = rest;
-    reads = reads_on input one.bytes ahead after rest portion.end chars more due.reads one.added reads;
-    few = omega (arith, few, ReadsUpTo-few after more rest reads);
-  },
-)
-
--- what was decided before it was written in time
-pub in_time_before : (IsDecided : TextRelation (List Character)) (limit : ℕ) (r r1 w w1 : Stream) (ahead : List ℕ) (read : ℕ) (input : List ℕ)
-    (chars : List Character) (text bytes : List ℕ) → DecodedUpTo limit r r1 None ahead read input chars → MayBegin ahead
-    → length bytes ≤ most_at_once → IsDecided chars text → Appends w.bytes w1.bytes text
-    → WroteInTime (IsDecidedText item_decoding IsDecided) (input ++ bytes) w w1
-in_time_before IsDecided limit r r1 w w1 ahead read input chars text bytes due may few decided written = record {
-  before = input;
-  last = bytes;
-  split = refl;
-  few = few;
-  text = text;
-  decided = record {
-    heard = chars;
-    reads = record { rest = ahead; reads = due.reads; no_piece = due.no_piece; open_end = may };
-    decided = decided;
-  };
-  more = [];
-  written = rw append-nil written;
-}
-
--- the characters of what was read are decoded
-pub are_decoded : (limit : ℕ) (old new : Stream) (end : Option InputEnd) (rest : List ℕ) (read : ℕ) (input : List ℕ)
-    (chars : List Character) → DecodedUpTo limit old new end rest read input chars → AreDecoded input (ending_of end) chars
-are_decoded limit old new end rest read input chars h = record { rest = rest; reads = h.reads; few = h.few }
-
--- an input that is read no further was decoded with its fault, or none
-decodes_to : (limit : ℕ) (r r2 : Stream) (rest input : List ℕ) (chars : List Character) (fault : Option CliFault) (ending : Ending)
-    → ReadsToWithin limit r r2 input ending → ReadsUpTo (ended_text input ending) chars rest → length rest ≤ most_ahead
-    → HasChars input ending chars fault × StopsSoon most_ahead input fault → DecodesAll item_decoding limit r r2 fault input chars
-decodes_to limit r r2 rest input chars fault ending came reads few is = record {
-  ending = ending;
-  reads = came;
-  has = is.0;
-  decoded = record { rest = rest; reads = reads; few = few };
-  soon = is.1;
-}
-
--- its fault is what the last step says
-decodes_at : (limit : ℕ) (r r2 : Stream) (end : Option InputEnd) (rest : List ℕ) (place read : ℕ) (input : List ℕ)
-    (chars : List Character) (fault : Option CliFault) → DecodedUpTo limit r r2 end rest read input chars
-    → place + length rest ≡ length (ended_text input (ending_of end)) → IsNextStep end rest place (Stop fault)
-    → DecodesAll item_decoding limit r r2 fault input chars
-decodes_at limit r r2 None rest place read input chars fault h placed step =
-    decodes_to limit r r2 rest input chars fault Left (inl h.came) h.reads h.few
-    (grind (arith, common_steps, h.few, decided_rest, HasChars.decided_bad_hex))
-decodes_at limit r r2 (Some Ended) rest place read input chars fault h placed step =
-    decodes_to limit r r2 rest input chars fault (CameTo Ended) h.came h.reads h.few
-    (grind (arith, common_steps, h.few, h.reads, h.no_piece, length-append, HasChars.all, HasChars.bad_hex))
-decodes_at limit r r2 (Some ReadFailed) rest place read input chars fault h placed step =
-    decodes_to limit r r2 rest input chars fault (CameTo ReadFailed) h.came h.reads h.few
-    (grind (arith, common_steps, h.reads, h.no_piece, h.still_open, HasChars.failure))
-decodes_at limit r r2 (Some TooLong) rest place read input chars fault h placed (inl may) =
-    decodes_to limit r r2 rest input chars fault (CameTo TooLong) h.came h.reads h.few
-    (grind (arith, common_steps, h.reads, h.no_piece, HasChars.limit))
-decodes_at limit r r2 (Some TooLong) rest place read input chars fault h placed (inr never) =
-    decodes_to limit r r2 rest input chars fault Left (inr h.came) h.reads h.few
-    (grind (arith, common_steps, h.few, h.reads, decided_rest, HasChars.decided_bad_hex))
-
-pub decodes_all : (limit : ℕ) (r r2 : Stream) (end : Option InputEnd) (rest : List ℕ) (read : ℕ) (input : List ℕ)
-    (chars : List Character) (fault : Option CliFault) → DecodedUpTo limit r r2 end rest read input chars
-    → IsNextStep end rest (ended_length end read - length rest) (Stop fault)
-    → DecodesAll item_decoding limit r r2 fault input chars
-decodes_all limit r r2 end rest read input chars fault h step =
-    let within = rest_within limit r r2 end rest read input chars h in
-    let same : ended_length end read ≡ length (ended_text input (ending_of end)) = rw h.count (sym (ended_long input end)) in
-    decodes_at limit r r2 end rest (ended_length end read - length rest) read input chars fault h (omega (arith, same, within)) step
 
 -- the input is read on if a piece may begin in what is left, and it did not come to its end
 pub read_on : (end : Option InputEnd) (rest : List ℕ) (place : ℕ) → IsNextStep end rest place ReadOn → (end ≡ None) × MayBegin rest
@@ -212,18 +91,165 @@ stops_in decoding limit IsText IsDecided r r2 w w1 w2 input ending heard text la
   in_time = in_time_on (IsDecidedText decoding IsDecided) input w w1 w2 last_fails.0.prefix in_time last_fails.0.written;
 }
 
--- only these faults end an input of items
-fault_ends : (limit : ℕ) (IsText IsDecided : TextRelation (List Character)) (r r' w w' : Stream) (input : List ℕ) (ending : Ending)
-    (chars : List Character) (fault : CliFault) → HasChars input ending chars (Some fault)
-    → (text : List ℕ) × ReadsText item_decoding limit IsText r r' (Some fault) text × WritesAll w w' text
-    → LiveOutcome item_decoding limit IsText IsDecided r r' w w' (Err fault)
-fault_ends limit IsText IsDecided r r' w w' input _ _ _ (HasChars.bad_hex _ place bad) wrote = wrote
-fault_ends limit IsText IsDecided r r' w w' input _ _ _ _ wrote = wrote
+module _ {Heard : Type 0} (Reads : List ℕ → List Heard → List ℕ → Type 0) (Stops : List ℕ → Type 0) (laws : Laws Reads Stops) where
+  -- the rest is no longer than what was read
+  pub rest_within : (limit : ℕ) (old new : Stream) (end : Option InputEnd) (rest : List ℕ) (read : ℕ) (input : List ℕ)
+      (chars : List Heard) → DecodedUpTo Reads Stops limit old new end rest read input chars → length rest ≤ ended_length end read
+  rest_within limit old new end rest read input chars h =
+      rw h.count (omega (arith, ended_long input end, laws.shorter _ chars rest h.reads))
 
--- an input of items came to a fault
-pub ends_with : (limit : ℕ) (IsText IsDecided : TextRelation (List Character)) (r r' w w' : Stream) (fault : CliFault) (text : List ℕ)
-    → ReadsText item_decoding limit IsText r r' (Some fault) text → WritesAll w w' text
-    → LiveOutcome item_decoding limit IsText IsDecided r r' w w' (Err fault)
-ends_with limit IsText IsDecided r r' w w' fault text reads wrote =
-    fault_ends limit IsText IsDecided r r' w w' reads.input reads.ending reads.has_text.heard fault reads.has_text.has
+  -- what one read gave reads on from what was read before
+  reads_on : (input bytes ahead after rest : List ℕ) (end : Option InputEnd) (chars more : List Heard) → Reads input chars ahead
+      → after ≡ ahead ++ ended_text bytes (ending_of end) → Reads after more rest
+      → Reads (ended_text (input ++ bytes) (ending_of end)) (chars ++ more) rest
+  reads_on input bytes ahead after rest end chars more before added reads =
+      let ended = ended_text bytes (ending_of end) in
+      rw (ended_on input bytes end)
+      (laws.on _ _ (ahead ++ ended) _ _ (laws.more _ _ _ ended before) (rw added at reads))
+
+  -- and was read within the limit
+  came_on : (limit : ℕ) (r r1 r2 : Stream) (ahead after : List ℕ) (read : ℕ) (portion : Portion) (input : List ℕ) (chars : List Heard)
+      → DecodedUpTo Reads Stops limit r r1 None ahead read input chars → (one : ReadsAhead r1 r2 ahead after (limit - read) portion)
+      → MatchOption portion.end (ReadsWell r r2 (input ++ one.bytes) × (length (input ++ one.bytes) ≤ limit))
+      (λ came. ReadsWithin limit r r2 (input ++ one.bytes) came)
+  came_on limit r r1 r2 ahead after read portion input chars due one =
+      read_more r r1 r2 input one.bytes (limit - read) limit portion.end due.came.0 (omega (arith, due.came.1, due.count)) one.reads
+
+  -- after a failed read a piece may begin as it might before
+  failed_open : (limit : ℕ) (r r1 r2 : Stream) (ahead after rest : List ℕ) (read : ℕ) (portion : Portion) (input : List ℕ)
+      (chars more : List Heard) → DecodedUpTo Reads Stops limit r r1 None ahead read input chars → MayBegin ahead
+      → ReadsAhead r1 r2 ahead after (limit - read) portion → Reads after more rest → portion.end ≡ Some ReadFailed → MayBegin rest
+  failed_open limit r r1 r2 ahead after rest read portion input chars more due may one reads is =
+      let none : one.bytes ≡ [] = (rw is at one.reads).1 in
+      let same : after ≡ ahead = rw (is, none, append-nil) at one.added in
+      let stay = laws.stays ahead more rest (rw same at reads) due.no_piece in
+      rw (← stay.1) may
+
+  -- a read and what it gave is decoded
+  pub decoded_step : (limit : ℕ) (r r1 r2 : Stream) (ahead after rest : List ℕ) (read : ℕ) (portion : Portion) (input : List ℕ)
+      (chars more : List Heard) → DecodedUpTo Reads Stops limit r r1 None ahead read input chars → MayBegin ahead
+      → (one : ReadsAhead r1 r2 ahead after (limit - read) portion) → length after ≤ most_ahead → Stops rest
+      → Reads after more rest
+      → DecodedUpTo Reads Stops limit r r2 portion.end rest (read + portion.len) (input ++ one.bytes) (chars ++ more)
+  decoded_step limit r r1 r2 ahead after rest read portion input chars more due may one few stops reads = record {
+    came = came_on limit r r1 r2 ahead after read portion input chars due one;
+    count = omega (arith, due.count, one.count, length-append input one.bytes);
+    reads = reads_on input one.bytes ahead after rest portion.end chars more due.reads one.added reads;
+    no_piece = stops;
+    few = omega (arith, few, laws.shorter after more rest reads);
+    still_open = failed_open limit r r1 r2 ahead after rest read portion input chars more due may one reads;
+  }
+
+  -- and a part of what it gave
+  pub decoded_part : (limit : ℕ) (r r1 r2 : Stream) (ahead after rest : List ℕ) (read : ℕ) (portion : Portion) (input : List ℕ)
+      (chars more : List Heard) → DecodedUpTo Reads Stops limit r r1 None ahead read input chars
+      → (one : ReadsAhead r1 r2 ahead after (limit - read) portion) → length after ≤ most_ahead → Reads after more rest
+      → ReadsToWithin limit r r2 (input ++ one.bytes) (ending_of portion.end)
+      × AreDecodedBy Reads (input ++ one.bytes) (ending_of portion.end) (chars ++ more)
+  decoded_part limit r r1 r2 ahead after rest read portion input chars more due one few reads = (
+    read_to r r2 (input ++ one.bytes) limit portion.end (came_on limit r r1 r2 ahead after read portion input chars due one),
+    record {
+      rest = rest;
+      reads = reads_on input one.bytes ahead after rest portion.end chars more due.reads one.added reads;
+      few = omega (arith, few, laws.shorter after more rest reads);
+    },
+  )
+
+  -- what was decided before it was written in time
+  pub in_time_before : (IsDecided : TextRelation (List Heard)) (limit : ℕ) (r r1 w w1 : Stream) (ahead : List ℕ) (read : ℕ) (input : List ℕ)
+      (chars : List Heard) (text bytes : List ℕ) → DecodedUpTo Reads Stops limit r r1 None ahead read input chars → MayBegin ahead
+      → length bytes ≤ most_at_once → IsDecided chars text → Appends w.bytes w1.bytes text
+      → WroteInTime (IsDecidedText (decoding_by Reads Stops) IsDecided) (input ++ bytes) w w1
+  in_time_before IsDecided limit r r1 w w1 ahead read input chars text bytes due may few decided written = record {
+    before = input;
+    last = bytes;
+    split = refl;
+    few = few;
+    text = text;
+    decided = record {
+      heard = chars;
+      reads = record { rest = ahead; reads = due.reads; no_piece = due.no_piece; open_end = may };
+      decided = decided;
+    };
+    more = [];
+    written = rw append-nil written;
+  }
+
+  -- the characters of what was read are decoded
+  pub are_decoded : (limit : ℕ) (old new : Stream) (end : Option InputEnd) (rest : List ℕ) (read : ℕ) (input : List ℕ)
+      (chars : List Heard) → DecodedUpTo Reads Stops limit old new end rest read input chars
+      → AreDecodedBy Reads input (ending_of end) chars
+  are_decoded limit old new end rest read input chars h = record { rest = rest; reads = h.reads; few = h.few }
+
+  -- an input that is read no further was decoded with its fault, or none
+  decodes_to : (limit : ℕ) (r r2 : Stream) (rest input : List ℕ) (chars : List Heard) (fault : Option CliFault) (ending : Ending)
+      → ReadsToWithin limit r r2 input ending → Reads (ended_text input ending) chars rest → length rest ≤ most_ahead
+      → HasHeardBy Reads Stops input ending chars fault × StopsSoon most_ahead input fault
+      → DecodesAll (decoding_by Reads Stops) limit r r2 fault input chars
+  decodes_to limit r r2 rest input chars fault ending came reads few is = record {
+    ending = ending;
+    reads = came;
+    has = is.0;
+    decoded = record { rest = rest; reads = reads; few = few };
+    soon = is.1;
+  }
+
+  -- its fault is what the last step says
+  decodes_at : (limit : ℕ) (r r2 : Stream) (end : Option InputEnd) (rest : List ℕ) (place read : ℕ) (input : List ℕ)
+      (chars : List Heard) (fault : Option CliFault) → DecodedUpTo Reads Stops limit r r2 end rest read input chars
+      → place + length rest ≡ length (ended_text input (ending_of end)) → IsNextStep end rest place (Stop fault)
+      → DecodesAll (decoding_by Reads Stops) limit r r2 fault input chars
+  decodes_at limit r r2 None rest place read input chars fault h placed step =
+      decodes_to limit r r2 rest input chars fault Left (inl h.came) h.reads h.few
+      (rw step.1 (
+        decided_bad_hex chars place (decided_rest Reads Stops laws input chars rest place h.reads placed h.no_piece step.0),
+        omega (arith, placed, h.few),
+      ))
+  decodes_at limit r r2 (Some Ended) rest place read input chars None h placed step =
+      decodes_to limit r r2 rest input chars None (CameTo Ended) h.came h.reads h.few (all chars (rw step at h.reads), tt)
+  decodes_at limit r r2 (Some Ended) rest place read input chars (Some fault) h placed step =
+      decodes_to limit r r2 rest input chars (Some fault) (CameTo Ended) h.came h.reads h.few
+      (rw step.1 (
+        bad_hex chars place (record { rest = rest; reads = h.reads; begins = placed; more = step.0; no_piece = h.no_piece }),
+        omega (arith, placed, h.few, length-append input (32 ∷ [])),
+      ))
+  decodes_at limit r r2 (Some ReadFailed) rest place read input chars fault h placed step =
+      decodes_to limit r r2 rest input chars fault (CameTo ReadFailed) h.came h.reads h.few
+      (rw step
+      (failure chars (record { rest = rest; reads = h.reads; no_piece = h.no_piece; open_end = h.still_open refl }), tt))
+  decodes_at limit r r2 (Some TooLong) rest place read input chars fault h placed (inl may) =
+      decodes_to limit r r2 rest input chars fault (CameTo TooLong) h.came h.reads h.few
+      (rw may.1 (HasHeardBy.limit chars (record { rest = rest; reads = h.reads; no_piece = h.no_piece; open_end = may.0 }), tt))
+  decodes_at limit r r2 (Some TooLong) rest place read input chars fault h placed (inr never) =
+      decodes_to limit r r2 rest input chars fault Left (inr h.came) h.reads h.few
+      (rw never.1 (
+        decided_bad_hex chars place (decided_rest Reads Stops laws input chars rest place h.reads placed h.no_piece never.0),
+        omega (arith, placed, h.few),
+      ))
+
+  pub decodes_all : (limit : ℕ) (r r2 : Stream) (end : Option InputEnd) (rest : List ℕ) (read : ℕ) (input : List ℕ)
+      (chars : List Heard) (fault : Option CliFault) → DecodedUpTo Reads Stops limit r r2 end rest read input chars
+      → IsNextStep end rest (ended_length end read - length rest) (Stop fault)
+      → DecodesAll (decoding_by Reads Stops) limit r r2 fault input chars
+  decodes_all limit r r2 end rest read input chars fault h step =
+      let within = rest_within limit r r2 end rest read input chars h in
+      let same : ended_length end read ≡ length (ended_text input (ending_of end)) = rw h.count (sym (ended_long input end)) in
+      decodes_at limit r r2 end rest (ended_length end read - length rest) read input chars fault h (omega (arith, same, within)) step
+
+-- only these faults end an input
+fault_ends : {Heard : Type 0} (Reads : List ℕ → List Heard → List ℕ → Type 0) (Stops : List ℕ → Type 0) (limit : ℕ)
+    (IsText IsDecided : TextRelation (List Heard)) (r r' w w' : Stream) (input : List ℕ) (ending : Ending)
+    (heard : List Heard) (fault : CliFault) → HasHeardBy Reads Stops input ending heard (Some fault)
+    → (text : List ℕ) × ReadsText (decoding_by Reads Stops) limit IsText r r' (Some fault) text × WritesAll w w' text
+    → LiveOutcome (decoding_by Reads Stops) limit IsText IsDecided r r' w w' (Err fault)
+fault_ends Reads Stops limit IsText IsDecided r r' w w' input _ _ _ (HasHeardBy.bad_hex _ place bad) wrote = wrote
+fault_ends Reads Stops limit IsText IsDecided r r' w w' input _ _ _ _ wrote = wrote
+
+-- an input came to a fault
+pub ends_with : {Heard : Type 0} (Reads : List ℕ → List Heard → List ℕ → Type 0) (Stops : List ℕ → Type 0) (limit : ℕ)
+    (IsText IsDecided : TextRelation (List Heard)) (r r' w w' : Stream) (fault : CliFault) (text : List ℕ)
+    → ReadsText (decoding_by Reads Stops) limit IsText r r' (Some fault) text → WritesAll w w' text
+    → LiveOutcome (decoding_by Reads Stops) limit IsText IsDecided r r' w w' (Err fault)
+ends_with Reads Stops limit IsText IsDecided r r' w w' fault text reads wrote =
+    fault_ends Reads Stops limit IsText IsDecided r r' w w' reads.input reads.ending reads.has_text.heard fault reads.has_text.has
     (text, reads, wrote)

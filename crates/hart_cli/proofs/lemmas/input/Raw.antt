@@ -1,11 +1,12 @@
 -- A raw input is its bytes.
 use Rattle.std.proofs.Common.{◌≡◌, ◌++◌, ℕ, List, Err, Option, Some, refl, sym, ◌∙◌}
 use Rattle.std.proofs.lemmas.List.{map-append}
-use Rattle.hart_frame.specs.heard.Character.{Character, faultless}
+use Rattle.hart_frame.specs.heard.Character.{faultless}
 use Rattle.hart_cli.specs.declared.fault.CliFault.{CliFault}
-use Rattle.hart_cli.specs.input.Decoding.{HasRawChars, raw_decoding}
+use Rattle.hart_cli.specs.input.Decoding.{HasRaw, raw_decoding}
 use Rattle.hart_cli.specs.input.Input.{Ending}
 use Rattle.hart_cli.specs.input.LiveInput.{LiveOutcome, ReadsText, TextRelation}
+use Rattle.hart_cli.specs.text.Heard.{Heard, heard_chars}
 use Rattle.hart_cli.specs.stream.Stream.{Stream, WritesAll}
 
 -- bytes and more of them
@@ -13,29 +14,29 @@ pub faultless_on : (xs ys : List ℕ) → faultless (xs ++ ys) ≡ faultless xs 
 faultless_on xs ys = map-append _ xs ys
 
 -- a raw input has one list of characters and one fault
-pub one_raw_input : (input : List ℕ) (ending : Ending) (xs ys : List Character) (f g : Option CliFault) → HasRawChars input ending xs f
-    → HasRawChars input ending ys g → (xs ≡ ys) × (f ≡ g)
-one_raw_input input _ _ _ _ _ (HasRawChars.all xs h) (HasRawChars.all ys k) = (h ∙ sym k, refl)
-one_raw_input input _ _ _ _ _ (HasRawChars.failure xs h) (HasRawChars.failure ys k) = (h ∙ sym k, refl)
-one_raw_input input _ _ _ _ _ (HasRawChars.limit xs h) (HasRawChars.limit ys k) = (h ∙ sym k, refl)
+pub one_raw_input : (input : List ℕ) (ending : Ending) (xs ys : List Heard) (f g : Option CliFault) → HasRaw input ending xs f
+    → HasRaw input ending ys g → (xs ≡ ys) × (f ≡ g)
+one_raw_input input _ _ _ _ _ (HasRaw.all xs h) (HasRaw.all ys k) = (h ∙ sym k, refl)
+one_raw_input input _ _ _ _ _ (HasRaw.failure xs h) (HasRaw.failure ys k) = (h ∙ sym k, refl)
+one_raw_input input _ _ _ _ _ (HasRaw.limit xs h) (HasRaw.limit ys k) = (h ∙ sym k, refl)
 
 -- they are its bytes
-pub raw_chars : (input : List ℕ) (ending : Ending) (chars : List Character) (fault : Option CliFault)
-    → HasRawChars input ending chars fault → chars ≡ faultless input
-raw_chars input _ _ _ (HasRawChars.all chars is) = is
-raw_chars input _ _ _ (HasRawChars.failure chars is) = is
-raw_chars input _ _ _ (HasRawChars.limit chars is) = is
+pub raw_chars : (input : List ℕ) (ending : Ending) (heard : List Heard) (fault : Option CliFault)
+    → HasRaw input ending heard fault → heard ≡ heard_chars (faultless input)
+raw_chars input _ _ _ (HasRaw.all chars is) = is
+raw_chars input _ _ _ (HasRaw.failure chars is) = is
+raw_chars input _ _ _ (HasRaw.limit chars is) = is
 
 -- only these faults end a raw input
-raw_fault_ends : (limit : ℕ) (IsText IsDecided : TextRelation (List Character)) (r r' w w' : Stream) (input : List ℕ) (ending : Ending)
-    (chars : List Character) (fault : CliFault) → HasRawChars input ending chars (Some fault)
+raw_fault_ends : (limit : ℕ) (IsText IsDecided : TextRelation (List Heard)) (r r' w w' : Stream) (input : List ℕ) (ending : Ending)
+    (heard : List Heard) (fault : CliFault) → HasRaw input ending heard (Some fault)
     → (text : List ℕ) × ReadsText raw_decoding limit IsText r r' (Some fault) text × WritesAll w w' text
     → LiveOutcome raw_decoding limit IsText IsDecided r r' w w' (Err fault)
-raw_fault_ends limit IsText IsDecided r r' w w' input _ _ _ (HasRawChars.failure chars is) wrote = wrote
-raw_fault_ends limit IsText IsDecided r r' w w' input _ _ _ (HasRawChars.limit chars is) wrote = wrote
+raw_fault_ends limit IsText IsDecided r r' w w' input _ _ _ (HasRaw.failure chars is) wrote = wrote
+raw_fault_ends limit IsText IsDecided r r' w w' input _ _ _ (HasRaw.limit chars is) wrote = wrote
 
 -- a raw input came to a fault
-pub raw_ends_with : (limit : ℕ) (IsText IsDecided : TextRelation (List Character)) (r r' w w' : Stream) (fault : CliFault)
+pub raw_ends_with : (limit : ℕ) (IsText IsDecided : TextRelation (List Heard)) (r r' w w' : Stream) (fault : CliFault)
     (text : List ℕ) → ReadsText raw_decoding limit IsText r r' (Some fault) text → WritesAll w w' text
     → LiveOutcome raw_decoding limit IsText IsDecided r r' w w' (Err fault)
 raw_ends_with limit IsText IsDecided r r' w w' fault text reads wrote =

@@ -21,37 +21,39 @@ ghost use Rattle.hart_cli.specs.explain.Gaps.{IsGap, IsOneLine, seen_place};
 ghost use Rattle.hart_cli.specs.explain.Message.{paragraph};
 ghost use Rattle.hart_cli.specs.explain.Misses.{miss_line};
 ghost use Rattle.hart_cli.specs.input.Input.{Ending, Left};
-ghost use Rattle.hart_cli.specs.input.Decoding.{item_decoding, raw_decoding};
+ghost use Rattle.hart_cli.specs.input.Decoding.{heard_decoding, raw_decoding};
 ghost use Rattle.hart_cli.specs.input.LiveInput.{IsDecidedText};
+ghost use Rattle.hart_cli.specs.text.Heard.{HasNoSilence, Heard};
 
 use hart_frame::laws::{
     every_start_has_a_frame_or_a_miss, misses_are_in_the_way, misses_say_what_is_wrong,
 };
 
 /// What was told is told for good: whatever is heard next, or read next, what was decided by then is a prefix of the whole explanation.
-/// What is decided of some characters is one text.
+/// What is decided of what was heard is one text.
 pub fn explanations_grow()
-    ensures one { (chars : List Character) (xs ys : List ℕ) → IsDecidedExplanation chars xs → IsDecidedExplanation chars ys → xs ≡ ys }
-    ensures heard { (chars more : List Character) (told whole : List ℕ) → IsDecidedExplanation chars told
-        → IsExplanationOf (chars ++ more) whole → (rest : List ℕ) × (whole ≡ told ++ rest) }
+    ensures one { (heard : List Heard) (xs ys : List ℕ) → IsDecidedExplanation heard xs → IsDecidedExplanation heard ys → xs ≡ ys }
+    ensures heard { (heard more : List Heard) (told whole : List ℕ) → IsDecidedExplanation heard told
+        → IsExplanationOf (heard ++ more) whole → (rest : List ℕ) × (whole ≡ told ++ rest) }
     ensures read { (input more : List ℕ) (ending : Ending) (fault : Option CliFault) (told whole : List ℕ)
-        → IsDecidedText item_decoding IsDecidedExplanation input told → IsExplanation (input ++ more) ending fault whole
+        → IsDecidedText heard_decoding IsDecidedExplanation input told → IsExplanation (input ++ more) ending fault whole
         → (rest : List ℕ) × (whole ≡ told ++ rest) }
     ensures raw { (input more : List ℕ) (ending : Ending) (fault : Option CliFault) (told whole : List ℕ)
         → IsDecidedText raw_decoding IsDecidedExplanation input told → IsRawExplanation (input ++ more) ending fault whole
         → (rest : List ℕ) × (whole ≡ told ++ rest) }
 {}
 
-/// Of an input that was read so far, `hart dump` and `hart explain` say the same fault, if any, and what they write is of the same messages
-/// with the same places. So it is if one of them left the input at bad hex, before it came to its end, and the other read on.
+/// Of an input without a silence that was read so far, `hart dump` and `hart explain` say the same fault, if any, and what they write is
+/// of the same messages with the same places. So it is if one of them left the input at bad hex, before it came to its end, and the other
+/// read on.
 pub fn explanations_name_the_messages_of_dump()
-    ensures whole { (input : List ℕ) (ending : Ending) (f g : Option CliFault) (lines text : List ℕ)
+    ensures whole { (input : List ℕ) (ending : Ending) (f g : Option CliFault) (lines text : List ℕ) → HasNoSilence input
         → IsDump input ending f lines → IsExplanation input ending g text
         → (f ≡ g) × AreOfOneHearing input ending g lines text }
     ensures dump_left { (input more : List ℕ) (ending : Ending) (f g : Option CliFault) (lines text : List ℕ)
-        → IsDump input Left f lines → IsExplanation (input ++ more) ending g text
+        → HasNoSilence (input ++ more) → IsDump input Left f lines → IsExplanation (input ++ more) ending g text
         → (f ≡ g) × AreOfOneHearing (input ++ more) ending g lines text }
-    ensures explain_left { (input more : List ℕ) (ending : Ending) (f g : Option CliFault) (lines text : List ℕ)
+    ensures explain_left { (input more : List ℕ) (ending : Ending) (f g : Option CliFault) (lines text : List ℕ) → HasNoSilence input
         → IsDump (input ++ more) ending f lines → IsExplanation input Left g text
         → (f ≡ g) × AreOfOneHearing (input ++ more) ending f lines text }
 {}

@@ -1,14 +1,15 @@
 //! What is heard and not yet told, and what is said of it until that is written.
-ghost use Rattle.std.specs.Prelude.{◌≡◌, ◌++◌, ◌+◌, ◌-◌, ◌<◌, ◌≤◌, ◌^◌, [], false, true, IfOk, OnOk, MatchResult, drop, length};
+ghost use Rattle.std.specs.Prelude.{◌≡◌, ◌↔◌, ◌++◌, ◌+◌, ◌-◌, ◌<◌, ◌≤◌, ◌^◌, [], false, true, IfOk, IsTrue, OnOk, MatchResult, drop, length};
 ghost use Rattle.std.specs.Option.{option_to_list};
 ghost use Rattle.hart_frame.specs.declared.scan.sighting.After.TheVariants.{End};
 ghost use Rattle.hart_frame.specs.heard.Character.{faultless};
 ghost use Rattle.hart_frame.specs.heard.Sighting.{moved_seen};
 ghost use Rattle.hart_frame.specs.scan.Sighting.{AfterIsValid, heard_with, is_end, seen_of};
 ghost use Rattle.hart_cli.specs.explain.Explanation.{seen_text};
-ghost use Rattle.hart_cli.specs.explain.Telling.{FailsToHear, FailsToTell, FitsFrom, HearsOrFails, HearsTextOrFails, IsNextSighting};
+ghost use Rattle.hart_cli.specs.explain.Telling.{FailsToHear, FailsToTell, FitsFrom, HearsOrFails, HearsStretchesOrFails, HearsTextOrFails, IsNextSighting};
 ghost use Rattle.hart_cli.specs.explain.Telling.{IsNew, IsWaiting, TellsDecided, TellsRest, chars_after};
 ghost use Rattle.hart_cli.specs.input.Decoding.{most_ahead};
+ghost use Rattle.hart_cli.specs.text.Heard.{BeginsWithSilence, NothingBegins};
 ghost use Rattle.hart_cli.specs.text.Items.{NoPieceBegins};
 
 use crate::calls::explain::message::push_paragraph;
@@ -58,8 +59,8 @@ impl Telling {
         }
     }
 
-    /// Hears the characters of the items that a text begins with, and writes what is decided of them. Returns the place of the rest of the
-    /// text, at whose beginning no piece stands.
+    /// Hears the characters and the silences that a text begins with, and writes what is decided of them. Returns the place of the rest of
+    /// the text, at whose beginning neither a piece nor a `/` stands.
     ///
     /// # Errors
     ///
@@ -74,12 +75,12 @@ impl Telling {
         requires quiet { self.old.kept ≡ [] }
         requires few { length text.now ≤ most_ahead }
         requires places { self.old.first + length self.old.held + length text.now < 2 ^ 64 - 1 }
-        ensures hears { HearsTextOrFails self.old self.new text.now (W.stream writer.old) (W.stream writer.new) result }
-        ensures stops { IfOk result (λ place. NoPieceBegins (drop place text.now)) }
+        ensures hears { HearsStretchesOrFails self.old self.new text.now (W.stream writer.old) (W.stream writer.new) result }
+        ensures stops { IfOk result (λ place. NothingBegins (drop place text.now)) }
         ensures waiting { OnOk result (IsWaiting self.new) }
         ensures quiet { OnOk result (self.new.kept ≡ []) }
     {
-        let place = self.hear_text(writer, digits, text)?;
+        let place = self.hear_stretches(writer, digits, text)?;
         write_all(writer, self.kept.as_slice())?;
         self.kept.clear();
         Ok(place)
@@ -103,6 +104,36 @@ impl Telling {
         write_all(writer, self.kept.as_slice())?;
         self.kept.clear();
         Ok(())
+    }
+
+    /// Hears the characters and the silences that a text begins with. Returns the place of the rest of the text, at whose beginning neither
+    /// a piece nor a `/` stands.
+    ///
+    /// # Errors
+    ///
+    /// `Failed` at the first write that fails.
+    fn hear_stretches<W: Sink>(
+        &mut self,
+        writer: &mut W,
+        digits: &Digits,
+        text: &[u8],
+    ) -> Result<usize, Failed>
+        requires waiting { IsWaiting self.old }
+        requires few { length text.now ≤ most_ahead }
+        requires places { self.old.first + length self.old.held + length text.now < 2 ^ 64 - 1 }
+        ensures hears { HearsStretchesOrFails self.old self.new text.now (W.stream writer.old) (W.stream writer.new) result }
+        ensures stops { IfOk result (λ place. NothingBegins (drop place text.now)) }
+        ensures waiting { OnOk result (IsWaiting self.new) }
+    {
+        let mut place = 0;
+        loop {
+            place += self.hear_text(writer, digits, &text[place..])?;
+            if !begins_with_silence(&text[place..]) {
+                return Ok(place);
+            }
+            self.hear_silence(writer)?;
+            place += 1;
+        }
     }
 
     /// Hears the characters of the items that a text begins with. Returns the place of the rest of the text, at whose beginning no piece
@@ -136,6 +167,21 @@ impl Telling {
             self.hear_char(writer, lead.char)?;
             place += lead.len;
         }
+    }
+
+    /// Hears that the line fell silent, and tells the rest of what was heard before.
+    ///
+    /// # Errors
+    ///
+    /// `Failed` at the first write that fails.
+    fn hear_silence<W: Sink>(&mut self, writer: &mut W) -> Result<(), Failed>
+        requires { self.old.first + length self.old.held < 2 ^ 64 - 1 }
+        ensures hears { HearsOrFails self.old self.new [] true (W.stream writer.old) (W.stream writer.new) result }
+        ensures waiting { OnOk result (IsWaiting self.new) }
+        ensures ended { OnOk result (self.new.held ≡ []) }
+    {
+        let silence = After::End;
+        self.tell_held(writer, silence)
     }
 
     /// Hears bytes without faults.
@@ -228,6 +274,13 @@ impl Telling {
         self.tell_held(writer, After::End)?;
         write_all(writer, self.kept.as_slice())
     }
+}
+
+/// Whether a `/` stands at the beginning of a text.
+fn begins_with_silence(text: &[u8]) -> bool
+    ensures { IsTrue result ↔ BeginsWithSilence text.now }
+{
+    text.first() == Some(&b'/')
 }
 
 /// Tells all sightings that are decided of bytes, whose first has this place in all that was heard, and of what comes after them. Returns

@@ -130,8 +130,9 @@ Say in words what was heard on a line, and why a message is missing.
 
 Input (stdin): the bytes that were heard, noise among them, as hart dump reads
 them (see hart dump --help), but of any length. What is decided is written
-before more is read, also while a line is being heard. With --raw the input is
-the bytes themselves, and not hex.
+before more is read, also while a line is being heard. An item / says that the
+line fell silent: what was heard before it is explained as ended, and places go
+on counting after it. With --raw the input is the bytes themselves, and not hex.
 
 Output (stdout): for each message that hart dump lists, a line with its two
 places, who speaks to whom, and the command; and under it, after four spaces, a

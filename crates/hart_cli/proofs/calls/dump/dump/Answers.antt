@@ -9,6 +9,7 @@ use Rattle.hart_cli.specs.input.Decoding.{item_decoding}
 use Rattle.hart_cli.specs.input.Input.{input_limit}
 use Rattle.hart_cli.specs.input.LiveInput.{ReadsText}
 use Rattle.hart_cli.specs.stream.Stream.{Stream, WritesAll}
+use Rattle.hart_cli.specs.text.Items.{NoPieceBegins, ReadsUpTo}
 use Rattle.hart_cli.proofs.lemmas.Writes.{FailsToWrite-on, WritesAll-on}
 use Rattle.hart_cli.proofs.lemmas.dump.FrameLines.{all_lines}
 use Rattle.hart_cli.proofs.lemmas.input.Decoded.{ends_with, stops_in}
@@ -35,7 +36,7 @@ pub returns-in-Some : goal.returns-in-Some
 returns-in-Some g c =
     let all = rw c.in-Some.is at c.in_ok-fault.ensures in
     let (lines, dump, wrote) = has_dump _ all c.finish.ensures (rw c.as_slice.ensures.value at c.in_ok-write_all.ensures) in
-    ends_with input_limit AreFrameLines AreDecidedLines _ _ _ _ c.in-Some.fault lines dump wrote
+    ends_with ReadsUpTo NoPieceBegins input_limit AreFrameLines AreDecidedLines _ _ _ _ c.in-Some.fault lines dump wrote
 
 pub returns-in-None : goal.returns-in-None
 returns-in-None g c =

@@ -14,7 +14,9 @@ use Rattle.hart_cli.proofs.lemmas.Writes.{WritesAll-on, in_time_on}
 use Rattle.hart_cli.proofs.lemmas.dump.FrameLines.{keeps_nothing, keeps_within, new_waits}
 use Rattle.hart_cli.proofs.lemmas.dump.ScanInput.{ScannedUpTo, scanned_step, scans_all, stopped_writing}
 use Rattle.hart_cli.proofs.lemmas.input.Decoded.{more_read, read_on, rest_within}
-use Rattle.hart_cli.proofs.lemmas.text.InputChars.{may_begin-nil}
+use Rattle.hart_cli.specs.text.Items.{NoPieceBegins, ReadsUpTo}
+use Rattle.hart_cli.proofs.lemmas.text.InputChars.{item_laws}
+use Rattle.hart_cli.proofs.lemmas.text.Reads.{may_begin-nil}
 use Rattle.hart_cli.proofs.lemmas.text.Items.{NoPieceBegins-nil, ReadsUpTo-few}
 use Rattle.hart_cli.proofs.calls.dump.scan_input.Goals as goal
 
@@ -56,7 +58,8 @@ scanned : (g : Over) (c : After-scan_text-rest g)
     c.scan_text-rest.new.self.scanner c.read_ahead-portion.result.end c.scan_text-rest.result.now
     (c.loop-frames.read + c.read_ahead-portion.result.len)
     (c.loop-frames.invariant.text ++ c.scan_text-rest.new.self.lines))
-    × WroteInTime (IsDecidedText item_decoding AreDecidedLines) now.input (g.W.Sink.stream c.args.writer.now) (g.W.Sink.stream c.loop-frames.writer)
+    × WroteInTime (IsDecidedText item_decoding AreDecidedLines) now.input (g.W.Sink.stream c.args.writer.now)
+    (g.W.Sink.stream c.loop-frames.writer)
 scanned g c =
     let loop = c.loop-frames.invariant in
     let scan = rw c.as_slice.ensures.value at c.scan_text-rest.ensures in
@@ -67,7 +70,7 @@ scanned g c =
 pub next_step-requires-clause-within : goal.next_step-requires-clause-within
 next_step-requires-clause-within g c =
     let now = scanned g (goal.at.next_step-requires-clause-within g c).After-scan_text-rest in
-    rest_within input_limit _ _ _ _ _ now.0.input now.0.chars now.0.decoded
+    rest_within ReadsUpTo NoPieceBegins item_laws input_limit _ _ _ _ _ now.0.input now.0.chars now.0.decoded
 
 pub returns-in_err-write_all : goal.returns-in_err-write_all
 returns-in_err-write_all g c =

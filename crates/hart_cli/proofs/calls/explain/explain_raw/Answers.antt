@@ -1,19 +1,19 @@
 use Rattle.std.proofs.lemmas.Result.{err_from_is_err_and}
 use Rattle.hart_cli.specs.explain.Explanation.{IsDecidedExplanation, IsExplanationOf}
 use Rattle.hart_cli.specs.input.Decoding.{raw_decoding, raw_limit}
-use Rattle.hart_cli.proofs.lemmas.explain.TellInput.{all_fits, explains_all, stops_at_rest}
+use Rattle.hart_cli.proofs.lemmas.explain.TellInput.{explains_all, stops_at_rest}
 use Rattle.hart_cli.proofs.lemmas.input.Raw.{raw_ends_with}
 use Rattle.hart_cli.proofs.calls.explain.explain_raw.Goals as goal
 
 pub finish-requires-clause-places : goal.finish-requires-clause-places
-finish-requires-clause-places g c =
-    all_fits raw_decoding raw_limit _ _ _ _ c.new-telling.result _ _ c.new-telling.ensures c.in_ok-fault.ensures
+finish-requires-clause-places g c = c.in_ok-fault.ensures.places
 
 pub returns-in_err-finish : goal.returns-in_err-finish
 returns-in_err-finish g c =
     let stop = err_from_is_err_and c.from_residual-in_err-finish.result c.from_residual-in_err-finish.ensures.1 in
     rw (stop.1, stop.2)
-    (stops_at_rest raw_decoding raw_limit _ _ _ _ _ c.new-telling.result _ _ c.new-telling.ensures c.in_ok-fault.ensures c.in_err-finish.ensures)
+    (stops_at_rest raw_decoding raw_limit _ _ _ _ _ c.new-telling.result _ _ c.new-telling.ensures c.in_ok-fault.ensures
+    c.in_err-finish.ensures)
 
 pub returns-in-Some : goal.returns-in-Some
 returns-in-Some g c =

@@ -1,15 +1,16 @@
 use Rattle.std.proofs.Common.{◌≡◌, ◌∙◌, ℕ, List, ap, sym}
-use Rattle.hart_frame.specs.heard.Character.{Character}
-use Rattle.hart_frame.proofs.lemmas.scan.SightingLaws.{one as one_list}
 use Rattle.hart_cli.specs.explain.Explanation.{IsExplanationOf, explanation}
 use Rattle.hart_cli.proofs.lemmas.input.Raw.{one_raw_input}
-use Rattle.hart_cli.proofs.lemmas.text.InputChars.{one_input}
+use Rattle.hart_cli.specs.text.Heard.{Heard, NothingBegins, ReadsHeard, stretches}
+use Rattle.hart_cli.proofs.lemmas.explain.Told.{one_seen}
+use Rattle.hart_cli.proofs.lemmas.text.Heard.{heard_laws}
+use Rattle.hart_cli.proofs.lemmas.text.Reads.{one_hearing}
 use Rattle.hart_cli.proofs.calls.explain.one_explanation.Goals as goal
 
--- the same characters have one explanation
-one_text : (xs ys : List Character) (a b : List ℕ) → xs ≡ ys → IsExplanationOf xs a → IsExplanationOf ys b → a ≡ b
+-- what was heard has one explanation
+one_text : (xs ys : List Heard) (a b : List ℕ) → xs ≡ ys → IsExplanationOf xs a → IsExplanationOf ys b → a ≡ b
 one_text xs ys a b same p q =
-    let seen = one_list ys 0 p.seen q.seen (rw same at p.are_sightings) q.are_sightings in
+    let seen = one_seen 0 (stretches ys) p.seen q.seen (rw same at p.are_sightings) q.are_sightings in
     p.text_is ∙ (ap explanation seen ∙ sym q.text_is)
 
 pub returns-clause-raw : goal.returns-clause-raw
@@ -19,5 +20,5 @@ returns-clause-raw c input ending f g xs ys p q =
 
 pub returns-clause-items : goal.returns-clause-items
 returns-clause-items c input ending f g xs ys p q =
-    let same = one_input input ending p.heard q.heard f g p.has q.has in
+    let same = one_hearing ReadsHeard NothingBegins heard_laws input ending p.heard q.heard f g p.has q.has in
     (same.1, one_text p.heard q.heard xs ys same.0 p.is_text q.is_text)

@@ -3,14 +3,17 @@ use Rattle.std.proofs.lemmas.Grind.{common_steps}
 use Rattle.std.proofs.lemmas.List.{take_rest}
 use Rattle.std.proofs.lemmas.Result.{err_from_is_err_and}
 use Rattle.hart_cli.specs.explain.Explanation.{IsDecidedExplanation}
-use Rattle.hart_cli.specs.input.Decoding.{item_decoding}
+use Rattle.hart_cli.specs.input.Decoding.{heard_decoding}
 use Rattle.hart_cli.specs.input.Input.{stream_limit}
 use Rattle.hart_cli.specs.input.LiveInput.{IsDecidedText, WroteInTime}
 use Rattle.hart_cli.proofs.calls.explain.tell_input.Given.{Over}
 use Rattle.hart_cli.proofs.calls.explain.tell_input.Goals.{In_ok-place}
 use Rattle.hart_cli.proofs.lemmas.explain.TellInput.{ToldUpTo, new_waits, places_fit, stopped_telling, tells_all, told_nothing, told_step}
+use Rattle.hart_cli.specs.text.Heard.{NothingBegins, ReadsHeard}
+use Rattle.hart_cli.proofs.lemmas.explain.Stretches.{all_wrote}
+use Rattle.hart_cli.proofs.lemmas.text.Heard.{heard_laws}
 use Rattle.hart_cli.proofs.lemmas.input.Decoded.{more_read, read_on, rest_within}
-use Rattle.hart_cli.proofs.lemmas.text.InputChars.{may_begin-nil}
+use Rattle.hart_cli.proofs.lemmas.text.Reads.{may_begin-nil}
 use Rattle.hart_cli.proofs.calls.explain.tell_input.Goals as goal
 
 pub loop-place-init : goal.loop-place-init
@@ -35,7 +38,8 @@ told : (g : Over) (c : In_ok-place g)
     c.tell_text.new.self c.read_ahead-portion.result.end (drop c.in_ok-place.place c.read_ahead-portion.new.ahead)
     (c.loop-place.read + c.read_ahead-portion.result.len)
     (g.W.Sink.stream c.args.writer.now) (g.W.Sink.stream c.tell_text.new.writer))
-    × WroteInTime (IsDecidedText item_decoding IsDecidedExplanation) now.input (g.W.Sink.stream c.args.writer.now) (g.W.Sink.stream c.loop-place.writer)
+    × WroteInTime (IsDecidedText heard_decoding IsDecidedExplanation) now.input (g.W.Sink.stream c.args.writer.now)
+    (g.W.Sink.stream c.loop-place.writer)
 told g c =
     let loop = c.loop-place.invariant in
     let text = rw c.as_slice.ensures.value at c.in_ok-place.ensures in
@@ -56,13 +60,13 @@ pub next_step-requires-clause-within : goal.next_step-requires-clause-within
 next_step-requires-clause-within g c =
     let now = told g (goal.at.next_step-requires-clause-within g c).In_ok-place in
     rw (take_rest, c.as_slice-in-loop-place.ensures.value)
-    (rest_within stream_limit _ _ _ _ _ now.0.input now.0.chars now.0.decoded)
+    (rest_within ReadsHeard NothingBegins heard_laws stream_limit _ _ _ _ _ now.0.input now.0.heard now.0.decoded)
 
 pub returns-in-Stop : goal.returns-in-Stop
 returns-in-Stop g c =
     let now = told g (goal.at.returns-in-Stop g c).In_ok-place in
-    let adds = c.in_ok-place.ensures.hears.hears.adds in
-    tells_all _ _ _ _ _ c.args.telling.now c.tell_text.new.self _ _ _ c.in-Stop.fault c.requires now.0 now.1 adds.written adds.wrote
+    let (written, wrote) = all_wrote c.loop-place.telling c.tell_text.new.self _ _ _ c.in_ok-place.ensures.hears.hears in
+    tells_all _ _ _ _ _ c.args.telling.now c.tell_text.new.self _ _ _ c.in-Stop.fault c.requires now.0 now.1 written wrote
     (rw (take_rest, c.as_slice-in-loop-place.ensures.value) at c.in-Stop.ensures.step)
 
 pub loop-place-smaller : goal.loop-place-smaller

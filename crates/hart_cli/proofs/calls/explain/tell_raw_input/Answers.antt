@@ -6,12 +6,19 @@ use Rattle.hart_cli.specs.input.Input.{most_at_once}
 use Rattle.hart_cli.specs.input.LiveInput.{IsDecidedText, WroteInTime}
 use Rattle.hart_cli.proofs.calls.explain.tell_raw_input.Given.{Over}
 use Rattle.hart_cli.proofs.calls.explain.tell_raw_input.Goals.{After-read_portion-portion, In_ok-tell_bytes}
-use Rattle.hart_cli.proofs.lemmas.explain.TellRaw.{RawUpTo, raw_more, raw_nothing, raw_step, raw_stopped, raw_tells_all}
+use Rattle.hart_cli.proofs.lemmas.explain.TellRaw.{RawUpTo, raw_fits, raw_more, raw_nothing, raw_step, raw_stopped, raw_tells_all}
 use Rattle.hart_cli.proofs.calls.explain.tell_raw_input.Goals as goal
 
 pub loop-end-init : goal.loop-end-init
 loop-end-init g c =
     record { buffer_length = refl; told = raw_nothing _ _ c.args.telling.now c.requires; within = omega arith }
+
+pub tell_bytes-requires-clause-places : goal.tell_bytes-requires-clause-places
+tell_bytes-requires-clause-places g c =
+    raw_fits (g.R.Source.stream c.args.reader.now) (g.R.Source.stream c.loop-end.reader)
+    (g.R.Source.stream c.read_portion-portion.new.reader) (g.W.Sink.stream c.args.writer.now) (g.W.Sink.stream c.loop-end.writer)
+    c.args.telling.now c.loop-end.telling c.loop-end.read (take c.read_portion-portion.result.len c.read_portion-portion.new.buffer)
+    c.read_portion-portion.result.end c.requires c.loop-end.invariant.told c.read_portion-portion.ensures.reads
 
 -- one read gives no more than the buffer has
 few : (g : Over) (c : After-read_portion-portion g)
@@ -49,7 +56,8 @@ returns-in-Some g c =
     let now = told g (goal.at.returns-in-Some g c).In_ok-tell_bytes in
     let adds = c.in_ok-tell_bytes.ensures.hears.adds in
     rw c.fault.ensures
-    (raw_tells_all _ _ _ _ _ c.args.telling.now c.tell_bytes.new.self c.read_portion-portion.result.end c.in-Some.end _ c.in-Some.is now.0
+    (raw_tells_all _ _ _ _ _ c.args.telling.now c.tell_bytes.new.self c.read_portion-portion.result.end c.in-Some.end _ c.requires
+    c.in-Some.is now.0
     now.1 adds.written adds.wrote)
 
 pub loop-end-preserved : goal.loop-end-preserved

@@ -1,15 +1,15 @@
 use Rattle.std.proofs.Common.{refl}
 use Rattle.std.proofs.lemmas.Result.{err_from_is_err_and}
-use Rattle.hart_cli.proofs.lemmas.explain.TellInput.{fails_written_text, text_written}
+use Rattle.hart_cli.proofs.lemmas.explain.Stretches.{fails_kept, stretch_written}
 use Rattle.hart_cli.proofs.calls.explain.telling.Telling.tell_text.Goals as goal
 
 pub returns-in_err-write_all-clause-hears : goal.returns-in_err-write_all-clause-hears
 returns-in_err-write_all-clause-hears g c =
     rw (err_from_is_err_and c.from_residual-in_err-write_all.result c.from_residual-in_err-write_all.ensures.1).1
-    (fails_written_text c.args.self.now c.hear_text.new.self c.args.text.now c.in_ok-place.place _ _ _ c.in_ok-place.ensures.hears
+    (fails_kept c.args.self.now c.hear_stretches.new.self c.args.text.now c.in_ok-place.place _ _ _ c.in_ok-place.ensures.hears
     (rw c.as_slice.ensures.value at c.in_err-write_all.ensures))
 
 pub returns-clause-hears : goal.returns-clause-hears
 returns-clause-hears g c =
-    text_written c.args.self.now c.hear_text.new.self _ c.args.text.now c.in_ok-place.place _ _ _ c.in_ok-place.ensures.hears
+    stretch_written c.args.self.now c.hear_stretches.new.self _ c.args.text.now c.in_ok-place.place _ _ _ c.in_ok-place.ensures.hears
     (rw c.as_slice.ensures.value at c.in_ok-write_all.ensures) refl refl c.clear.ensures

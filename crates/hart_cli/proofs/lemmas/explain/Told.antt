@@ -1,0 +1,347 @@
+-- What was told of what was heard is decided.
+use Rattle.std.proofs.Common.{◌≡◌, ◌≤◌, ◌+◌, ◌∙◌, ℕ, Bool, false, true, List, [], ◌∷◌, ◌++◌, length, map, drop, refl, sym, ap, arith}
+use Rattle.std.proofs.Common.{append-nil, append_assoc, length-append, length-drop}
+use Rattle.std.proofs.lemmas.Grind.{flat_map-append}
+use Rattle.std.proofs.lemmas.List.{drop-append-le, drop-drop, map-append}
+use Rattle.hart_frame.specs.heard.Character.{Character, faultless}
+use Rattle.hart_frame.specs.heard.Sighting.{AreSightings, Seen, SeesOn, moved_seen}
+use Rattle.hart_frame.proofs.lemmas.scan.SightingLaws.{all as seen_to_the_end, grown, one as one_list, rest as rest_is_seen}
+use Rattle.hart_frame.proofs.lemmas.scan.SightingLaws.{some as some_list}
+use Rattle.hart_cli.specs.declared.calls.explain.telling.Telling.{Telling}
+use Rattle.hart_cli.specs.explain.Explanation.{AreSightingsFrom, ComeFirst, IsDecidedExplanation, IsExplanationOf, explanation}
+use Rattle.hart_cli.specs.explain.Explanation.{seen_text}
+use Rattle.hart_cli.specs.explain.Telling.{FailsToHear, Hears, HearsAll, IsNew, IsWaiting, TellsRest, text_from}
+use Rattle.hart_cli.specs.explain.Telling as part
+use Rattle.hart_cli.specs.stream.Kept.{AddsText}
+use Rattle.hart_cli.specs.stream.Stream.{FailsToWrite, Stream, WritesAll}
+use Rattle.hart_cli.specs.text.Heard.{Heard, HeardChar, Silence, after_chars, heard_chars, stretches}
+use Rattle.hart_cli.proofs.lemmas.Kept.{adds_kept, adds_then, fails_then}
+use Rattle.hart_cli.proofs.lemmas.Writes.{FailsToWrite-longer, WritesAll-on}
+use Rattle.hart_cli.proofs.lemmas.explain.Telling.{long_is}
+use Rattle.hart_cli.proofs.lemmas.explain.Decided.{back, cancel, first_moved}
+use Rattle.hart_cli.proofs.lemmas.explain.Sightings.{at_end, moved_twice, sees_later, text_on}
+
+-- what was heard has a first stretch
+one_stretch : (heard : List Heard) → (first : List Character) × (later : List (List Character)) × (stretches heard ≡ first ∷ later)
+one_stretch [] = ([], [], refl)
+one_stretch (Silence ∷ heard) = ([], stretches heard, refl)
+one_stretch (HeardChar character ∷ heard) =
+    let (first, later, is) = one_stretch heard in (character ∷ first, later, rw is refl)
+
+-- nothing comes after nothing
+after_nothing : (heard : List Heard) → after_chars [] (stretches heard) ≡ stretches heard
+after_nothing heard = let (first, later, is) = one_stretch heard in rw is refl
+
+-- characters after characters
+after_twice : (xs ys : List Character) (later : List (List Character))
+    → after_chars xs (after_chars ys later) ≡ after_chars (xs ++ ys) later
+after_twice xs ys [] = refl
+after_twice xs ys (first ∷ later) = rw append_assoc refl
+
+-- characters before what was heard
+pub stretches_chars : (xs : List Character) (heard : List Heard) → stretches (heard_chars xs ++ heard) ≡ after_chars xs (stretches heard)
+stretches_chars [] heard = sym (after_nothing heard)
+stretches_chars (x ∷ xs) heard =
+    ap (after_chars (x ∷ [])) (stretches_chars xs heard) ∙ after_twice (x ∷ []) xs (stretches heard)
+
+-- the number of characters of stretches
+abbrev pub total : List (List Character) → ℕ
+total [] = 0
+total (chars ∷ later) = length chars + total later
+
+total_on : (xs ys : List (List Character)) → total (xs ++ ys) ≡ total xs + total ys
+total_on [] ys = omega arith
+total_on (chars ∷ xs) ys = omega (arith, total_on xs ys)
+
+-- stretches have one list of sightings
+pub one_seen : (first : ℕ) (parts : List (List Character)) (xs ys : List Seen) → AreSightingsFrom first parts xs
+    → AreSightingsFrom first parts ys → xs ≡ ys
+one_seen first [] xs ys h k = h ∙ sym k
+one_seen first (chars ∷ later) xs ys (own, are, rest, more, is) (own', are', rest', more', is') =
+    let same = one_list chars 0 own own' are are' in
+    let after = one_seen (first + length chars) later rest rest' more more' in
+    is ∙ (rw (same, after) refl ∙ sym is')
+
+pub some_seen : (first : ℕ) (parts : List (List Character)) → (seen : List Seen) × AreSightingsFrom first parts seen
+some_seen first [] = ([], refl)
+some_seen first (chars ∷ later) =
+    let (own, are) = some_list chars 0 in
+    let (rest, more) = some_seen (first + length chars) later in
+    (map (moved_seen first) own ++ rest, (own, are, rest, more, refl))
+
+-- stretches after others
+pub seen_on : (first : ℕ) (xs ys : List (List Character)) (seen later : List Seen) → AreSightingsFrom first xs seen
+    → AreSightingsFrom (first + total xs) ys later → AreSightingsFrom first (xs ++ ys) (seen ++ later)
+seen_on first [] ys seen later h k = let same : first + 0 ≡ first = omega arith in rw h (rw same at k)
+seen_on first (chars ∷ xs) ys seen later (own, are, rest, more, is) k =
+    let place : first + (length chars + total xs) ≡ first + length chars + total xs = omega arith in
+    (own, are, rest ++ later, seen_on (first + length chars) xs ys rest later more (rw place at k), rw (is, append_assoc) refl)
+
+-- what was told of what was heard: all of the earlier stretches, and what is decided of the last one, of which the rest is held
+pub record Told (start telling : Telling) (heard : List Heard) (writer writer_after : Stream) : Type 0 where
+  pub earlier : List (List Character)
+  pub chars : List Character
+  pub splits : (more : List Heard) → stretches (heard ++ more) ≡ earlier ++ after_chars chars (stretches more)
+  pub told : List Seen
+  pub are_told : AreSightingsFrom 0 earlier told
+  pub seen : List Seen
+  pub used : ℕ
+  pub sees : SeesOn chars false 0 seen used
+  pub within : used ≤ length chars
+  pub first : telling.first ≡ total earlier + used
+  pub held : faultless telling.held ≡ drop used chars
+  pub adds : AddsText writer writer_after start.kept telling.kept (explanation (told ++ map (moved_seen (total earlier)) seen))
+
+-- places that are counted from the front
+zero_plus : (n : ℕ) → 0 + n ≡ n
+zero_plus n = omega arith
+
+-- what is said of more sightings
+text_more : (told seen given : List Seen) (first used : ℕ)
+    → explanation (told ++ map (moved_seen first) seen) ++ text_from (first + used) given
+    ≡ explanation (told ++ map (moved_seen first) (seen ++ map (moved_seen used) given))
+text_more told seen given first used =
+    ap (λ xs. xs ++ text_from (first + used) given) (flat_map-append seen_text told (map (moved_seen first) seen))
+    ∙ (append_assoc (explanation told) (text_from first seen) (text_from (first + used) given)
+    ∙ (ap (λ xs. explanation told ++ xs) (text_on first used seen given)
+    ∙ sym (flat_map-append seen_text told (map (moved_seen first) (seen ++ map (moved_seen used) given)))))
+
+-- nothing was told yet
+told_none : (start : Telling) (w : Stream) → IsNew start → Told start start [] w w
+told_none start w new = record {
+  earlier = [];
+  chars = [];
+  splits = λ more. sym (after_nothing more);
+  told = [];
+  are_told = refl;
+  seen = [];
+  used = 0;
+  sees = λ more later closed are. are;
+  within = omega arith;
+  first = omega (arith, new.first);
+  held = rw new.held refl;
+  adds = adds_kept w start.kept start.kept [] (sym (append-nil start.kept));
+}
+
+-- more of the last stretch is seen
+part_sees : (start a : Telling) (heard : List Heard) (w w1 : Stream) (t : Told start a heard w w1) (xs : List Character) (ended : Bool)
+    (given : List Seen) (used : ℕ) → SeesOn (faultless a.held ++ xs) ended 0 given used
+    → SeesOn (t.chars ++ xs) ended 0 (t.seen ++ map (moved_seen t.used) given) (t.used + used)
+part_sees start a heard w w1 t xs ended given used on =
+    let rest : faultless a.held ++ xs ≡ drop t.used (t.chars ++ xs) =
+    ap (λ ys. ys ++ xs) t.held ∙ sym (drop-append-le t.used t.chars xs t.within) in
+    sees_later (t.chars ++ xs) ended t.used used t.seen given (omega (arith, t.within, length-append t.chars xs))
+    (grown t.chars xs ended 0 t.used t.seen t.sees) (rw rest at on)
+
+-- what is said of it comes after what was said before
+part_adds : (start a b : Telling) (heard : List Heard) (w w1 w2 : Stream) (t : Told start a heard w w1) (given : List Seen)
+    → AddsText w1 w2 a.kept b.kept (text_from a.first given)
+    → AddsText w w2 start.kept b.kept
+    (explanation (t.told ++ map (moved_seen (total t.earlier)) (t.seen ++ map (moved_seen t.used) given)))
+part_adds start a b heard w w1 w2 t given adds =
+    rw (text_more t.told t.seen given (total t.earlier) t.used) at
+    (adds_then w w1 w2 start.kept a.kept b.kept _ _ t.adds (rw t.first at adds))
+
+-- what is held is the rest of it
+part_held : (start a : Telling) (heard : List Heard) (w w1 : Stream) (t : Told start a heard w w1) (xs : List Character) (used : ℕ)
+    → drop used (faultless a.held ++ xs) ≡ drop (t.used + used) (t.chars ++ xs)
+part_held start a heard w w1 t xs used =
+    ap (drop used) (ap (λ ys. ys ++ xs) t.held ∙ sym (drop-append-le t.used t.chars xs t.within)) ∙ drop-drop used t.used (t.chars ++ xs)
+
+part_within : (start a b : Telling) (heard : List Heard) (w w1 w2 : Stream) (t : Told start a heard w w1) (xs : List Character)
+    (ended : Bool) → (k : Hears a b xs ended w1 w2) → t.used + k.used ≤ length (t.chars ++ xs)
+part_within start a b heard w w1 w2 t xs ended k =
+    let held = ap length t.held in
+    omega (arith, t.within, k.within, held, length-drop t.used t.chars, length-append (faultless a.held) xs, length-append t.chars xs)
+
+-- characters were told of
+told_chars : (start a b : Telling) (heard : List Heard) (xs : List Character) (w w1 w2 : Stream) → Told start a heard w w1
+    → Hears a b xs false w1 w2 → Told start b (heard ++ heard_chars xs) w w2
+told_chars start a b heard xs w w1 w2 t k = record {
+  earlier = t.earlier;
+  chars = t.chars ++ xs;
+  splits = λ more.
+      ap stretches (append_assoc heard (heard_chars xs) more)
+      ∙ (t.splits (heard_chars xs ++ more)
+      ∙ ap (λ parts. t.earlier ++ parts)
+      (ap (after_chars t.chars) (stretches_chars xs more) ∙ after_twice t.chars xs (stretches more)));
+  told = t.told;
+  are_told = t.are_told;
+  seen = t.seen ++ map (moved_seen t.used) k.seen;
+  used = t.used + k.used;
+  sees = part_sees start a heard w w1 t xs false k.seen k.used k.sees;
+  within = part_within start a b heard w w1 w2 t xs false k;
+  first = omega (arith, t.first, k.first);
+  held = k.held ∙ part_held start a heard w w1 t xs k.used;
+  adds = part_adds start a b heard w w1 w2 t k.seen k.adds;
+}
+
+-- the sightings of a last stretch that has ended come after those of the earlier ones
+ended_seen : (start a : Telling) (heard : List Heard) (w w1 : Stream) (t : Told start a heard w w1) (chars : List Character)
+    (seen : List Seen) → AreSightings chars 0 seen
+    → AreSightingsFrom 0 (t.earlier ++ chars ∷ []) (t.told ++ map (moved_seen (total t.earlier)) seen)
+ended_seen start a heard w w1 t chars seen are =
+    seen_on 0 t.earlier (chars ∷ []) t.told (map (moved_seen (total t.earlier)) seen) t.are_told
+    (rw (zero_plus (total t.earlier)) (seen, are, [], refl, sym (append-nil _)))
+
+-- a silence was told of
+told_silence : (start a b : Telling) (heard : List Heard) (w w1 w2 : Stream) → Told start a heard w w1 → Hears a b [] true w1 w2
+    → b.held ≡ [] → Told start b (heard ++ Silence ∷ []) w w2
+told_silence start a b heard w w1 w2 t k none =
+    let seen = t.seen ++ map (moved_seen t.used) k.seen in
+    let used = t.used + k.used in
+    let sees = rw (append-nil t.chars) at (part_sees start a heard w w1 t [] true k.seen k.used k.sees) in
+    let within = rw (append-nil t.chars) at (part_within start a b heard w w1 w2 t [] true k) in
+    let held = rw (none, append-nil t.chars) at (k.held ∙ part_held start a heard w w1 t [] k.used) in
+    let end : used ≡ length t.chars = omega (arith, within, ap length held, length-drop used t.chars) in
+    let are = seen_to_the_end t.chars true seen (rw end at sees) in
+    record {
+      earlier = t.earlier ++ t.chars ∷ [];
+      chars = [];
+      splits = λ more.
+          ap stretches (append_assoc heard (Silence ∷ []) more)
+          ∙ (t.splits (Silence ∷ more)
+          ∙ rw (append-nil t.chars, after_nothing more, append_assoc t.earlier (t.chars ∷ []) (stretches more)) refl);
+      told = t.told ++ map (moved_seen (total t.earlier)) seen;
+      are_told = ended_seen start a heard w w1 t t.chars seen are;
+      seen = [];
+      used = 0;
+      sees = λ more later closed are. are;
+      within = omega arith;
+      first = omega (arith, t.first, k.first, end, total_on t.earlier (t.chars ∷ []));
+      held = rw none refl;
+      adds = rw (append-nil _) (part_adds start a b heard w w1 w2 t k.seen k.adds);
+    }
+
+-- all that was heard was told of
+pub tell_all : (start a : Telling) (heard : List Heard) (w w1 : Stream) → IsNew start → HearsAll start a heard w w1
+    → Told start a heard w w1
+tell_all start _ _ _ _ new (part.nothing w) = told_none start w new
+tell_all start b _ _ _ new (part.chars now _ heard xs w u v k one) =
+    told_chars start now b heard xs w u v (tell_all start now heard w u new k) one
+tell_all start b _ _ _ new (part.silence now _ heard w u v k one none) =
+    told_silence start now b heard w u v (tell_all start now heard w u new k) one none
+
+-- what was told comes first, whatever is heard next
+told_first : (start a : Telling) (heard : List Heard) (w w1 : Stream) (t : Told start a heard w w1)
+    → ComeFirst heard (t.told ++ map (moved_seen (total t.earlier)) t.seen)
+told_first start a heard w w1 t = λ more all are.
+    let (s, ss, is) = one_stretch more in
+    let parts : stretches (heard ++ more) ≡ t.earlier ++ (t.chars ++ s) ∷ ss =
+    t.splits more ∙ ap (λ x. t.earlier ++ after_chars t.chars x) is in
+    let (later, stands) = some_list (t.chars ++ s) t.used in
+    let own = t.sees s later (λ never. absurd cc) stands in
+    let (rest, after) = some_seen (total t.earlier + length (t.chars ++ s)) ss in
+    let seen = map (moved_seen (total t.earlier)) (t.seen ++ later) ++ rest in
+    let list : AreSightingsFrom 0 (t.earlier ++ (t.chars ++ s) ∷ ss) (t.told ++ seen) =
+    seen_on 0 t.earlier ((t.chars ++ s) ∷ ss) t.told seen t.are_told
+    (rw (zero_plus (total t.earlier)) (t.seen ++ later, own, rest, after, refl)) in
+    let same = one_seen 0 (t.earlier ++ (t.chars ++ s) ∷ ss) all (t.told ++ seen) (rw parts at are) list in
+    let begun = map (moved_seen (total t.earlier)) t.seen in
+    let added = map (moved_seen (total t.earlier)) later in
+    let order : (begun ++ added) ++ rest ≡ begun ++ (added ++ rest) = append_assoc begun added rest in (
+      added ++ rest,
+      same ∙ (ap (λ x. t.told ++ (x ++ rest)) (map-append _ t.seen later) ∙ (ap (λ x. t.told ++ x) order
+          ∙ sym (append_assoc t.told begun (added ++ rest)))),
+    )
+
+-- and nothing more is decided
+told_no_more : (start a : Telling) (heard : List Heard) (w w1 : Stream) (t : Told start a heard w w1) → IsWaiting a → (next : Seen)
+    → ComeFirst heard ((t.told ++ map (moved_seen (total t.earlier)) t.seen) ++ next ∷ []) → ⊥
+told_no_more start a heard w w1 t waiting next claim =
+    let first = total t.earlier in
+    waiting.undecided (back (first + t.used) next) (λ more all are.
+    let whole = t.chars ++ more in
+    let rest : drop t.used whole ≡ drop t.used t.chars ++ more = drop-append-le t.used t.chars more t.within in
+    let stands = rest_is_seen t.used whole all (rw rest (rw t.held at are)) in
+    let own = t.sees more (map (moved_seen t.used) all) (λ never. absurd cc) stands in
+    let last : stretches (heard_chars more) ≡ more ∷ [] =
+    rw (append-nil (heard_chars more), append-nil more) at (stretches_chars more []) in
+    let parts : stretches (heard ++ heard_chars more) ≡ t.earlier ++ whole ∷ [] =
+    t.splits (heard_chars more) ∙ ap (λ x. t.earlier ++ after_chars t.chars x) last in
+    let seen = t.seen ++ map (moved_seen t.used) all in
+    let list = ended_seen start a heard w w1 t whole seen own in
+    let (later, is) = claim (heard_chars more) (t.told ++ map (moved_seen first) seen) (rw parts list) in
+    let begun = map (moved_seen first) t.seen in
+    let after = map (moved_seen first) (map (moved_seen t.used) all) in
+    let split : t.told ++ (begun ++ after) ≡ t.told ++ (begun ++ next ∷ later) =
+    ap (λ x. t.told ++ x) (sym (map-append _ t.seen (map (moved_seen t.used) all)))
+    ∙ (is ∙ (append_assoc (t.told ++ begun) (next ∷ []) later ∙ append_assoc t.told begun (next ∷ later))) in
+    let left : after ≡ next ∷ later =
+    cancel begun after (next ∷ later) (cancel t.told (begun ++ after) (begun ++ next ∷ later) split) in
+    first_moved (first + t.used) all next later (sym (moved_twice first t.used all) ∙ left))
+
+-- what was told is the explanation that is decided, and it was written
+pub told_is_decided : (start a : Telling) (heard : List Heard) (w w1 : Stream) → IsNew start → (t : Told start a heard w w1)
+    → IsWaiting a → a.kept ≡ []
+    → IsDecidedExplanation heard (explanation (t.told ++ map (moved_seen (total t.earlier)) t.seen))
+    × WritesAll w w1 (explanation (t.told ++ map (moved_seen (total t.earlier)) t.seen))
+told_is_decided start a heard w w1 new t waiting quiet =
+    let seen = t.told ++ map (moved_seen (total t.earlier)) t.seen in
+    let all : t.adds.written ≡ explanation seen = sym (append-nil t.adds.written) ∙ rw (quiet, new.quiet) at t.adds.whole in (
+      record {
+        seen = seen;
+        first = told_first start a heard w w1 t;
+        no_more = told_no_more start a heard w w1 t waiting;
+        text_is = refl;
+      },
+      rw all at t.adds.wrote,
+    )
+
+-- the explanation of what was heard, with these sightings of its last stretch
+pub whole_text : (start a : Telling) (heard : List Heard) (w w1 : Stream) (t : Told start a heard w w1) (xs : List Character)
+    (seen : List Seen) → AreSightings (t.chars ++ xs) 0 seen
+    → IsExplanationOf (heard ++ heard_chars xs) (explanation (t.told ++ map (moved_seen (total t.earlier)) seen))
+whole_text start a heard w w1 t xs seen are =
+    let last : stretches (heard_chars xs) ≡ xs ∷ [] = rw (append-nil (heard_chars xs), append-nil xs) at (stretches_chars xs []) in
+    let parts : stretches (heard ++ heard_chars xs) ≡ t.earlier ++ (t.chars ++ xs) ∷ [] =
+    t.splits (heard_chars xs) ∙ ap (λ x. t.earlier ++ after_chars t.chars x) last in
+    record {
+      seen = t.told ++ map (moved_seen (total t.earlier)) seen;
+      are_sightings = rw parts (ended_seen start a heard w w1 t (t.chars ++ xs) seen are);
+      text_is = refl;
+    }
+
+-- a write failed in what is said of more characters
+pub fails_in_text : (start a : Telling) (heard : List Heard) (w w1 w2 : Stream) → IsNew start → (t : Told start a heard w w1)
+    → (xs : List Character) (ended : Bool) → FailsToHear a xs ended w1 w2
+    → (text : List ℕ) × IsExplanationOf (heard ++ heard_chars xs) text × FailsToWrite w w2 text
+fails_in_text start a heard w w1 w2 new t xs ended k =
+    let sees = part_sees start a heard w w1 t xs ended k.seen k.used k.sees in
+    let seen = t.seen ++ map (moved_seen t.used) k.seen in
+    let (later, stands) = some_list ((t.chars ++ xs) ++ []) (t.used + k.used) in
+    let are = at_end (t.chars ++ xs) (seen ++ later) (sees [] later (λ over. refl) stands) in
+    let first = total t.earlier in
+    let fails = rw (t.first) at k.fails in
+    let both = fails_then w w1 w2 start.kept a.kept _ (text_from (first + t.used) k.seen) t.adds fails in
+    let begun : FailsToWrite w w2 (explanation (t.told ++ map (moved_seen first) seen)) =
+    rw (new.quiet, text_more t.told t.seen k.seen first t.used) at both in
+    let more : explanation (t.told ++ map (moved_seen first) (seen ++ later))
+    ≡ explanation (t.told ++ map (moved_seen first) seen) ++ text_from first later =
+    ap (λ x. explanation (t.told ++ x)) (map-append _ seen later)
+    ∙ (ap explanation (sym (append_assoc t.told (map (moved_seen first) seen) (map (moved_seen first) later)))
+    ∙ flat_map-append seen_text (t.told ++ map (moved_seen first) seen) (map (moved_seen first) later)) in (
+      explanation (t.told ++ map (moved_seen first) (seen ++ later)),
+      whole_text start a heard w w1 t xs (seen ++ later) are,
+      rw more (FailsToWrite-longer w w2 (explanation (t.told ++ map (moved_seen first) seen)) (text_from first later) begun),
+    )
+
+-- the rest was told, and with it all
+pub rest_text : (start a : Telling) (heard : List Heard) (w w1 w2 : Stream) → IsNew start → Told start a heard w w1 → IsWaiting a
+    → a.kept ≡ [] → TellsRest a w1 w2 → (text : List ℕ) × IsExplanationOf heard text × WritesAll w w2 text
+rest_text start a heard w w1 w2 new t waiting quiet k =
+    let same : faultless a.held ++ [] ≡ faultless a.held = append-nil (faultless a.held) in
+    let sees = part_sees start a heard w w1 t [] true k.seen (length a.held) (rw same k.sees) in
+    let seen = t.seen ++ map (moved_seen t.used) k.seen in
+    let first = total t.earlier in
+    let long : length a.held ≡ length (drop t.used t.chars) = sym (long_is a.held) ∙ ap length t.held in
+    let end : t.used + length a.held ≡ length (t.chars ++ []) =
+    omega (arith, long, t.within, length-drop t.used t.chars, length-append t.chars []) in
+    let are = seen_to_the_end (t.chars ++ []) true seen (rw end at sees) in
+    let decided = told_is_decided start a heard w w1 new t waiting quiet in
+    let wrote = WritesAll-on w w1 w2 _ (text_from a.first k.seen) decided.1 k.wrote in
+    let placed = rw t.first at wrote in (
+      explanation (t.told ++ map (moved_seen first) seen),
+      rw (append-nil heard) at (whole_text start a heard w w1 t [] seen are),
+      rw (text_more t.told t.seen k.seen first t.used) at placed,
+    )

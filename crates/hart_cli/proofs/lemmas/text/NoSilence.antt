@@ -1,0 +1,94 @@
+-- A text without a silence is one of items alone.
+use Rattle.std.proofs.Common.{◌≡◌, ◌≢◌, ◌+◌, ◌∙◌, ℕ, List, [], ◌∷◌, ◌++◌, length, Option, refl, ap, sym, arith, append_assoc, length-append}
+use Rattle.hart_frame.specs.heard.Character.{Character}
+use Rattle.hart_cli.specs.declared.fault.CliFault.{CliFault}
+use Rattle.hart_cli.specs.input.Input.{Ending}
+use Rattle.hart_cli.specs.text.Heard.{HasHeard, HasNoSilence, Heard, NothingBegins, ReadsHeard, heard_chars, items, silence}
+use Rattle.hart_cli.specs.text.InputChars.{HasChars, all, bad_hex, decided_bad_hex, failure, limit}
+use Rattle.hart_cli.specs.text.Items.{HasBadHexBy, NoPieceBegins, ReadsUpTo, closed, nothing, piece, spelling}
+use Rattle.hart_cli.proofs.lemmas.text.Heard.{heard_laws}
+use Rattle.hart_cli.proofs.lemmas.text.Items.{ReadsUpTo-more}
+use Rattle.hart_cli.proofs.lemmas.text.Reads.{now_bad}
+
+-- what is left of a text stands at its end
+rest_of : (text : List ℕ) (chars : List Character) (rest : List ℕ) → ReadsUpTo text chars rest → (before : List ℕ) × (text ≡ before ++ rest)
+rest_of _ _ _ (nothing rest) = ([], refl)
+rest_of _ _ _ (piece text p tail chars rest h r) =
+    let (before, is) = rest_of tail chars rest r in
+    (spelling p ++ before, h.spelled ∙ (ap (λ xs. spelling p ++ xs) is ∙ sym (append_assoc (spelling p) before rest)))
+
+-- a text without a silence reads as characters
+pub reads_plain : (text : List ℕ) (heard : List Heard) (rest : List ℕ) → ReadsHeard text heard rest → HasNoSilence text
+    → (chars : List Character) × (heard ≡ heard_chars chars) × ReadsUpTo text chars rest
+reads_plain _ _ _ (items text chars rest r) none = (chars, refl, r)
+reads_plain _ _ _ (silence text chars rest heard last r h) none =
+    let (before, is) = rest_of text chars (47 ∷ rest) r in absurd (none before rest is)
+
+-- a byte that is not in a text is not in it with another one after it
+not_after : (last byte : ℕ) → last ≢ byte → (text before rest : List ℕ) → ((p r : List ℕ) → text ≡ p ++ byte ∷ r → ⊥)
+    → text ++ last ∷ [] ≡ before ++ byte ∷ rest → ⊥
+not_after last byte differ [] [] rest none is = let same : last ≡ byte = cc in differ same
+not_after last byte differ [] (b ∷ before) rest none is =
+    omega (arith, ap length is, length-append before (byte ∷ rest))
+not_after last byte differ (x ∷ text) [] rest none is =
+    let same : x ≡ byte = cc in none [] text (ap (λ n. n ∷ text) same)
+not_after last byte differ (x ∷ text) (b ∷ before) rest none is =
+    let first : x ≡ b = cc in
+    let later : text ++ last ∷ [] ≡ before ++ byte ∷ rest = cc in
+    not_after last byte differ text before rest (λ p r e. none (x ∷ p) r (ap (λ ys. x ∷ ys) e)) later
+
+-- nor has it a silence with a space after it
+no_silence_closed : (text : List ℕ) → HasNoSilence text → HasNoSilence (closed text)
+no_silence_closed text none before rest is = not_after 32 47 (λ same. omega (arith, same)) text before rest none is
+
+-- more than something is something
+some_more : (rest more : List ℕ) → rest ≢ [] → rest ++ more ≢ []
+some_more [] more some = absurd (some refl)
+some_more (n ∷ rest) more some = λ is. absurd cc
+
+-- bad hex that is decided of it is decided of items
+bad_plain : (text : List ℕ) (heard : List Heard) (chars : List Character) (place : ℕ)
+    → (k : (more : List ℕ) → HasBadHexBy ReadsHeard NothingBegins (text ++ more) heard place) → (rest : List ℕ)
+    → ReadsHeard text heard rest → ReadsUpTo text chars rest → place + length rest ≡ length text → rest ≢ [] → (more : List ℕ)
+    → HasBadHexBy ReadsUpTo NoPieceBegins (text ++ more) chars place
+bad_plain text heard chars place k rest read reads begins some more =
+    let later = k more in
+    let first = heard_laws.more text heard rest more read in
+    let (between, on, split) = heard_laws.goes_on (text ++ more) heard (rest ++ more) heard later.rest first later.reads later.no_piece in
+    let long : length later.rest ≡ length (rest ++ more) =
+    omega (arith, begins, later.begins, length-append text more, length-append rest more) in
+    let still = heard_laws.still (rest ++ more) between later.rest on long in
+    record {
+      rest = rest ++ more;
+      reads = ReadsUpTo-more text chars rest more reads;
+      begins = omega (arith, begins, length-append text more, length-append rest more);
+      more = some_more rest more some;
+      no_piece = rw still at later.no_piece.no_piece;
+    }
+
+-- what was heard in an input without a silence is its characters
+pub plain_input : (text : List ℕ) (ending : Ending) (heard : List Heard) (fault : Option CliFault) → HasHeard text ending heard fault
+    → HasNoSilence text → (chars : List Character) × (heard ≡ heard_chars chars) × HasChars text ending chars fault
+plain_input text _ _ _ (all heard h) none =
+    let (chars, is, reads) = reads_plain (closed text) heard [] h (no_silence_closed text none) in
+    (chars, is, all chars reads)
+plain_input text _ _ _ (bad_hex heard place h) none =
+    let (chars, is, reads) = reads_plain (closed text) heard h.rest h.reads (no_silence_closed text none) in (
+      chars,
+      is,
+      bad_hex chars place
+          (record { rest = h.rest; reads = reads; begins = h.begins; more = h.more; no_piece = h.no_piece.no_piece }),
+    )
+plain_input text _ _ _ (decided_bad_hex heard place k) none =
+    let now = now_bad ReadsHeard NothingBegins heard_laws text heard place k in
+    let (chars, is, reads) = reads_plain text heard now.rest now.reads none in
+    (chars, is, decided_bad_hex chars place (bad_plain text heard chars place k now.rest now.reads reads now.begins now.more))
+plain_input text _ _ _ (failure heard h) none =
+    let (chars, is, reads) = reads_plain text heard h.rest h.reads none in (
+      chars,
+      is,
+      failure chars (record { rest = h.rest; reads = reads; no_piece = h.no_piece.no_piece; open_end = h.open_end }),
+    )
+plain_input text _ _ _ (limit heard h) none =
+    let (chars, is, reads) = reads_plain text heard h.rest h.reads none in
+    (chars, is, limit chars (record { rest = h.rest; reads = reads; no_piece = h.no_piece.no_piece; open_end = h.open_end }))

@@ -1,0 +1,55 @@
+-- Texts of hex items in which the line may fall silent (own profile): a `/` stands where it did.
+use Rattle.std.specs.Prelude.{◌≡◌, ℕ, List, [], ◌∷◌, ◌++◌, map, Option}
+use Rattle.hart_frame.specs.heard.Character.{Character}
+use Rattle.hart_cli.specs.declared.fault.CliFault.{CliFault}
+use Rattle.hart_cli.specs.input.Input.{Ending}
+use Rattle.hart_cli.specs.text.InputChars.{HasHeardBy}
+use Rattle.hart_cli.specs.text.Items.{NoPieceBegins, ReadsSoFarBy, ReadsUpTo}
+
+-- What is heard on a line is characters, and silences between them.
+pub data Heard : Type 0 where
+  HeardChar : (character : Character) → Heard
+  Silence : Heard
+
+-- Characters are heard one after another.
+abbrev pub heard_chars : List Character → List Heard
+heard_chars chars = map HeardChar chars
+
+-- What comes after characters goes on from them: they stand before its first stretch.
+abbrev pub after_chars : List Character → List (List Character) → List (List Character)
+after_chars chars [] = chars ∷ []
+after_chars chars (first ∷ later) = (chars ++ first) ∷ later
+
+-- What is heard falls into stretches, of which each but the last ends where the line falls silent.
+abbrev pub stretches : List Heard → List (List Character)
+stretches [] = [] ∷ []
+stretches (HeardChar character ∷ heard) = after_chars (character ∷ []) (stretches heard)
+stretches (Silence ∷ heard) = [] ∷ stretches heard
+
+-- A text reads as what was heard up to a rest of it, if texts of items stand end to end before that rest, with a `/`, which is 47, between
+-- two of them.
+pub data ReadsHeard : List ℕ → List Heard → List ℕ → Type 0 where
+  items : (text : List ℕ) (chars : List Character) (rest : List ℕ) → ReadsUpTo text chars rest → ReadsHeard text (heard_chars chars) rest
+  silence : (text : List ℕ) (chars : List Character) (rest : List ℕ) (heard : List Heard) (last : List ℕ)
+      → ReadsUpTo text chars (47 ∷ rest) → ReadsHeard rest heard last → ReadsHeard text (heard_chars chars ++ Silence ∷ heard) last
+
+-- A `/` stands at the beginning of a text.
+abbrev pub BeginsWithSilence : List ℕ → Type 0
+BeginsWithSilence text = (rest : List ℕ) × (text ≡ 47 ∷ rest)
+
+-- Neither a piece nor a `/` stands at the beginning of a text.
+pub record NothingBegins (text : List ℕ) : Type 0 where
+  pub no_piece : NoPieceBegins text
+  pub no_silence : BeginsWithSilence text → ⊥
+
+-- No `/` stands in a text.
+abbrev pub HasNoSilence : List ℕ → Type 0
+HasNoSilence text = (before rest : List ℕ) → text ≡ before ++ 47 ∷ rest → ⊥
+
+-- What was heard in an input is what stands before its fault.
+abbrev pub HasHeard : List ℕ → Ending → List Heard → Option CliFault → Type 0
+HasHeard = HasHeardBy ReadsHeard NothingBegins
+
+-- While an input may go on, it reads so far as what was heard.
+abbrev pub ReadsHeardSoFar : List ℕ → List Heard → Type 0
+ReadsHeardSoFar = ReadsSoFarBy ReadsHeard NothingBegins
