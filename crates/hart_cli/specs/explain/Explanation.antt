@@ -38,8 +38,8 @@ abbrev pub ComeFirst : List Heard → List Seen → Type 0
 ComeFirst heard seen =
     (more : List Heard) (all : List Seen) → AreSightingsOf (heard ++ more) all → (later : List Seen) × (all ≡ seen ++ later)
 
--- This explanation of what was heard is decided: whatever is heard next, the sightings that it is of come first, and with no other one
--- after them they do.
+-- This explanation of what was heard is decided: whatever is heard next, the sightings that it is of come first, and no further sighting
+-- is sure to come after them.
 pub record IsDecidedExplanation (heard : List Heard) (text : List ℕ) : Type 0 where
   pub seen : List Seen
   pub first : ComeFirst heard seen

@@ -4,7 +4,7 @@ use Rattle.hart_frame.specs.heard.Character.{Character}
 use Rattle.hart_cli.specs.declared.fault.CliFault.{CliFault}
 use Rattle.hart_cli.specs.input.Input.{Ending}
 use Rattle.hart_cli.specs.text.InputChars.{HasHeardBy}
-use Rattle.hart_cli.specs.text.Items.{NoPieceBegins, ReadsSoFarBy, ReadsUpTo}
+use Rattle.hart_cli.specs.text.Items.{NoPieceBegins, ReadsUpTo}
 
 -- What is heard on a line is characters, and silences between them.
 pub data Heard : Type 0 where
@@ -49,7 +49,3 @@ HasNoSilence text = (before rest : List ℕ) → text ≡ before ++ 47 ∷ rest 
 -- What was heard in an input is what stands before its fault.
 abbrev pub HasHeard : List ℕ → Ending → List Heard → Option CliFault → Type 0
 HasHeard = HasHeardBy ReadsHeard NothingBegins
-
--- While an input may go on, it reads so far as what was heard.
-abbrev pub ReadsHeardSoFar : List ℕ → List Heard → Type 0
-ReadsHeardSoFar = ReadsSoFarBy ReadsHeard NothingBegins
