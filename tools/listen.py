@@ -1,0 +1,128 @@
+#!/usr/bin/env python3
+"""Tries `tools/hart-listen` on a pseudo-terminal: what it hears at the pace of a line has to be explained in time.
+
+Characters go to the pseudo-terminal at 1200 baud. `hart explain` has to say each message at most 0.2 s after its last character, and
+each cut message at most 0.2 s after the silence behind it. Then the port goes away.
+
+Usage: tools/listen.py PROGRAM
+"""
+
+import argparse
+import importlib.machinery
+import importlib.util
+import os
+import pathlib
+import re
+import select
+import subprocess
+import sys
+import time
+import tty
+
+LISTENER = pathlib.Path(__file__).with_name("hart-listen")
+# A character has a start bit, 8 data bits, a parity bit and a stop bit.
+CHARACTER = 11 / 1200
+SILENCE = 0.050
+LATE = 0.2
+REQUEST = bytes.fromhex("FFFFFFFFFF82B7420A1B2C1303012345 3D")
+CUT = REQUEST[:-3]
+# What is heard, what the first line then says, and how long it may take after the last character.
+ROWS = (
+    (REQUEST, r"5-17: request of the primary master", LATE),
+    (CUT, r"22: no message: it lacks 3 characters", SILENCE + LATE),
+    (REQUEST, r"36-48: request of the primary master", LATE),
+)
+TIME = r"\d\d:\d\d:\d\d\.\d\d\d "
+# What a port with marks delivers, in the pieces in which it comes, and the items of each piece.
+READINGS = (
+    ((b"\x02\x80",), ["02 80"]),
+    ((b"\xff\xff\xff\xff\x02",), ["FF FF 02"]),
+    ((b"\xff", b"\xff\x02"), ["", "FF 02"]),
+    ((b"\x82\xff\x00\x41\x42",), ["82 41!40 42"]),
+    ((b"\xff\x00", b"\x00\x01"), ["", "00!40 01"]),
+    ((b"\xff", b"\x00", b"\xff\xff\xff"), ["", "", "FF!40 FF"]),
+)
+
+
+def fails(why):
+    sys.exit(f"listen: {why}")
+
+
+def listener():
+    """Returns hart-listen as a module."""
+    loader = importlib.machinery.SourceFileLoader("hart_listen", str(LISTENER))
+    module = importlib.util.module_from_spec(importlib.util.spec_from_loader("hart_listen", loader))
+    loader.exec_module(module)
+    return module
+
+
+def try_readings():
+    for pieces, wanted in READINGS:
+        reading = listener().Reading()
+        shown = [" ".join(reading.items(it)) for it in pieces]
+        if shown != wanted:
+            fails(f"{pieces} gives {shown}, but {wanted} is wanted")
+
+
+def play(port, characters):
+    """Sends characters at the pace of the line, and returns when the last one was sent."""
+    start = time.monotonic()
+    for count, byte in enumerate(characters, start=1):
+        os.write(port, bytes([byte]))
+        time.sleep(max(0.0, start + count * CHARACTER - time.monotonic()))
+    return time.monotonic()
+
+
+def first_line(output, patience):
+    """Returns the next line that is written, or None if none comes in time."""
+    line = b""
+    deadline = time.monotonic() + patience
+    while not line.endswith(b"\n"):
+        if not select.select([output], [], [], max(0.0, deadline - time.monotonic()))[0]:
+            return None
+        line += os.read(output.fileno(), 1)
+    return line.decode()
+
+
+def drop_rest(output):
+    """Reads what is still said of the same message."""
+    while select.select([output], [], [], SILENCE)[0]:
+        os.read(output.fileno(), 65536)
+
+
+def try_rows(port, output):
+    for number, (heard, wanted, limit) in enumerate(ROWS, start=1):
+        ended = play(port, heard)
+        line = first_line(output, limit)
+        if line is None:
+            fails(f"row {number}: nothing was said within {limit} s")
+        if not re.match(TIME + wanted, line):
+            fails(f"row {number}: it says {line!r}, but {wanted!r} is wanted")
+        print(f"listen: row {number}: said after {time.monotonic() - ended:.3f} s")
+        drop_rest(output)
+
+
+def main():
+    parser = argparse.ArgumentParser()
+    parser.add_argument("program")
+    program = parser.parse_args().program
+    try_readings()
+    port, terminal = os.openpty()
+    tty.setraw(terminal)
+    heard = subprocess.Popen([LISTENER, os.ttyname(terminal)], stdout=subprocess.PIPE, stderr=subprocess.PIPE, text=True)
+    said = subprocess.Popen([program, "explain"], stdin=heard.stdout, stdout=subprocess.PIPE)
+    heard.stdout.close()
+    time.sleep(0.5)
+    os.close(terminal)
+    try_rows(port, said.stdout)
+    os.close(port)
+    status, sentence = heard.wait(timeout=5), heard.stderr.read()
+    if status != 1 or not sentence.endswith(" is gone\n"):
+        fails(f"without a port it ends with {status} and {sentence!r}")
+    if said.wait(timeout=5) != 0:
+        fails("hart explain did not end with 0")
+    print("listen: as wanted")
+
+
+if __name__ == "__main__":
+    main()
