@@ -1,25 +1,25 @@
-# hart: HART messages, found, read and written by proved code.
+# hart: the HART protocol, proved.
 #
-#   make                      builds the proved program and leaves it as ./hart
-#   make quick                builds ./hart-unproved, of which nothing is proved, for a first look within two minutes
-#   make check                runs every proof and every test, and ends with the count of what passed and what failed
-#   make test                 proves every crate and runs every test and script, but tries no wrong body: the quick one of the two
-#   make mistakes             tries the wrong bodies of crates/NAME/mistakes in batches, as make check does
-#   make mistakes-table       tries all wrong bodies in batches, and writes the table of docs/WRONG_BODIES.md
-#   make refused-growths      refuses each allocation of ./hart and of each call by its name in turn, as make check does
-#   make runs                 runs ./hart on rows of words and inputs, with reads and writes cut short, as make check does
-#   make streams              runs ./hart on streams that fail and for its texts, as make check does
-#   make examples             runs the examples of help and pages on ./hart, as make check does
-#   make vectors              makes docs/vectors.tsv of what ./hart replies; make check holds it against the program
-#   make held-view            tries that nothing is pushed to a scanner while a view of it is held, as make check does
-#   make fuzz N=..            holds ./hart against a plain model of it on N random inputs; make check does not
-#   make manual               holds the page of man and the completion for bash against the help of ./hart, as make check does
-#   make links                finds dead links in the pages, as make check does
-#   make install PREFIX=DIR   puts hart into DIR/bin, and its page of man, the completion and the guide into DIR/share
-#   make library              proves the library for C and leaves it as build/libhart.a and build/libhart.so
-#   make library-examples     makes each call of the library from C, builds its examples and holds them against ./hart, as make check does
-#   make install-library PREFIX=DIR   puts the library, its header and hart.pc below DIR
-#   make bench                measures hart dump, hart answer, hart explain and hart sim; it asserts no time
+#   make                      builds the proved program, ./hart
+#   make quick                builds ./hart-unproved within two minutes, with nothing proved
+#   make check                runs every proof and test and tries each wrong body; its last line counts what passed and failed
+#   make test                 proves every crate and runs every test and script, without the wrong bodies
+#   make mistakes             tries the wrong bodies of crates/NAME/mistakes in batches
+#   make mistakes-table       tries all wrong bodies, and writes the table of docs/WRONG_BODIES.md
+#   make refused-growths      refuses each allocation of ./hart and of each call in turn
+#   make runs                 runs ./hart on rows of words and inputs, with reads and writes cut short
+#   make streams              runs ./hart on streams that fail, and compares its help texts
+#   make examples             runs the examples of help and pages on ./hart
+#   make vectors              writes docs/vectors.tsv from what ./hart replies; make check compares it
+#   make held-view            checks that the compiler rejects a push to a scanner while a view of it is held
+#   make fuzz N=..            compares ./hart with a plain model on N random inputs; not part of make check
+#   make manual               checks the man page and the bash completion against --help
+#   make links                finds dead links in the pages
+#   make install PREFIX=DIR   installs hart and hart-listen, their man page, completion and guide below DIR
+#   make library              builds build/libhart.a and build/libhart.so
+#   make library-examples     makes each call of the library from C, and runs its examples against ./hart
+#   make install-library PREFIX=DIR   installs the library, its header and hart.pc below DIR
+#   make bench                measures dump, answer, explain and sim; it asserts no time
 
 PREFIX ?= /usr/local
 N ?= 10000
@@ -56,6 +56,7 @@ test: hart
 	sh tools/manual.sh
 	sh tools/held-view.sh
 	sh tools/library-examples.sh
+	python3 tools/listen.py ./hart
 	python3 tools/links.py
 	python3 tools/doc_examples.py
 
@@ -96,6 +97,7 @@ bench: hart
 install: hart
 	install -d $(PREFIX)/bin $(PREFIX)/share/man/man1 $(PREFIX)/share/bash-completion/completions $(PREFIX)/share/doc/hart
 	install -m 755 hart $(PREFIX)/bin/hart
+	install -m 755 tools/hart-listen $(PREFIX)/bin/hart-listen
 	install -m 644 docs/hart.1 $(PREFIX)/share/man/man1/hart.1
 	install -m 644 docs/hart.bash $(PREFIX)/share/bash-completion/completions/hart
 	install -m 644 $(GUIDE) $(PREFIX)/share/doc/hart

@@ -66,7 +66,8 @@ if [ -f "$program" ]; then
     passed=$((passed + ${refused:-0}))
     failed=$((failed + ${unrefused:-1}))
     for script in "python3 tools/mistakes.py --gate $work/proved --can-fail" "sh tools/"{runs,refused-growths,streams,examples,vectors,manual,held-view}".sh $program" \
-        "sh tools/library-examples.sh --gate $work/proved $program" "python3 tools/links.py" "python3 tools/doc_examples.py"; do
+        "sh tools/library-examples.sh --gate $work/proved $program" "python3 tools/listen.py $program" \
+        "python3 tools/links.py" "python3 tools/doc_examples.py"; do
         if ! $script; then
             echo "$script: FAILED"
             note 1
