@@ -7,7 +7,7 @@ fault are heard together, some of them in one call, which is quicker. At first t
 messages. A difference is printed with the smallest words and input that were found to show one. The cases of a seed are always the
 same. The last line is `N passed, M failed`, and the status is 1 after any difference.
 
-Usage: tools/fuzz.py [PROGRAM] [--cases N] [--seed S] [--only dump|explain|answer|serve|sim|encode]; PROGRAM is ./hart, N 10000, and S
+Usage: tools/fuzz.py [PROGRAM] [--cases N] [--seed S] [--only CALL]; PROGRAM is ./hart, N 10000, and S
 another one in each run.
 """
 
@@ -21,7 +21,7 @@ from typing import NamedTuple
 
 sys.dont_write_bytecode = True
 
-from fuzz import calls, explain, scripts, serve, texts, worked  # noqa: E402
+from fuzz import calls, explain, request, scripts, serve, texts, worked  # noqa: E402
 from fuzz.shrink import Shrinker  # noqa: E402
 from fuzz.texts import Given  # noqa: E402
 
@@ -34,7 +34,7 @@ MOST_SHOWN = 2000
 
 
 class Call(NamedTuple):
-    """A call of the program: its name, how often it is tried among fourteen, the maker of what it is given, and the model of it."""
+    """A call of the program: its name, how often it is tried among fifteen, the maker of what it is given, and the model of it."""
 
     name: str
     share: int
@@ -49,6 +49,7 @@ CALLS = (
     Call("serve", 2, calls.serve_given, serve.serve),
     Call("sim", 3, calls.sim_given, scripts.sim),
     Call("encode", 1, calls.encode_given, texts.encode),
+    Call("request", 1, request.request_given, request.request),
 )
 BY_NAME = {call.name: call for call in CALLS}
 
