@@ -32,7 +32,6 @@ ROWS = (
     (CUT, r"22: no message: it lacks 3 characters", SILENCE + LATE),
     (REQUEST, r"36-48: request of the primary master", LATE),
 )
-TIME = r"\d\d:\d\d:\d\d\.\d\d\d "
 # What a port with marks delivers, in the pieces in which it comes, and the items of each piece.
 READINGS = (
     ((b"\x02\x80",), ["02 80"]),
@@ -96,7 +95,7 @@ def try_rows(port, output):
         line = first_line(output, limit)
         if line is None:
             fails(f"row {number}: nothing was said within {limit} s")
-        if not re.match(TIME + wanted, line):
+        if not re.match(wanted, line):
             fails(f"row {number}: it says {line!r}, but {wanted!r} is wanted")
         print(f"listen: row {number}: said after {time.monotonic() - ended:.3f} s")
         drop_rest(output)
