@@ -176,7 +176,7 @@ fn show_field(kind: FieldKind, start: u8, len: u8, count: usize, fields: &mut [H
     }
 }
 
-/// The number of a way in which the bytes of a field are meant, for C.
+/// Returns the number of a way in which the bytes of a field are meant, for C.
 fn kind_number(kind: FieldKind) -> u8
     ensures { result ≡ kind_number kind }
 {

@@ -109,7 +109,7 @@ fn hear(
     Ok(len)
 }
 
-/// The device in the state that is kept.
+/// Returns the device in the state that is kept.
 fn kept_state(identity: &HartIdentity, device: &HartDevice) -> Result<Device<ImageRegisters>, Fault>
     ensures kept { IfOk result (IsKept (parts_of identity.now) device.now) }
     ensures refused { IfErr result (IsFirstOf (state_checks identity.now device.now)) }

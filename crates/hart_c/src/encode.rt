@@ -11,7 +11,7 @@ use crate::output::{outcome_of, put};
 use hart_frame::{Expansion, Frame, FrameKind, Message, Payload, encode};
 use hart_values::{Address, MasterId};
 
-/// Writes a frame as a message at the front of `output`: so many preamble bytes and its body. 287 bytes are room for any. Where the
+/// Writes a frame as a message at the front of `output`: this number of preamble bytes and its body. 287 bytes are room for any. Where the
 /// frame stands is not looked at.
 ///
 /// # Errors
@@ -43,7 +43,7 @@ fn write_message(frame: &HartFrame, preambles: u8, output: &mut [u8]) -> Result<
     put(message.as_slice(), output)
 }
 
-/// The frame of these numbers.
+/// Returns the frame of these numbers.
 pub(crate) fn frame_of(frame: &HartFrame) -> Result<Frame, Fault>
     ensures same { IfOk result (λ made. made ≡ frame_in frame.now) }
     ensures frame { IfOk result (λ made. IsFrame frame.now) }
@@ -65,7 +65,7 @@ pub(crate) fn frame_of(frame: &HartFrame) -> Result<Frame, Fault>
     .map_err(Fault::Frame)
 }
 
-/// The address of these numbers, or `None` if one of them is out of range.
+/// Returns the address of these numbers, or `None` if one of them is out of range.
 fn address_of(frame: &HartFrame) -> Option<Address>
     ensures in_range { IsSome result ↔ IsInRange frame.now.is_unique frame.now }
     ensures same { IfSome result (λ address. address ≡ address_of frame.now.is_unique frame.now) }
@@ -79,7 +79,7 @@ fn address_of(frame: &HartFrame) -> Option<Address>
     Address::unique(frame.expanded_type, frame.device_id).ok()
 }
 
-/// A reply is an ACK, and any other frame an STX.
+/// Returns ACK for a reply, and otherwise STX.
 fn kind_of(is_reply: bool) -> FrameKind
     ensures { result ≡ (if is_reply then FrameKind.Ack else FrameKind.Stx) }
 {
@@ -90,7 +90,7 @@ fn kind_of(is_reply: bool) -> FrameKind
     }
 }
 
-/// The primary master, or the secondary one.
+/// Returns the primary master, or the secondary one.
 fn master_of(is_primary: bool) -> MasterId
     ensures { result ≡ (if is_primary then MasterId.Primary else MasterId.Secondary) }
 {

@@ -54,7 +54,7 @@ pub const HART_BROADCAST_ADDRESS: u8 = 17;
 /// An image of a version that is not known.
 pub const HART_BAD_VERSION: u8 = 18;
 
-/// An image of no bytes, or not of as many as its version has.
+/// An image of no bytes, or of another length than its version has.
 pub const HART_BAD_LENGTH: u8 = 19;
 
 /// A register would hold bytes that are not valid in it, or the flags of an image are above 7.
@@ -108,7 +108,7 @@ pub(crate) enum Fault {
 }
 
 impl Fault {
-    /// Its number for C.
+    /// Returns its number for C.
     pub fn number(self) -> u8
         ensures { result ≡ number_of self }
     {
@@ -127,7 +127,7 @@ impl Fault {
     }
 }
 
-/// The number of a fault of a device for C.
+/// Returns the number of a fault of a device for C.
 fn number_of_device_fault(fault: DeviceFault) -> u8
     ensures { result ≡ number_of (Fault.Device fault) }
 {
@@ -140,7 +140,7 @@ fn number_of_device_fault(fault: DeviceFault) -> u8
     }
 }
 
-/// The number of a fault of a frame for C.
+/// Returns the number of a fault of a frame for C.
 pub(crate) fn number_of_frame_fault(fault: FrameFault) -> u8
     ensures { result ≡ frame_fault_number fault }
 {

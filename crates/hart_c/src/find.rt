@@ -61,7 +61,7 @@ pub extern "C" fn hart_find_in_bytes(
     found_so_far(used, count)
 }
 
-/// That so many characters are used up, and so many frames were found.
+/// Returns the result of a search that used up this number of characters and found this number of frames.
 fn found_so_far(used: usize, count: usize) -> HartSearch
     ensures { result ≡ record { used = used; count = count; fault = 0 } }
 {
@@ -122,7 +122,7 @@ fn copy_front(heard: &[HartChar], chunk: &mut [Char]) -> usize
     count
 }
 
-/// The character that was passed.
+/// Returns the character that was passed.
 pub(crate) fn char_of(given: &HartChar) -> Char
     requires { AreFaultBits given.now.faults }
     ensures { result ≡ char_of given.now }

@@ -34,9 +34,9 @@ pub struct HartFrame {
     pub expansion_len: u8,
     /// How many payload bytes there are.
     pub payload_len: u8,
-    /// The expansion bytes; those after so many mean nothing.
+    /// The expansion bytes; the first `expansion_len` count.
     pub expansion: [u8; 3],
-    /// The payload, of a reply from its two status bytes on; bytes after so many mean nothing.
+    /// The payload, of a reply from its two status bytes on; the first `payload_len` bytes count.
     pub payload: [u8; 255],
 }
 

@@ -10,7 +10,7 @@ use hart_frame::Char;
 /// The most characters that are heard at once.
 const MOST_CHARACTERS: usize = 1024;
 
-/// A delivery, which is what is heard at once: the first so many of these characters.
+/// A delivery, which is what is heard at once: the first `len` of these characters.
 #[derive(Drop)]
 pub(crate) struct Delivery {
     chars: [Char; MOST_CHARACTERS],
@@ -19,7 +19,7 @@ pub(crate) struct Delivery {
 }
 
 impl Delivery {
-    /// Its characters.
+    /// Returns its characters.
     pub fn as_slice(&self) -> &[Char]
         ensures { result.now ≡ take self.now.len self.now.chars }
     {
@@ -27,7 +27,7 @@ impl Delivery {
     }
 }
 
-/// The delivery of these characters.
+/// Returns the delivery of these characters.
 pub(crate) fn delivery_of(heard: &[HartChar]) -> Result<Delivery, Fault>
     ensures same { IfOk result (λ delivery. take delivery.len delivery.chars ≡ map char_of heard.now) }
     ensures accepted { IfOk result (λ delivery. AllPass (heard_checks heard.now)) }
@@ -49,7 +49,7 @@ pub(crate) fn delivery_of(heard: &[HartChar]) -> Result<Delivery, Fault>
     })
 }
 
-/// Whether no character has another bit than fault bits.
+/// Returns true if no character has another bit than fault bits.
 pub(crate) fn have_fault_bits(heard: &[HartChar]) -> bool
     ensures { IsTrue result ↔ HaveFaultBits heard.now }
 {

@@ -59,7 +59,7 @@ pub extern "C" fn hart_bench_identity(identity: &mut HartIdentity)
     };
 }
 
-/// The parts that these numbers say.
+/// Returns the parts that these numbers say.
 pub(crate) fn parts_of(identity: &HartIdentity) -> IdentityParts
     ensures { result ≡ parts_of identity.now }
 {

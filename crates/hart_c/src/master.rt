@@ -51,7 +51,7 @@ const NO_ADDRESS: HartUnique = HartUnique {
     device_id: 0,
 };
 
-/// Whether what was heard at once is the reply to a request that was sent, as a master accepts it. `reply` then shows its frame, and
+/// Returns true if what was heard at once is the reply to a request that was sent, as a master accepts it. `reply` then shows its frame, and
 /// where that stands.
 ///
 /// # Errors
@@ -69,7 +69,7 @@ pub extern "C" fn hart_accept(
     acceptance_of(accept(request, heard, reply))
 }
 
-/// What was accepted, or the fault, as numbers for C.
+/// Returns what was accepted, or the fault, as numbers for C.
 fn acceptance_of(accepted: Result<Option<Reply>, Fault>) -> HartAcceptance
     ensures { result ≡ acceptance_of accepted }
 {
@@ -97,7 +97,7 @@ fn not_accepted(fault: u8) -> HartAcceptance
     }
 }
 
-/// The reply to a request that was sent, if what was heard is that, and shows its frame.
+/// Returns the reply to a request that was sent, if what was heard is that, and shows its frame.
 fn accept(
     request: &HartFrame,
     heard: &[HartChar],
@@ -119,7 +119,7 @@ fn accept(
     Ok(Some(said))
 }
 
-/// The master that sent a request, and awaits its reply.
+/// Returns the master that sent a request, and awaits its reply.
 fn sent(request: &HartFrame) -> Result<Master, Fault>
     ensures awaits { IfOk result (λ master. (asked : Request) × IsSent request.now asked × (master.id ≡ (frame_in request.now).master)
         × (master.hand ≡ Awaiting (record { address = (frame_in request.now).address; request = asked; sendings = 1 }) 0)) }
@@ -136,7 +136,7 @@ fn sent(request: &HartFrame) -> Result<Master, Fault>
     Ok(master)
 }
 
-/// The request that a master asks with a frame.
+/// Returns the request that a master asks with a frame.
 fn asked_by(frame: &Frame) -> Result<Request, Fault>
     ensures asked { IfOk result (IsAsked frame.now) }
     ensures refused { IfErr result (λ fault. (fault ≡ Fault.NoRequest) × ((request : Request) → IsAsked frame.now request → ⊥)) }
@@ -150,7 +150,7 @@ fn asked_by(frame: &Frame) -> Result<Request, Fault>
     }
 }
 
-/// The unique address that the payload of a reply to a command gives: that of an identity with code 0, if it is not broadcast. Commands
+/// Returns the unique address that the payload of a reply to a command gives: that of an identity with code 0, if it is not broadcast. Commands
 /// 0, 11 and 21 are replied to with an identity.
 #[unsafe(no_mangle)]
 pub extern "C" fn hart_unique_of(command: u8, payload: &[u8]) -> HartUnique
@@ -164,7 +164,7 @@ pub extern "C" fn hart_unique_of(command: u8, payload: &[u8]) -> HartUnique
     given_of(unique_of(&reply))
 }
 
-/// The numbers of a unique address.
+/// Returns the numbers of a unique address.
 fn given_of(address: Option<Address>) -> HartUnique
     ensures given { result ≡ given_of address }
     ensures expanded_type { result.expanded_type < 2 ^ 14 }

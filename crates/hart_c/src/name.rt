@@ -41,7 +41,7 @@ pub extern "C" fn hart_field_name(
     write_name(name, output)
 }
 
-/// The fields of a command.
+/// Returns the fields of a command.
 fn rows_for(is_reply: bool, command: u8) -> &'static [FieldRow]
     ensures { map seen result.now ≡ rows_for is_reply command }
 {

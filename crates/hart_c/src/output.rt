@@ -17,7 +17,7 @@ pub(crate) fn put(bytes: &[u8], output: &mut [u8]) -> Result<usize, Fault>
     Ok(bytes.len())
 }
 
-/// How many bytes were written, or the fault, as numbers for C.
+/// Returns how many bytes were written, or the fault, as numbers for C.
 pub(crate) fn outcome_of(written: Result<usize, Fault>) -> HartOutcome
     ensures { result ≡ outcome_of written }
 {

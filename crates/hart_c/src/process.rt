@@ -65,7 +65,7 @@ pub struct HartProcess {
     pub loop_current: [u8; 4],
     /// The percent of range, a float.
     pub percent_of_range: [u8; 4],
-    /// The dynamic variables, the primary one first; those after so many mean nothing.
+    /// The dynamic variables, the primary one first; the first `variables_len` count.
     pub variables: [HartVariable; 4],
     /// How many dynamic variables there are, 1 to 4.
     pub variables_len: u8,
@@ -109,7 +109,7 @@ pub extern "C" fn hart_bench_process(process: &mut HartProcess)
     };
 }
 
-/// The numbers of a variable.
+/// Returns the numbers of a variable.
 fn variable_shown(variable: &ProcessVariable) -> HartVariable
     ensures { variable_of result ≡ variable.now }
 {
@@ -121,7 +121,7 @@ fn variable_shown(variable: &ProcessVariable) -> HartVariable
     }
 }
 
-/// The numbers of a sensor.
+/// Returns the numbers of a sensor.
 fn sensor_shown(sensor: &SensorContent) -> HartSensor
     ensures { sensor_of result ≡ sensor.now }
 {
@@ -134,7 +134,7 @@ fn sensor_shown(sensor: &SensorContent) -> HartSensor
     }
 }
 
-/// The numbers of a loop current output.
+/// Returns the numbers of a loop current output.
 fn output_shown(output: &OutputValues) -> HartOutput
     ensures { output_of result ≡ output.now }
 {
@@ -149,7 +149,7 @@ fn output_shown(output: &OutputValues) -> HartOutput
     }
 }
 
-/// The process that these numbers say, or `None` if they have no variable or more than four.
+/// Returns the process that these numbers say, or `None` if they have no variable or more than four.
 pub(crate) fn process_of(given: &HartProcess) -> Option<Process>
     ensures accepted { IsSome result ↔ HasVariables given.now }
     ensures same { IfSome result (IsProcessOf given.now) }
@@ -169,7 +169,7 @@ pub(crate) fn process_of(given: &HartProcess) -> Option<Process>
     })
 }
 
-/// The variables that these numbers say.
+/// Returns the variables that these numbers say.
 fn variables_of(given: &[HartVariable]) -> ShortList<ProcessVariable, 3>
     requires { length given.now ≤ 3 }
     ensures { result ≡ map variable_of given.now }
@@ -181,7 +181,7 @@ fn variables_of(given: &[HartVariable]) -> ShortList<ProcessVariable, 3>
     variables
 }
 
-/// The variable that these numbers say.
+/// Returns the variable that these numbers say.
 fn variable_of(given: &HartVariable) -> ProcessVariable
     ensures { result ≡ variable_of given.now }
 {
@@ -193,7 +193,7 @@ fn variable_of(given: &HartVariable) -> ProcessVariable
     }
 }
 
-/// The sensor that these numbers say.
+/// Returns the sensor that these numbers say.
 fn sensor_of(given: &HartSensor) -> SensorContent
     ensures { result ≡ sensor_of given.now }
 {
@@ -206,7 +206,7 @@ fn sensor_of(given: &HartSensor) -> SensorContent
     }
 }
 
-/// The loop current output that these numbers say.
+/// Returns the loop current output that these numbers say.
 fn output_of(given: &HartOutput) -> OutputValues
     ensures { result ≡ output_of given.now }
 {

@@ -61,7 +61,7 @@ impl CliFault {
         }
     }
 
-    /// The text of the fault and a line feed, made without memory, so that refused memory can be reported. It is pushed part by
+    /// Returns the text of the fault and a line feed, made without memory, so that refused memory can be reported. It is pushed part by
     /// part: no contract of `write!` says that it succeeds.
     pub fn text_line(self) -> ArrayString<LONGEST_LINE>
         ensures { result.bytes ≡ fault_line self }
@@ -73,7 +73,7 @@ impl CliFault {
         line
     }
 
-    /// The text of the fault, before the reason why the word of a field is bad.
+    /// Returns the text of the fault, before the reason why the word of a field is bad.
     fn text(self) -> FaultText
         ensures { joined result ≡ text_before_reason self }
     {
@@ -95,7 +95,7 @@ impl CliFault {
         }
     }
 
-    /// The reason why the word of a field is bad; no other fault has one.
+    /// Returns the reason why the word of a field is bad; no other fault has one.
     fn reason(self) -> Reason
         ensures { reasoned result ≡ reason_of self }
     {
@@ -145,7 +145,7 @@ impl fmt::Display for CliFault {
 impl From<Failed> for CliFault {
     ghost from_gives = { λ _ e. e ≡ Write };
 
-    /// What a writer answers is a fault of the writer: a reader's failure is an end of the input.
+    /// Makes a failure a write fault. A reader's failure is an end of the input instead.
     fn from(_failed: Failed) -> CliFault {
         CliFault::Write
     }
@@ -170,7 +170,7 @@ impl From<NoRoom> for CliFault {
 impl From<DeviceFault> for CliFault {
     ghost from_gives = { λ fault e. e ≡ Image fault };
 
-    /// What a device is refused for is a fault of its image: the program makes no device of other parts.
+    /// Makes a fault of a device one of its image: the program makes no device of other parts.
     fn from(fault: DeviceFault) -> CliFault {
         CliFault::Image(fault)
     }

@@ -29,7 +29,7 @@ impl<'a> Model for ImageWord<'a> {
     ghost view = { λ image. option_map (λ word. word.now) image.word };
 }
 
-/// The bench device, as it is new or, with an image, in the state that the image is of, with no cold start bit set.
+/// Returns the bench device, as it is new or, with an image, in the state that the image is of, with no cold start bit set.
 ///
 /// # Errors
 ///
@@ -45,7 +45,7 @@ pub fn device_of(alloc: Global, image: Option<&str>) -> Result<Device<ImageRegis
     device_from(alloc, word.as_bytes())
 }
 
-/// The bench device in the state of the image that a word writes.
+/// Returns the bench device in the state of the image that a word writes.
 fn device_from(alloc: Global, word: &[u8]) -> Result<Device<ImageRegisters>, CliFault>
     ensures device { IfOk result (IsDeviceOf (Some word.now)) }
     ensures fault { IfErr result (HasNoDevice (Some word.now)) }
@@ -55,7 +55,7 @@ fn device_from(alloc: Global, word: &[u8]) -> Result<Device<ImageRegisters>, Cli
     Ok(device)
 }
 
-/// The bytes that a word writes.
+/// Returns the bytes that a word writes.
 fn decoded(alloc: Global, word: &[u8]) -> Result<Vec<u8>, CliFault>
     ensures bytes { IfOk result (λ bytes. IsImageWord word.now bytes.items) }
     ensures fault { IfErr result (HasNoDevice (Some word.now)) }
@@ -73,7 +73,7 @@ fn decoded(alloc: Global, word: &[u8]) -> Result<Vec<u8>, CliFault>
     }
 }
 
-/// So many bytes, all zero.
+/// Returns this number of zero bytes.
 fn zeros(alloc: Global, count: usize) -> Result<Vec<u8>, NoRoom>
     ensures zeros { IfOk result (λ bytes. bytes.items ≡ replicate count 0) }
     ensures refused { IfErr result (λ none. none.items ≡ count) }

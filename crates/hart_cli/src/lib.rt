@@ -10,7 +10,10 @@
 //! let mut reader = Plain::new(b"FF FF 02 80 00 00 82".as_slice());
 //! let mut writer = Plain::new(Vec::new(rt.alloc()));
 //! dump(rt.alloc(), &mut reader, &mut writer)?;
-//! assert_eq!(rt; writer.into_inner().as_slice(), b"2 7 STX P 0 @0 - 0 -\n".as_slice());
+//! assert_eq!(rt;
+//!     writer.into_inner().as_slice(),
+//!     b"2 7 STX P 0 @0 - 0 -\n".as_slice()
+//! );
 //! ```
 //!
 //! The crate `hart` has `main` alone, which calls [`program`] with the arguments and the standard streams.

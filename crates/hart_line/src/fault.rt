@@ -18,7 +18,7 @@ pub enum Leg {
 }
 
 impl Leg {
-    /// The word of the leg.
+    /// Returns the word of the leg.
     pub fn word(self) -> &'static str
         ensures word { result.now ≡ leg_word self }
         ensures short { length result.now ≤ 5 }
@@ -62,7 +62,7 @@ impl LineFault {
         }
     }
 
-    /// The text of the fault.
+    /// Returns the text of the fault.
     pub fn text(self) -> FaultText
         ensures { joined result ≡ line_fault_text self }
     {

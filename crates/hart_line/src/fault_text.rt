@@ -20,7 +20,7 @@ pub struct FaultText {
 impl FaultText {
     ghost use Rattle.hart_line.specs.FaultText.{joined};
 
-    /// The text with no number in it.
+    /// Returns the text with no number in it.
     pub fn plain(text: &'static str) -> FaultText
         requires { length text.now ≤ 34 }
         ensures { joined result ≡ text.now }
@@ -33,7 +33,7 @@ impl FaultText {
         }
     }
 
-    /// The text that ends in a number.
+    /// Returns the text that ends in a number.
     pub fn numbered(before: &'static str, number: usize) -> FaultText
         requires { length before.now ≤ 34 }
         ensures { joined result ≡ before.now ++ decimal number }

@@ -41,21 +41,21 @@ impl<T> Filling<T> {
         Ok(Filling { items, room })
     }
 
-    /// The number of items.
+    /// Returns the number of items.
     pub fn len(&self) -> usize
         ensures { result ≡ length self.now.items }
     {
         self.items.len()
     }
 
-    /// The number of items for which there is room still.
+    /// Returns the number of items for which there is room still.
     pub fn spare(&self) -> usize
         ensures { result ≡ self.now.room - length self.now.items }
     {
         self.room.saturating_sub(self.items.len())
     }
 
-    /// The items, in order.
+    /// Returns the items, in order.
     pub fn as_slice(&self) -> &[T]
         ensures { result.now ≡ self.now.items }
     {
@@ -109,7 +109,7 @@ impl<T> Filling<T> {
         self.items.clear();
     }
 
-    /// The list, which is filled no more.
+    /// Returns the list, which is filled no more.
     pub fn finish(self) -> Vec<T>
         ensures { result.items ≡ self.items }
     {

@@ -11,8 +11,16 @@
 //! let device: Device<FieldRegisters> = Device::new(bench::identity(), &bench::register_values());
 //! let primary = Master::new(MasterId::Primary, 3, 33)?;
 //! let secondary = Master::new(MasterId::Secondary, 3, 41)?;
-//! let report = run(rt.alloc(), device, primary, secondary, events.as_slice(), &bench::process())?;
-//! assert_eq!(rt; report.outcomes.as_slice()[0], Outcome::Unfinished { sendings: 1 });
+//! let report = run(
+//!     rt.alloc(),
+//!     device,
+//!     primary,
+//!     secondary,
+//!     events.as_slice(),
+//!     &bench::process(),
+//! )?;
+//! let outcome = report.outcomes.as_slice().first().ok_or("no outcome")?;
+//! assert_eq!(rt; *outcome, Outcome::Unfinished { sendings: 1 });
 //! ```
 //!
 //! At the root stand an event, lists, faults and their texts, and memory. The rooms:

@@ -118,7 +118,7 @@ impl<S: RegisterStore> Line<S> {
         Ok(())
     }
 
-    /// What the script has led to, but for what was spoken.
+    /// Returns what the script has led to, but for what was spoken.
     pub fn into_ending(self) -> Ending<S>
         ensures device { result.device ≡ self.device }
         ensures outcomes { result.outcomes ≡ self.outcomes }
@@ -163,7 +163,7 @@ impl<S: RegisterStore> Line<S> {
         self.outcomes.push(outcome);
     }
 
-    /// A turn of a master: it sends the request in its hand, the device hears what goes up and answers, and both masters hear
+    /// Carries out a turn of a master: it sends the request in its hand, the device hears what goes up and answers, and both masters hear
     /// what comes down.
     fn turn(
         &mut self,
@@ -212,7 +212,7 @@ impl<S: RegisterStore> Line<S> {
     }
 }
 
-/// The party that a master is.
+/// Returns the party that a master is.
 fn party_of(id: MasterId) -> Party
     ensures { result ≡ party_of id }
 {
@@ -222,14 +222,14 @@ fn party_of(id: MasterId) -> Party
     }
 }
 
-/// The frame, if there is one.
+/// Returns the frame, if there is one.
 fn frame_if(is_there: bool, frame: &Frame) -> Option<&Frame>
     ensures { option_copied result ≡ frame_if is_there frame.now }
 {
     if is_there { Some(frame) } else { None }
 }
 
-/// What a HART line has if no frame was written yet.
+/// Returns a frame to be written over.
 fn no_frame() -> Frame {
     let address = Address::polling(0).unwrap();
     Frame::request(MasterId::Primary, address, 0, Payload::new())

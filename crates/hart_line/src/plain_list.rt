@@ -18,14 +18,14 @@ impl<T> Model for PlainList<T> {
 }
 
 impl<T> PlainList<T> {
-    /// The list of these items.
+    /// Returns the list of these items.
     pub fn new(items: Vec<T>) -> Self
         ensures { result ≡ items.items }
     {
         PlainList { items }
     }
 
-    /// The items, in order.
+    /// Returns the items, in order.
     pub fn as_slice(&self) -> &[T]
         ensures { result.now ≡ self.now }
     {

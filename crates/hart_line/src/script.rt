@@ -14,7 +14,7 @@ pub mod lines;
 pub mod rows;
 pub mod words;
 
-/// The events that the lines of a text say, in order. Empty lines and lines whose first word begins with `#` say none.
+/// Returns the events that the lines of a text say, in order. Empty lines and lines whose first word begins with `#` say none.
 ///
 /// # Errors
 ///

@@ -67,7 +67,7 @@ fn answer_of<R: Source, W: Sink>(
     Ok(())
 }
 
-/// The line of what a device answers to an input, or no text if it is silent.
+/// Returns the line of what a device answers to an input, or no text if it is silent.
 ///
 /// # Errors
 ///
@@ -85,7 +85,7 @@ fn answer_text(
     Ok(answer_line(&mut device, delivery.as_slice()))
 }
 
-/// The line of what a device answers to a delivery, or no text if it is silent.
+/// Returns the line of what a device answers to a delivery, or no text if it is silent.
 fn answer_line(device: &mut Device<ImageRegisters>, delivery: &[Char]) -> HexLine
     ensures { IsTextFor device.old delivery.now result }
 {

@@ -42,7 +42,7 @@ impl<'a> Model for EncodeWords<'a> {
     } };
 }
 
-/// Writes the request that four words write, with so many preamble bytes, as one line of hex.
+/// Writes the request that four words write, with this number of preamble bytes, as one line of hex.
 ///
 /// The request is an STX with burst bit 0 and no expansion bytes. An absent DATA is the empty word.
 ///
@@ -89,7 +89,7 @@ pub fn one_encoding()
     ensures { (words : MessageWords) (xs ys : List ℕ) → IsEncoding words xs → IsEncoding words ys → xs ≡ ys }
 {}
 
-/// The request that the words write.
+/// Returns the request that the words write.
 ///
 /// # Errors
 ///

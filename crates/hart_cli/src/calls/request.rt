@@ -54,7 +54,7 @@ impl<'w, 'a: 'w> Model for RequestWords<'w, 'a> {
     } };
 }
 
-/// Writes the request of a command whose fields have the values that words give, with so many preamble bytes, as one line of hex.
+/// Writes the request of a command whose fields have the values that words give, with this number of preamble bytes, as one line of hex.
 ///
 /// Each field of the command is given once, in any order, as NAME=VALUE; the name is the one that [`explain`](crate::explain) shows, with
 /// `_` for each space. The request is an STX with burst bit 0 and no expansion bytes.
@@ -81,7 +81,7 @@ pub fn one_request()
     ensures { (words : Given) (xs ys : List ℕ) → IsRequestText words xs → IsRequestText words ys → xs ≡ ys }
 {}
 
-/// The request that the words write.
+/// Returns the request that the words write.
 ///
 /// # Errors
 ///
@@ -102,7 +102,7 @@ fn read_request(words: &RequestWords<'_, '_>) -> Result<Frame, CliFault>
     Ok(Frame::request(master, address, command, payload))
 }
 
-/// The data of a request of this command whose fields the words give, if there are any.
+/// Returns the data of a request of this command whose fields the words give, if there are any.
 fn payload_of_any(command: u8, fields: Option<&[&str]>) -> Result<Payload, BadField>
     ensures { result ≡ payload_of command (option_map_or (λ words. map (λ word. word.now) words.now) fields.entry []) }
 {

@@ -82,7 +82,7 @@ fn simulate_with<R: Source, W: Sink>(
     Ok(())
 }
 
-/// The text for an input, with a device.
+/// Returns the text for an input, with a device.
 ///
 /// # Errors
 ///

@@ -18,7 +18,7 @@ pub struct Plain<T> {
 impl<T> Plain<T> {
     ghost use Rattle.hart_cli.specs.stream.Plain.{plain_failures, plain_inner};
 
-    /// A reader or writer that has not failed so far.
+    /// Returns a reader or writer that has not failed so far.
     pub fn new(inner: T) -> Plain<T>
         ensures inner { plain_inner result ≡ inner }
         ensures failures { plain_failures result ≡ 0 }

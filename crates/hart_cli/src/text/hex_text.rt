@@ -44,7 +44,7 @@ fn write_digits(bytes: &[u8], digits: &mut [u8])
     digits.make_ascii_uppercase();
 }
 
-/// The two digits of a byte in upper case hex.
+/// Returns the two digits of a byte in upper case hex.
 pub fn digits_of(byte: u8) -> [u8; 2]
     ensures { result ≡ encode_upper (byte ∷ []) }
 {
@@ -53,7 +53,7 @@ pub fn digits_of(byte: u8) -> [u8; 2]
     digits
 }
 
-/// The bytes in upper case hex as one line.
+/// Returns the bytes in upper case hex as one line.
 pub fn hex_line(bytes: &[u8]) -> HexLine
     requires { length bytes.now ≤ 287 }
     ensures { result ≡ hex_line bytes.now }

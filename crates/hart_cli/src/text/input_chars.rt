@@ -21,7 +21,7 @@ pub fn inputs_are_unambiguous()
         → HasChars text ending xs f → HasChars text ending ys g → (xs ≡ ys) × (f ≡ g) }
 {}
 
-/// The characters of an input that was read to its end.
+/// Returns the characters of an input that was read to its end.
 ///
 /// # Errors
 ///
@@ -95,7 +95,7 @@ fn push_faultless(chars: &mut Filling<Char>, bytes: [u8; ITEMS_AT_ONCE])
     chars.push(faultless_char(fourth));
 }
 
-/// The character of a byte that came without faults.
+/// Returns the character of a byte that came without faults.
 fn faultless_char(byte: u8) -> Char
     ensures { result ≡ record { byte = byte; faults = 0 } }
 {

@@ -14,7 +14,7 @@ pub struct LeadingPiece {
     pub len: usize,
 }
 
-/// The piece that begins a text, as [`leading_piece`] gives it, by a table of digits if it is an item without fault bits.
+/// Returns the piece that begins a text, as [`leading_piece`] gives it, by a table of digits if it is an item without fault bits.
 pub fn next_piece(digits: &Digits, text: &[u8]) -> Option<LeadingPiece>
     ensures { MatchOption result (NoPieceBegins text.now) (λ lead. BeginsAs text.now lead.char lead.len) }
 {
@@ -27,7 +27,7 @@ pub fn next_piece(digits: &Digits, text: &[u8]) -> Option<LeadingPiece>
     leading_piece(text)
 }
 
-/// The character of the item that begins a text, if no fault bits follow it and a byte does.
+/// Returns the character of the item that begins a text, if no fault bits follow it and a byte does.
 fn plain_char(digits: &Digits, text: &[u8]) -> Option<Char>
     ensures { IfSome result (λ char. BeginsAs text.now (Some char) 2) }
 {
@@ -41,7 +41,7 @@ fn plain_char(digits: &Digits, text: &[u8]) -> Option<Char>
     Char::new(byte, 0)
 }
 
-/// The piece that begins a text, or `None` if none does.
+/// Returns the piece that begins a text, or `None` if none does.
 fn leading_piece(text: &[u8]) -> Option<LeadingPiece>
     ensures { MatchOption result (NoPieceBegins text.now) (λ lead. BeginsAs text.now lead.char lead.len) }
 {
@@ -60,14 +60,14 @@ fn leading_piece(text: &[u8]) -> Option<LeadingPiece>
     })
 }
 
-/// Whether a byte is a space, a tab, a carriage return or a line feed.
+/// Returns true if a byte is a space, a tab, a carriage return or a line feed.
 pub fn is_separator(byte: u8) -> bool
     ensures { IsTrue result ↔ IsSeparator byte }
 {
     matches!(byte, b' ' | b'\t' | b'\r' | b'\n')
 }
 
-/// Whether a piece begins a text once the right bytes follow it, if none does as it stands. Such a text is short.
+/// Returns true if a piece begins a text once the right bytes follow it, if none does as it stands. Such a text is short.
 pub fn may_begin(text: &[u8]) -> bool
     requires { NoPieceBegins text.now }
     ensures may { IsTrue result ↔ MayBegin text.now }

@@ -32,7 +32,7 @@ impl Pairs {
         Pairs { pairs }
     }
 
-    /// The two digits of a byte.
+    /// Returns the two digits of a byte.
     #[inline(always)]
     pub fn of(&self, byte: u8) -> [u8; 2]
         ensures { result ≡ encode_upper (byte ∷ []) }

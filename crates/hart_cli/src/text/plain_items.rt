@@ -10,7 +10,7 @@ use hart_line::Digits;
 /// The number of items that are read at once.
 pub const ITEMS_AT_ONCE: usize = 4;
 
-/// The bytes of four items with a separator after each, if a text begins with them.
+/// Returns the bytes of four items with a separator after each, if a text begins with them.
 #[inline(always)]
 pub fn spaced_items(digits: &Digits, text: &[u8]) -> Option<[u8; ITEMS_AT_ONCE]>
     ensures reads { IfSome result (λ bytes. ReadsFirst text.now (faultless bytes) 12) }
@@ -29,7 +29,7 @@ pub fn spaced_items(digits: &Digits, text: &[u8]) -> Option<[u8; ITEMS_AT_ONCE]>
     Some([first, second, third, fourth])
 }
 
-/// The bytes of four items with nothing between them, if a text begins with them and no fault bits follow.
+/// Returns the bytes of four items with nothing between them, if a text begins with them and no fault bits follow.
 pub fn dense_items(digits: &Digits, text: &[u8]) -> Option<[u8; ITEMS_AT_ONCE]>
     ensures reads { IfSome result (λ bytes. ReadsFirst text.now (faultless bytes) 8) }
     ensures long { IsSome result → 9 ≤ length text.now }
@@ -47,7 +47,7 @@ pub fn dense_items(digits: &Digits, text: &[u8]) -> Option<[u8; ITEMS_AT_ONCE]>
     Some([first, second, third, fourth])
 }
 
-/// Whether all of four bytes are separators.
+/// Returns true if all of four bytes are separators.
 fn are_separators(bytes: [u8; 4]) -> bool
     ensures { IsTrue result → AreSeparators bytes }
 {

@@ -32,7 +32,7 @@ impl Model for Char {
 impl Char {
     ghost use Rattle.hart_frame.specs.heard.Character.{AreFaultBits};
 
-    /// The character of this byte and these fault bits, or `None` if another bit than the four is set.
+    /// Returns the character of this byte and these fault bits, or `None` if another bit than the four is set.
     pub fn new(byte: u8, faults: u8) -> Option<Self>
         ensures accepted { IsSome result ↔ AreFaultBits faults }
         ensures kept { IfSome result (λ character. character ≡ record { byte = byte; faults = faults }) }
@@ -43,21 +43,21 @@ impl Char {
         Some(Char { byte, faults })
     }
 
-    /// The byte as it was heard.
+    /// Returns the byte as it was heard.
     pub fn byte(self) -> u8
         ensures { result ≡ self.byte }
     {
         self.byte
     }
 
-    /// The fault bits.
+    /// Returns the fault bits.
     pub fn faults(self) -> u8
         ensures { result ≡ self.faults }
     {
         self.faults
     }
 
-    /// Whether no fault bit is set.
+    /// Returns true if no fault bit is set.
     pub fn is_faultless(self) -> bool
         ensures { IsTrue result ↔ (self.faults ≡ 0) }
     {
@@ -65,14 +65,14 @@ impl Char {
     }
 }
 
-/// Whether no character has a fault.
+/// Returns true if no character has a fault.
 pub fn are_faultless(chars: &[Char]) -> bool
     ensures { IsTrue result ↔ All (λ character. character.faults ≡ 0) chars.now }
 {
     chars.iter().all(|character| character.is_faultless())
 }
 
-/// The bytes of the first characters, up to one with faults, or as many as fit.
+/// Returns the bytes of the first characters, up to one with faults, or as many as fit.
 pub(crate) fn faultless_front<const N: usize>(chars: &[Char]) -> ByteList<N>
     ensures { result ≡ take N (faultless_bytes chars.now) }
 {

@@ -34,7 +34,7 @@ pub enum Miss {
     EndsBeforeByteCount,
     /// An ACK has this byte count, below 2.
     ShortReply { byte_count: u8 },
-    /// The characters end before the check byte's end: so many are missing, of which the check byte is the last.
+    /// The characters end before the check byte's end: this number of them is missing, the last of which is the check byte.
     Missing { count: usize },
     /// The check byte at this place is `byte`, and `fits` would fit.
     BadCheck { place: usize, byte: u8, fits: u8 },
@@ -42,14 +42,24 @@ pub enum Miss {
     OnePreamble,
 }
 
-/// Why no frame stands at a place at which a message seems to start, or `None` if one does, or no message seems to.
+/// Returns why no frame stands at a place at which a message seems to start, or `None` if one does, or no message seems to.
 ///
 /// Where a body may start (see [`is_start`](crate::is_start)), it is the first of these that holds, in the order in which a body is
 /// decoded: the delimiter of a burst message, or another byte that is no delimiter of this profile; an end before the byte count; an
 /// ACK with a byte count below 2; an end before the check byte; a check byte that does not fit. If a character with fault bits comes
 /// before that is decided, it is that character. Where a whole body stands after one faultless `FF` alone, it is that there is only one.
 ///
-/// At most 267 characters are looked at from the place on, as many as the longest body has.
+/// It looks at no more than the 267 characters of the longest body.
+///
+/// ```rust
+/// // FF FF 02 80 00 00 83 was heard.
+/// let wanted = Miss::BadCheck {
+///     place: 6,
+///     byte: 0x83,
+///     fits: 0x82,
+/// };
+/// assert_eq!(rt; why_none(chars, 2), Some(wanted));
+/// ```
 pub fn why_none(chars: &[Char], start: usize) -> Option<Miss>
     ensures miss { MatchOption result ((miss : Miss) → IsMiss chars.now start miss → ⊥) (IsMiss chars.now start) }
     ensures found { result ≡ miss_of chars.now start }
@@ -64,7 +74,7 @@ pub fn why_none(chars: &[Char], start: usize) -> Option<Miss>
     None
 }
 
-/// Why the characters from a start on begin with no body, or `None` if they begin with one.
+/// Returns why the characters from a start on begin with no body, or `None` if they begin with one.
 fn body_miss(heard: &[Char], start: usize) -> Option<Miss>
     requires within { start + length heard.now < 2 ^ 64 }
     ensures found { result ≡ body_miss start heard.now }
@@ -79,7 +89,7 @@ fn body_miss(heard: &[Char], start: usize) -> Option<Miss>
     }
 }
 
-/// The miss at a place from which bytes come that never become a body.
+/// Returns the miss at a place from which bytes come that never become a body.
 pub(crate) fn wrong_miss(wrong: Wrong, start: usize) -> Miss
     requires some { 0 < shown_by wrong }
     requires within { start + shown_by wrong < 2 ^ 64 }
@@ -96,7 +106,7 @@ pub(crate) fn wrong_miss(wrong: Wrong, start: usize) -> Miss
     }
 }
 
-/// Why this first byte is no delimiter of this profile.
+/// Returns why this first byte is no delimiter of this profile.
 fn delimiter_miss(byte: u8) -> Miss
     ensures { result ≡ delimiter_miss byte }
 {
@@ -106,7 +116,7 @@ fn delimiter_miss(byte: u8) -> Miss
     Miss::BadDelimiter { byte }
 }
 
-/// The miss of bytes that may become a body, if nothing comes after them: so many of it are missing, or its byte count is.
+/// Returns the miss of bytes that may become a body, if nothing follows them: how many are missing, or that the byte count is.
 pub(crate) fn cut_miss(missing: Option<usize>) -> Miss
     ensures { result ≡ cut_miss missing }
 {
@@ -116,7 +126,7 @@ pub(crate) fn cut_miss(missing: Option<usize>) -> Miss
     }
 }
 
-/// The character after so many, which has fault bits, or if there is none the reason at the end of the characters.
+/// Returns the miss for the character with fault bits after the first `count`, or `at_end` if the characters end there.
 fn faulty_or(heard: &[Char], count: usize, start: usize, at_end: Miss) -> Miss
     requires within { start + length heard.now < 2 ^ 64 }
     ensures { result ≡ faulty_or (slice_get heard.now count) (start + count) at_end }
@@ -130,7 +140,7 @@ fn faulty_or(heard: &[Char], count: usize, start: usize, at_end: Miss) -> Miss
     }
 }
 
-/// Whether one faultless preamble byte `FF` alone stands before this place.
+/// Returns true if one faultless preamble byte `FF` alone stands before this place.
 fn follows_one_preamble(chars: &[Char], place: usize) -> bool
     requires within { place ≤ length chars.now }
     ensures { result ≡ follows_one_preamble chars.now place }
@@ -138,7 +148,7 @@ fn follows_one_preamble(chars: &[Char], place: usize) -> bool
     follows_preamble(chars, place) && !follows_preamble(chars, place - 1)
 }
 
-/// Whether a faultless preamble byte `FF` stands right before this place.
+/// Returns true if a faultless preamble byte `FF` stands right before this place.
 fn follows_preamble(chars: &[Char], place: usize) -> bool
     requires within { place ≤ length chars.now }
     ensures { result ≡ follows_preamble chars.now place }

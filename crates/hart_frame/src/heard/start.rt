@@ -6,7 +6,7 @@ ghost use Rattle.hart_frame.specs.heard.Start.{HasNoStart, IsFirstStart, IsStart
 use crate::Char;
 use crate::wire::message::PREAMBLE;
 
-/// The first place of what was heard at which a body may start, whatever is heard of it, or `None` if there is none: two
+/// Returns the first place of what was heard at which a body may start, whatever is heard of it, or `None` if there is none: two
 /// faultless preamble bytes `FF` stand right before it, and at it a character other than a faultless `FF`.
 pub fn first_start(chars: &[Char]) -> Option<usize>
     ensures { MatchOption result (HasNoStart chars.now) (λ place. IsFirstStart place chars.now) }
@@ -19,7 +19,7 @@ pub fn first_start(chars: &[Char]) -> Option<usize>
     None
 }
 
-/// Whether a body may start at this place, whatever is heard of it: two faultless preamble bytes `FF` stand right before it, and at it
+/// Returns true if a body may start at this place, whatever is heard of it: two faultless preamble bytes `FF` stand right before it, and at it
 /// a character other than a faultless `FF`.
 pub fn is_start(chars: &[Char], place: usize) -> bool
     ensures { IsTrue result ↔ IsStart place chars.now }
@@ -30,7 +30,7 @@ pub fn is_start(chars: &[Char], place: usize) -> bool
     is_start_within(chars, place)
 }
 
-/// The same of a place at which a character stands, and two before it.
+/// Like [`is_start`], with the bounds already checked.
 fn is_start_within(chars: &[Char], place: usize) -> bool
     requires after_two { 2 ≤ place }
     requires within { place < length chars.now }

@@ -66,7 +66,7 @@ impl Buffer {
         }
     }
 
-    /// The faultless bytes that are held.
+    /// Returns the faultless bytes that are held.
     pub(crate) fn held(&self) -> &[u8]
         requires stored { IsStored self.now }
         ensures held { result.now ≡ held_bytes self.now }
@@ -104,14 +104,14 @@ impl Buffer {
         }
     }
 
-    /// Whether nothing is decided before the next character.
+    /// Returns true if nothing is decided before the next character.
     pub(crate) fn is_drained(&self) -> bool
         ensures { IsTrue result ↔ (self.now.state ≡ Drained) }
     {
         matches!(self.state, State::Drained)
     }
 
-    /// The number of characters that were pushed since the buffer was new.
+    /// Returns the number of characters that were pushed since the buffer was new.
     pub(crate) fn pushed(&self) -> u64
         requires sound { IsSound self.now }
         ensures pushed { result ≡ self.now.first + length (scan_of self.now).held }
@@ -121,7 +121,7 @@ impl Buffer {
         self.first + self.held().len() as u64 + damaged
     }
 
-    /// Whether no byte can follow what is held.
+    /// Returns true if no byte can follow what is held.
     pub(crate) fn is_ended(&self) -> bool
         ensures { IsTrue result ↔ IsEnded self.now }
     {
@@ -168,7 +168,7 @@ impl Buffer {
         }
     }
 
-    /// The frame at a span.
+    /// Returns the frame at a span.
     pub(crate) fn found(&self, span: Span) -> FoundView<'_>
         requires within { span.at + layout_length span.layout ≤ length self.now.bytes }
         requires body { IsWholeBody span.layout (body_at self.now span) }
@@ -215,7 +215,7 @@ impl Buffer {
         }
     }
 
-    /// Passes all bytes of the list, and removes them if there is no room after them for as many as may be held.
+    /// Passes all bytes of the list, and removes them if the bytes that may be held do not fit after them.
     fn pass_all(&mut self)
         ensures room { length self.new.bytes + 269 ≤ 538 }
         ensures same { self.new ≡ record self.old { bytes = self.new.bytes; from = length self.new.bytes } }

@@ -17,7 +17,7 @@ pub(crate) enum Candidate {
     Whole(Layout),
 }
 
-/// How the bytes begin, of which the first is a preamble byte.
+/// Returns how the bytes begin, of which the first is a preamble byte.
 pub(crate) fn candidate_in(bytes: &[u8]) -> Candidate
     requires some { 0 < length bytes.now }
     requires preamble { slice_index bytes.now 0 ≡ 255 }

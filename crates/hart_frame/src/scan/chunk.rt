@@ -52,7 +52,7 @@ impl Buffer {
         self.settle(part, self.search_joined(part))
     }
 
-    /// What is found in the bytes that are held and a part after them.
+    /// Returns what is found in the bytes that are held and a part after them.
     fn search_joined(&self, part: &[u8]) -> Sighting
         requires sound { IsSound self.now }
         requires drained { self.now.state ≡ Drained }
@@ -121,7 +121,7 @@ impl Buffer {
     }
 }
 
-/// The state in which a frame stands by this layout, or in which none does.
+/// Returns the state in which a frame stands by this layout, or in which none does.
 fn state_of(layout: Option<Layout>) -> State
     ensures { result ≡ state_of layout }
 {

@@ -10,7 +10,7 @@ use crate::scan::search::{Sighting, search_to_end};
 use crate::wire::layout::Layout;
 
 impl Buffer {
-    /// The next frame that is decided.
+    /// Returns the next frame that is decided.
     pub(crate) fn next(&mut self) -> Option<Span>
         requires sound { IsSound self.old }
         ensures sound { IsSound self.new }
@@ -20,7 +20,7 @@ impl Buffer {
         Some(self.release(layout))
     }
 
-    /// The layout of the frame with which the held bytes begin, once that is decided.
+    /// Returns the layout of the frame with which the held bytes begin, once that is decided.
     pub(crate) fn peek(&mut self) -> Option<Layout>
         requires sound { IsSound self.old }
         ensures sound { IsSound self.new }
@@ -33,7 +33,7 @@ impl Buffer {
         }
     }
 
-    /// The same, after all bytes are let go with which no frame begins.
+    /// Drops the bytes with which no frame begins, and returns what [`Buffer::peek`] does.
     fn decide(&mut self) -> Option<Layout>
         requires sound { IsSound self.old }
         requires busy { self.old.state ≡ Busy }
@@ -47,7 +47,7 @@ impl Buffer {
         self.decide_held()
     }
 
-    /// The same, if bytes are held. It stands apart because after most frames none are.
+    /// Like [`Buffer::decide`], if bytes are held. It stands apart, since after most frames none are.
     #[inline(never)]
     fn decide_held(&mut self) -> Option<Layout>
         requires sound { IsSound self.old }
@@ -69,7 +69,7 @@ impl Buffer {
         None
     }
 
-    /// What is found in the bytes that are held. If no byte can follow them, none may begin a frame.
+    /// Returns what is found in the bytes that are held. If no byte can follow them, none may begin a frame.
     fn search_held(&self) -> Sighting
         requires sound { IsSound self.now }
         ensures { IsHeldSearched self.now result }

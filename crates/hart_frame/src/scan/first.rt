@@ -30,6 +30,13 @@ pub enum LoneFrame {
 /// A frame stands after two faultless preamble bytes `FF`, which lie at that place or after it, if faultless characters
 /// are a body. Of several the one with the least start is given. The frames of a whole list are the first from place 0 on,
 /// then the first from the `stop` of that on, and so forth.
+///
+/// ```rust
+/// // 55 FF FF 02 80 00 00 82 was heard.
+/// let found = first_frame(chars, 0).ok_or("no frame")?;
+/// assert_eq!(rt; (found.start, found.stop), (3, 8));
+/// assert!(rt; first_frame(chars, 8).is_none());
+/// ```
 pub fn first_frame(chars: &[Char], from: usize) -> Option<Found>
     ensures first { MatchOption result (HasNoFrame chars.now from) (λ found. IsFirst found chars.now from) }
     ensures start { IfSome result (λ found. from + 2 ≤ found.start) }

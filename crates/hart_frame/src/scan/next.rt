@@ -17,7 +17,7 @@ pub struct NextInBytes<'a> {
     pub used: usize,
 }
 
-/// The next frame of bytes that were heard without faults, where they lie: its two preamble bytes stand at a place or after it, which is
+/// Returns the next frame of bytes that were heard without faults, where they lie: its two preamble bytes stand at a place or after it, which is
 /// within the bytes or their end. `ended` says that nothing comes after the bytes.
 ///
 /// The frame after it is the next one from [`NextInBytes::used`] on. If none is given, none is left if the bytes ended; if not, those from
@@ -25,14 +25,10 @@ pub struct NextInBytes<'a> {
 /// stay if the bytes grow at their end, and begin anew if the first of them are let go.
 ///
 /// ```rust
-/// let mut used = 0;
-/// loop {
-///     let next = next_in_bytes(bytes, used, ended);
-///     used = next.used;
-///     let Some(found) = next.frame else { break };
-///     // The body of the frame stands from `found.start` up to `found.stop`.
-/// }
-/// // If they have not ended, the bytes from `used` on are kept for the next time.
+/// let bytes = [0x55, 0xFF, 0xFF, 0x02, 0x80, 0x00, 0x00, 0x82];
+/// let next = next_in_bytes(&bytes, 0, true);
+/// let found = next.frame.ok_or("no frame")?;
+/// assert_eq!(rt; (found.start, found.stop, next.used), (3, 8, 8));
 /// ```
 pub fn next_in_bytes(bytes: &[u8], from: usize, ended: bool) -> NextInBytes<'_>
     requires { from ≤ length bytes.now }

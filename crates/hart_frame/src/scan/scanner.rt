@@ -11,16 +11,9 @@ use std::marker::Model;
 ///
 /// ```rust
 /// let mut scanner = Scanner::new();
-/// for character in chars {
-///     scanner.push(*character);
-///     while let Some(view) = scanner.take() {
-///         // The body of the frame stands at `view.start..view.stop` of what was pushed.
-///     }
-/// }
-/// scanner.finish();
-/// while let Some(view) = scanner.take() {
-///     // Frames after a start that the finish has shown to be false.
-/// }
+/// let used = scanner.push_bytes(&[0xFF, 0xFF, 0x02, 0x80, 0x00, 0x00, 0x82]);
+/// let view = scanner.take().ok_or("no frame")?;
+/// assert_eq!(rt; (used, view.start, view.stop), (7, 2, 7));
 /// ```
 #[derive(Drop)]
 pub struct Scanner {
@@ -49,7 +42,7 @@ impl Scanner {
     ghost use Rattle.hart_frame.specs.scan.Chunk.{StopsAt};
     ghost use Rattle.hart_frame.specs.scan.Scanner.{GivesNextOrNothing, MovesPast, finishing, hearing, new_scan};
 
-    /// A scanner that has heard nothing.
+    /// Returns a scanner that has heard nothing.
     pub fn new() -> Self
         ensures { result ≡ new_scan }
     {
@@ -73,7 +66,7 @@ impl Scanner {
     /// [`Scanner::take`] then gives, or else all of them. The scanner has to be drained, and to have been pushed so few characters
     /// that with the chunk they are fewer than 2^64.
     ///
-    /// It is what so many calls of [`Scanner::push`] are, if [`Scanner::take`] gives `None` after each of them but the last.
+    /// It is what as many calls of [`Scanner::push`] are, if [`Scanner::take`] gives `None` after each of them but the last.
     /// If the scanner holds nothing, the bytes are searched where they lie, and only what it then holds of them is copied.
     pub fn push_bytes(&mut self, chunk: &[u8]) -> usize
         requires drained { IsTrue self.old.drained }
@@ -106,7 +99,7 @@ impl Scanner {
         self.buffer.push_chars(chunk)
     }
 
-    /// The next frame that is decided, or `None` if there is none for now. After the finish `None` is given once no frame is
+    /// Returns the next frame that is decided, or `None` if there is none for now. After the finish `None` is given once no frame is
     /// left; the scanner is then new, and places begin at 0 again.
     pub fn take(&mut self) -> Option<FoundView<'_>>
         // As the view borrows the scanner, this speaks of the scanner once the view is dropped: GivesNextOrNothing self.old after result.
@@ -133,7 +126,7 @@ impl Scanner {
         self.buffer.finish();
     }
 
-    /// The place of the first character that is held, or of the next one if none is held. At most 269 are held, and no frame that is
+    /// Returns the place of the first character that is held, or of the next one if none is held. At most 269 are held, and no frame that is
     /// still to come begins before that place.
     pub fn first_held(&self) -> u64
         ensures first { result ≡ self.now.first }
@@ -142,7 +135,7 @@ impl Scanner {
         self.buffer.first
     }
 
-    /// The number of characters that were pushed since the scanner was new: those that were let go, and at most 269 that are held.
+    /// Returns the number of characters that were pushed since the scanner was new: those that were let go, and at most 269 that are held.
     pub fn pushed(&self) -> u64
         ensures pushed { result ≡ self.now.first + length self.now.held }
         ensures few { length self.now.held ≤ 269 }

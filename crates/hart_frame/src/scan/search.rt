@@ -12,13 +12,13 @@ use memchr::memchr;
 pub(crate) struct Sighting {
     /// No frame begins before this place.
     pub(crate) place: usize,
-    /// As many bytes as show it.
+    /// How many bytes were needed to decide this.
     pub(crate) decided: usize,
     /// The layout of the frame that begins there. If there is none, the bytes from there on may still begin one.
     pub(crate) layout: Option<Layout>,
 }
 
-/// What the bytes from a place on hold of frames, if fewer than those up to a later place decide nothing.
+/// Searches from `from` for a frame. The prefixes shorter than `seen` are known to be undecided.
 pub(crate) fn search(bytes: &[u8], from: usize, seen: usize) -> Sighting
     requires order { from ≤ seen }
     requires within { seen ≤ length bytes.now }
@@ -46,7 +46,7 @@ pub(crate) fn search(bytes: &[u8], from: usize, seen: usize) -> Sighting
     open_at(bytes, bytes.len())
 }
 
-/// What the bytes from a place on hold of frames. If they ended, no byte can follow them, and what may begin a frame begins none.
+/// Searches from `from` for a frame. If the bytes ended, nothing can follow them, and an open place begins no frame.
 pub(crate) fn search_to_end(bytes: &[u8], from: usize, ended: bool) -> Sighting
     requires { from ≤ length bytes.now }
     ensures { IsSearchedToEnd bytes.now from ended result }
@@ -58,7 +58,7 @@ pub(crate) fn search_to_end(bytes: &[u8], from: usize, ended: bool) -> Sighting
     found
 }
 
-/// That all the bytes decide nothing from a place on.
+/// Returns the result if a frame may still begin at `place`.
 fn open_at(bytes: &[u8], place: usize) -> Sighting
     ensures { result ≡ record { place = place; decided = length bytes.now; layout = None } }
 {
@@ -69,7 +69,7 @@ fn open_at(bytes: &[u8], place: usize) -> Sighting
     }
 }
 
-/// The place at which the next frame may begin from a place on, or `None` if no preamble byte follows: of several preamble bytes in
+/// Returns the place at which the next frame may begin from a place on, or `None` if no preamble byte follows: of several preamble bytes in
 /// a row it is the last but one.
 fn next_candidate(bytes: &[u8], from: usize) -> Option<usize>
     requires { from ≤ length bytes.now }
@@ -83,7 +83,7 @@ fn next_candidate(bytes: &[u8], from: usize) -> Option<usize>
     Some(first.max(after.saturating_sub(2)))
 }
 
-/// The place of the first preamble byte from a place on, or the place after the last byte if there is none.
+/// Returns the place of the first preamble byte from a place on, or the place after the last byte if there is none.
 #[inline(always)]
 pub(crate) fn next_preamble(bytes: &[u8], from: usize) -> usize
     requires { from ≤ length bytes.now }
@@ -101,7 +101,7 @@ pub(crate) fn next_preamble(bytes: &[u8], from: usize) -> usize
     }
 }
 
-/// The place of the first other byte from a place on, or the place after the last byte if there is none.
+/// Returns the place of the first other byte from a place on, or the place after the last byte if there is none.
 pub(crate) fn preamble_end(bytes: &[u8], from: usize) -> usize
     requires { from ≤ length bytes.now }
     ensures after { from ≤ result }
@@ -112,7 +112,7 @@ pub(crate) fn preamble_end(bytes: &[u8], from: usize) -> usize
     from + preamble_bytes(&bytes[from..])
 }
 
-/// How many preamble bytes stand before the first other byte.
+/// Returns how many preamble bytes stand before the first other byte.
 fn preamble_bytes(bytes: &[u8]) -> usize
     ensures within { result ≤ length bytes.now }
     ensures preambles { All (λ byte. byte ≡ 255) (take result bytes.now) }

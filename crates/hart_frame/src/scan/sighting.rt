@@ -217,7 +217,7 @@ fn lone_body(bytes: &[u8], after: &After, start: usize, stop: usize) -> Standing
     Standing::Missed(Miss::OnePreamble)
 }
 
-/// Whether bytes that may become a body, of which so many are missing, may become one in which no two preamble bytes in a row begin.
+/// Returns true if bytes that lack this many of a body may become one in which no two preamble bytes in a row begin.
 fn can_stand_alone(bytes: &[u8], missing: Option<usize>) -> bool
     requires { IsPrefix bytes.now (Cut missing) }
     ensures may { IsTrue result → MayStandAlone bytes.now 0 }
@@ -226,7 +226,7 @@ fn can_stand_alone(bytes: &[u8], missing: Option<usize>) -> bool
     !has_two_preambles(bytes) && !lacks_one_preamble(bytes, missing)
 }
 
-/// Whether bytes that may become a body end in a preamble byte, and lack their check byte alone, which is another.
+/// Returns true if bytes that may become a body end in a preamble byte, and lack their check byte alone, which is another.
 fn lacks_one_preamble(bytes: &[u8], missing: Option<usize>) -> bool
     requires { IsPrefix bytes.now (Cut missing) }
     ensures { IsTrue result ↔ LacksOnePreamble bytes.now }
@@ -237,7 +237,7 @@ fn lacks_one_preamble(bytes: &[u8], missing: Option<usize>) -> bool
     bytes.last() == Some(&PREAMBLE) && body_check(bytes) == PREAMBLE
 }
 
-/// Whether two preamble bytes stand in a row.
+/// Returns true if two preamble bytes stand in a row.
 fn has_two_preambles(bytes: &[u8]) -> bool
     ensures { result ≡ has_two_preambles bytes.now }
 {

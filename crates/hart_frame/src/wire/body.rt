@@ -10,7 +10,12 @@ use hart_values::ByteList;
 /// A body of a frame: at most 267 bytes.
 pub type Body = ByteList<267>;
 
-/// The frame whose body the bytes begin with, and the length of that body. Further bytes may follow it.
+/// Returns the frame whose body the bytes begin with, and the length of that body. Further bytes may follow it.
+///
+/// ```rust
+/// let (frame, len) = decode(&[0x02, 0x80, 0x00, 0x00, 0x82])?;
+/// assert_eq!(rt; (frame.command(), len), (0, 5));
+/// ```
 ///
 /// # Errors
 ///

@@ -41,14 +41,14 @@ pub(crate) struct Delimiter {
 }
 
 impl Delimiter {
-    /// The place of the byte count: after the delimiter, the address bytes, the expansion bytes and the command.
+    /// Returns the place of the byte count: after the delimiter, the address bytes, the expansion bytes and the command.
     pub(crate) fn byte_count_place(self) -> usize
         ensures { result ≡ 2 + self.address_len + self.expansion_len }
     {
         2 + usize::from(self.address_len) + usize::from(self.expansion_len)
     }
 
-    /// The layout of its body with this byte count, or `None` if it can have none: the payload of an ACK has two status bytes at
+    /// Returns the layout of its body with this byte count, or `None` if it can have none: the payload of an ACK has two status bytes at
     /// least.
     pub(crate) fn layout(self, byte_count: u8) -> Option<Layout>
         ensures allowed { IsSome result ↔ ((kind_code self.kind ≡ 2) ⊎ (2 ≤ byte_count)) }
@@ -70,7 +70,7 @@ impl Delimiter {
     }
 }
 
-/// The delimiter of the frame's body.
+/// Returns the delimiter of the frame's body.
 pub(crate) fn delimiter_byte(frame: &Frame) -> u8
     ensures { result ≡ delimiter_of frame.now }
 {
@@ -85,7 +85,7 @@ pub(crate) fn delimiter_byte(frame: &Frame) -> u8
     address_type + EXPANSION_BYTE * frame.expansion().len() as u8 + kind
 }
 
-/// What the delimiter says, or `None` if it is none of this profile.
+/// Returns what the delimiter says, or `None` if it is none of this profile.
 pub(crate) fn read_delimiter(byte: u8) -> Option<Delimiter>
     ensures known { IsSome result ↔ IsDelimiter byte }
     ensures kind { IfSome result (λ delimiter. kind_code delimiter.kind ≡ byte % 8) }
@@ -107,7 +107,7 @@ pub(crate) fn read_delimiter(byte: u8) -> Option<Delimiter>
     })
 }
 
-/// Whether it is the delimiter of a burst message, which is none of this profile.
+/// Returns true if it is the delimiter of a burst message, which is none of this profile.
 pub(crate) fn is_burst_delimiter(byte: u8) -> bool
     ensures { IsTrue result ↔ ((byte / 8 % 4 ≡ 0) × (byte % 8 ≡ 1)) }
 {

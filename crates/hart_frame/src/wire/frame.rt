@@ -54,7 +54,7 @@ impl Frame {
     ghost use Rattle.hart_frame.specs.wire.FrameParts.{IsLongEnough, request_parts, reply_parts};
     ghost use Rattle.hart_frame.specs.wire.Body.{IsBody};
 
-    /// The frame of these parts.
+    /// Returns the frame of these parts.
     ///
     /// # Errors
     ///
@@ -94,7 +94,7 @@ impl Frame {
         })
     }
 
-    /// The request of this master to this address: an STX with the burst bit clear and without expansion bytes.
+    /// Returns the request of this master to this address: an STX with the burst bit clear and without expansion bytes.
     pub fn request(master: MasterId, address: Address, command: u8, payload: Payload) -> Self
         ensures { result ≡ request_parts master address command payload }
     {
@@ -109,7 +109,7 @@ impl Frame {
         }
     }
 
-    /// The reply to this frame: an ACK with its master bit, its address and its command, with the burst bit clear and without
+    /// Returns the reply to this frame: an ACK with its master bit, its address and its command, with the burst bit clear and without
     /// expansion bytes.
     ///
     /// The payload begins with the two status bytes.
@@ -128,35 +128,35 @@ impl Frame {
         }
     }
 
-    /// Whether it is a request or a reply.
+    /// Returns true if it is a request or a reply.
     pub fn kind(&self) -> FrameKind
         ensures { result ≡ self.now.kind }
     {
         self.kind
     }
 
-    /// The master that sends it, or that it is sent to.
+    /// Returns the master that sends it, or that it is sent to.
     pub fn master(&self) -> MasterId
         ensures { result ≡ self.now.master }
     {
         self.master
     }
 
-    /// The burst bit.
+    /// Returns the burst bit.
     pub fn burst(&self) -> bool
         ensures { result ≡ self.now.burst }
     {
         self.burst
     }
 
-    /// The address: a polling address, a device's unique address, or broadcast.
+    /// Returns the address: a polling address, a device's unique address, or broadcast.
     pub fn address(&self) -> Address
         ensures { result ≡ self.now.address }
     {
         self.address
     }
 
-    /// The expansion bytes, at most 3.
+    /// Returns the expansion bytes, at most 3.
     pub fn expansion(&self) -> &[u8]
         ensures value { result.now ≡ self.now.expansion }
         ensures fits { length result.now ≤ 3 }
@@ -164,14 +164,14 @@ impl Frame {
         self.expansion.as_slice()
     }
 
-    /// The command number.
+    /// Returns the command number.
     pub fn command(&self) -> u8
         ensures { result ≡ self.now.command }
     {
         self.command
     }
 
-    /// The payload, at most 255 bytes; of an ACK at least its two status bytes.
+    /// Returns the payload, at most 255 bytes; of an ACK at least its two status bytes.
     pub fn payload(&self) -> &[u8]
         ensures value { result.now ≡ self.now.payload }
         ensures fits { length result.now ≤ 255 }
@@ -180,7 +180,7 @@ impl Frame {
         self.payload.as_slice()
     }
 
-    /// The frame's body: its bytes from the delimiter to the check byte.
+    /// Returns the frame's body: its bytes from the delimiter to the check byte.
     pub fn body(&self) -> Body
         ensures { IsBody self.now result }
     {

@@ -18,7 +18,7 @@ pub(crate) struct Layout {
 impl Layout {
     ghost use Rattle.hart_frame.specs.private.Layout.{layout_length};
 
-    /// The length of the body.
+    /// Returns the length of the body.
     pub(crate) fn body_len(self) -> usize
         ensures { result ≡ layout_length self }
     {
@@ -26,7 +26,7 @@ impl Layout {
     }
 }
 
-/// The length of the body of a request at a unique address, without expansion bytes, that has this byte count.
+/// Returns the length of the body of a request at a unique address, without expansion bytes, that has this byte count.
 pub fn unique_request_len(byte_count: u8) -> usize
     ensures len { result ≡ 9 + byte_count }
     ensures body { (bytes : List ℕ) → delimiter_in bytes ≡ 0x82 → byte_count_in bytes ≡ byte_count → body_length bytes ≡ result }
@@ -34,7 +34,7 @@ pub fn unique_request_len(byte_count: u8) -> usize
     body_len(UNIQUE_COMMAND_PLACE, byte_count)
 }
 
-/// The length of a body whose command stands at this place: after what is before it come the command, the byte count, as many
+/// Returns the length of a body whose command stands at this place: after what is before it come the command, the byte count, as many
 /// bytes of a payload, and the check byte.
 fn body_len(command_place: usize, byte_count: u8) -> usize
     requires { command_place + 3 + byte_count < 2 ^ 64 }

@@ -17,7 +17,7 @@ pub const MOST_PREAMBLES: u8 = 20;
 
 pub(crate) const PREAMBLE: u8 = 0xFF;
 
-/// Whether a sender may put this number of preamble bytes: [`LEAST_PREAMBLES`] to [`MOST_PREAMBLES`].
+/// Returns true if a sender may put this number of preamble bytes: [`LEAST_PREAMBLES`] to [`MOST_PREAMBLES`].
 pub fn is_preamble_count(preambles: u8) -> bool
     ensures { IsTrue result ↔ IsPreambleCount preambles }
 {
@@ -25,6 +25,16 @@ pub fn is_preamble_count(preambles: u8) -> bool
 }
 
 /// Writes the frame as a message: this number of preamble bytes `FF`, and its body. What `output` held is replaced.
+///
+/// ```rust
+/// let identify = Frame::request(MasterId::Primary, Address::polling(0)?, 0, Payload::new());
+/// let mut message = Message::new();
+/// encode(&identify, 5, &mut message)?;
+/// assert_eq!(rt;
+///     &message.as_slice()[5..],
+///     [0x02, 0x80, 0x00, 0x00, 0x82].as_slice()
+/// );
+/// ```
 ///
 /// # Errors
 ///

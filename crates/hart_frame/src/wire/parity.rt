@@ -2,7 +2,7 @@ ghost use Rattle.hart_frame.specs.wire.Parity.{IsCheckByte};
 
 use std::simd::prelude::*;
 
-/// The check byte of some bytes: their exclusive or (HCF_SPEC-081).
+/// Returns the check byte of some bytes: their exclusive or (HCF_SPEC-081).
 ///
 /// After them it makes every bit stand in an even number of bytes, so that the check byte of a whole body is 0.
 pub fn check_byte(bytes: &[u8]) -> u8
@@ -17,7 +17,7 @@ pub fn check_byte(bytes: &[u8]) -> u8
     rest.iter().fold(check, |check, byte| check ^ byte)
 }
 
-/// The same, by four bytes at a time if they are few, as those of most bodies are.
+/// Returns the same, by four bytes at a time if they are few, as those of most bodies are.
 #[inline(always)]
 pub(crate) fn body_check(bytes: &[u8]) -> u8
     ensures { IsCheckByte bytes.now result }

@@ -11,7 +11,7 @@ pub(crate) enum PlainAddress {
     Unique(u16, u32),
 }
 
-/// The numbers of an address.
+/// Returns the numbers of an address.
 pub(crate) fn plain_of(address: Address) -> PlainAddress
     ensures { address_of result ≡ address }
 {
@@ -21,7 +21,7 @@ pub(crate) fn plain_of(address: Address) -> PlainAddress
     }
 }
 
-/// The address of these numbers.
+/// Returns the address of these numbers.
 pub(crate) fn address_of_plain(plain: PlainAddress) -> Address
     requires { IsInRange plain }
     ensures { result ≡ address_of plain }

@@ -12,7 +12,7 @@ use crate::wire::parity::body_check;
 pub(crate) enum Prefix {
     /// With a whole body, by this layout.
     Whole(Layout),
-    /// With what may become one: so many bytes are missing, if they go on to the byte count.
+    /// With what may become one. If they go on to the byte count, this is how many bytes are missing.
     Cut(Option<usize>),
     /// With what never becomes one.
     Wrong(Wrong),
@@ -30,7 +30,7 @@ pub(crate) enum Wrong {
 }
 
 impl Wrong {
-    /// How many of the bytes show it.
+    /// Returns how many bytes were needed to decide this.
     pub(crate) fn shown_by(self) -> usize
         ensures { result ≡ shown_by self }
     {
@@ -41,7 +41,7 @@ impl Wrong {
         }
     }
 
-    /// The fault of bytes that begin so.
+    /// Returns the fault of these bytes.
     pub(crate) fn fault(self) -> FrameFault
         ensures { result ≡ fault_in self }
     {

@@ -29,35 +29,35 @@ impl FrameView<'_> {
     ghost use Rattle.hart_frame.specs.wire.FrameParts.{IsLongEnough};
     ghost use Rattle.hart_frame.specs.wire.View.{parts_of};
 
-    /// Whether it is a request or a reply.
+    /// Returns true if it is a request or a reply.
     pub fn kind(&self) -> FrameKind
         ensures { result ≡ (parts_of self.now).kind }
     {
         self.kind
     }
 
-    /// The master that sends it or to which it replies.
+    /// Returns the master that sends it or to which it replies.
     pub fn master(&self) -> MasterId
         ensures { result ≡ (parts_of self.now).master }
     {
         self.master
     }
 
-    /// The burst bit.
+    /// Returns the burst bit.
     pub fn burst(&self) -> bool
         ensures { result ≡ (parts_of self.now).burst }
     {
         self.burst
     }
 
-    /// The address.
+    /// Returns the address.
     pub fn address(&self) -> Address
         ensures { result ≡ (parts_of self.now).address }
     {
         address_of_plain(self.address)
     }
 
-    /// The expansion bytes, at most 3.
+    /// Returns the expansion bytes, at most 3.
     pub fn expansion(&self) -> &[u8]
         ensures expansion { result.now ≡ (parts_of self.now).expansion }
         ensures fits { length result.now ≤ 3 }
@@ -65,14 +65,14 @@ impl FrameView<'_> {
         self.expansion
     }
 
-    /// The command number.
+    /// Returns the command number.
     pub fn command(&self) -> u8
         ensures { result ≡ (parts_of self.now).command }
     {
         self.command
     }
 
-    /// The payload, at most 255 bytes; of an ACK at least the two status bytes.
+    /// Returns the payload, at most 255 bytes; of an ACK at least the two status bytes.
     pub fn payload(&self) -> &[u8]
         ensures payload { result.now ≡ (parts_of self.now).payload }
         ensures fits { length result.now ≤ 255 }
@@ -81,7 +81,7 @@ impl FrameView<'_> {
         self.payload
     }
 
-    /// The same frame, with its bytes copied.
+    /// Returns the same frame, with its bytes copied.
     pub fn to_frame(&self) -> Frame
         ensures { result ≡ parts_of self.now }
     {
@@ -104,7 +104,7 @@ impl FrameView<'_> {
 impl<'a> FrameView<'a> {
     ghost use Rattle.hart_frame.specs.wire.View.{parts_of};
 
-    /// The frame that stands in the bytes by this layout.
+    /// Returns the frame that stands in the bytes by this layout.
     pub(crate) fn view_in(layout: Layout, bytes: &'a [u8]) -> FrameView<'a>
         requires body { IsWholeBody layout bytes.now }
         ensures { IsBody (parts_of result) bytes.now }

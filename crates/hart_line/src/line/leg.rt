@@ -13,7 +13,7 @@ use hart_frame::{Char, Frame, LoneFrame, lone_frame};
 #[derive(Clone, Copy)]
 pub struct Undetected;
 
-/// The frame that arrives in a leg, if any does: the one that was sent.
+/// Returns the frame that arrives in a leg, if any does: the one that was sent.
 ///
 /// What is heard clean is not looked for in its characters: a message has its frame alone.
 #[tactic(auto, using(crate::proofs::lemmas::line::Leg::message_arrives, crate::proofs::lemmas::line::Leg::nothing_arrives))]
@@ -33,7 +33,7 @@ pub fn arrived_in<'a>(
     }
 }
 
-/// The frame that arrives among characters, if any does: the one that was sent.
+/// Returns the frame that arrives among characters, if any does: the one that was sent.
 pub fn arrived_among<'a>(
     chars: &[Char],
     sent: Option<&'a Frame>,
@@ -48,7 +48,7 @@ pub fn arrived_among<'a>(
     }
 }
 
-/// Whether the device, which hears what goes up, answers what that brings it; the answer is then in `reply`.
+/// Returns true if the device, which hears what goes up, answers what that brings it; the answer is then in `reply`.
 #[tactic(auto, using(crate::proofs::lemmas::line::Leg::nothing_reaches))]
 pub fn answer_in<S: RegisterStore>(
     device: &mut Device<S>,
@@ -72,7 +72,7 @@ pub fn answer_in<S: RegisterStore>(
     }
 }
 
-/// Whether the device, which hears these characters, answers what they bring it; the answer is then in `reply`.
+/// Returns true if the device, which hears these characters, answers what they bring it; the answer is then in `reply`.
 #[tactic(auto, using(crate::proofs::lemmas::line::Leg::answered_among))]
 pub fn answer_among<S: RegisterStore>(
     device: &mut Device<S>,
@@ -95,7 +95,7 @@ pub fn answer_among<S: RegisterStore>(
     Ok(true)
 }
 
-/// Whether this frame was sent.
+/// Returns true if this frame was sent.
 fn is_frame(sent: Option<&Frame>, frame: &Frame) -> bool
     ensures { IsTrue result ↔ (option_copied sent.entry ≡ Some frame.now) }
 {

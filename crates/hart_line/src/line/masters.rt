@@ -104,7 +104,7 @@ pub struct Masters {
 }
 
 impl Masters {
-    /// A master submits a request, whose outcome will have this place, and gets its outcome so far.
+    /// Submits a request to a master. Its outcome will have this place. Returns its outcome so far.
     pub fn submit(
         &mut self,
         who: MasterId,
@@ -124,7 +124,7 @@ impl Masters {
         }
     }
 
-    /// A master sends the request in its hand, if there is one, whose reply is then awaited, and writes its frame over `frame`.
+    /// Lets a master send the request in its hand, if there is one, and await the reply. Writes the frame over `frame`.
     pub fn send(&mut self, who: MasterId, frame: &mut Frame) -> bool
         ensures { (retries : EachMaster ℕ) (hands : EachMaster (Option InHand)) → AreHeld retries hands self.old
             → (frame_if result frame.new ≡ frame_of (sent_by who (of_master who hands))) × AreInTurn who retries hands self.new }

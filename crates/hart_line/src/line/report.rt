@@ -46,11 +46,11 @@ impl Spoken {
 /// What became of a submission.
 #[derive(Debug, Drop, PartialEq, Eq)]
 pub enum Outcome {
-    /// A reply was accepted, after so many sendings.
+    /// A reply was accepted, after this number of sendings.
     Answered { reply: Reply, sendings: u8 },
-    /// No reply was accepted after the last of so many sendings, and the request was given up.
+    /// No reply was accepted after the last of this number of sendings, and the request was given up.
     NoReply { sendings: u8 },
-    /// It was sent so many times, and neither of these has come about.
+    /// It was sent this number of times, and neither of these has come about.
     Unfinished { sendings: u8 },
     /// The master refused it.
     Refused(MasterFault),

@@ -21,7 +21,7 @@ pub fn room_for_all_spoken(alloc: Global, events: &[LineEvent]) -> Result<Fillin
     Filling::with_room(alloc, most_spoken(events))
 }
 
-/// The number of submissions among these events.
+/// Returns the number of submissions among these events.
 fn submissions(events: &[LineEvent]) -> usize
     ensures count { result ≡ count_by is_submission events.now }
     ensures bound { result ≤ length events.now }
@@ -32,14 +32,14 @@ fn submissions(events: &[LineEvent]) -> usize
         .count()
 }
 
-/// The most frames that are spoken in these events: two in each turn, and one in each noise.
+/// Returns the most frames that are spoken in these events: two in each turn, and one in each noise.
 fn most_spoken(events: &[LineEvent]) -> usize
     ensures { result ≡ most_spoken events.now }
 {
     2 * turns(events) + noises(events)
 }
 
-/// The number of turns among these events.
+/// Returns the number of turns among these events.
 fn turns(events: &[LineEvent]) -> usize
     ensures count { result ≡ count_by is_turn events.now }
     ensures bound { result ≤ length events.now }
@@ -50,7 +50,7 @@ fn turns(events: &[LineEvent]) -> usize
         .count()
 }
 
-/// How often there is noise among these events.
+/// Returns how often there is noise among these events.
 fn noises(events: &[LineEvent]) -> usize
     ensures count { result ≡ count_by is_noise events.now }
     ensures bound { result ≤ length events.now }

@@ -36,7 +36,7 @@ impl Digits {
         Digits { values }
     }
 
-    /// The byte that two digits write, or `None` if one of them is no digit.
+    /// Returns the byte that two digits write, or `None` if one of them is no digit.
     #[inline(always)]
     pub fn byte_of(&self, high: u8, low: u8) -> Option<u8>
         ensures { MatchOption result (AreDigits high low → ⊥) (λ byte. AreDigitsOf byte high low) }
@@ -50,7 +50,7 @@ impl Digits {
     }
 }
 
-/// The value of a digit, or 255 if the byte is none.
+/// Returns the value of a digit, or 255 if the byte is none.
 fn digit_value(byte: u8) -> u8
     ensures { result ≡ value_of_digit byte }
 {

@@ -19,7 +19,7 @@ pub struct LeadingItem {
     pub len: usize,
 }
 
-/// The item that begins a text, or `None` if none does.
+/// Returns the item that begins a text, or `None` if none does.
 ///
 /// A `!` directly after two digits belongs to them, so that no item begins if no fault bits follow it.
 #[tactic(auto, using(crate::proofs::lemmas::script::Items::begins_as_plain, crate::proofs::lemmas::script::Items::begins_as_faulty))]
@@ -45,7 +45,7 @@ pub fn leading_item(text: &[u8]) -> Option<LeadingItem>
     Some(LeadingItem { char, len: 5 })
 }
 
-/// The item that begins a text, as [`leading_item`] gives it: without fault bits by what is kept of the digits.
+/// Returns the item that begins a text, as [`leading_item`] gives it: without fault bits by what is kept of the digits.
 #[inline(always)]
 #[tactic(auto, using(crate::proofs::lemmas::script::Items::begins_as_plain))]
 fn next_item(digits: &Digits, text: &[u8]) -> Option<LeadingItem>
@@ -61,14 +61,14 @@ fn next_item(digits: &Digits, text: &[u8]) -> Option<LeadingItem>
     Some(LeadingItem { char, len: 2 })
 }
 
-/// Whether a `!` stands after two bytes.
+/// Returns true if a `!` stands after two bytes.
 fn gives_faults(text: &[u8]) -> bool
     ensures { IsTrue result ↔ (slice_index text.now 2 ≡ 33) }
 {
     text.len() > 2 && text[2] == b'!'
 }
 
-/// The characters of a word that is not empty and items end to end; memory may be refused for half as many as the word has bytes.
+/// Returns the characters of a word that is not empty and items end to end; memory may be refused for half as many as the word has bytes.
 pub(crate) fn read_items(alloc: Global, digits: &Digits, word: &[u8]) -> Result<CharList, RowFault>
     ensures { ReadsWords (word.now ∷ []) (IsItemsWord word.now) result }
 {
@@ -88,7 +88,7 @@ pub(crate) fn read_items(alloc: Global, digits: &Digits, word: &[u8]) -> Result<
     Ok(CharList::new(chars.finish()))
 }
 
-/// The byte that two hex digits write.
+/// Returns the byte that two hex digits write.
 fn byte_of_digits(high: u8, low: u8) -> Option<u8>
     ensures { MatchOption result (AreDigits high low → ⊥) (λ byte. AreDigits high low × (byte ≡ byte_of high low)) }
 {

@@ -4,7 +4,7 @@ ghost use Rattle.std.specs.List.{position_or_len};
 ghost use Rattle.std.specs.Str.Lines.{strip_carriage_return};
 ghost use Rattle.hart_line.specs.script.Lines.{is_blank, words_of};
 
-/// The part without one carriage return at its end.
+/// Returns the part without one carriage return at its end.
 pub fn without_return(part: &[u8]) -> &[u8]
     ensures { result.now ≡ strip_carriage_return part.now }
 {
@@ -14,7 +14,7 @@ pub fn without_return(part: &[u8]) -> &[u8]
     }
 }
 
-/// The first word of a line, and what follows it, or `None` if it has no word.
+/// Returns the first word of a line, and what follows it, or `None` if it has no word.
 pub fn next_word(line: &[u8]) -> Option<(&[u8], &[u8])>
     ensures { MatchOption result (words_of line.now ≡ [])
         (λ taken. words_of line.now ≡ (taken.0).now ∷ words_of (taken.1).now) }
@@ -29,7 +29,7 @@ pub fn next_word(line: &[u8]) -> Option<(&[u8], &[u8])>
     None
 }
 
-/// The word of a line that has no other, or `None` if it has none or several.
+/// Returns the word of a line that has no other, or `None` if it has none or several.
 pub fn only_word(line: &[u8]) -> Option<&[u8]>
     ensures { MatchOption result (length (words_of line.now) ≢ 1) (λ word. words_of line.now ≡ word.now ∷ []) }
 {
@@ -37,14 +37,14 @@ pub fn only_word(line: &[u8]) -> Option<&[u8]>
     has_no_word(rest).then_some(word)
 }
 
-/// Whether a line has no word.
+/// Returns true if a line has no word.
 pub fn has_no_word(line: &[u8]) -> bool
     ensures { IsTrue result ↔ (words_of line.now ≡ []) }
 {
     next_word(line).is_none()
 }
 
-/// The number of bytes before the first blank.
+/// Returns the number of bytes before the first blank.
 fn len_before_blank(line: &[u8]) -> usize
     ensures place { result ≡ position_or_len is_blank line.now }
     ensures within { result ≤ length line.now }
@@ -54,7 +54,7 @@ fn len_before_blank(line: &[u8]) -> usize
         .unwrap_or(line.len())
 }
 
-/// Whether a byte is a space or a tab.
+/// Returns true if a byte is a space or a tab.
 fn is_blank(byte: u8) -> bool
     ensures { result ≡ is_blank byte }
 {

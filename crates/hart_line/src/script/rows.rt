@@ -18,12 +18,12 @@ use std::alloc::Global;
 pub enum RowFault {
     /// Its words are those of no row.
     Bad,
-    /// Memory was refused, for so many items.
+    /// Memory was refused, for this number of items.
     Memory(NoRoom),
 }
 
 impl RowFault {
-    /// The fault of a script whose line with this number is not read.
+    /// Returns the fault of a script whose line with this number is not read.
     pub fn at(self, number: usize) -> LineFault
         ensures { result ≡ fault_at_line number self }
     {
@@ -44,7 +44,7 @@ impl From<NoRoom> for RowFault {
     }
 }
 
-/// The event that the line with this number says, or `None` if it is empty or a comment. It is bad if it says no event and is no such
+/// Returns the event that the line with this number says, or `None` if it is empty or a comment. It is bad if it says no event and is no such
 /// line; and memory may be refused for half as many characters as one of its words has bytes.
 pub fn read_line(
     alloc: Global,
@@ -66,7 +66,7 @@ pub fn read_line(
     }
 }
 
-/// The event that a first word and the words after it say.
+/// Returns the event that a first word and the words after it say.
 fn read_event(
     alloc: Global,
     digits: &Digits,
@@ -85,7 +85,7 @@ fn read_event(
     }
 }
 
-/// The submission that the words after `submit` say, or `None` if they say none.
+/// Returns the submission that the words after `submit` say, or `None` if they say none.
 fn read_submit(rest: &[u8]) -> Option<LineEvent>
     ensures { Finds (Says (codes "submit" ∷ words_of rest.now)) result }
 {
@@ -99,7 +99,7 @@ fn read_submit(rest: &[u8]) -> Option<LineEvent>
     })
 }
 
-/// The request that the word of a command and the words of its data write, or `None` if they write none.
+/// Returns the request that the word of a command and the words of its data write, or `None` if they write none.
 fn read_request(command: &[u8], rest: &[u8]) -> Option<Request>
     ensures { result ≡ request_of command.now (words_of rest.now) }
 {
@@ -108,7 +108,7 @@ fn read_request(command: &[u8], rest: &[u8]) -> Option<Request>
     Request::read(number, payload.as_slice()).ok()
 }
 
-/// The data that the words after COMMAND write, no bytes if there is no word and those of DATA if it is alone, or `None`
+/// Returns the data that the words after COMMAND write, no bytes if there is no word and those of DATA if it is alone, or `None`
 /// if they write none.
 fn read_payload(rest: &[u8]) -> Option<Payload>
     ensures { result ≡ payload_of (words_of rest.now) }
@@ -119,7 +119,7 @@ fn read_payload(rest: &[u8]) -> Option<Payload>
     read_data(only_word(rest)?)
 }
 
-/// The turn that the words after `turn` say.
+/// Returns the turn that the words after `turn` say.
 fn read_turn(alloc: Global, digits: &Digits, rest: &[u8]) -> Result<LineEvent, RowFault>
     ensures { ReadsWords (codes "turn" ∷ words_of rest.now) (Says (codes "turn" ∷ words_of rest.now)) result }
 {
@@ -133,7 +133,7 @@ fn read_turn(alloc: Global, digits: &Digits, rest: &[u8]) -> Result<LineEvent, R
     })
 }
 
-/// The words of a line that has three, or `None` if it has fewer or more.
+/// Returns the words of a line that has three, or `None` if it has fewer or more.
 fn three_words(line: &[u8]) -> Option<(&[u8], &[u8], &[u8])>
     ensures { MatchOption result (length (words_of line.now) ≢ 3)
         (λ words. words_of line.now ≡ (words.0).now ∷ (words.1).now ∷ (words.2).now ∷ []) }
@@ -143,7 +143,7 @@ fn three_words(line: &[u8]) -> Option<(&[u8], &[u8], &[u8])>
     Some((first, second, only_word(rest)?))
 }
 
-/// What the word of a leg says that is heard.
+/// Returns what the word of a leg says that is heard.
 fn read_leg(alloc: Global, digits: &Digits, word: &[u8]) -> Result<Heard, RowFault>
     ensures { ReadsWords (word.now ∷ []) (IsLegWord word.now) result }
 {
@@ -154,7 +154,7 @@ fn read_leg(alloc: Global, digits: &Digits, word: &[u8]) -> Result<Heard, RowFau
     }
 }
 
-/// The switch of the write protection that the words after `protect` say, or `None` if they say none.
+/// Returns the switch of the write protection that the words after `protect` say, or `None` if they say none.
 fn read_protect(rest: &[u8]) -> Option<LineEvent>
     ensures { Finds (Says (codes "protect" ∷ words_of rest.now)) result }
 {
@@ -165,7 +165,7 @@ fn read_protect(rest: &[u8]) -> Option<LineEvent>
     }
 }
 
-/// The noise that the words after `noise` say.
+/// Returns the noise that the words after `noise` say.
 fn read_noise(alloc: Global, digits: &Digits, rest: &[u8]) -> Result<LineEvent, RowFault>
     ensures { ReadsWords (codes "noise" ∷ words_of rest.now) (Says (codes "noise" ∷ words_of rest.now)) result }
 {
@@ -175,7 +175,7 @@ fn read_noise(alloc: Global, digits: &Digits, rest: &[u8]) -> Result<LineEvent, 
     Ok(LineEvent::Noise(read_items(alloc, digits, items)?))
 }
 
-/// The restart that `restart` says, or `None` if a word is after it.
+/// Returns the restart that `restart` says, or `None` if a word is after it.
 fn read_restart(rest: &[u8]) -> Option<LineEvent>
     ensures { Finds (Says (codes "restart" ∷ words_of rest.now)) result }
 {

@@ -8,7 +8,7 @@ use hart_values::{Address, MasterId, PollingAddress, UniqueAddress};
 use hex::FromHex;
 use std::str;
 
-/// The master that WHO names, `P` the primary and `S` the secondary, or `None` if it names none.
+/// Returns the master that WHO names, `P` the primary and `S` the secondary, or `None` if it names none.
 pub fn read_who(word: &[u8]) -> Option<MasterId>
     ensures { Finds (IsWho word.now) result }
 {
@@ -19,7 +19,7 @@ pub fn read_who(word: &[u8]) -> Option<MasterId>
     }
 }
 
-/// The address that ADDRESS writes, as `@` and a polling address, as the ten hex digits of a device, or as `all`; or `None`
+/// Returns the address that ADDRESS writes, as `@` and a polling address, as the ten hex digits of a device, or as `all`; or `None`
 /// if it writes none.
 pub fn read_address(word: &[u8]) -> Option<Address>
     ensures { Finds (IsAddressWord word.now) result }
@@ -33,7 +33,7 @@ pub fn read_address(word: &[u8]) -> Option<Address>
     Some(Address::Unique(read_device(word)?))
 }
 
-/// The polling address that is written `@` and one or two digits.
+/// Returns the polling address that is written `@` and one or two digits.
 fn read_polling_address(word: &[u8]) -> Option<PollingAddress>
     ensures { result ≡ polling_of word.now }
 {
@@ -43,7 +43,7 @@ fn read_polling_address(word: &[u8]) -> Option<PollingAddress>
     PollingAddress::new(read_decimal(digits, 2)?).ok()
 }
 
-/// The device that is written in ten hex digits.
+/// Returns the device that is written in ten hex digits.
 fn read_device(word: &[u8]) -> Option<UniqueAddress>
     ensures { result ≡ device_of word.now }
 {
@@ -54,14 +54,14 @@ fn read_device(word: &[u8]) -> Option<UniqueAddress>
     UniqueAddress::new(expanded_type, device_id).ok()
 }
 
-/// The command that COMMAND writes, in one to three digits, or `None` if it writes none.
+/// Returns the command that COMMAND writes, in one to three digits, or `None` if it writes none.
 pub fn read_command(word: &[u8]) -> Option<u8>
     ensures { Finds (IsCommandWord word.now) result }
 {
     read_decimal(word, 3)
 }
 
-/// The number up to 255 that a word writes in decimal, in at most so many digits.
+/// Returns the number up to 255 that a word writes in decimal, in at most `most_digits` digits.
 fn read_decimal(word: &[u8], most_digits: usize) -> Option<u8>
     ensures { result ≡ decimal_of most_digits 255 word.now }
 {
@@ -75,7 +75,7 @@ fn read_decimal(word: &[u8], most_digits: usize) -> Option<u8>
     }
 }
 
-/// The bytes that DATA writes in plain hex, at most 255, or `None` if it writes none.
+/// Returns the bytes that DATA writes in plain hex, at most 255, or `None` if it writes none.
 pub fn read_data(word: &[u8]) -> Option<Payload>
     ensures { Finds (IsDataWord word.now) result }
 {

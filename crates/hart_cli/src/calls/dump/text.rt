@@ -58,7 +58,7 @@ fn push_head<const N: usize>(
     push_word(lines, burst_word(burst));
 }
 
-/// The word of a frame's kind.
+/// Returns the word of a frame's kind.
 fn kind_word(kind: FrameKind) -> &'static str
     ensures word { result.now ≡ kind_word kind }
     ensures short { length result.now ≤ 3 }
@@ -69,7 +69,7 @@ fn kind_word(kind: FrameKind) -> &'static str
     }
 }
 
-/// The word of a master.
+/// Returns the word of a master.
 fn master_word(master: MasterId) -> &'static str
     ensures word { result.now ≡ master_word master }
     ensures short { length result.now ≤ 1 }
@@ -80,7 +80,7 @@ fn master_word(master: MasterId) -> &'static str
     }
 }
 
-/// The word of a burst bit.
+/// Returns the word of a burst bit.
 fn burst_word(burst: bool) -> &'static str
     ensures word { result.now ≡ burst_word burst }
     ensures short { length result.now ≤ 1 }

@@ -10,7 +10,7 @@ use crate::kept::Kept;
 use crate::text::pairs::Pairs;
 use hart_commands::FieldRow;
 
-/// Adds what is said of data of which so many bytes are taken by these rows.
+/// Appends the lines of data of which these rows take the first `count` bytes.
 pub fn push_taken(text: &mut Kept, pairs: &Pairs, rows: &[FieldRow], count: usize, bytes: &[u8])
     requires room { length text.old + 15 * length bytes.now + 1800 ≤ 32768 }
     requires shown { are_shown (map seen rows.now) ≡ true }

@@ -114,7 +114,7 @@ fn push_names(text: &mut Kept, bits: &[NamedBit], byte: u8)
     }
 }
 
-/// The names of the bits that are set in a byte, each with a comma and a space before it.
+/// Returns the names of the bits that are set in a byte, each with a comma and a space before it.
 fn separated_names(bits: &[NamedBit], byte: u8) -> Names
     requires few { length bits.now ≤ 8 }
     requires short_names { are_short bits.now ≡ true }

@@ -276,7 +276,7 @@ impl Telling {
     }
 }
 
-/// Whether a `/` stands at the beginning of a text.
+/// Returns true if a `/` stands at the beginning of a text.
 fn begins_with_silence(text: &[u8]) -> bool
     ensures { IsTrue result ↔ BeginsWithSilence text.now }
 {

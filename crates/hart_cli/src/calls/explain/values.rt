@@ -136,14 +136,14 @@ fn push_latin_text(text: &mut Kept, pairs: &Pairs, bytes: &[u8])
     }
 }
 
-/// Whether all characters of a text in ISO Latin-1 can be printed.
+/// Returns true if all characters of a text in ISO Latin-1 can be printed.
 fn are_printable(characters: &[u8]) -> bool
     ensures { result ≡ list_all is_printable characters.now }
 {
     characters.iter().all(|code| is_printable(*code))
 }
 
-/// Whether a character of ISO Latin-1 can be printed.
+/// Returns true if a character of ISO Latin-1 can be printed.
 fn is_printable(code: u8) -> bool
     ensures { result ≡ is_printable code }
 {

@@ -34,7 +34,7 @@ pub fn push_who(text: &mut Kept, pairs: &Pairs, kind: FrameKind, master: MasterI
     }
 }
 
-/// The words of a master.
+/// Returns the words of a master.
 fn master_words(master: MasterId) -> &'static str
     ensures words { result.now ≡ master_words master }
     ensures short { length result.now ≤ 20 }

@@ -84,7 +84,7 @@ pub enum Call<'w, 'a: 'w> {
     Request(RequestWords<'w, 'a>),
 }
 
-/// The matches of the words.
+/// Returns the matches of the words.
 ///
 /// # Errors
 ///
@@ -98,7 +98,7 @@ pub fn matches_of<'a>(alloc: Global, words: &'a [String]) -> Result<ArgMatches<'
     Ok(matches)
 }
 
-/// The call of the subcommand that the words named, or `None` if they named none of the seven, or if `encode_words` or `request_words`
+/// Returns the call of the subcommand that the words named, or `None` if they named none of the seven, or if `encode_words` or `request_words`
 /// gives `None`. clap lets neither pass.
 pub fn call_of<'w, 'a: 'w>(matches: &'w ArgMatches<'a>) -> Option<Call<'w, 'a>>
     ensures { result ≡ call_of (subcommand_rows_of matches.now) }
@@ -116,7 +116,7 @@ pub fn call_of<'w, 'a: 'w>(matches: &'w ArgMatches<'a>) -> Option<Call<'w, 'a>>
     }
 }
 
-/// The call of `hart explain`, with its flag or without.
+/// Returns the call of `hart explain`, with its flag or without.
 fn explain_call<'w, 'a: 'w>(given: &'w ArgMatches<'a>) -> Call<'w, 'a>
     ensures { result ≡ explain_call (first_of (codes "raw") (rows_of (found_of given.now))) }
 {
@@ -126,7 +126,7 @@ fn explain_call<'w, 'a: 'w>(given: &'w ArgMatches<'a>) -> Call<'w, 'a>
     }
 }
 
-/// The word of the image of `hart answer`, `hart serve` or `hart sim`, if it was given one.
+/// Returns the word of the image of `hart answer`, `hart serve` or `hart sim`, if it was given one.
 fn image_word<'a>(given: &ArgMatches<'a>) -> ImageWord<'a>
     ensures { result ≡ first_of (codes "image") (rows_of (found_of given.now)) }
 {
@@ -135,14 +135,14 @@ fn image_word<'a>(given: &ArgMatches<'a>) -> ImageWord<'a>
     }
 }
 
-/// The first word that was given under a name.
+/// Returns the first word that was given under a name.
 fn word_of<'a>(given: &ArgMatches<'a>, id: &str) -> Option<&'a str>
     ensures { option_map (λ word. word.now) result ≡ first_of id.now (rows_of (found_of given.now)) }
 {
     given.get_str(id)
 }
 
-/// The words of `hart encode`, or `None` if WHO, ADDRESS or COMMAND is missing, or if the number of preamble bytes is not from 5 to
+/// Returns the words of `hart encode`, or `None` if WHO, ADDRESS or COMMAND is missing, or if the number of preamble bytes is not from 5 to
 /// 20. clap lets neither pass.
 fn encode_words<'a>(given: &ArgMatches<'a>) -> Option<EncodeWords<'a>>
     ensures { result ≡ words_of (rows_of (found_of given.now)) }
@@ -157,7 +157,7 @@ fn encode_words<'a>(given: &ArgMatches<'a>) -> Option<EncodeWords<'a>>
     })
 }
 
-/// The words of `hart request`, or `None` if WHO, ADDRESS or COMMAND is missing, or if the number of preamble bytes is not from 5 to
+/// Returns the words of `hart request`, or `None` if WHO, ADDRESS or COMMAND is missing, or if the number of preamble bytes is not from 5 to
 /// 20. clap lets neither pass.
 fn request_words<'w, 'a: 'w>(given: &'w ArgMatches<'a>) -> Option<RequestWords<'w, 'a>>
     ensures { result ≡ request_words_of (rows_of (found_of given.now)) }
@@ -175,14 +175,14 @@ fn request_words<'w, 'a: 'w>(given: &'w ArgMatches<'a>) -> Option<RequestWords<'
     })
 }
 
-/// The words that were given under a name, if any were.
+/// Returns the words that were given under a name, if any were.
 fn words_of<'w, 'a: 'w>(given: &'w ArgMatches<'a>, id: &str) -> Option<&'w [&'a str]>
     ensures { option_map (λ words. map (λ word. word.now) words.now) result ≡ all_of id.now (rows_of (found_of given.now)) }
 {
     given.get_strs(id)
 }
 
-/// The number of preamble bytes that a word writes, or `None` if it writes none from 5 to 20.
+/// Returns the number of preamble bytes that a word writes, or `None` if it writes none from 5 to 20.
 fn preambles_of(word: &str) -> Option<u8>
     ensures { result ≡ preambles_of word.now }
 {
@@ -193,7 +193,7 @@ fn preambles_of(word: &str) -> Option<u8>
     Some(count)
 }
 
-/// What the words are matched against.
+/// Returns what the words are matched against.
 fn hart_command<'a>(alloc: Global) -> Result<Command<'a>, AllocError>
     ensures { IfOk result (λ command. app_of command ≡ hart_app) }
 {
@@ -266,7 +266,7 @@ fn request_command<'a>(alloc: Global) -> Result<Command<'a>, AllocError>
         .arg(preambles_option(alloc))
 }
 
-/// The words of fields, which may be left out.
+/// Returns the words of fields, which may be left out.
 fn field_words<'a>(alloc: Global) -> Arg<'a>
     ensures rule { rule_of result ≡ fields_rule }
     ensures local { result.global ≡ false }
@@ -276,7 +276,7 @@ fn field_words<'a>(alloc: Global) -> Arg<'a>
         .help(help::FIELD_HELP)
 }
 
-/// A subcommand with the words that have to be there.
+/// Returns a subcommand with the words that have to be there.
 fn with_required_words<'a>(
     alloc: Global,
     name: &'a str,
@@ -290,7 +290,7 @@ fn with_required_words<'a>(
     with_word(alloc, plain, "COMMAND", help::COMMAND_HELP)
 }
 
-/// The command with a word more, which has to be there.
+/// Returns the command with a word more, which has to be there.
 fn with_word<'a>(
     alloc: Global,
     command: Command<'a>,
@@ -302,7 +302,7 @@ fn with_word<'a>(
     command.arg(required_word(alloc, id, help))
 }
 
-/// The command with the data and the number of preamble bytes, which may be left out.
+/// Returns the command with the data and the number of preamble bytes, which may be left out.
 fn with_options<'a>(alloc: Global, command: Command<'a>) -> Result<Command<'a>, AllocError>
     ensures { IfOk result (λ more. app_of more ≡
         with_rule (with_rule (app_of command.entry) (new_rule (codes "DATA"))) preambles_rule) }
@@ -310,7 +310,7 @@ fn with_options<'a>(alloc: Global, command: Command<'a>) -> Result<Command<'a>, 
     command.arg(data_word(alloc))?.arg(preambles_option(alloc))
 }
 
-/// The word of the data, which may be left out.
+/// Returns the word of the data, which may be left out.
 fn data_word<'a>(alloc: Global) -> Arg<'a>
     ensures rule { rule_of result ≡ new_rule (codes "DATA") }
     ensures local { result.global ≡ false }
@@ -318,7 +318,7 @@ fn data_word<'a>(alloc: Global) -> Arg<'a>
     Arg::new(alloc, "DATA").help(help::DATA_HELP)
 }
 
-/// The command with a subcommand more, which takes an image.
+/// Returns the command with a subcommand more, which takes an image.
 fn with_image_command<'a>(
     alloc: Global,
     command: Command<'a>,
@@ -332,7 +332,7 @@ fn with_image_command<'a>(
     command.subcommand(added)
 }
 
-/// A subcommand without words of its own.
+/// Returns a subcommand without words of its own.
 fn plain_command<'a>(alloc: Global, name: &'a str, page: Page<'a>) -> Command<'a>
     ensures { app_of result ≡ new_app name.entry.now }
 {
@@ -343,7 +343,7 @@ fn plain_command<'a>(alloc: Global, name: &'a str, page: Page<'a>) -> Command<'a
         .after_long_help(page.example)
 }
 
-/// A word that has to be there.
+/// Returns a word that has to be there.
 fn required_word<'a>(alloc: Global, id: &'a str, help: &'a str) -> Arg<'a>
     ensures rule { rule_of result ≡ required_rule id.entry.now }
     ensures local { result.global ≡ false }
@@ -351,7 +351,7 @@ fn required_word<'a>(alloc: Global, id: &'a str, help: &'a str) -> Arg<'a>
     Arg::new(alloc, id).required(true).help(help)
 }
 
-/// The image that the device of a call goes on from.
+/// Returns the image that the device of a call goes on from.
 fn image_option<'a>(alloc: Global) -> Arg<'a>
     ensures rule { rule_of result ≡ image_rule }
     ensures local { result.global ≡ false }
@@ -362,7 +362,7 @@ fn image_option<'a>(alloc: Global) -> Arg<'a>
         .help(help::IMAGE_HELP)
 }
 
-/// That the input is the bytes themselves.
+/// Returns the option by which the input is the bytes themselves.
 fn raw_flag<'a>(alloc: Global) -> Arg<'a>
     ensures rule { rule_of result ≡ raw_rule }
     ensures local { result.global ≡ false }
@@ -373,7 +373,7 @@ fn raw_flag<'a>(alloc: Global) -> Arg<'a>
         .help(help::RAW_HELP)
 }
 
-/// How many preamble bytes a message begins with.
+/// Returns how many preamble bytes a message begins with.
 fn preambles_option<'a>(alloc: Global) -> Arg<'a>
     ensures rule { rule_of result ≡ preambles_rule }
     ensures local { result.global ≡ false }

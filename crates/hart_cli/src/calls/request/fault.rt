@@ -45,7 +45,7 @@ pub enum FieldFault {
 }
 
 impl FieldFault {
-    /// The text of the fault.
+    /// Returns the text of the fault.
     pub fn reason(self) -> Reason
         ensures { reasoned result ≡ reason_text self }
     {

@@ -74,7 +74,7 @@ fn name_fault(rows: &[FieldRow], earlier: &[&str], word: &str) -> Option<FieldFa
     None
 }
 
-/// Whether a field has this name.
+/// Returns true if a field has this name.
 fn is_field(rows: &[FieldRow], name: &str) -> bool
     ensures { result ≡ list_any (λ row. bytes_eq name.now (name_word row.name)) (map seen rows.now) }
 {
@@ -86,7 +86,7 @@ fn is_field(rows: &[FieldRow], name: &str) -> bool
     false
 }
 
-/// Whether one of some words gives a value to this name.
+/// Returns true if one of some words gives a value to this name.
 fn is_given(words: &[&str], name: &str) -> bool
     ensures { result ≡ list_any (has_name name.now) (map (λ word. word.now) words.now) }
 {
@@ -98,7 +98,7 @@ fn is_given(words: &[&str], name: &str) -> bool
     false
 }
 
-/// Whether a word gives a value to this name.
+/// Returns true if a word gives a value to this name.
 fn has_name(word: &str, name: &str) -> bool
     ensures { result ≡ has_name name.now word.now }
 {
@@ -172,7 +172,7 @@ fn place_for(row: &FieldRow, words: &[&str]) -> usize
     words.len()
 }
 
-/// Whether a word gives the field of a row a value.
+/// Returns true if a word gives the field of a row a value.
 fn is_for(row: &FieldRow, word: &str) -> bool
     ensures { result ≡ is_for (seen row.now) word.now }
 {
@@ -192,7 +192,7 @@ fn value_in(word: &str) -> &str
     }
 }
 
-/// Whether a word is the name of a field, with `_` for each space.
+/// Returns true if a word is the name of a field, with `_` for each space.
 fn is_name(name: &str, word: &str) -> bool
     ensures { result ≡ bytes_eq word.now (name_word name.now) }
 {

@@ -184,7 +184,7 @@ fn text_value(kind: FieldKind, most: usize, word: &str) -> Result<FieldBytes, Fi
     Ok(text)
 }
 
-/// Whether a text of this kind can have a character.
+/// Returns true if a text of this kind can have a character.
 fn can_have(kind: FieldKind, character: char) -> bool
     ensures { result ≡ can_have kind character }
 {

@@ -152,7 +152,7 @@ fn next_part(text: &[u8]) -> Option<(&[u8], &[u8])>
     Some((part, &rest[1..]))
 }
 
-/// Whether a part is an empty line.
+/// Returns true if a part is an empty line.
 fn is_empty_line(part: &[u8]) -> bool
     ensures { IsTrue result ↔ (strip_carriage_return part.now ≡ []) }
 {

@@ -122,7 +122,7 @@ fn make_spoken_line(line: &mut TextLine, pairs: &Pairs, frame: &Spoken)
     line.push(b'\n');
 }
 
-/// The word of a party.
+/// Returns the word of a party.
 fn party_word(party: Party) -> &'static str
     ensures word { result.now ≡ party_word party }
     ensures short { length result.now ≤ 1 }
@@ -185,7 +185,7 @@ fn push_count(line: &mut TextLine, word: &str, number: u8)
     line.extend_from_slice(Buffer::new().format(number).as_bytes());
 }
 
-/// The lines of the counter and of the image.
+/// Returns the lines of the counter and of the image.
 fn device_lines<S: RegisterStore>(pairs: &Pairs, device: &Device<S>) -> TextLine
     ensures { result ≡ counter_line device.now ++ image_line device.now }
 {
