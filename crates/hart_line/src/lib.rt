@@ -1,10 +1,8 @@
 //! The HART line between a field device and its two masters: what the events of a script are, how they are written, and what they lead to.
 //!
-//! A script is a text, and each of its own lines has one event but for comments and empty ones: a request that a master is
-//! asked to send, a turn with what is heard in its two legs, a switch of the write protection, noise, or a restart of the device.
-//! [`read_script`] reads them, or names the first bad line of the text. The words and items of a script are those of the command
-//! line too, so their readers are public. [`run`] carries out the events with a device and two masters, and reports what was
-//! spoken, what became of each submission, and the device as it is then; or it names the first leg whose damage is undetected.
+//! Each line of a script has one event, unless it is empty or a comment: a request for a master, a turn with what is heard in its
+//! two legs, a switch of the write protection, noise, or a restart. [`read_script`] reads them, or names the first bad line; [`run`]
+//! carries them out and reports what was said, what became of each submission, and the device, or the first undetected damage.
 //!
 //! ```rust
 //! let events = read_script(rt.alloc(), b"submit P @0 0\nturn P ok lost\n")?;
@@ -23,12 +21,8 @@
 //! assert_eq!(rt; *outcome, Outcome::Unfinished { sendings: 1 });
 //! ```
 //!
-//! At the root stand an event, lists, faults and their texts, and memory. The rooms:
-//!
-//! - `script`: texts of lines that say events.
-//! - `line`: a device and two masters on one line, and what an event does to them.
-//! - `world`, of definitions and lemmas alone: what has happened on the line, as a reader of the script knows it and no party on
-//!   the line does. What a line does stands for it.
+//! The rooms: `script`, texts of lines that say events; `line`, a device and two masters on one line; `world`, of definitions and
+//! lemmas alone, what has happened on the line, as a reader of the script knows it and no party on the line does.
 #![tactic(auto)]
 
 mod event;
