@@ -1,6 +1,6 @@
 /* HART messages (HART Protocol Revision 7), by proved code. docs/LIBRARY.md shows how a program is built around these calls.
  *
- * Link libhart.a or libhart.so. No call keeps a pointer or a state, allocates or waits. Each is a function of its arguments, and two threads
+ * Link libhart.a or libhart.so. No call keeps a pointer or a state, allocates or waits. Each looks at its arguments alone, and two threads
  * may call at once, each on its own memory.
  *
  * Duties of the caller, at each call:
@@ -22,10 +22,10 @@
 extern "C" {
 #endif
 
-/* A frame and its place in what was passed. A frame that a call has written may be passed to hart_encode as it is. */
+/* A frame and its offsets in what was passed. A frame that a call has written may be passed to hart_encode as it is. */
 typedef struct hart_frame {
-    uint64_t start;          /* the place of the delimiter, from 0 */
-    uint64_t stop;           /* the place after the check byte */
+    uint64_t start;          /* the offset of the delimiter, from 0 */
+    uint64_t stop;           /* the offset after the check byte */
     uint32_t device_id;      /* of a unique address, at most 0xFFFFFF; of a polling address 0 */
     uint16_t expanded_type;  /* of a unique address, at most 0x3FFF; of a polling address 0 */
     bool is_reply;           /* a reply, an ACK, and not a request, an STX */
@@ -52,18 +52,18 @@ enum {
     HART_BAD_ADDRESS = 10,    /* a number of the address is out of range */
     HART_LONG_EXPANSION = 11, /* more than three expansion bytes */
     HART_NO_ROOM = 12,        /* the output has no room for what is to be written */
-    HART_BAD_FAULT_BITS = 13, /* a character has another bit than fault bits */
+    HART_BAD_FAULT_BITS = 13, /* `faults` of a character has an unknown bit */
     HART_NO_REPLY = 14,       /* a payload is no reply to the command */
     HART_UNKNOWN = 15,        /* there is no such command or field */
     HART_OUT_OF_RANGE = 16,   /* a number of an identity is out of range */
     HART_BROADCAST_ADDRESS = 17, /* the unique address of an identity would be broadcast */
     HART_BAD_VERSION = 18,    /* an image of a version that is not known */
-    HART_BAD_LENGTH = 19,     /* an image of no bytes, or not of as many as its version has */
-    HART_BAD_FIELD = 20,      /* a register would hold bytes that are not valid in it, or the flags of an image are above 7 */
+    HART_BAD_LENGTH = 19,     /* an image of 0 or over 86 bytes, or not of its version's length */
+    HART_BAD_FIELD = 20,      /* a polling address above 63, a loop current mode above 1, an invalid date, or image flags above 7 */
     HART_BAD_VARIABLES = 21,  /* a process without a dynamic variable, or with more than four */
-    HART_TOO_LONG = 22,       /* more than 1,024 characters are heard at once */
-    HART_NO_REQUEST = 23,     /* a frame that is no request of a master */
-    HART_WRONG_ADDRESS = 24   /* a request that is not asked at this address */
+    HART_TOO_LONG = 22,       /* a delivery of more than 1,024 characters */
+    HART_NO_REQUEST = 23,     /* a reply, expansion bytes, burst bit, or refused data */
+    HART_WRONG_ADDRESS = 24   /* a command not allowed at this kind of address */
 };
 
 /* A character that was heard. */
@@ -79,9 +79,9 @@ typedef struct hart_search {
     uint8_t fault; /* HART_OK, or why nothing was done */
 } hart_search;
 
-/* Finds the next frames in bytes without faults, as many as there is room for, none with no room. `ended` says that nothing more comes.
- * Returns how much is used up: pass the rest again, followed by what comes next; places then count from its front. With room left, at
- * most 268 bytes remain, and none if it ended. Going on so finds exactly the frames of all that was heard, in whatever pieces it comes.
+/* Finds the next frames in bytes without faults, at most `frames_len`. `ended` says that nothing more comes.
+ * Returns how much is used up: pass the rest again, followed by what comes next; offsets count from there. With room in `frames`, at
+ * most 268 bytes remain, and none if it ended. Repeated calls find exactly the frames of the whole input, in whatever pieces it comes.
  * A buffer of 269 bytes is enough. No fault. */
 hart_search hart_find_in_bytes(const uint8_t *bytes, size_t bytes_len, bool ended, hart_frame *frames, size_t frames_len);
 
@@ -94,13 +94,13 @@ typedef struct hart_outcome {
     uint8_t fault; /* HART_OK, or why nothing was done */
 } hart_outcome;
 
-/* Reads the frame whose body the bytes begin with, from the delimiter on; bytes may follow it. Returns the length of the body.
+/* Reads the frame at the front of the bytes, delimiter first; other bytes may follow. Returns the length of the body.
  * Faults, in the order of the bytes: HART_TRUNCATED (no bytes), HART_BAD_DELIMITER, HART_TRUNCATED (before the byte count),
  * HART_SHORT_REPLY, HART_TRUNCATED (before the check byte), HART_BAD_CHECK. */
 hart_outcome hart_decode(const uint8_t *bytes, size_t bytes_len, hart_frame *frame);
 
 /* Writes a frame as a message to the front of `output`: this number of preamble bytes, then its body. Returns the length; 287 bytes are room
- * for any message. Ignores `start`, `stop` and the numbers of the other kind of address.
+ * for any message. Ignores `start`, `stop` and the fields of the unused address kind.
  * Faults: HART_BAD_ADDRESS, HART_LONG_EXPANSION, HART_TOO_SHORT_REPLY, HART_BAD_PREAMBLE, HART_NO_ROOM. */
 hart_outcome hart_encode(const hart_frame *frame, uint8_t preambles, uint8_t *output, size_t output_len);
 
@@ -129,7 +129,7 @@ typedef struct hart_field {
 /* What was read of the data of a message. */
 typedef struct hart_reading {
     size_t count;   /* how many fields there are; those with room are written, the elements after them are unchanged */
-    size_t taken;   /* how many bytes are taken; later bytes are ignored */
+    size_t taken;   /* bytes taken, status bytes included; later ones are ignored */
     uint8_t code;   /* of a reply its response code; of a request the response code that refuses it, or 0 */
     uint8_t status; /* of a reply its device status; of a request 0 */
     uint8_t fault;  /* HART_OK, or why nothing is told */
@@ -153,7 +153,7 @@ hart_outcome hart_command_name(uint8_t command, uint8_t *output, size_t output_l
  * Faults: HART_UNKNOWN for no such command or field, HART_NO_ROOM. */
 hart_outcome hart_field_name(bool is_reply, uint8_t command, size_t index, uint8_t *output, size_t output_len);
 
-/* Devices. The caller passes who the device is and what it measures at each call, and keeps what it holds in a hart_device, which can be
+/* Devices. hart_hear takes who the device is and what it measures. The caller keeps what it holds in a hart_device, which can be
  * stored as bytes. A float is four bytes, the most significant first. docs/COMMANDS.md describes each field. */
 
 /* Who a device is. */
@@ -248,10 +248,10 @@ hart_outcome hart_new_device(const hart_registers *registers, hart_device *devic
 /* Records that the device was without power: sets both cold start bits, and nothing else. */
 void hart_restart(hart_device *device);
 
-/* Lets a device hear a delivery, all that came between two silences. Writes its reply, a whole message, to the front of `reply`, and updates
- * the device. Returns the length of the reply, 0 for silence; 287 bytes are room for any. A damaged request gets communication faults.
+/* Lets a device hear a delivery, all that came between two silences. Writes its reply, a whole message, to the front of `reply`, and
+ * updates the device. Returns the length of the reply, 0 for silence; 287 bytes fit any. A damaged request gets communication faults.
  * Faults: HART_OUT_OF_RANGE, HART_BROADCAST_ADDRESS; HART_BAD_LENGTH (0 or above 86), HART_BAD_VERSION, HART_BAD_LENGTH, HART_BAD_FIELD;
- * HART_BAD_VARIABLES; HART_BAD_FAULT_BITS, HART_TOO_LONG (stay silent then); HART_NO_ROOM. Then nothing is carried out. */
+ * HART_BAD_VARIABLES; HART_BAD_FAULT_BITS, HART_TOO_LONG (stay silent then); HART_NO_ROOM. Faults change nothing. */
 hart_outcome hart_hear(const hart_identity *identity, const hart_process *process, const hart_char *heard, size_t heard_len,
                        hart_device *device, uint8_t *reply, size_t reply_len);
 

@@ -181,7 +181,7 @@ fn variables_of(given: &[HartVariable]) -> ShortList<ProcessVariable, 3>
     variables
 }
 
-/// Returns the variable that these numbers say.
+/// Returns these numbers as a process variable.
 fn variable_of(given: &HartVariable) -> ProcessVariable
     ensures { result ≡ variable_of given.now }
 {

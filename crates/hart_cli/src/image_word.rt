@@ -29,7 +29,7 @@ impl<'a> Model for ImageWord<'a> {
     ghost view = { λ image. option_map (λ word. word.now) image.word };
 }
 
-/// Returns the bench device, as it is new or, with an image, in the state that the image is of, with no cold start bit set.
+/// Returns the bench device, new or, with an image, in the state of the image. Its cold start bits are clear.
 ///
 /// # Errors
 ///

@@ -1,4 +1,4 @@
-//! The calls of hart_cli by their names, and `program` with the words that make them.
+//! The calls of hart_cli by name, and through `program` by their words.
 mod call;
 mod calls;
 mod encode;

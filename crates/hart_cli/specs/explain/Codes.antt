@@ -2,8 +2,8 @@
 use Rattle.std.specs.Prelude.{◌==◌, ◌&&◌, if◌then◌else◌, ℕ, List, Option, None, Some, codes}
 use Rattle.hart_cli.specs.explain.Words.{named_number}
 
--- A response code has this name, whether a reply to the command gives it or the data of a request are refused by it. A code that means
--- something else for each command has a name for those commands alone of which this profile says what it means.
+-- A response code has this name, whether a reply to the command gives it or the data of a request are refused by it. A code
+-- whose meaning depends on the command has a name only for the commands where this profile defines it.
 abbrev pub code_name : (command code : ℕ) → Option (List ℕ)
 code_name command code =
     if code == 0 then Some (codes "success")

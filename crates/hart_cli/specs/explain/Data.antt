@@ -20,7 +20,8 @@ data_line bytes = bytes_line (codes "data") bytes
 abbrev pub ignored_line : List ℕ → List ℕ
 ignored_line bytes = bytes_line (codes "ignored") bytes
 
--- What follows another response code than 0 is not read, since codes may be warnings with data. It is shown with the code, if there is any.
+-- What follows another response code than 0 is not read, since codes may be warnings with data. Such data are shown with the
+-- code, if there are any.
 abbrev pub not_read_line : ℕ → List ℕ → List ℕ
 not_read_line code bytes = bytes_line (codes "not read (code " ++ decimal code ++ codes ")") bytes
 

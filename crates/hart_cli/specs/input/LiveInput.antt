@@ -13,7 +13,7 @@ use Rattle.hart_cli.specs.stream.Stream.{FailsToWrite, Stream, WritesAll}
 abbrev pub TextRelation : Type 0 → Type 1
 TextRelation Heard = Heard → List ℕ → Type 0
 
--- An input that was read so far has this fault, if any, and this text: that of what was heard before the fault.
+-- The input read so far has this fault, if any, and this text: the text of what was heard before the fault.
 pub record HasText {Heard : Type 0} (decoding : Decoding Heard) (IsText : TextRelation Heard) (input : List ℕ) (ending : Ending)
     (fault : Option CliFault) (text : List ℕ) : Type 0 where
   pub heard : Heard

@@ -12,7 +12,7 @@ use Rattle.hart_cli.specs.request.RequestWords.{RequestWords}
 use Rattle.hart_cli.specs.declared.calls.program.command_line.Call.{Call}
 use Rattle.hart_cli.specs.declared.calls.program.command_line.Call.TheVariants.{Answer, Dump, Encode, Explain, ExplainRaw, Request, Serve, Sim}
 
--- The rule of a required word has its name, and the word has to be there.
+-- The rule of a word of this name, which must be given.
 abbrev pub required_rule : Text → Rule
 required_rule id = record (new_rule id) { required = true }
 

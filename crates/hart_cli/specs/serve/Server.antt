@@ -70,7 +70,7 @@ pub record ServesWhole (old new : Server) (text : List ℕ) (writer writer_after
   pub serves : ServesParts old.device parts new.device said
   pub adds : AddsText writer writer_after old.kept new.kept said
 
--- A write failed, and a prefix was written of what a device says to the first of the lines that are whole.
+-- A write failed, after a prefix of what was kept and of what a device says to the first whole lines.
 pub record FailsInParts (device : DeviceState) (before text : List ℕ) (writer writer_after : Stream) : Type 0 where
   pub parts : List (List ℕ)
   pub later : List (List ℕ)

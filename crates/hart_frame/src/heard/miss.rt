@@ -199,7 +199,7 @@ pub fn misses_are_faults()
         → (fault : FrameFault) × (fault_of miss ≡ Some fault) × IsRefusedWith (faultless_bytes (drop start chars)) fault }
 {}
 
-/// The miss that is found step by step is the miss of a place, and a place has one at most. Where a body may start, the miss is what stands
+/// The steps find the miss of a place, and a place has one at most. Where a body may start, the miss is what stands
 /// in the way there, and nothing else. Anywhere else a miss is told just where a whole body stands after one preamble byte alone.
 pub fn misses_are_in_the_way()
     ensures found { (start : ℕ) (chars : List Character) (miss : Miss) → All (λ character. character.byte < 256) chars

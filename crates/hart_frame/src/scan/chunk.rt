@@ -13,7 +13,7 @@ use crate::scan::search::{Sighting, search};
 use crate::wire::layout::Layout;
 use hart_values::ByteList;
 
-/// The most faultless characters that are looked at together. They are copied, so a frame at the front is found without copying many
+/// How many faultless characters are looked at together at most. They are copied, so a frame at the front is found without copying many
 /// that follow it.
 const STRETCH: usize = 64;
 

@@ -83,7 +83,7 @@ impl Scanner {
         self.buffer.push_bytes(chunk)
     }
 
-    /// Hears the first characters of a chunk, and gives how many: as [`Scanner::push_bytes`], with or without faults.
+    /// Hears the first characters of a chunk, with or without faults, as [`Scanner::push_bytes`], and returns how many.
     pub fn push_chars(&mut self, chunk: &[Char]) -> usize
         requires drained { IsTrue self.old.drained }
         requires room { self.old.first + length self.old.held + length chunk.now < 2 ^ 64 }

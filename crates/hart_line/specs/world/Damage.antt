@@ -63,8 +63,8 @@ pub record IsUndetected (heard : Heard) (sent : Option SpokenFrame) : Type 0 whe
   pub are_heard : AreHeard heard sent chars
   pub among : IsUndetectedAmong chars (frame_of sent)
 
--- What is heard in a leg is detectable if the leg is clean or lost, or if something was sent in it and the characters that are given
--- are marked or check damage of its message. If nothing was sent, nothing is said of given characters.
+-- A clean or lost leg is detectable; so are given characters, if a message was sent and they are marked or check damage of it.
+-- If nothing was sent, nothing is said of given characters.
 abbrev pub IsDetectable : Heard → Option SpokenFrame → Type 0
 IsDetectable Clean sent = Unit {0}
 IsDetectable Lost sent = Unit {0}

@@ -154,7 +154,7 @@ fn read_leg(alloc: Global, digits: &Digits, word: &[u8]) -> Result<Heard, RowFau
     }
 }
 
-/// Returns the switch of the write protection that the words after `protect` say, or `None` if they say none.
+/// Reads the one word after `protect`, `on` or `off`, or returns `None` for anything else.
 fn read_protect(rest: &[u8]) -> Option<LineEvent>
     ensures { Finds (Says (codes "protect" ∷ words_of rest.now)) result }
 {

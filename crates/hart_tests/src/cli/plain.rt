@@ -94,7 +94,7 @@ fn reads_once(buffer: &mut [u8], fails: bool, want: Result<usize, Failed>) -> bo
     reader.read(buffer) == want && reader.into_inner().calls == 1
 }
 
-/// Whether a write of bytes gives `want`, and makes one call of what is inside.
+/// Whether a write of bytes gives `want`, and calls the inner writer once.
 fn writes_once(bytes: &[u8], fails: bool, want: Result<usize, Failed>) -> bool {
     let mut writer = Plain::new(Counted { calls: 0, fails });
     writer.write(bytes) == want && writer.into_inner().calls == 1

@@ -47,7 +47,7 @@ const EXCHANGES: &[Exchange] = &[
     },
 ];
 
-/// The characters of the longer request.
+/// How many characters the longer request has.
 pub(super) const MOST: usize = 17;
 
 /// As many of the five preamble bytes may be lost: two have to stand before the delimiter.
@@ -194,7 +194,7 @@ pub(super) fn garbled_write() -> Option<[Char; MOST]> {
     chars_of(BAD_CHECK)
 }
 
-/// Bytes one after another, each so many times, with these fault bits.
+/// Byte strings, how often each is repeated, and its fault bits.
 type Noise<'a> = &'a [(&'a [u8], usize, u8)];
 
 /// The body of a request for the identity at polling address 0.

@@ -81,7 +81,7 @@ const BAD_LENGTHS: &[(&[u8], DeviceFault)] = &[
     (&[0x03; 54], DeviceFault::BadVersion),
 ];
 
-/// Whether images of both versions are refused for the fault with these bytes, and taken without them.
+/// Whether images of both versions are accepted, and with the bytes of a row refused for its fault.
 fn is_refused(row: &BadImage) -> bool {
     let (bytes, first, second, fault) = *row;
     is_refused_with(IMAGE_1, first, bytes, fault) && is_refused_with(IMAGE_2, second, bytes, fault)

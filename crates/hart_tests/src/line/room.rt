@@ -178,7 +178,7 @@ fn grow(rt: &(impl Abort + Eprint), alloc: Global, growing: &Growing) {
     }
 }
 
-/// A master is asked for a command, whatever is heard of it.
+/// A command is submitted to a master, and its turn is heard as each row says.
 fn send_on_each_leg(rt: &impl Abort, alloc: Global, command: &str) -> Result<(), Fail> {
     for legs in LEGS {
         send_by_each(rt, alloc, command, *legs)?;

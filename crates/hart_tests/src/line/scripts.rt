@@ -45,8 +45,7 @@ pub const ADDRESS_REPLACED: &str =
 pub const ONE_PREAMBLE_BYTE: &str =
     "submit P 37420A1B2C 19 012345\nturn P FF82B7420A1B2C13030123453D ok";
 
-/// The check byte of a request is heard with a fault bit, and the device replies that it was; then, if it is sent again, a byte of
-/// the reply.
+/// First the check byte of a request has a fault bit, and the device reports it; when it is sent again, a byte of the reply has one.
 pub const BOTH_LEGS_DAMAGED: &str =
     "submit P 37420A1B2C 19 012345\nturn P FFFF82B7420A1B2C13030123453D!02 ok\n\
     turn P ok FFFF86B7420A1B2C130500400123!10457F";

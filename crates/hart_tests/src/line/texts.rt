@@ -167,7 +167,7 @@ fn a_byte_zero_is_part_of_a_word(rt: HostRuntime) {
     }
 }
 
-/// The bytes that make a script alone: of blanks, of a line's end, or of a comment.
+/// The bytes that are each a whole script: a blank, a line's end or a comment sign.
 const LONE: &[u8] = b" \t\n\r#";
 
 #[test]

@@ -82,7 +82,7 @@ pub fn every_start_outside_messages_has_one_line()
     every_start_has_a_frame_or_a_miss();
 }
 
-/// What the lines of a gap name is what stands in the way, at the places that they tell.
+/// Each line of a gap names what really stands in the way, at its real place.
 ///
 /// Where a body may start, in the list from the end of the last message on, the reason that a line gives is in the way in the characters
 /// of the whole input. With the byte that would fit at the place told, a frame stands at the place of the line, and ends with it. The
