@@ -1,4 +1,4 @@
-"""The calls of include/hart.h from Python, by ctypes."""
+"""Calls of include/hart.h from Python, by ctypes: the search in bytes, and those of a device."""
 
 import ctypes
 
