@@ -1,4 +1,4 @@
--- What private calls promise one another. Whoever believes the promises of the public ones need not read it.
+-- What private functions promise one another. A reader who trusts the contracts of the public functions need not read it.
 pub mod Layout
 pub mod Prefix
 pub mod Body

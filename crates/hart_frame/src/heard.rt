@@ -1,4 +1,4 @@
-//! What was heard: characters, where frames stand in them and why one does not, and which damage is always detected.
+//! What was heard, as characters: where frames stand in them, why none stands at a place, and which damage is always detected.
 
 pub mod character;
 pub mod damage;

@@ -1,17 +1,17 @@
-//! Laws over the definitions alone, for readers, and for callers above.
+//! Laws about the definitions alone, for readers and for the crates above.
 //!
 //! - Of frames and bytes: [`bodies_are_unambiguous`], [`bytes_have_one_fault`], [`messages_are_short`],
-//!   [`truncated_bytes_can_become_a_body`], [`open_places_can_begin_a_frame`], [`frames_are_unambiguous`], [`every_list_has_frames`],
-//!   [`messages_have_their_frame_alone`].
+//!   [`truncated_bytes_can_become_a_body`], [`open_places_can_begin_a_frame`], [`frames_are_unambiguous`],
+//!   [`every_list_has_frames`], [`messages_have_their_frame_alone`].
 //! - Of starts, misses and damage: [`first_starts_are_decided`], [`every_start_has_a_frame_or_a_miss`], [`misses_are_in_the_way`],
 //!   [`misses_say_what_is_wrong`], [`misses_are_faults`], [`damaged_messages_have_no_other_frame`], [`damage_by_example`].
 //! - Of a scanner: [`frames_are_streamed`], [`scanners_move_past_the_next_frames`], [`any_chunking_gives_the_same_frames`],
 //!   [`held_frames_are_given`].
-//! - For whoever keeps only the rest of what was heard: [`the_rest_has_the_later_frames`]; with a scanner
-//!   [`held_characters_have_the_later_frames`], from the place that [`Scanner::first_held`](crate::Scanner::first_held) gives; and with
-//!   [`next_in_bytes`](crate::next_in_bytes) [`next_frames_are_all`].
+//! - For a caller that keeps only the rest of what was heard: [`the_rest_has_the_later_frames`]; with a scanner, from
+//!   [`Scanner::first_held`](crate::Scanner::first_held) on, [`held_characters_have_the_later_frames`]; and with
+//!   [`next_in_bytes`](crate::next_in_bytes), [`next_frames_are_all`].
 //! - Of messages and misses: [`sightings_are_unambiguous`], [`the_rest_has_the_later_sightings`]; and with
-//!   [`next_sighting`](crate::next_sighting) [`next_sightings_are_all`].
+//!   [`next_sighting`](crate::next_sighting), [`next_sightings_are_all`].
 ghost use Rattle.std.specs.Prelude.{◌≡◌, ◌<◌, ◌≤◌, ◌↔◌, List, ℕ, [], ◌∷◌, ◌++◌, length, drop, map, All};
 ghost use Rattle.hart_frame.specs.wire.FrameParts.{FrameParts};
 ghost use Rattle.hart_frame.specs.wire.Body.{IsBody, BeginsWithBody, CanBecomeBody, HasNoBody};
@@ -38,7 +38,7 @@ pub use crate::scan::streamed::{
     held_frames_are_given, scanners_move_past_the_next_frames,
 };
 
-/// Bodies are unambiguous: at most one prefix of a list of bytes is a body, of at most one frame.
+/// Bodies are unambiguous: at most one prefix of a list of bytes is a body, and it is the body of one frame only.
 pub fn bodies_are_unambiguous()
     ensures one_frame { (f g : FrameParts) (bytes : List ℕ) → IsBody f bytes → IsBody g bytes → f ≡ g }
     ensures one_body { (f : FrameParts) (bytes others : List ℕ) → IsBody f bytes → IsBody f others → bytes ≡ others }
@@ -50,33 +50,33 @@ pub fn bodies_are_unambiguous()
         → IsBody f body → BeginsWithBody (body ++ rest) f (length body) }
 {}
 
-/// A body has 267 bytes at most, and a message of 20 preamble bytes at most has 287.
+/// A body has at most 267 bytes, and a message with at most 20 preamble bytes has at most 287 bytes.
 pub fn messages_are_short()
     ensures body { (frame : FrameParts) (body : List ℕ) → IsBody frame body → length body ≤ 267 }
     ensures message { (frame : FrameParts) (preambles : ℕ) (message : List ℕ) → preambles ≤ 20
         → IsMessage frame preambles message → length message ≤ 287 }
 {}
 
-/// Bytes are refused with one fault at most, and with none if they begin with a body.
+/// Bytes are refused with at most one fault, and with none if they begin with a body.
 pub fn bytes_have_one_fault()
     ensures one { (bytes : List ℕ) (fault other : FrameFault) → IsRefusedWith bytes fault → IsRefusedWith bytes other → fault ≡ other }
     ensures not_both { (bytes : List ℕ) (frame : FrameParts) (len : ℕ) (fault : FrameFault)
         → BeginsWithBody bytes frame len → IsRefusedWith bytes fault → ⊥ }
 {}
 
-/// Bytes are refused as truncated exactly if they begin with no body, and would with some bytes after them.
+/// Bytes are refused as truncated exactly if they begin with no body, but would begin with one if certain bytes followed.
 pub fn truncated_bytes_can_become_a_body()
     ensures { (bytes : List ℕ) → All (λ byte. byte < 256) bytes
         → IsTruncated bytes ↔ (CanBecomeBody bytes × HasNoBody bytes) }
 {}
 
-/// An open place can begin a frame: with some more characters after the list one stands there.
+/// An open place can begin a frame: if certain characters follow the list, a frame stands there.
 pub fn open_places_can_begin_a_frame()
     ensures { (place : ℕ) (chars : List Character) → All (λ character. character.byte < 256) chars → IsOpen place chars
         → (more : List Character) × (found : Found) × StandsIn found (chars ++ more) 0 × (found.start ≡ place) }
 {}
 
-/// Frames are unambiguous: a list has one first frame at most from a place on, and one list of frames.
+/// Frames are unambiguous: from each place on, a list has at most one first frame, and at most one list of frames.
 pub fn frames_are_unambiguous()
     ensures one_first { (f g : Found) (chars : List Character) (from : ℕ)
         → IsFirst f chars from → IsFirst g chars from → f ≡ g }
@@ -84,20 +84,20 @@ pub fn frames_are_unambiguous()
         → AreFrames chars from xs → AreFrames chars from ys → xs ≡ ys }
 {}
 
-/// Every list of characters has its frames, from each place on.
+/// Every list of characters has a list of frames from each place on.
 pub fn every_list_has_frames()
     ensures { (chars : List Character) (from : ℕ) → (frames : List Found) × AreFrames chars from frames }
 {}
 
-/// A message with at least two preamble bytes, heard without faults, has its frame alone; an empty list has none.
+/// A message with at least two preamble bytes, heard without faults, has exactly its own frame; an empty list has no frame.
 pub fn messages_have_their_frame_alone()
     ensures message { (frame : FrameParts) (preambles : ℕ) (bytes : List ℕ) → 2 ≤ preambles → IsMessage frame preambles bytes
         → AreFrames (faultless bytes) 0 (record { start = preambles; stop = length bytes; frame = frame } ∷ []) }
     ensures nothing { AreFrames [] 0 [] }
 {}
 
-/// The rest of a list, from a place on, has exactly the frames of the list from that place on, which stand so many places later in the
-/// list than in the rest. So whoever keeps only the rest has all frames that are left.
+/// The rest of a list, after its first `place` characters, has exactly the list's frames from `place` on. In the list they stand
+/// `place` places later. So a caller that keeps only the rest has all frames that are left.
 pub fn the_rest_has_the_later_frames()
     ensures { (place : ℕ) (chars : List Character) (frames : List Found)
         → AreFrames (drop place chars) 0 frames ↔ AreFrames chars place (map (moved place) frames) }

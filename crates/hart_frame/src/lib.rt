@@ -1,24 +1,24 @@
 //! Frames and their bytes on a HART line (HCF_SPEC-081, data link layer).
 //!
-//! A [`Frame`] is what one message says. [`encode`] writes it as a message, and [`decode`] reads the frame
-//! that bytes begin with, or says what is wrong with them. [`first_frame`] finds the frames of what was heard, which is
-//! a list of characters ([`Char`]): bytes, each with the faults that the receiver noticed at it. [`why_none`] says why none stands at
-//! a place. A [`Scanner`] finds the frames while they are heard, and [`next_in_bytes`] those of bytes in memory, where they lie.
-//! [`next_sighting`] gives the messages of bytes and the places at which one seems to start and none stands, as soon as they are decided.
+//! A [`Frame`] is what one message says. [`encode`] writes it as a message. [`decode`] reads the frame at the front of some bytes,
+//! or says what is wrong with them. [`first_frame`] finds frames in what was heard: a list of characters ([`Char`]), each a byte
+//! with the faults that the receiver noticed at it. [`why_none`] says why no frame stands at a place. A [`Scanner`] finds frames
+//! while they are heard, and [`next_in_bytes`] finds them in bytes in memory, without a copy. [`next_sighting`] finds messages, and
+//! places where one seems to start but none stands, as soon as they are decided.
 //!
 //! ```rust
 //! let (frame, len) = decode(&[0x02, 0x80, 0x00, 0x00, 0x82])?;
 //! assert_eq!(rt; (frame.command(), len), (0, 5));
 //! ```
 //!
-//! No call of this crate takes memory. Its rooms, each of which knows those before it and none after it:
+//! No call of this crate allocates memory. Its modules, each of which uses only those before it:
 //!
-//! - `wire`: on the wire, a frame and the bytes of its body and its message.
-//! - `heard`: what was heard, as characters, where frames stand in them and why one does not, and which damage is
-//!   always detected.
-//! - `scan`: how frames are found, by the scanner while they are heard, and in bytes where they lie.
+//! - `wire`: a frame, and the bytes of its body and its message on the wire.
+//! - `heard`: what was heard, as characters: where frames stand in them, why none stands at a place, and which damage is always
+//!   detected.
+//! - `scan`: how frames are found: by the scanner while they are heard, and in bytes in memory without a copy.
 //!
-//! What follows from the definitions is said by the laws of [`laws`].
+//! The laws in [`laws`] say what follows from the definitions.
 #![tactic(auto)]
 
 mod heard;

@@ -1,4 +1,4 @@
-//! How frames are found: by the scanner while they are heard, and in bytes where they lie.
+//! How frames are found: by the scanner while they are heard, and in bytes in memory without a copy.
 
 pub mod buffer;
 pub mod candidate;

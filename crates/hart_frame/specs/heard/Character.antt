@@ -11,12 +11,12 @@ pub record Character : Type 0 where
 abbrev pub IsFaultBit : ℕ → Type 0
 IsFaultBit bit = (bit ≡ 6) ⊎ (bit ≡ 5) ⊎ (bit ≡ 4) ⊎ (bit ≡ 1)
 
--- Fault bits are a byte in which no other bit is set.
+-- Fault bits are a byte in which no bit other than these four is set.
 pub record AreFaultBits (faults : ℕ) : Type 0 where
   pub byte : faults < 256
   pub only : (bit : ℕ) → bit < 8 → bit_at faults bit ≡ 1 → IsFaultBit bit
 
--- Bytes that were received without faults are these characters.
+-- The characters of bytes that were received without faults.
 abbrev pub faultless : List ℕ → List Character
 faultless bytes = map (λ byte. record { byte = byte; faults = 0 }) bytes
 

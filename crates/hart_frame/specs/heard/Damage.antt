@@ -1,4 +1,4 @@
--- Damage of a message that whoever hears it can detect (HCF_SPEC-081; own profile).
+-- Damage to a message that a receiver can detect (HCF_SPEC-081; own profile).
 use Rattle.std.specs.Prelude.{◌≡◌, ◌≢◌, ◌<◌, ◌≤◌, ◌+◌, ◌⊎◌, ℕ, List, [], ◌∷◌, ◌++◌, length, drop, replicate}
 use Rattle.std.specs.List.{All, AllZip}
 use Rattle.hart_frame.specs.wire.Body.{IsBody}
@@ -17,12 +17,12 @@ pub record IsMarked (character : Character) : Type 0 where
   pub fault_bits : AreFaultBits character.faults
   pub some : character.faults ≢ 0
 
--- A byte that was sent is heard as it is, without faults, or as any marked character.
+-- A byte that was sent is heard either unchanged and without faults, or as any marked character.
 abbrev pub IsHeardOrMarked : ℕ → Character → Type 0
 IsHeardOrMarked byte character = (character ≡ record { byte = byte; faults = 0 }) ⊎ IsMarked character
 
--- Damage of a message with so many preamble bytes: any number of the first of these are missing, what is left of the preamble and a body
--- are heard in some way, and after the delimiter no two faultless FF are heard in a row.
+-- Damage to a message with `preambles` preamble bytes: any number of these is missing at the front. The rest of the preamble and
+-- the body are heard as `AreHeard` says, and after the delimiter no two faultless FF are heard in a row.
 pub record IsDamage (frame : FrameParts) (preambles : ℕ) (chars : List Character) (AreHeard : ℕ → List ℕ → Type 0) : Type 0 where
   pub left : ℕ
   pub left_within : left ≤ preambles
@@ -31,20 +31,20 @@ pub record IsDamage (frame : FrameParts) (preambles : ℕ) (chars : List Charact
   pub heard : AreHeard left body
   pub no_two_preambles : HasNoTwoPreambles (drop (left + 1) chars)
 
--- Marked damage: each byte that is left of the message is heard as it is, or as any marked character.
+-- Marked damage: each remaining byte of the message is heard unchanged and without faults, or as any marked character.
 abbrev pub IsMarkedDamage : FrameParts → ℕ → List Character → Type 0
 IsMarkedDamage frame preambles chars =
     IsDamage frame preambles chars (λ left body. AllZip IsHeardOrMarked (replicate left 255 ++ body) chars)
 
--- Bytes replace a body if they are as many, with its delimiter and its byte count; all others may be any bytes.
+-- Bytes replace a body if they have its length, its delimiter and its byte count; the others may be any bytes.
 pub record Replaces (bytes body : List ℕ) : Type 0 where
   pub same_length : length bytes ≡ length body
   pub same_delimiter : delimiter_in bytes ≡ delimiter_in body
   pub same_byte_count : byte_count_in bytes ≡ byte_count_in body
   pub bytes_fit : All (λ byte. byte < 256) bytes
 
--- Check damage: all is heard without faults, but with bytes that replace the body, whose parity is not even, so that their exclusive or is
--- not zero.
+-- Check damage: all is heard without faults, but in place of the body stand bytes that replace it. Their parity is not even, so
+-- their exclusive or is not zero.
 abbrev pub IsCheckDamage : FrameParts → ℕ → List Character → Type 0
 IsCheckDamage frame preambles chars = IsDamage frame preambles chars (λ left body. (bytes : List ℕ) × Replaces bytes body
     × (chars ≡ faultless (replicate left 255 ++ bytes)) × (HasEvenParity bytes → ⊥))

@@ -1,4 +1,4 @@
--- A request, and what is heard of it with damage of each kind, and with damage of neither kind (HCF_SPEC-081; own profile).
+-- A request, and how it is heard with damage of each kind and with damage of neither kind (HCF_SPEC-081; own profile).
 use Rattle.std.specs.Prelude.{List, [], ◌∷◌, ◌++◌}
 use Rattle.hart_values.specs.declared.master_id.MasterId.TheVariants.{Primary}
 use Rattle.hart_values.specs.declared.address.Address.TheVariants.{Polling}
@@ -9,15 +9,15 @@ use Rattle.hart_frame.specs.wire.FrameParts.{FrameParts, request_parts}
 abbrev pub identity_request : FrameParts
 identity_request = request_parts Primary (Polling 0) 0 []
 
--- FF FF 02 81 00 00 82: two preamble bytes are heard, and 81 for the address byte, with a vertical parity fault.
+-- FF FF 02 81 00 00 82: two preamble bytes are heard, and the address byte as 81 with a vertical parity fault.
 abbrev pub faulty_address : List Character
 faulty_address = faultless (255 ∷ 255 ∷ 2 ∷ []) ++ record { byte = 129; faults = 64 } ∷ faultless (0 ∷ 0 ∷ 130 ∷ [])
 
--- FF FF 02 81 00 00 82: the same without a fault, so that the parity is not even.
+-- FF FF 02 81 00 00 82: the same bytes, all heard without faults; the parity is not even.
 abbrev pub other_address : List Character
 other_address = faultless (255 ∷ 255 ∷ 2 ∷ 129 ∷ 0 ∷ 0 ∷ 130 ∷ [])
 
--- FF FF 02 81 00 00 83: the check byte is replaced too, so that it is the message of another request.
+-- FF FF 02 81 00 00 83: the check byte is replaced too, so this is the message of another request.
 abbrev pub other_request : List Character
 other_request = faultless (255 ∷ 255 ∷ 2 ∷ 129 ∷ 0 ∷ 0 ∷ 131 ∷ [])
 

@@ -1,4 +1,4 @@
--- The one frame of a delivery, which is what is heard at once (own profile).
+-- The one frame of a delivery; a delivery is what is heard at once (own profile).
 use Rattle.std.specs.Prelude.{List, [], ◌∷◌}
 use Rattle.hart_frame.specs.heard.Character.{Character}
 use Rattle.hart_frame.specs.heard.Frames.{AreFrames}
@@ -6,7 +6,7 @@ use Rattle.hart_frame.specs.declared.heard.found.Found.{Found}
 use Rattle.hart_frame.specs.declared.scan.first.LoneFrame.{LoneFrame}
 use Rattle.hart_frame.specs.declared.scan.first.LoneFrame.TheVariants.{NoFrame, Alone, Several}
 
--- A delivery has one frame alone if its frames are exactly one; otherwise it has none or several.
+-- A delivery with this list of frames has no frame, one frame alone, or several.
 abbrev pub lone_of : List Found → LoneFrame
 lone_of [] = NoFrame
 lone_of (found ∷ []) = Alone found

@@ -13,14 +13,14 @@ pub record IsFirst (found : Found) (chars : List Character) (from : ℕ) : Type 
   pub stands : StandsIn found chars from
   pub least : (other : Found) → StandsIn other chars from → found.start ≤ other.start
 
--- The frames of a list from a place on are none if no frame stands from there on, and otherwise the first, then those from
--- the place after its body on, each with its places in the whole list.
+-- A list has no frames from a place on if no frame stands from there on. Otherwise its frames are the first one, and then those
+-- from the end of its body on. Their places are counted in the whole list.
 pub data AreFrames (chars : List Character) : ℕ → List Found → Type 0 where
   none : (from : ℕ) → HasNoFrame chars from → AreFrames chars from []
   first : (from : ℕ) (found : Found) (later : List Found) → IsFirst found chars from
       → AreFrames chars found.stop later → AreFrames chars from (found ∷ later)
 
--- No frame of a list is decided if none stands in it, or if an open place lies below every place at which one stands.
+-- No frame of a list is decided if no frame stands in it, or if an open place lies before the start of every frame in it.
 abbrev pub IsUndecided : List Character → Type 0
 IsUndecided chars = HasNoFrame chars 0
     ⊎ ((place : ℕ) × IsOpen place chars × ((found : Found) → StandsIn found chars 0 → place < found.start))

@@ -18,18 +18,18 @@ use Rattle.hart_frame.specs.declared.heard.miss.Miss.TheVariants.{BadCheck, OneP
 abbrev pub bytes_from : List Character → ℕ → List ℕ
 bytes_from chars place = faultless_bytes (drop place chars)
 
--- At a place stands a character with these fault bits, one of them at least.
+-- A character with these fault bits, at least one, stands at a place.
 abbrev pub HasFaultsAt : List Character → ℕ → ℕ → Type 0
 HasFaultsAt chars place faults = (faults ≢ 0) × (byte : ℕ) × (slice_get chars place ≡ Some (record { byte = byte; faults = faults }))
 
--- The bytes from a place on are all that was heard from there on.
+-- The faultless bytes from a place on reach the end of what was heard.
 abbrev pub ComeToTheEnd : List Character → ℕ → Type 0
 ComeToTheEnd chars place = place + length (bytes_from chars place) ≡ length chars
 
--- What stands in the way of a body at a place where one may start. The bytes from there on end too early, at a character with fault
--- bits; or they begin with the delimiter of a burst message, or with another byte that is no delimiter; or all that was heard ends before
--- the byte count; or a reply has a byte count below 2; or all that was heard ends so many characters before the end of the check byte; or
--- the check byte is another than fits to the bytes before it. That one FF alone stands before a place is never in the way there.
+-- What stands in the way of a body at a place where one may start. A character with fault bits ends the bytes there too early; or
+-- they begin with the delimiter of a burst message, or with another byte that is no delimiter; or all that was heard ends before
+-- the byte count; or a reply has a byte count below 2; or all that was heard ends `count` characters before the end of the check
+-- byte; or the check byte does not fit the bytes before it. A single FF before a place (`OnePreamble`) is never in the way there.
 abbrev pub IsInTheWay : List Character → ℕ → Miss → Type 0
 IsInTheWay chars start (Faulty place faults) =
     IsTruncated (bytes_from chars start) × (place ≡ start + length (bytes_from chars start)) × HasFaultsAt chars place faults
@@ -51,7 +51,7 @@ IsInTheWay chars start (BadCheck place byte fits) =
     × IsCheckByte (take (body_length (bytes_from chars start) - 1) (bytes_from chars start)) fits × (byte ≢ fits)
 IsInTheWay chars start OnePreamble = ⊥
 
--- A whole body stands in a list from a place on, in faultless characters.
+-- A whole body, in faultless characters, stands in a list from a place on.
 pub record HasBodyAt (chars : List Character) (place : ℕ) : Type 0 where
   pub frame : FrameParts
   pub body : List ℕ
@@ -59,19 +59,19 @@ pub record HasBodyAt (chars : List Character) (place : ℕ) : Type 0 where
   pub is_body : IsBody frame body
   pub parts : drop place chars ≡ faultless body ++ rest
 
--- One faultless preamble byte FF alone stands right before a place of a list: no other stands right before that one.
+-- Exactly one faultless preamble byte FF stands right before a place: no other stands right before that one.
 abbrev pub FollowsOnePreamble : List Character → ℕ → Type 0
 FollowsOnePreamble chars place = IsTrue (follows_one_preamble chars place)
 
--- A miss of a place is why no frame stands there. Where a body may start, it is what stands in the way of one. Where a whole body stands
--- right after one faultless FF alone, it is that there is only one. Anywhere else there is none.
+-- A miss of a place is why no frame stands there. Where a body may start, the miss is what stands in its way. Where a whole body
+-- stands right after a single faultless FF, the miss is `OnePreamble`. Any other place has no miss.
 abbrev pub IsMiss : List Character → ℕ → Miss → Type 0
 IsMiss chars start miss =
     (IsStart start chars × IsInTheWay chars start miss)
     ⊎ ((miss ≡ OnePreamble) × FollowsOnePreamble chars start × HasBodyAt chars start)
 
--- The fault of the faultless bytes that a miss comes from: a character with fault bits ends them too early, as the end of the list
--- does. That only one FF stands before them is no fault of theirs.
+-- The fault of the faultless bytes that a miss comes from. A character with fault bits truncates these bytes, as the end of the
+-- list does. A single FF before the bytes is no fault of theirs.
 abbrev pub fault_of : Miss → Option FrameFault
 fault_of (Faulty place faults) = Some Truncated
 fault_of Burst = Some FrameFault.BadDelimiter

@@ -1,5 +1,5 @@
--- The miss of a place, found step by step (HCF_SPEC-081; own profile). It is the one that `IsMiss` of InTheWay allows, as a law says
--- (`misses_are_in_the_way`). The texts of `explain` and the sightings of a list are said by it.
+-- The miss of a place, found step by step (HCF_SPEC-081; own profile). The law `misses_are_in_the_way` says that `IsMiss` of
+-- InTheWay allows just this miss. The texts of `explain` and the sightings of a list use it.
 use Rattle.std.specs.Prelude.{◌+◌, ◌-◌, ◌/◌, ◌%◌, ◌==◌, ◌&&◌, ◌||◌, not, nat_le, nat_lt, if◌then◌else◌, ℕ, zero, suc, Bool, false}
 use Rattle.std.specs.Prelude.{List, Option, None, Some, drop, fold, is_none, length, slice_get, slice_index, take, bit_xor}
 use Rattle.std.specs.Option.{option_map_or}
@@ -17,26 +17,26 @@ is_burst_delimiter byte = (byte / 8 % 4 == 0) && (byte % 8 == 1)
 abbrev pub is_delimiter : ℕ → Bool
 is_delimiter byte = (byte / 8 % 4 == 0) && ((byte % 8 == 2) || (byte % 8 == 6))
 
--- Why a first byte is no delimiter of this profile: it is that of a burst message, or another byte.
+-- Why a first byte is no delimiter of this profile: it is the delimiter of a burst message, or some other byte.
 abbrev pub delimiter_miss : ℕ → Miss
 delimiter_miss byte = if is_burst_delimiter byte then Burst else BadDelimiter byte
 
--- Why the check byte does not fit, if it does not: its place, itself, and the byte that would fit there, which is the exclusive or of the
--- bytes before it.
+-- The miss of a check byte that does not fit: its place, the byte itself, and the byte that would fit, which is the exclusive or of
+-- the bytes before it. A check byte that fits has no miss.
 abbrev pub check_miss : List ℕ → ℕ → Option Miss
 check_miss bytes start =
     let last = body_length bytes - 1 in
     let fits = fold bit_xor 0 (take last bytes) in
     if slice_index bytes last == fits then None else Some (BadCheck (start + last) (slice_index bytes last) fits)
 
--- Where the faultless bytes stop too early, the reason is the character with fault bits at that place, if there is one; otherwise it
--- is the one for the end of the list.
+-- The miss where the faultless bytes stop too early: the character with fault bits at that place, or the miss `at_end` if the list
+-- ends there.
 abbrev pub faulty_or : Option Character → ℕ → Miss → Miss
 faulty_or None place at_end = at_end
 faulty_or (Some character) place at_end = Faulty place character.faults
 
--- Why no body begins at a start, if none does, by the faultless bytes from it on, the character with fault bits after them, if there
--- is one, and the place of that: the first of these that holds.
+-- Why no body begins at a start, or nothing if one does. The faultless bytes from there on decide, with the character with fault
+-- bits after them, if there is one, and its place. The first condition that holds counts.
 abbrev pub miss_in : List ℕ → Option Character → ℕ → ℕ → Option Miss
 miss_in bytes faulty faulty_place start =
     if length bytes == 0 then Some (faulty_or faulty faulty_place EndsBeforeByteCount)
@@ -47,7 +47,7 @@ miss_in bytes faulty faulty_place start =
     then Some (faulty_or faulty faulty_place (Missing (body_length bytes - length bytes)))
     else check_miss bytes start
 
--- The same by all that is heard from the start on.
+-- Like `miss_in`, for all that is heard from the start on.
 abbrev pub body_miss : ℕ → List Character → Option Miss
 body_miss start heard =
     let bytes = faultless_bytes heard in miss_in bytes (slice_get heard (length bytes)) (start + length bytes) start
@@ -61,18 +61,18 @@ abbrev pub follows_preamble : List Character → ℕ → Bool
 follows_preamble chars zero = false
 follows_preamble chars (suc before) = option_map_or is_preamble (slice_get chars before) false
 
--- A body may start at a place if two faultless FF stand right before it, and at it a character other than a faultless FF.
+-- A body may start at a place if two faultless FF stand right before it, and the character at it is not a faultless FF.
 abbrev pub is_start : List Character → ℕ → Bool
 is_start chars place =
     follows_preamble chars place && follows_preamble chars (place - 1)
     && option_map_or (λ first. not (is_preamble first)) (slice_get chars place) false
 
--- One faultless FF alone stands right before a place.
+-- Exactly one faultless FF stands right before a place.
 abbrev pub follows_one_preamble : List Character → ℕ → Bool
 follows_one_preamble chars place = follows_preamble chars place && not (follows_preamble chars (place - 1))
 
--- The miss of a place is why no frame stands there. Where a body may start, it is why none begins there, if none does. Where a whole
--- body stands after one faultless FF alone, it is that there is only one. Anywhere else there is no miss.
+-- The miss of a place is why no frame stands there. Where a body may start but none begins, the miss says why. Where a whole body
+-- stands after a single faultless FF, the miss is `OnePreamble`. Any other place has no miss.
 abbrev pub miss_of : List Character → ℕ → Option Miss
 miss_of chars start =
     if is_start chars start then body_miss start (drop start chars)

@@ -5,8 +5,8 @@ use Rattle.hart_frame.specs.heard.Character.{Character, faultless}
 use Rattle.hart_frame.specs.wire.Refusal.{IsTruncated}
 use Rattle.hart_frame.specs.declared.heard.found.Found.{Found}
 
--- A frame stands in a list of characters, from a place of the list on, if two faultless preamble bytes FF at or after
--- that place are followed by a body of it in faultless characters; it starts after the two, and stops after the body.
+-- A frame stands in a list of characters, from a place on, if two faultless preamble bytes FF at or after that place are followed
+-- by its body in faultless characters. It starts after the two FF, and stops after the body.
 pub record StandsIn (found : Found) (chars : List Character) (from : ℕ) : Type 0 where
   pub prefix : List Character
   pub body : List ℕ
@@ -17,8 +17,8 @@ pub record StandsIn (found : Found) (chars : List Character) (from : ℕ) : Type
   pub start : found.start ≡ length prefix + 2
   pub stop : found.stop ≡ length prefix + 2 + length body
 
--- A place of a list is open if two faultless preamble bytes FF stand right before it, and from it to the end of the list
--- faultless characters whose bytes end too early for a body.
+-- A place of a list is open if two faultless preamble bytes FF stand right before it, all characters from it to the end of the list
+-- are faultless, and their bytes end too early for a body.
 pub record IsOpen (place : ℕ) (chars : List Character) : Type 0 where
   pub prefix : List Character
   pub bytes : List ℕ
@@ -30,6 +30,6 @@ pub record IsOpen (place : ℕ) (chars : List Character) : Type 0 where
 abbrev pub HasFrameAt : List Character → ℕ → Type 0
 HasFrameAt chars place = (found : Found) × StandsIn found chars 0 × (found.start ≡ place)
 
--- A frame stands in a list from a place on, and its check byte right before another place.
+-- A frame starts at the place `start` of a list, and its check byte stands right before the place `stop`.
 abbrev pub HasFrameUpTo : List Character → ℕ → ℕ → Type 0
 HasFrameUpTo chars start stop = (found : Found) × StandsIn found chars 0 × (found.start ≡ start) × (found.stop ≡ stop)

@@ -1,9 +1,9 @@
--- Where the body of a message may start in what was heard, whatever is heard of it (own profile).
+-- Where the body of a message may start in what was heard, however the body itself is heard (own profile).
 use Rattle.std.specs.Prelude.{◌≡◌, ◌≢◌, ◌≤◌, ◌+◌, ℕ, List, [], ◌∷◌, ◌++◌, length}
 use Rattle.hart_frame.specs.heard.Character.{Character, faultless}
 
--- A body may start at a place of a list if two faultless preamble bytes FF stand right before it, and at it a character
--- other than a faultless FF.
+-- A body may start at a place of a list if two faultless preamble bytes FF stand right before it, and the character at it is not a
+-- faultless FF.
 pub record IsStart (place : ℕ) (chars : List Character) : Type 0 where
   pub prefix : List Character
   pub first : Character

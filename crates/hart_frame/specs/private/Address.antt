@@ -11,22 +11,22 @@ address_of (Polling number) = PollingAddress number
 address_of (Unique expanded_type device_id) =
     UniqueAddress (record { expanded_type = expanded_type; device_id = device_id })
 
--- The number of a polling address, 0 if it is none.
+-- The number of a polling address, or 0 for a unique address.
 abbrev pub polling_number : PlainAddress → ℕ
 polling_number (Polling number) = number
 polling_number (Unique expanded_type device_id) = 0
 
--- The expanded device type of a unique address, 0 if it is none.
+-- The expanded device type of a unique address, or 0 for a polling address.
 abbrev pub type_number : PlainAddress → ℕ
 type_number (Polling number) = 0
 type_number (Unique expanded_type device_id) = expanded_type
 
--- The device id of a unique address, 0 if it is none.
+-- The device id of a unique address, or 0 for a polling address.
 abbrev pub id_number : PlainAddress → ℕ
 id_number (Polling number) = 0
 id_number (Unique expanded_type device_id) = device_id
 
--- The numbers are ones that an address has.
+-- The numbers are in the ranges of an address.
 abbrev pub IsInRange : PlainAddress → Type 0
 IsInRange address =
     (polling_number address < 64) × (type_number address < 2 ^ 14) × (id_number address < 2 ^ 24)

@@ -2,6 +2,6 @@
 use Rattle.std.specs.Prelude.{ℕ, List, map}
 use Rattle.hart_frame.specs.heard.Character.{Character}
 
--- Characters have these bytes, whatever their faults.
+-- The bytes of characters, whatever their faults.
 abbrev pub bytes_of : List Character → List ℕ
 bytes_of chars = map (λ character. character.byte) chars

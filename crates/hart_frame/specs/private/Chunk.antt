@@ -5,8 +5,8 @@ use Rattle.hart_frame.specs.heard.Frames.{IsUndecided}
 use Rattle.hart_frame.specs.scan.Chunk.{StopsAt}
 use Rattle.hart_frame.specs.scan.Scanner.{MovesPast, Scan, hearing}
 
--- A scanner hears the first `count` characters of a chunk: at least one if there is one, up to the first at which a frame is decided, or
--- else all.
+-- A scanner hears the first `count` characters of a chunk, up to the first at which a frame is decided, or else all. It hears at
+-- least one unless the chunk is empty.
 pub record Hears (old new : Scan) (chunk : List Character) (count : ℕ) : Type 0 where
   pub within : count ≤ length chunk
   pub some : 0 < length chunk → 0 < count
@@ -14,8 +14,8 @@ pub record Hears (old new : Scan) (chunk : List Character) (count : ℕ) : Type 
   pub before : (fewer : ℕ) → fewer < count → IsUndecided (old.held ++ take fewer chunk)
   pub stops : StopsAt new count (length chunk)
 
--- A scanner hears some first characters of a chunk, at most up to the first at which a frame is decided: nothing is decided in what
--- it then holds, or that begins with a frame.
+-- A scanner hears the first `count` characters of a chunk, at most up to the first at which a frame is decided. What it then holds
+-- begins with a frame, or nothing in it is decided.
 pub record HearsPart (old new : Scan) (chunk : List Character) (count : ℕ) : Type 0 where
   pub within : count ≤ length chunk
   pub some : 0 < count

@@ -19,31 +19,31 @@ use Rattle.hart_frame.specs.declared.scan.search.Sighting.{Sighting}
 abbrev pub body_at : Buffer → Span → List ℕ
 body_at b span = slice_range b.bytes span.at (span.at + layout_length span.layout)
 
--- A whole body lies at the span, and the frame of it is given.
+-- A whole body lies at the span, and the scanner gives its frame.
 pub record GivesSpan (old new : Buffer) (span : Span) : Type 0 where
   pub within : span.at + layout_length span.layout ≤ length new.bytes
   pub body : IsWholeBody span.layout (body_at new span)
   pub given : (frame : FrameParts) → IsBody frame (body_at new span)
       → Gives (scan_of old) (scan_of new) (record { start = span.start; stop = span.stop; frame = frame })
 
--- Bytes with which no frame begins were let go, and what is held then begins with a frame.
+-- Bytes at which no frame begins were let go, and the bytes still held begin with a frame.
 pub record HoldsWhole (old new : Buffer) (layout : Layout) : Type 0 where
   pub moves : MovesPast (scan_of old) (scan_of new) []
   pub busy : is_drained old.state ≡ false
   pub undrained : is_drained new.state ≡ false
   pub begins : IsWhole layout (held_bytes new)
 
--- With none of the first bytes that are held a frame begins, whatever may still be heard.
+-- No frame begins at any of the first `count` bytes held, whatever may still be heard.
 abbrev pub NoneBeginHeld : Buffer → ℕ → Type 0
 NoneBeginHeld b count = (place : ℕ) → place < count → (more : List Character) → (IsTrue b.finished → more ≡ [])
     → BeginWithNone (faultless (drop place (held_bytes b)) ++ (option_to_list b.damaged ++ more))
 
--- In what is held from a place on, nothing is found: no byte is held there, or those that are may begin a frame, and more can follow.
+-- Nothing is found in the held bytes from a place on: there are none, or they may begin a frame and more bytes can follow.
 abbrev pub IsHeldOpen : Buffer → ℕ → Type 0
 IsHeldOpen b place = (length (held_bytes b) ≡ place)
     ⊎ ((length (held_bytes b) ≤ place + 268) × MayBegin (drop place (held_bytes b)) × (b.damaged ≡ None) × (b.finished ≡ false))
 
--- A place is found in what is held, before which no frame begins: from there on the held bytes begin with a frame, or nothing is found.
+-- A search of the held bytes finds a place before which no frame begins. A frame begins at it, or nothing is found there.
 pub record IsHeldSearched (b : Buffer) (found : Sighting) : Type 0 where
   pub within : found.place ≤ length (held_bytes b)
   pub none : NoneBeginHeld b found.place

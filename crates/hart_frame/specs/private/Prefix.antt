@@ -14,7 +14,7 @@ use Rattle.hart_frame.specs.declared.wire.prefix.Wrong.{Wrong}
 use Rattle.hart_frame.specs.declared.wire.prefix.Wrong.TheVariants.{BadCheck, BadDelimiter, ShortReply}
 
 -- Bytes are a whole body by a layout if nothing is wrong up to their check byte, the layout describes them and ends where they end,
--- their parity is even, and all are bytes.
+-- their parity is even, and all are below 256.
 pub record IsWholeBody (layout : Layout) (bytes : List ℕ) : Type 0 where
   pub described : Describes layout bytes
   pub checked : HasCheckByte bytes
@@ -22,7 +22,7 @@ pub record IsWholeBody (layout : Layout) (bytes : List ℕ) : Type 0 where
   pub even : HasEvenParity bytes
   pub fits : All (λ byte. byte < 256) bytes
 
--- The last byte of what would be a body is another than the one that fits there.
+-- The last byte of what would be a body is not the check byte that fits there.
 pub record HasBadCheck (bytes : List ℕ) (len byte fits : ℕ) : Type 0 where
   pub checked : HasCheckByte bytes
   pub whole : len ≡ body_length bytes
@@ -31,27 +31,27 @@ pub record HasBadCheck (bytes : List ℕ) (len byte fits : ℕ) : Type 0 where
   pub differs : byte ≢ fits
   pub are_bytes : All (λ byte. byte < 256) (take len bytes)
 
--- This is wrong with bytes.
+-- What is wrong with bytes that never become a body.
 abbrev pub IsWrong : List ℕ → Wrong → Type 0
 IsWrong bytes (BadDelimiter byte) = IsRefusedWith bytes fault.BadDelimiter × (delimiter_in bytes ≡ byte)
 IsWrong bytes (ShortReply len byte_count) =
     IsRefusedWith bytes fault.ShortReply × (len ≡ byte_count_place bytes + 1) × (byte_count_in bytes ≡ byte_count)
 IsWrong bytes (BadCheck len byte fits) = HasBadCheck bytes len byte fits
 
--- So many of the bytes show it.
+-- How many bytes were needed to decide what is wrong.
 abbrev pub shown_by : Wrong → ℕ
 shown_by (BadDelimiter byte) = 1
 shown_by (ShortReply len byte_count) = len
 shown_by (BadCheck len byte fits) = len
 
--- It is this fault.
+-- The fault of bytes, by what is wrong with them.
 abbrev pub fault_in : Wrong → FrameFault
 fault_in (BadDelimiter byte) = fault.BadDelimiter
 fault_in (ShortReply len byte_count) = fault.ShortReply
 fault_in (BadCheck len byte fits) = fault.BadCheck
 
--- Bytes begin with a whole body; or they end too early for one, before the byte count or so many bytes before the end of the check byte;
--- or something is wrong with them.
+-- How bytes begin: with a whole body; or they end too early for one, before the byte count or `missing` bytes before the end of the
+-- check byte; or something is wrong with them.
 abbrev pub IsPrefix : List ℕ → Prefix → Type 0
 IsPrefix bytes (prefix.Whole layout) =
     (layout_length layout ≤ length bytes) × IsWholeBody layout (take (layout_length layout) bytes)

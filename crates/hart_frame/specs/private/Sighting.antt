@@ -22,7 +22,7 @@ use Rattle.hart_frame.specs.declared.wire.prefix.Prefix.TheVariants.{Whole}
 use Rattle.hart_frame.specs.declared.scan.view.FoundView.{FoundView}
 use Rattle.hart_frame.specs.scan.Sighting.{NamesPlacesBelow, heard_with}
 
--- A preamble byte stands right before a place that lies after another, and at it another byte, or a character with fault bits.
+-- A place after `from` is asked if a preamble byte stands right before it, and another byte or a character with fault bits at it.
 pub record IsAsked (bytes : List ℕ) (after : After) (from place : ℕ) : Type 0 where
   pub order : from < place
   pub within : place ≤ length bytes
@@ -30,23 +30,23 @@ pub record IsAsked (bytes : List ℕ) (after : After) (from place : ℕ) : Type 
   pub other : place < length bytes → slice_index bytes place ≢ 255
   pub heard : place < length (heard_with bytes after)
 
--- The next such place after a place, or none.
+-- The next asked place after `from`, or none.
 abbrev pub IsNextAsked : List ℕ → After → ℕ → Option ℕ → Type 0
 IsNextAsked bytes after from None = (place : ℕ) → IsAsked bytes after from place → ⊥
 IsNextAsked bytes after from (Some next) =
     IsAsked bytes after from next × ((place : ℕ) → IsAsked bytes after from place → next ≤ place)
 
--- What may follow bytes: anything if more may come, the character with fault bits first if one is known to come, or nothing.
+-- What may follow bytes: anything if more may come; first the character with fault bits if one is known; nothing at the end.
 abbrev pub MayFollow : After → List Character → Type 0
 MayFollow More next = ⊤
 MayFollow (Damaged character) next = (character.faults ≢ 0) × (more : List Character) × (next ≡ character ∷ more)
 MayFollow End next = next ≡ []
 
--- Whatever follows bytes, this holds of all characters.
+-- Whatever may follow the bytes, `holds` is true of all characters together.
 abbrev pub Whatever : List ℕ → After → (List Character → Type 0) → Type 0
 Whatever bytes after holds = (next : List Character) → MayFollow after next → holds (faultless bytes ++ next)
 
--- What begins at a place of some characters has this miss, or is a whole body.
+-- What begins at a place has this miss, or has none and is a whole body.
 abbrev pub HasBodyMiss : ℕ → Option Miss → List Character → Type 0
 HasBodyMiss start miss chars = body_miss start (drop start chars) ≡ miss
 
@@ -54,22 +54,22 @@ HasBodyMiss start miss chars = body_miss start (drop start chars) ≡ miss
 abbrev pub stands_alone : List Character → ℕ → Bool
 stands_alone chars start = is_none (body_miss start (drop start chars)) && not (two_begin_in_body chars start)
 
--- With some characters after bytes a body stands alone at a place, and with others it does not.
+-- Whether a body stands alone at a place depends on the characters that follow the bytes.
 pub record MayStandAlone (bytes : List ℕ) (start : ℕ) : Type 0 where
   pub one : List Character
   pub alone : stands_alone (faultless bytes ++ one) start ≡ true
   pub other : List Character
   pub not_alone : stands_alone (faultless bytes ++ other) start ≡ false
 
--- Bytes end in FF, and only their check byte is missing for a body, which is FF too.
+-- Bytes end in FF and lack only the check byte of a body, which would be FF too.
 pub record LacksOnePreamble (bytes : List ℕ) : Type 0 where
   pub good : HasGoodByteCount bytes
   pub last : body_length bytes ≡ length bytes + 1
   pub before : slice_index bytes (length bytes - 1) ≡ 255
   pub check : IsCheckByte bytes 255
 
--- What stands at a place right before which one preamble byte alone stands: no body that stands alone, whatever comes; or that is not
--- decided; or a body stands alone, which is a miss.
+-- What stands at a place right after a single preamble byte: no body that stands alone, whatever comes; or this is not decided yet;
+-- or a body that stands alone, which is a miss.
 abbrev pub IsAfterOne : List ℕ → After → ℕ → Standing → Type 0
 IsAfterOne bytes after start Nothing = Whatever bytes after (λ chars. stands_alone chars start ≡ false)
 IsAfterOne bytes after start (Open used) =
@@ -78,8 +78,8 @@ IsAfterOne bytes after start (standing.Message layout) = ⊥
 IsAfterOne bytes after start (standing.Missed miss) =
     (miss ≡ OnePreamble) × Whatever bytes after (λ chars. stands_alone chars start ≡ true)
 
--- What stands at a place right before which two preamble bytes stand: what may become a body, so that nothing is decided; or a message; or
--- a miss.
+-- What stands at a place right after two preamble bytes: bytes that may become a body, so nothing is decided; or a message; or a
+-- miss.
 abbrev pub IsAfterTwo : List ℕ → After → ℕ → Standing → Type 0
 IsAfterTwo bytes after start Nothing = ⊥
 IsAfterTwo bytes after start (Open used) = (after ≡ More) × (used + 2 ≡ start) × IsTruncated (drop start bytes)
@@ -87,17 +87,17 @@ IsAfterTwo bytes after start (standing.Message layout) = IsPrefix (drop start by
 IsAfterTwo bytes after start (standing.Missed miss) =
     Whatever bytes after (HasBodyMiss start (Some miss)) × NamesPlacesBelow (length (heard_with bytes after)) miss
 
--- Two preamble bytes stand right before a place, at or after another.
+-- Two preamble bytes stand right before an asked place, both at or after `from`.
 abbrev pub FollowsTwo : List ℕ → ℕ → ℕ → Type 0
 FollowsTwo bytes from start = (from + 2 ≤ start) × (slice_index bytes (start - 2) ≡ 255)
 
--- What stands at a place right before which a preamble byte stands.
+-- What stands at an asked place, after two preamble bytes or after a single one.
 abbrev pub IsStandingAt : List ℕ → After → ℕ → ℕ → Standing → Type 0
 IsStandingAt bytes after from start standing =
     (FollowsTwo bytes from start × IsAfterTwo bytes after start standing)
     ⊎ ((FollowsTwo bytes from start → ⊥) × IsAfterOne bytes after start standing)
 
--- A message starts at a place and stops at another, and the body between them is that of its frame.
+-- A message starts at `start` and stops at `stop`, and its frame's body lies between them.
 pub record IsMessageAt (bytes : List ℕ) (start stop : ℕ) (view : FoundView) : Type 0 where
   pub start_is : view.start ≡ start
   pub stop_is : view.stop ≡ stop
@@ -105,24 +105,24 @@ pub record IsMessageAt (bytes : List ℕ) (start stop : ℕ) (view : FoundView) 
   pub within : stop ≤ length bytes
   pub body : IsBody (parts_of view.frame) (slice_range bytes start stop)
 
--- The list is used up to a place after another: to its end, or to the last preamble bytes, two at most.
+-- The list is used up to a place at or after `from`: to its end, or to the preamble bytes at its end, at most two.
 abbrev pub IsUsed : List ℕ → ℕ → ℕ → Type 0
 IsUsed bytes from used = (from ≤ used) × (
     ((used ≡ length bytes) × ((from < used) → slice_index bytes (used - 1) ≢ 255))
     ⊎ ((used + 1 ≡ length bytes) × (slice_index bytes used ≡ 255) × ((from < used) → slice_index bytes (used - 1) ≢ 255))
     ⊎ ((used + 2 ≡ length bytes) × (slice_index bytes used ≡ 255) × (slice_index bytes (used + 1) ≡ 255)))
 
--- All is used, with the character that has fault bits, if nothing more can matter.
+-- How far bytes are used that show nothing. All are used, with the character that has fault bits, unless more may come.
 abbrev pub IsPassed : List ℕ → After → ℕ → ℕ → Type 0
 IsPassed bytes More from used = IsUsed bytes from used
 IsPassed bytes (Damaged character) from used = used ≡ length bytes + 1
 IsPassed bytes End from used = used ≡ length bytes
 
--- Nothing is seen at a place, whatever comes: no body stands alone there after one preamble byte alone, and two do not stand before it.
+-- Nothing is seen at a place, whatever comes: two preamble bytes do not stand before it, and no body stands alone at it.
 abbrev pub IsSilent : List ℕ → After → ℕ → ℕ → Type 0
 IsSilent bytes after from place =
     (FollowsTwo bytes from place → ⊥) × Whatever bytes after (λ chars. stands_alone chars place ≡ false)
 
--- Nothing is seen at the places up to one, right before which a preamble byte stands.
+-- Nothing is seen at any asked place up to `to`.
 abbrev pub AreSilent : List ℕ → After → ℕ → ℕ → Type 0
 AreSilent bytes after from to = (place : ℕ) → IsAsked bytes after from place → place ≤ to → IsSilent bytes after from place

@@ -1,4 +1,4 @@
--- The next frames of what was heard, of which more may still be heard (own profile).
+-- The next frames of what was heard, while more may still be heard (own profile).
 use Rattle.std.specs.Prelude.{◌≡◌, ◌≤◌, ℕ, Bool, IsTrue, Option, List, [], ◌++◌, length, map}
 use Rattle.std.specs.List.{All}
 use Rattle.std.specs.Option.{option_to_list}
@@ -8,20 +8,20 @@ use Rattle.hart_frame.specs.scan.View.{found_of}
 use Rattle.hart_frame.specs.declared.heard.found.Found.{Found}
 use Rattle.hart_frame.specs.declared.scan.view.FoundView.{FoundView}
 
--- Whatever comes after some characters, the frames of all from a place on are some, and then those from another place on. If they ended,
--- nothing comes after them.
+-- Whatever follows the characters, the frames of all from `from` on are `given`, and then the frames from `to` on. If the
+-- characters ended, nothing follows them.
 abbrev pub LeadsOn : List Character → Bool → ℕ → List Found → ℕ → Type 0
 LeadsOn chars ended from given to = (more : List Character) (later : List Found) → (IsTrue ended → more ≡ [])
     → AreFrames (chars ++ more) to later → AreFrames (chars ++ more) from (given ++ later)
 
--- Frames are the next ones of some characters, from one place up to another, if the frames from the first place on are these, and then
--- those from the second place on, whatever comes later; and if each of them stops at the second place or before it.
+-- Frames are the next ones of some characters, from `from` up to `to`, if the frames from `from` on are these and then those from
+-- `to` on, whatever comes later. Each of these frames also stops at or before `to`.
 pub record AreNext (chars : List Character) (ended : Bool) (from : ℕ) (given : List Found) (to : ℕ) : Type 0 where
   pub onward : from ≤ to
   pub within : to ≤ length chars
   pub leads : LeadsOn chars ended from given to
   pub stops : All (λ found. found.stop ≤ to) given
 
--- The frame of a view, and where it stands; or none.
+-- The list of a view's frame and where it stands, empty without a view.
 abbrev pub frames_of : Option FoundView → List Found
 frames_of view = map found_of (option_to_list view)

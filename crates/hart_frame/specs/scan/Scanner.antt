@@ -7,9 +7,9 @@ use Rattle.hart_frame.specs.scan.View.{found_of}
 use Rattle.hart_frame.specs.declared.heard.found.Found.{Found}
 use Rattle.hart_frame.specs.declared.scan.view.FoundView.{FoundView}
 
--- A scanner stands for the characters that it holds, with the place of the first of them, or of the next one if it holds none.
--- It is finished if no more is to come, and drained if it is new, gave none, or heard a chunk to its end with nothing decided, and
--- heard nothing since, nor the finish.
+-- A scanner stands for the characters that it holds, and for the place of the first of them, or of the next one to come if it holds
+-- none. It is finished if no more is to come. It is drained if it is new, gave no frame, or heard a chunk to its end with nothing
+-- decided, and has heard neither a character nor the finish since.
 pub record Scan : Type 0 where
   pub first : ℕ
   pub held : List Character
@@ -24,12 +24,12 @@ new_scan = record { first = 0; held = []; finished = false; drained = true }
 abbrev pub hearing : Scan → List Character → Scan
 hearing scan chars = record scan { held = scan.held ++ chars; drained = false }
 
--- A scanner that is given the finish holds what it held, and has yet to look at it again.
+-- A scanner that hears the finish still holds what it held, and has yet to look at it again.
 abbrev pub finishing : Scan → Scan
 finishing scan = record scan { finished = true; drained = false }
 
--- A scanner moves past some frames if it lets the first `count` characters go that it held, and the frames are the next ones of what it
--- held, up to there. They are found at places counted from the first character held, and given with their places in all that was heard.
+-- A scanner moves past some frames if it lets go of the first `count` characters that it held, and the frames are the next ones up
+-- to there. They are found at places counted from the first character held, and given with their places in all that was heard.
 pub record MovesPast (old new : Scan) (given : List Found) : Type 0 where
   pub count : ℕ
   pub found : List Found
@@ -39,15 +39,15 @@ pub record MovesPast (old new : Scan) (given : List Found) : Type 0 where
   pub held : new.held ≡ drop count old.held
   pub finished : new.finished ≡ old.finished
 
--- A scanner that gives a frame moves past it, and then holds what comes after its body. It is not drained, neither before nor after:
--- more may be given.
+-- A scanner that gives a frame moves past it, and then holds what comes after its body. It is drained neither before nor after,
+-- since more frames may be given.
 pub record Gives (old new : Scan) (found : Found) : Type 0 where
   pub moves : MovesPast old new (found ∷ [])
   pub stop : new.first ≡ found.stop
   pub undrained : (old.drained ≡ false) × (new.drained ≡ false)
 
--- A scanner that waits is not finished, moves past no frame, and is drained. It then holds at most 268 characters, in which nothing is
--- decided.
+-- A scanner that waits is not finished, moves past no frame, and is drained. It then holds at most 268 characters, in which nothing
+-- is decided.
 pub record Waits (old new : Scan) : Type 0 where
   pub going : old.finished ≡ false
   pub moves : MovesPast old new []

@@ -1,4 +1,4 @@
--- What is promised of the next message or miss of bytes that lie in memory (own profile).
+-- What is promised of the next message or miss in bytes in memory (own profile).
 use Rattle.std.specs.Prelude.{◌≡◌, ◌≢◌, ◌<◌, ℕ, Bool, true, false, ⊤, List, [], ◌∷◌, ◌++◌, Option, None, Some}
 use Rattle.hart_frame.specs.heard.Character.{Character, faultless}
 use Rattle.hart_frame.specs.heard.Sighting.{Message, Missed, Seen}
@@ -16,13 +16,13 @@ heard_with bytes More = faultless bytes
 heard_with bytes (Damaged character) = faultless bytes ++ character ∷ []
 heard_with bytes End = faultless bytes
 
--- Nothing comes after them.
+-- Whether nothing comes after the bytes.
 abbrev pub is_end : After → Bool
 is_end More = false
 is_end (Damaged character) = false
 is_end End = true
 
--- A character that follows has fault bits.
+-- The character that is known to follow, if there is one, has fault bits.
 abbrev pub AfterIsValid : After → Type 0
 AfterIsValid (Damaged character) = character.faults ≢ 0
 AfterIsValid _ = ⊤
@@ -32,19 +32,19 @@ abbrev pub seen_of : Sighting → Seen
 seen_of (given.Message view) = Message (found_of view)
 seen_of (given.Missed place miss) = Missed place miss
 
--- What a sighting shows, or nothing without one.
+-- The list of what a sighting shows, empty without one.
 abbrev pub sightings_of : Option Sighting → List Seen
 sightings_of None = []
 sightings_of (Some sighting) = seen_of sighting ∷ []
 
--- The places that a miss names lie below a number.
+-- The place that a miss names, if it names one, lies below `count`.
 abbrev pub NamesPlacesBelow : ℕ → Miss → Type 0
 NamesPlacesBelow count (Faulty place faults) = place < count
 NamesPlacesBelow count (BadCheck place byte fits) = place < count
 NamesPlacesBelow count _ = ⊤
 
--- A sighting ends at a place of `count` characters: a message stops there, and a missed place stands before it, with a miss that names
--- places below `count` alone.
+-- A sighting in `count` characters ends at the place `used`: a message stops there, and a missed place lies before it. A miss names
+-- only places below `count`.
 abbrev pub EndsAt : ℕ → ℕ → Sighting → Type 0
 EndsAt count used (given.Message view) = (view.start < view.stop) × (view.stop ≡ used)
 EndsAt count used (given.Missed place miss) = (place < used) × NamesPlacesBelow count miss

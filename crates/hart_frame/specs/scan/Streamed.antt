@@ -4,8 +4,8 @@ use Rattle.hart_frame.specs.heard.Character.{Character}
 use Rattle.hart_frame.specs.scan.Scanner.{Scan, Ends, Gives, MovesPast, Waits, finishing, hearing, new_scan}
 use Rattle.hart_frame.specs.declared.heard.found.Found.{Found}
 
--- What was pushed to a scanner since it was new, what it now stands for, and the frames that it gave, call by call: it heard a
--- character, or a part of a chunk, of bytes too, or the finish; it gave a frame, or none for now.
+-- What was pushed to a scanner since it was new, what it now stands for, and the frames that it gave. In each call it heard a
+-- character, a part of a chunk (also one of bytes) or the finish, or it gave a frame, or none for now.
 pub data IsHistory : List Character → Scan → List Found → Type 0 where
   begin : IsHistory [] new_scan []
   push : (past : List Character) (scan : Scan) (given : List Found) (character : Character) → IsHistory past scan given
@@ -19,7 +19,7 @@ pub data IsHistory : List Character → Scan → List Found → Type 0 where
   finish : (past : List Character) (scan : Scan) (given : List Found) → IsHistory past scan given
       → IsHistory past (finishing scan) given
 
--- These are all the frames given of these characters if a scanner gave them that was then finished, and ended.
+-- A scanner heard these characters, gave these frames, and ended after its finish.
 pub record IsWholeHistory (past : List Character) (given : List Found) : Type 0 where
   pub last : Scan
   pub after : Scan

@@ -6,8 +6,8 @@ use Rattle.hart_frame.specs.wire.FrameParts.{FrameParts, IsLongEnough}
 use Rattle.hart_frame.specs.wire.Parity.{HasEvenParity}
 use Rattle.hart_frame.specs.wire.Delimiter.{delimiter_of}
 
--- Before the check byte of a frame's body stand its delimiter, its address bytes, at most 3 expansion bytes, its
--- command, its byte count and its payload, one after another; an ACK's payload has its two status bytes at least.
+-- The part of a body before the check byte: the delimiter, the address bytes, at most 3 expansion bytes, the command, the byte
+-- count and the payload, one after another. An ACK's payload has at least its two status bytes.
 pub record IsCheckedPart (frame : FrameParts) (bytes : List ℕ) : Type 0 where
   pub address : List ℕ
   pub address_bytes : IsAddressBytes frame.master frame.burst frame.address address
@@ -16,8 +16,8 @@ pub record IsCheckedPart (frame : FrameParts) (bytes : List ℕ) : Type 0 where
   pub expansion_fits : length frame.expansion ≤ 3
   pub payload_fits : IsLongEnough frame.kind frame.payload
 
--- A body of a frame is that part and a check byte: all of them are bytes, and in each of the eight bit positions an
--- even number of them have the bit.
+-- A body of a frame is that part and a check byte. All its bytes are below 256, and each of the eight bits is set in an even number
+-- of them.
 pub record IsBody (frame : FrameParts) (bytes : List ℕ) : Type 0 where
   pub checked : List ℕ
   pub check : ℕ
@@ -35,7 +35,7 @@ pub record BeginsWithBody (bytes : List ℕ) (frame : FrameParts) (count : ℕ) 
 abbrev pub HasNoBody : List ℕ → Type 0
 HasNoBody bytes = (frame : FrameParts) (count : ℕ) → BeginsWithBody bytes frame count → ⊥
 
--- A list can become a body if, with some bytes after it, it begins with one.
+-- A list can become a body if it begins with one once certain bytes follow it.
 pub record CanBecomeBody (bytes : List ℕ) : Type 0 where
   pub rest : List ℕ
   pub frame : FrameParts

@@ -5,7 +5,7 @@ use Rattle.hart_values.specs.declared.address.Address.{Address}
 use Rattle.hart_frame.specs.declared.wire.kind.FrameKind.{FrameKind}
 use Rattle.hart_frame.specs.declared.wire.kind.FrameKind.TheVariants.{Stx, Ack}
 
--- A frame is these parts, whatever bytes they are sent in.
+-- A frame consists of these parts, whatever bytes carry them.
 pub record FrameParts : Type 0 where
   pub kind : FrameKind
   pub master : MasterId
@@ -15,7 +15,7 @@ pub record FrameParts : Type 0 where
   pub command : ℕ
   pub payload : List ℕ
 
--- Own profile: an ACK's payload has its two status bytes at least, an STX's any number of bytes.
+-- Own profile: an ACK's payload has at least its two status bytes; an STX's payload may have any length.
 abbrev pub IsLongEnough : FrameKind → List ℕ → Type 0
 IsLongEnough Stx payload = Unit {0}
 IsLongEnough Ack payload = 2 ≤ length payload
@@ -32,7 +32,6 @@ request_parts master address command payload = record {
   payload = payload;
 }
 
--- A reply to a frame is an ACK with its master bit, its address and its command, with the burst bit clear and no
--- expansion bytes.
+-- A reply to a frame is an ACK with the frame's master bit, address and command, with the burst bit clear and no expansion bytes.
 abbrev pub reply_parts : FrameParts → List ℕ → FrameParts
 reply_parts frame payload = record (request_parts frame.master frame.address frame.command payload) { kind = Ack }

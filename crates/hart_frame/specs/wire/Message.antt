@@ -3,11 +3,11 @@ use Rattle.std.specs.Prelude.{◌≡◌, ◌≤◌, ℕ, List, ◌++◌, replica
 use Rattle.hart_frame.specs.wire.FrameParts.{FrameParts}
 use Rattle.hart_frame.specs.wire.Body.{IsBody}
 
--- A sender puts 5 to 20 preamble bytes.
+-- A sender sends 5 to 20 preamble bytes.
 abbrev pub IsPreambleCount : ℕ → Type 0
 IsPreambleCount count = (5 ≤ count) × (count ≤ 20)
 
--- A message is a number of preamble bytes FF, and then a body of the frame.
+-- A message is `preambles` preamble bytes FF, and then a body of the frame.
 pub record IsMessage (frame : FrameParts) (preambles : ℕ) (bytes : List ℕ) : Type 0 where
   pub body : List ℕ
   pub is_body : IsBody frame body

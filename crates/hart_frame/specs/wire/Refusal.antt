@@ -14,27 +14,25 @@ IsDelimiter byte = (byte / 8 % 4 ≡ 0) × ((byte % 8 ≡ 2) ⊎ (byte % 8 ≡ 6
 abbrev pub HasDelimiter : List ℕ → Type 0
 HasDelimiter bytes = (0 < length bytes) × IsDelimiter (delimiter_in bytes)
 
--- It goes on to its byte count.
+-- A list begins with a delimiter and reaches its byte count.
 abbrev pub HasByteCount : List ℕ → Type 0
 HasByteCount bytes = HasDelimiter bytes × (byte_count_place bytes < length bytes)
 
--- Its byte count is at least 2, or its delimiter is an STX's.
+-- A list reaches its byte count, which is at least 2 unless the delimiter is an STX's.
 abbrev pub HasGoodByteCount : List ℕ → Type 0
 HasGoodByteCount bytes = HasByteCount bytes × ((delimiter_in bytes % 8 ≡ 2) ⊎ (2 ≤ byte_count_in bytes))
 
--- It goes on to its check byte.
+-- A list has a good byte count and reaches its check byte.
 abbrev pub HasCheckByte : List ℕ → Type 0
 HasCheckByte bytes = HasGoodByteCount bytes × (body_length bytes ≤ length bytes)
 
--- A list ends too early if it is empty, or if it stops before its byte count or its check byte with
--- nothing wrong before.
+-- A list ends too early if it is empty, or if it ends before its byte count or its check byte and nothing up to there is wrong.
 abbrev pub IsTruncated : List ℕ → Type 0
 IsTruncated bytes = (length bytes ≡ 0)
     ⊎ (HasDelimiter bytes × (length bytes ≤ byte_count_place bytes))
     ⊎ (HasGoodByteCount bytes × (length bytes < body_length bytes))
 
--- The fault of a list is the first thing that is wrong with it; the faults of making and of sending a frame are
--- none of a list's.
+-- The fault of a list is the first thing that is wrong with it. The faults of making and of sending a frame never apply to a list.
 abbrev pub IsRefusedWith : List ℕ → FrameFault → Type 0
 IsRefusedWith bytes BadDelimiter = (0 < length bytes) × (IsDelimiter (delimiter_in bytes) → ⊥)
 IsRefusedWith bytes Truncated = IsTruncated bytes

@@ -4,7 +4,7 @@ ghost use Rattle.hart_frame.specs.heard.Character.{faultless_bytes};
 use hart_values::ByteList;
 use std::marker::Model;
 
-/// The bits that are no fault bits.
+/// The bits that are not fault bits.
 const OTHER_BITS: u8 = !0x72;
 
 /// A received character: a byte, and the faults that the receiver noticed at it (HCF_SPEC-081).
@@ -32,7 +32,7 @@ impl Model for Char {
 impl Char {
     ghost use Rattle.hart_frame.specs.heard.Character.{AreFaultBits};
 
-    /// Returns the character of this byte and these fault bits, or `None` if another bit than the four is set.
+    /// Returns the character of this byte and these fault bits, or `None` if `faults` has a bit other than the four fault bits.
     pub fn new(byte: u8, faults: u8) -> Option<Self>
         ensures accepted { IsSome result ↔ AreFaultBits faults }
         ensures kept { IfSome result (λ character. character ≡ record { byte = byte; faults = faults }) }
@@ -72,7 +72,7 @@ pub fn are_faultless(chars: &[Char]) -> bool
     chars.iter().all(|character| character.is_faultless())
 }
 
-/// Returns the bytes of the first characters, up to one with faults, or as many as fit.
+/// Returns the bytes of the characters before the first one with faults, but at most the first `N`.
 pub(crate) fn faultless_front<const N: usize>(chars: &[Char]) -> ByteList<N>
     ensures { result ≡ take N (faultless_bytes chars.now) }
 {

@@ -1,4 +1,4 @@
-//! Laws of damage that can be detected, over the definitions alone, for the crates above.
+//! Laws about damage that can be detected, from the definitions alone, for the crates above.
 ghost use Rattle.std.specs.Prelude.{◌⊎◌, List, ℕ, [], ◌∷◌, length};
 ghost use Rattle.hart_frame.specs.heard.Character.{Character};
 ghost use Rattle.hart_frame.specs.heard.Damage.{IsCheckDamage, IsMarkedDamage};
@@ -6,12 +6,12 @@ ghost use Rattle.hart_frame.specs.heard.DamageExamples.{faulty_address, identity
 ghost use Rattle.hart_frame.specs.wire.FrameParts.{FrameParts};
 ghost use Rattle.hart_frame.specs.heard.Frames.{AreFrames};
 
-/// A damaged message is heard with no frame but its own.
+/// A damaged message has no frame other than its own.
 ///
-/// With marked damage, of which every changed character has a fault bit, it has no frame, or its own alone, in its place. With
-/// check damage, of which every byte is heard without faults but the parity is not even, it has none. In neither may two faultless
-/// `FF` in a row be heard after the delimiter, since another frame could stand there; and the delimiter and the byte count are not
-/// among the bytes that check damage replaces, since they say how long the body is.
+/// In marked damage, every changed character has a fault bit. The message then has no frame, or only its own, in its place. In
+/// check damage, every byte is heard without faults but the parity is not even. The message then has no frame. Neither kind allows
+/// two faultless `FF` in a row after the delimiter, since another frame could stand there. Check damage keeps the delimiter and the
+/// byte count, since they say how long the body is.
 pub fn damaged_messages_have_no_other_frame()
     ensures marked { (frame : FrameParts) (preambles : ℕ) (chars : List Character) (damage : IsMarkedDamage frame preambles chars)
         → AreFrames chars 0 [] ⊎ AreFrames chars 0 (record { start = damage.left; stop = length chars; frame = frame } ∷ []) }
@@ -19,7 +19,7 @@ pub fn damaged_messages_have_no_other_frame()
         → AreFrames chars 0 [] }
 {}
 
-/// What each kind of damage is, by a request that is heard with it, and by what is none.
+/// Shows each kind of damage by example: a request that is heard with it, and cases that are not of that kind.
 pub fn damage_by_example()
     ensures marked { IsMarkedDamage identity_request 5 faulty_address }
     ensures not_marked { IsMarkedDamage identity_request 5 other_address → ⊥ }

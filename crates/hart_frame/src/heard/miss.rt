@@ -1,4 +1,4 @@
-//! Why no frame stands at a place at which a message seems to start.
+//! Why no frame stands at a place where a message seems to start.
 ghost use Rattle.std.specs.Prelude.{◌≡◌, ◌≢◌, ◌+◌, ◌^◌, ◌<◌, ◌≤◌, ◌⊎◌, ◌↔◌, ℕ, List, [], ◌∷◌, ◌++◌, None, Some, length, drop, insert, set};
 ghost use Rattle.std.specs.Prelude.{All, IsSome, MatchOption, slice_get};
 ghost use Rattle.hart_frame.specs.heard.Character.{Character, faultless, faultless_bytes};
@@ -21,35 +21,35 @@ use crate::wire::message::PREAMBLE;
 use crate::wire::prefix::{Prefix, Wrong, prefix_of};
 use crate::{Body, Char};
 
-/// Why no frame stands at a place of what was heard. Places are counted from 0, at its front.
+/// Why no frame stands at a place of what was heard. Places are counted from 0, the first character.
 #[derive(Clone, Copy, Debug, PartialEq, Eq)]
 pub enum Miss {
     /// The character at this place has these fault bits.
     Faulty { place: usize, faults: u8 },
     /// The first byte is the delimiter of a burst message, which is not read.
     Burst,
-    /// This first byte is another one that is no delimiter of this profile.
+    /// The first byte is `byte`, which is neither a delimiter of this profile nor that of a burst message.
     BadDelimiter { byte: u8 },
     /// The characters end before the byte count.
     EndsBeforeByteCount,
     /// An ACK has this byte count, below 2.
     ShortReply { byte_count: u8 },
-    /// The characters end before the check byte's end: this number of them is missing, the last of which is the check byte.
+    /// The characters end before the end of the check byte: `count` of them are missing, and the last of these is the check byte.
     Missing { count: usize },
     /// The check byte at this place is `byte`, and `fits` would fit.
     BadCheck { place: usize, byte: u8, fits: u8 },
-    /// A whole body stands there, but after one preamble byte `FF` alone.
+    /// A whole body stands there, but after a single preamble byte `FF`.
     OnePreamble,
 }
 
-/// Returns why no frame stands at a place at which a message seems to start, or `None` if one does, or no message seems to.
+/// Returns why no frame stands where a message seems to start, or `None` if a frame stands there or no message seems to start.
 ///
-/// Where a body may start (see [`is_start`](crate::is_start)), it is the first of these that holds, in the order in which a body is
-/// decoded: the delimiter of a burst message, or another byte that is no delimiter of this profile; an end before the byte count; an
-/// ACK with a byte count below 2; an end before the check byte; a check byte that does not fit. If a character with fault bits comes
-/// before that is decided, it is that character. Where a whole body stands after one faultless `FF` alone, it is that there is only one.
+/// Where a body may start (see [`is_start`](crate::is_start)), the miss is the first of these that holds, in the order of decoding:
+/// the delimiter of a burst message, or another byte that is no delimiter of this profile; an end before the byte count; an ACK
+/// with a byte count below 2; an end before the check byte; a check byte that does not fit. If a character with fault bits comes
+/// before this is decided, the miss is that character. A whole body after a single faultless `FF` is a [`Miss::OnePreamble`].
 ///
-/// It looks at no more than the 267 characters of the longest body.
+/// The function looks at no more than 267 characters from `start` on, the length of the longest body.
 ///
 /// ```rust
 /// // FF FF 02 80 00 00 83 was heard.
@@ -74,7 +74,7 @@ pub fn why_none(chars: &[Char], start: usize) -> Option<Miss>
     None
 }
 
-/// Returns why the characters from a start on begin with no body, or `None` if they begin with one.
+/// Returns why no body begins at the front of `heard`, the characters from `start` on, or `None` if one does.
 fn body_miss(heard: &[Char], start: usize) -> Option<Miss>
     requires within { start + length heard.now < 2 ^ 64 }
     ensures found { result ≡ body_miss start heard.now }
@@ -89,7 +89,7 @@ fn body_miss(heard: &[Char], start: usize) -> Option<Miss>
     }
 }
 
-/// Returns the miss at a place from which bytes come that never become a body.
+/// Returns the miss of a place whose bytes never become a body.
 pub(crate) fn wrong_miss(wrong: Wrong, start: usize) -> Miss
     requires some { 0 < shown_by wrong }
     requires within { start + shown_by wrong < 2 ^ 64 }
@@ -116,7 +116,7 @@ fn delimiter_miss(byte: u8) -> Miss
     Miss::BadDelimiter { byte }
 }
 
-/// Returns the miss of bytes that may become a body, if nothing follows them: how many are missing, or that the byte count is.
+/// Returns the miss of bytes that may become a body, if nothing follows: how many are missing, or an end before the byte count.
 pub(crate) fn cut_miss(missing: Option<usize>) -> Miss
     ensures { result ≡ cut_miss missing }
 {
@@ -126,7 +126,7 @@ pub(crate) fn cut_miss(missing: Option<usize>) -> Miss
     }
 }
 
-/// Returns the miss for the character with fault bits after the first `count`, or `at_end` if the characters end there.
+/// Returns the miss for the character with fault bits after the first `count` characters, or `at_end` if they end there.
 fn faulty_or(heard: &[Char], count: usize, start: usize, at_end: Miss) -> Miss
     requires within { start + length heard.now < 2 ^ 64 }
     ensures { result ≡ faulty_or (slice_get heard.now count) (start + count) at_end }
@@ -140,7 +140,7 @@ fn faulty_or(heard: &[Char], count: usize, start: usize, at_end: Miss) -> Miss
     }
 }
 
-/// Returns true if one faultless preamble byte `FF` alone stands before this place.
+/// Returns true if exactly one faultless preamble byte `FF` stands right before this place.
 fn follows_one_preamble(chars: &[Char], place: usize) -> bool
     requires within { place ≤ length chars.now }
     ensures { result ≡ follows_one_preamble chars.now place }
@@ -160,8 +160,8 @@ fn follows_preamble(chars: &[Char], place: usize) -> bool
     before.byte() == PREAMBLE && before.is_faultless()
 }
 
-/// Where a body may start, either a frame stands or there is a miss, and not both. Anywhere else there is no miss but that one preamble
-/// byte stands alone before a whole body.
+/// Where a body may start, there is either a frame or a miss, and not both. Anywhere else the only miss is [`Miss::OnePreamble`],
+/// for a whole body after a single preamble byte.
 pub fn every_start_has_a_frame_or_a_miss()
     ensures one { (place : ℕ) (chars : List Character) → All (λ character. character.byte < 256) chars → IsStart place chars
         → HasFrameAt chars place ⊎ IsSome (miss_of chars place) }
@@ -170,12 +170,12 @@ pub fn every_start_has_a_frame_or_a_miss()
         → IsStart place chars ⊎ (miss ≡ OnePreamble) }
 {}
 
-/// What a miss names is what stands in the way of a frame.
+/// A miss names what really stands in the way of a frame.
 ///
-/// With the byte that would fit in the place that is named, a frame stands there, and its check byte in that place. With any faultless
-/// character in the place of the one that has fault bits, no fault bits are named at that place any more. Whatever bytes come for all that
-/// are missing but the last, a frame stands there with the check byte of all of them as the last, which ends the list. With another
-/// faultless `FF` before the one, a frame stands after the two.
+/// `BadCheck`: once the byte that fits stands at the named place, a frame stands at the start and ends with that byte. `Faulty`:
+/// once any faultless character stands at the named place, no fault bits are named there any more. `Missing`: once any bytes for
+/// the missing ones but the last, and then the check byte of all, follow the list, a frame stands at the start and ends with them.
+/// `OnePreamble`: once another faultless `FF` stands before the single one, a frame stands after the two.
 pub fn misses_say_what_is_wrong()
     ensures bad_check { (start place byte fits : ℕ) (chars : List Character) → All (λ character. character.byte < 256) chars
         → miss_of chars start ≡ Some (BadCheck place byte fits)
@@ -191,16 +191,16 @@ pub fn misses_say_what_is_wrong()
         → HasFrameAt (insert chars start (record { byte = 255; faults = 0 })) (start + 1) }
 {}
 
-/// A miss where a body may start comes from the fault with which the bytes there are refused, up to the first character with fault
-/// bits. So the order of the misses is that of the faults of [`decode`](crate::decode).
+/// Where a body may start, a miss comes from the fault of the bytes there, up to the first character with fault bits. So misses
+/// come in the order of the faults of [`decode`](crate::decode).
 pub fn misses_are_faults()
     ensures { (start : ℕ) (chars : List Character) (miss : Miss) → All (λ character. character.byte < 256) chars
         → IsStart start chars → miss_of chars start ≡ Some miss
         → (fault : FrameFault) × (fault_of miss ≡ Some fault) × IsRefusedWith (faultless_bytes (drop start chars)) fault }
 {}
 
-/// The steps find the miss of a place, and a place has one at most. Where a body may start, the miss is what stands
-/// in the way there, and nothing else. Anywhere else a miss is told just where a whole body stands after one preamble byte alone.
+/// The steps of `miss_of` find exactly the miss of a place, and a place has at most one. Where a body may start, the miss is
+/// exactly what stands in the way there. Anywhere else there is a miss only where a whole body stands after a single preamble byte.
 pub fn misses_are_in_the_way()
     ensures found { (start : ℕ) (chars : List Character) (miss : Miss) → All (λ character. character.byte < 256) chars
         → (miss_of chars start ≡ Some miss) ↔ IsMiss chars start miss }

@@ -6,8 +6,8 @@ ghost use Rattle.hart_frame.specs.heard.Start.{HasNoStart, IsFirstStart, IsStart
 use crate::Char;
 use crate::wire::message::PREAMBLE;
 
-/// Returns the first place of what was heard at which a body may start, whatever is heard of it, or `None` if there is none: two
-/// faultless preamble bytes `FF` stand right before it, and at it a character other than a faultless `FF`.
+/// Returns the first place where a body may start, however the body itself is heard, or `None` if there is none: two faultless
+/// preamble bytes `FF` stand right before it, and the character at it is not a faultless `FF`.
 pub fn first_start(chars: &[Char]) -> Option<usize>
     ensures { MatchOption result (HasNoStart chars.now) (λ place. IsFirstStart place chars.now) }
 {
@@ -19,8 +19,8 @@ pub fn first_start(chars: &[Char]) -> Option<usize>
     None
 }
 
-/// Returns true if a body may start at this place, whatever is heard of it: two faultless preamble bytes `FF` stand right before it, and at it
-/// a character other than a faultless `FF`.
+/// Returns true if a body may start at this place, however the body itself is heard: two faultless preamble bytes `FF` stand right
+/// before it, and the character at it is not a faultless `FF`.
 pub fn is_start(chars: &[Char], place: usize) -> bool
     ensures { IsTrue result ↔ IsStart place chars.now }
 {
@@ -44,7 +44,7 @@ fn is_start_within(chars: &[Char], place: usize) -> bool
     third != preamble
 }
 
-/// A list of characters has one first start at most, and it has one or none.
+/// A list of characters has either exactly one first start, or no start.
 pub fn first_starts_are_decided()
     ensures one { (place other : ℕ) (chars : List Character)
         → IsFirstStart place chars → IsFirstStart other chars → place ≡ other }

@@ -13,18 +13,18 @@ use crate::wire::layout::Layout;
 use crate::{Char, FoundView, FrameView};
 use hart_values::ByteList;
 
-/// The most characters that are held: two preamble bytes and a body.
+/// How many characters are held at most: two preamble bytes and a body.
 pub(crate) const MOST_HELD: usize = 269;
 
-/// Twice as many, so that few bytes are moved when others are let go.
+/// The capacity of the list: twice [`MOST_HELD`], so that few bytes are moved when others are let go.
 pub(crate) const ROOM: usize = 538;
 
-/// Faultless bytes, which are those of a list from a place on, and after them one character with faults or none.
+/// The held characters: the faultless bytes of the list from `from` on, and after them one character with faults or none.
 #[derive(Drop)]
 pub(crate) struct Buffer {
     pub(crate) bytes: ByteList<ROOM>,
     pub(crate) from: usize,
-    /// The place in what is heard of the first character that is held.
+    /// The place, in what is heard, of the first character that is held.
     pub(crate) first: u64,
     pub(crate) damaged: Option<Char>,
     pub(crate) state: State,
@@ -36,9 +36,9 @@ pub(crate) struct Buffer {
 pub(crate) enum State {
     /// Nothing is decided before the next character.
     Drained,
-    /// Something was heard, or let go, and not looked at since.
+    /// Something was heard or let go, and what is held was not looked at since.
     Busy,
-    /// It begins with a frame, by this layout.
+    /// What is held begins with a frame, by this layout.
     Stands(Layout),
 }
 
@@ -128,7 +128,7 @@ impl Buffer {
         self.finished || self.damaged.is_some()
     }
 
-    /// Lets go of the first bytes.
+    /// Lets go of the first `count` bytes.
     pub(crate) fn pass(&mut self, count: usize)
         requires sound { IsSound self.old }
         requires within { count ≤ length (held_bytes self.old) }
@@ -140,7 +140,7 @@ impl Buffer {
         self.state = State::Busy;
     }
 
-    /// Lets go of two preamble bytes and the body after them, and gives the place of that body.
+    /// Lets go of two preamble bytes and the body after them, and returns where that body lies.
     pub(crate) fn release(&mut self, layout: Layout) -> Span
         requires sound { IsSound self.old }
         requires within { 2 + layout_length layout ≤ length (held_bytes self.old) }
@@ -186,7 +186,7 @@ impl Buffer {
         }
     }
 
-    /// Holds a part of what is held and of a chunk after it, and passes what stands before that part.
+    /// Keeps, of the held bytes and the chunk after them, those from `place` up to `stop`, and lets go of those before `place`.
     pub(crate) fn keep(&mut self, chunk: &[u8], place: usize, stop: usize)
         requires stored { IsStored self.old }
         requires clear { self.old.damaged ≡ None }
@@ -215,7 +215,7 @@ impl Buffer {
         }
     }
 
-    /// Passes all bytes of the list, and removes them if the bytes that may be held do not fit after them.
+    /// Lets go of all bytes of the list, and clears the list if 269 more bytes do not fit after them.
     fn pass_all(&mut self)
         ensures room { length self.new.bytes + 269 ≤ 538 }
         ensures same { self.new ≡ record self.old { bytes = self.new.bytes; from = length self.new.bytes } }
@@ -226,7 +226,7 @@ impl Buffer {
         self.from = self.bytes.len();
     }
 
-    /// Moves what is held to the start of the list, if there is no room for as much again.
+    /// Moves what is held to the start of the list if 269 more bytes do not fit at its end.
     #[inline(never)]
     fn make_room(&mut self)
         requires within { self.old.from ≤ length self.old.bytes }
@@ -259,7 +259,7 @@ impl Buffer {
         self.first += 1;
     }
 
-    /// After the last byte that is held. A finished scanner is then new.
+    /// Lets go of a held character with faults once no byte is held. A finished scanner is then new.
     pub(crate) fn end(&mut self)
         requires sound { IsSound self.old }
         requires empty { held_bytes self.old ≡ [] }

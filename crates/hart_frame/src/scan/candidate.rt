@@ -9,7 +9,7 @@ use crate::wire::prefix::{Prefix, prefix_of};
 /// How bytes begin.
 #[derive(Clone, Copy)]
 pub(crate) enum Candidate {
-    /// With no frame, whatever follows. So many of them show it, and fewer do not.
+    /// With no frame, whatever follows. This many bytes prove it, and fewer do not.
     Never(usize),
     /// With what may still become a frame.
     Open,
@@ -17,7 +17,7 @@ pub(crate) enum Candidate {
     Whole(Layout),
 }
 
-/// Returns how the bytes begin, of which the first is a preamble byte.
+/// Returns how the bytes begin. The first of them is a preamble byte.
 pub(crate) fn candidate_in(bytes: &[u8]) -> Candidate
     requires some { 0 < length bytes.now }
     requires preamble { slice_index bytes.now 0 ≡ 255 }

@@ -13,12 +13,12 @@ use crate::scan::search::{Sighting, search};
 use crate::wire::layout::Layout;
 use hart_values::ByteList;
 
-/// How many faultless characters are looked at together at most. They are copied, so a frame at the front is found without copying many
-/// that follow it.
+/// How many faultless characters are looked at together at most. They are copied, so a frame at the front is found without copying
+/// many that follow it.
 const STRETCH: usize = 64;
 
 impl Buffer {
-    /// Hears the first bytes of a chunk, up to the first at which a frame is decided, and gives how many.
+    /// Hears the first bytes of a chunk, up to the first at which a frame is decided, and returns how many.
     pub(crate) fn push_bytes(&mut self, chunk: &[u8]) -> usize
         requires sound { IsSound self.old }
         requires drained { self.old.state ≡ Drained }
@@ -36,7 +36,7 @@ impl Buffer {
         taken
     }
 
-    /// Hears the first bytes of a chunk. They are searched where they lie if nothing is held before them.
+    /// Hears the first bytes of a chunk, and returns how many. They are searched without a copy if no byte is held before them.
     fn push_part(&mut self, chunk: &[u8]) -> usize
         requires sound { IsSound self.old }
         requires drained { self.old.state ≡ Drained }
@@ -52,7 +52,7 @@ impl Buffer {
         self.settle(part, self.search_joined(part))
     }
 
-    /// Returns what is found in the bytes that are held and a part after them.
+    /// Returns what is found in the held bytes followed by `part`.
     fn search_joined(&self, part: &[u8]) -> Sighting
         requires sound { IsSound self.now }
         requires drained { self.now.state ≡ Drained }
@@ -67,7 +67,7 @@ impl Buffer {
         search(joined.as_slice(), 0, held.len() + 1)
     }
 
-    /// Hears as much of a part as what was found in the bytes that are held and that part says, and gives how much.
+    /// Hears as many bytes of `part` as `found` says, the result for the held bytes and `part`, and returns how many.
     #[inline(always)]
     fn settle(&mut self, part: &[u8], found: Sighting) -> usize
         requires sound { IsSound self.old }
@@ -84,7 +84,7 @@ impl Buffer {
         found.decided - held
     }
 
-    /// Hears the first characters of a chunk, up to the first at which a frame is decided, and gives how many.
+    /// Hears the first characters of a chunk, up to the first at which a frame is decided, and returns how many.
     pub(crate) fn push_chars(&mut self, chunk: &[Char]) -> usize
         requires sound { IsSound self.old }
         requires drained { self.old.state ≡ Drained }
@@ -102,7 +102,7 @@ impl Buffer {
         taken
     }
 
-    /// Hears the first characters of a chunk: faultless ones, or one with faults.
+    /// Hears the first characters of a chunk, either faultless ones or one with faults, and returns how many.
     fn push_stretch(&mut self, chunk: &[Char]) -> usize
         requires sound { IsSound self.old }
         requires drained { self.old.state ≡ Drained }
@@ -121,7 +121,7 @@ impl Buffer {
     }
 }
 
-/// Returns the state in which a frame stands by this layout, or in which none does.
+/// Returns the state in which a frame stands by this layout, or the drained state if there is no layout.
 fn state_of(layout: Option<Layout>) -> State
     ensures { result ≡ state_of layout }
 {

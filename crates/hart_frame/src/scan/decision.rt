@@ -10,7 +10,7 @@ use crate::scan::search::{Sighting, search_to_end};
 use crate::wire::layout::Layout;
 
 impl Buffer {
-    /// Returns the next frame that is decided.
+    /// Returns where the next decided frame lies, and lets go of its characters.
     pub(crate) fn next(&mut self) -> Option<Span>
         requires sound { IsSound self.old }
         ensures sound { IsSound self.new }
@@ -20,7 +20,7 @@ impl Buffer {
         Some(self.release(layout))
     }
 
-    /// Returns the layout of the frame with which the held bytes begin, once that is decided.
+    /// Returns the layout of the frame at the front of the held bytes, once one is decided.
     pub(crate) fn peek(&mut self) -> Option<Layout>
         requires sound { IsSound self.old }
         ensures sound { IsSound self.new }
@@ -33,7 +33,7 @@ impl Buffer {
         }
     }
 
-    /// Drops the bytes with which no frame begins, and returns what [`Buffer::peek`] does.
+    /// Drops the bytes at which no frame begins, and returns what [`Buffer::peek`] returns.
     fn decide(&mut self) -> Option<Layout>
         requires sound { IsSound self.old }
         requires busy { self.old.state ≡ Busy }
@@ -47,7 +47,7 @@ impl Buffer {
         self.decide_held()
     }
 
-    /// Like [`Buffer::decide`], if bytes are held. It stands apart, since after most frames none are.
+    /// Like [`Buffer::decide`], if bytes are held. It is a function of its own, since after most frames no bytes are held.
     #[inline(never)]
     fn decide_held(&mut self) -> Option<Layout>
         requires sound { IsSound self.old }
@@ -69,7 +69,7 @@ impl Buffer {
         None
     }
 
-    /// Returns what is found in the bytes that are held. If no byte can follow them, none may begin a frame.
+    /// Returns what is found in the held bytes. If no byte can follow them, an open place begins no frame.
     fn search_held(&self) -> Sighting
         requires sound { IsSound self.now }
         ensures { IsHeldSearched self.now result }

@@ -1,4 +1,4 @@
-//! The first frame of what was heard, by what a scanner holds.
+//! The first frame of what was heard, found with a scanner's buffer.
 ghost use Rattle.std.specs.Prelude.{◌≡◌, ◌+◌, ◌<◌, ◌≤◌, List, false, length, IsTrue, MatchOption, IfSome};
 ghost use Rattle.hart_frame.specs.heard.Delivery.{IsLone, lone_of};
 ghost use Rattle.hart_frame.specs.heard.Frames.{AreFrames, HasNoFrame, IsFirst};
@@ -14,22 +14,22 @@ ghost use Rattle.hart_frame.specs.declared.heard.found.Found.{Found};
 use crate::scan::buffer::{Buffer, Span};
 use crate::{Char, Found};
 
-/// Whether a delivery, which is what is heard at once, has one frame alone.
+/// Whether a delivery has exactly one frame. A delivery is what is heard at once.
 #[derive(Debug, Drop, PartialEq, Eq)]
 pub enum LoneFrame {
     /// It has no frame.
     NoFrame,
     /// It has this frame, and no other.
     Alone(Found),
-    /// It has more than one.
+    /// It has more than one frame.
     Several,
 }
 
-/// Returns the first frame of what was heard, from a place of the list on, or `None` if no frame stands there.
+/// Returns the first frame of what was heard from the place `from` on, or `None` if no frame stands there.
 ///
-/// A frame stands after two faultless preamble bytes `FF`, which lie at that place or after it, if faultless characters
-/// are a body. Of several the one with the least start is given. The frames of a whole list are the first from place 0 on,
-/// then the first from the `stop` of that on, and so forth.
+/// A frame stands where two faultless preamble bytes `FF`, at or after that place, are followed by its body in faultless
+/// characters. Of several frames, the one with the least start is returned. The frames of a whole list are the first from place 0
+/// on, then the first from that frame's `stop` on, and so forth.
 ///
 /// ```rust
 /// // 55 FF FF 02 80 00 00 82 was heard.
@@ -53,7 +53,7 @@ pub fn first_frame(chars: &[Char], from: usize) -> Option<Found>
     })
 }
 
-/// Returns the frame of a delivery if it has exactly one. That frame is copied, and no other.
+/// Returns the frame of a delivery if it has exactly one. Only that frame is copied.
 pub fn lone_frame(delivery: &[Char]) -> LoneFrame
     ensures lone { IsLone delivery.now result }
     ensures only { (frames : List Found) → AreFrames delivery.now 0 frames → result ≡ lone_of frames }

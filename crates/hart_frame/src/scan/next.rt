@@ -1,4 +1,4 @@
-//! The next frame of bytes that lie in memory.
+//! The next frame in bytes in memory.
 ghost use Rattle.std.specs.Prelude.{None, ◌≡◌, ◌<◌, ◌≤◌, ◌+◌, ◌++◌, ◌∷◌, [], Bool, List, ℕ, false, true, IsTrue, IfSome, drop, length, map};
 ghost use Rattle.hart_frame.specs.heard.Character.{Character, faultless};
 ghost use Rattle.hart_frame.specs.heard.Frames.{AreFrames, IsUndecided, moved};
@@ -17,12 +17,12 @@ pub struct NextInBytes<'a> {
     pub used: usize,
 }
 
-/// Returns the next frame of bytes that were heard without faults, where they lie: its two preamble bytes stand at a place or after it, which is
-/// within the bytes or their end. `ended` says that nothing comes after the bytes.
+/// Returns the next frame in bytes that were heard without faults; nothing is copied. Its two preamble bytes stand at or after
+/// `from`, which is at most the number of bytes. `ended` says that nothing comes after the bytes.
 ///
-/// The frame after it is the next one from [`NextInBytes::used`] on. If none is given, none is left if the bytes ended; if not, those from
-/// that place on, 268 at most, may still begin one, with what comes after them. Places are counted from the first byte that is passed: they
-/// stay if the bytes grow at their end, and begin anew if the first of them are let go.
+/// Continue from [`NextInBytes::used`] to get the frame after it. If no frame is returned and the bytes ended, none is left. If
+/// they did not end, the bytes from `used` on, at most 268, may begin a frame with what comes after them. Places are counted from
+/// the first of `bytes`: they stay the same if `bytes` grow at their end, and change if the first of them are dropped.
 ///
 /// ```rust
 /// let bytes = [0x55, 0xFF, 0xFF, 0x02, 0x80, 0x00, 0x00, 0x82];
@@ -61,11 +61,11 @@ pub fn next_in_bytes(bytes: &[u8], from: usize, ended: bool) -> NextInBytes<'_>
     }
 }
 
-/// Frames that are given one after another are the next ones, also if more is heard, or if no more comes. If one is given, some characters
-/// are used up.
+/// Frames that are found one after another are the next ones, also if more is heard, or if no more comes. Each frame uses up some
+/// characters.
 ///
-/// With what comes later, the rest alone has the frames that are left, so whoever keeps only the rest has them all: the next ones of the
-/// rest, moved to their places, are the next ones from there on. Once all characters are used up, the frames given are all frames.
+/// The rest alone, with what comes later, has all frames that are left, so a caller may keep only the rest. The next frames of the
+/// rest, moved to their places, are the next ones of the whole. Once all characters are used up, the frames found are all frames.
 pub fn next_frames_are_all()
     ensures nothing { (chars : List Character) (ended : Bool) (place : ℕ) → place ≤ length chars → AreNext chars ended place [] place }
     ensures some { (chars : List Character) (ended : Bool) (from to : ℕ) (found : Found) (more : List Found)

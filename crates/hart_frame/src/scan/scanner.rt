@@ -6,8 +6,8 @@ use std::marker::Model;
 
 /// Finds the frames of what is heard, character by character, and lends a view of each as soon as it is decided.
 ///
-/// It holds at most 269 characters, the two preamble bytes and the body of the longest frame, and takes no memory. While it waits for
-/// more it holds at most 268, as the longest frame is decided by its last character.
+/// It holds at most 269 characters, the two preamble bytes and the body of the longest frame, and allocates no memory. While it
+/// waits for more it holds at most 268, since the longest frame is decided by its last character.
 ///
 /// ```rust
 /// let mut scanner = Scanner::new();
@@ -51,8 +51,8 @@ impl Scanner {
         }
     }
 
-    /// Hears one more character. The scanner has to be drained, and to have been pushed fewer than 2^64 - 1 characters. At most 269
-    /// are then held, whatever was pushed.
+    /// Hears one more character. The scanner must be drained, and must have been pushed fewer than 2^64 - 1 characters so far. It
+    /// then holds at most 269.
     pub fn push(&mut self, character: Char)
         requires drained { IsTrue self.old.drained }
         requires room { self.old.first + length self.old.held < 2 ^ 64 - 1 }
@@ -62,12 +62,12 @@ impl Scanner {
         self.buffer.push(character);
     }
 
-    /// Hears the first bytes of a chunk, without faults, and gives how many: up to the first at which a frame is decided, which
-    /// [`Scanner::take`] then gives, or else all of them. The scanner has to be drained, and to have been pushed so few characters
-    /// that with the chunk they are fewer than 2^64.
+    /// Hears the first bytes of a chunk, without faults, and returns how many: up to the first at which a frame is decided, or else
+    /// all. [`Scanner::take`] then returns that frame. The scanner must be drained, and the characters pushed so far and the chunk
+    /// must together be fewer than 2^64.
     ///
-    /// It is what as many calls of [`Scanner::push`] are, if [`Scanner::take`] gives `None` after each of them but the last.
-    /// If the scanner holds nothing, the bytes are searched where they lie, and only what it then holds of them is copied.
+    /// The effect is that of [`Scanner::push`] for each of these bytes, with [`Scanner::take`] returning `None` after each but the
+    /// last. If the scanner holds nothing, the bytes are searched without a copy, and only those that it then holds are copied.
     pub fn push_bytes(&mut self, chunk: &[u8]) -> usize
         requires drained { IsTrue self.old.drained }
         requires room { self.old.first + length self.old.held + length chunk.now < 2 ^ 64 }
@@ -83,7 +83,7 @@ impl Scanner {
         self.buffer.push_bytes(chunk)
     }
 
-    /// Hears the first characters of a chunk, with or without faults, as [`Scanner::push_bytes`], and returns how many.
+    /// Hears the first characters of a chunk, with or without faults, like [`Scanner::push_bytes`], and returns how many.
     pub fn push_chars(&mut self, chunk: &[Char]) -> usize
         requires drained { IsTrue self.old.drained }
         requires room { self.old.first + length self.old.held + length chunk.now < 2 ^ 64 }
@@ -99,10 +99,10 @@ impl Scanner {
         self.buffer.push_chars(chunk)
     }
 
-    /// Returns the next frame that is decided, or `None` if there is none for now. After the finish `None` is given once no frame is
+    /// Returns the next frame that is decided, or `None` if there is none for now. After the finish, `None` means that no frame is
     /// left; the scanner is then new, and places begin at 0 again.
     pub fn take(&mut self) -> Option<FoundView<'_>>
-        // As the view borrows the scanner, this speaks of the scanner once the view is dropped: GivesNextOrNothing self.old after result.
+        // The view borrows the scanner, so this speaks of it once the view is dropped: GivesNextOrNothing self.old after result.
         ensures* after { sem 𝓛 (follows_so the_row the_row self.entry.ghost_name none (λ _ _. ⊤)
             (λ after. GivesNextOrNothing self.old after result)) }
     {
@@ -110,7 +110,7 @@ impl Scanner {
         Some(self.buffer.found(span))
     }
 
-    /// Returns whether nothing is given before the next character, or the finish. At most 268 characters are then held.
+    /// Returns true if no frame can come before the next character or the finish. At most 268 characters are then held.
     pub fn is_drained(&self) -> bool
         ensures drained { result ≡ self.now.drained }
         ensures waiting { IsTrue self.now.drained → (self.now.finished ≡ false) × IsUndecided self.now.held }
@@ -119,15 +119,15 @@ impl Scanner {
         self.buffer.is_drained()
     }
 
-    /// Says that nothing more is heard: what is held is decided by the next calls of [`Scanner::take`].
+    /// Tells the scanner that nothing more is heard. The next calls of [`Scanner::take`] decide what it holds.
     pub fn finish(&mut self)
         ensures { self.new ≡ finishing self.old }
     {
         self.buffer.finish();
     }
 
-    /// Returns the place of the first character that is held, or of the next one if none is held. At most 269 are held, and no frame that is
-    /// still to come begins before that place.
+    /// Returns the place of the first character that is held, or of the next one to come if none is held. At most 269 are held, and
+    /// no later frame begins before that place.
     pub fn first_held(&self) -> u64
         ensures first { result ≡ self.now.first }
         ensures few { length self.now.held ≤ 269 }
@@ -135,7 +135,7 @@ impl Scanner {
         self.buffer.first
     }
 
-    /// Returns the number of characters that were pushed since the scanner was new: those that were let go, and at most 269 that are held.
+    /// Returns how many characters were pushed since the scanner was new: those that were let go, and at most 269 that are held.
     pub fn pushed(&self) -> u64
         ensures pushed { result ≡ self.now.first + length self.now.held }
         ensures few { length self.now.held ≤ 269 }

@@ -1,4 +1,4 @@
-//! The search of frames in faultless bytes, where they lie.
+//! The search for frames in faultless bytes, without a copy.
 ghost use Rattle.std.specs.Prelude.{None, ◌≡◌, ◌≢◌, ◌<◌, ◌≤◌, ◌+◌, ℕ, All, MatchOption, length, slice_index, take};
 ghost use Rattle.hart_frame.specs.private.Search.{HasNoPreamble, IsNextCandidate, IsSearched, IsSearchedToEnd};
 
@@ -14,7 +14,7 @@ pub(crate) struct Sighting {
     pub(crate) place: usize,
     /// How many bytes were needed to decide this.
     pub(crate) decided: usize,
-    /// The layout of the frame that begins there. If there is none, the bytes from there on may still begin one.
+    /// The layout of the frame that begins at this place. If none does, the bytes from there on may still begin one.
     pub(crate) layout: Option<Layout>,
 }
 
@@ -69,8 +69,8 @@ fn open_at(bytes: &[u8], place: usize) -> Sighting
     }
 }
 
-/// Returns the place at which the next frame may begin from a place on, or `None` if no preamble byte follows: of several preamble bytes in
-/// a row it is the last but one.
+/// Returns the first place from `from` on at which a frame may begin, or `None` if no preamble byte follows. In a row of several
+/// preamble bytes it is the last but one.
 fn next_candidate(bytes: &[u8], from: usize) -> Option<usize>
     requires { from ≤ length bytes.now }
     ensures { MatchOption result (HasNoPreamble bytes.now from) (IsNextCandidate bytes.now from) }
@@ -83,7 +83,7 @@ fn next_candidate(bytes: &[u8], from: usize) -> Option<usize>
     Some(first.max(after.saturating_sub(2)))
 }
 
-/// Returns the place of the first preamble byte from a place on, or the place after the last byte if there is none.
+/// Returns the place of the first preamble byte from `from` on, or the place after the last byte if there is none.
 #[inline(always)]
 pub(crate) fn next_preamble(bytes: &[u8], from: usize) -> usize
     requires { from ≤ length bytes.now }
@@ -101,7 +101,7 @@ pub(crate) fn next_preamble(bytes: &[u8], from: usize) -> usize
     }
 }
 
-/// Returns the place of the first other byte from a place on, or the place after the last byte if there is none.
+/// Returns the place of the first byte from `from` on that is no preamble byte, or the place after the last byte if there is none.
 pub(crate) fn preamble_end(bytes: &[u8], from: usize) -> usize
     requires { from ≤ length bytes.now }
     ensures after { from ≤ result }
@@ -112,7 +112,7 @@ pub(crate) fn preamble_end(bytes: &[u8], from: usize) -> usize
     from + preamble_bytes(&bytes[from..])
 }
 
-/// Returns how many preamble bytes stand before the first other byte.
+/// Returns how many preamble bytes stand at the front, before any other byte.
 fn preamble_bytes(bytes: &[u8]) -> usize
     ensures within { result ≤ length bytes.now }
     ensures preambles { All (λ byte. byte ≡ 255) (take result bytes.now) }

@@ -1,4 +1,4 @@
-//! The next message in bytes that were heard, or the next place at which one seems to start and none stands.
+//! The next message in bytes that were heard, or the next place where one seems to start but none stands.
 ghost use Rattle.std.specs.Prelude.{None, Some, ◌≡◌, ◌↔◌, ◌<◌, ◌≤◌, ◌+◌, ◌-◌, ◌^◌, ◌++◌, [], ℕ, Bool, List, false, IfSome};
 ghost use Rattle.std.specs.Prelude.{IsTrue, drop, length, map, take};
 ghost use Rattle.hart_frame.specs.heard.Character.{Character, faultless};
@@ -25,7 +25,7 @@ use crate::{Char, FoundView, FrameView, Miss};
 /// What comes after bytes that were heard without faults.
 #[derive(Clone, Copy, Debug, PartialEq, Eq)]
 pub enum After {
-    /// It is not heard yet.
+    /// More may come, which is not heard yet.
     More,
     /// This character, which has fault bits.
     Damaged(Char),
@@ -33,7 +33,7 @@ pub enum After {
     End,
 }
 
-/// A message, or a place that has none though one seems to start there.
+/// A message, or a place where one seems to start but none stands.
 #[derive(Drop)]
 pub enum Sighting<'a> {
     /// A message, whose frame lies where it was found.
@@ -47,18 +47,18 @@ pub enum Sighting<'a> {
 pub struct NextSighting<'a> {
     /// The next message or miss, or `None` if none is decided, or none is left.
     pub sighting: Option<Sighting<'a>>,
-    /// The place from which on the later ones stand.
+    /// The place from which on the later sightings stand.
     pub used: usize,
 }
 
 /// Returns the next message or miss of bytes that were heard without faults and of what comes after them.
 ///
-/// The preamble bytes of the message, or those before the place of the miss, stand at `from` or after it. Sightings come in the order of
-/// their places. A whole body after one `FF` alone is a miss only if it ends before two `FF` in a row begin. Places are counted from
-/// the first byte that is passed, also those in a miss.
+/// The preamble bytes of the message, or those before the place of the miss, stand at or after `from`. Sightings come in the order
+/// of their places. A whole body after a single `FF` is a miss only if no two `FF` in a row begin within it. All places, also those
+/// in a miss, are counted from the first of `bytes`.
 ///
-/// The sighting after it is the next one from [`NextSighting::used`] on. If there is none, and the bytes ended or a character with fault
-/// bits follows them, all of them are used. If more may follow, at most 268 bytes are not used, and these decide nothing.
+/// Continue from [`NextSighting::used`] to get the sighting after it. If there is no sighting and `after` is not [`After::More`],
+/// all is used, also a character with fault bits. If more may follow, at most 268 bytes are left, and these decide nothing.
 pub fn next_sighting(bytes: &[u8], after: After, from: usize) -> NextSighting<'_>
     requires within { from ≤ length (heard_with bytes.now after) }
     requires valid { AfterIsValid after }
@@ -128,12 +128,12 @@ fn message_at(bytes: &[u8], start: usize, layout: Layout) -> NextSighting<'_>
     }
 }
 
-/// What stands at a place right before which a preamble byte stands.
+/// What stands at a place right after a preamble byte.
 #[derive(Clone, Copy)]
 pub(crate) enum Standing {
-    /// Nothing that is seen.
+    /// No sighting.
     Nothing,
-    /// What is not decided yet. All before this place is used.
+    /// This is not decided yet. All before the place given here is used.
     Open(usize),
     /// A message, by the layout of its body.
     Message(Layout),
@@ -174,8 +174,8 @@ fn after_two(bytes: &[u8], after: &After, start: usize) -> Standing
     }
 }
 
-/// Returns what stands at `start` if one preamble byte alone stands right before it: a body is a miss there if it ends before two preamble
-/// bytes in a row begin.
+/// Returns what stands at `start` if exactly one preamble byte stands right before it. A body there is a miss if no two preamble
+/// bytes in a row begin within it.
 fn after_one(bytes: &[u8], after: &After, start: usize) -> Standing
     requires one { 1 ≤ start }
     requires within { start ≤ length bytes.now }
@@ -196,7 +196,7 @@ fn after_one(bytes: &[u8], after: &After, start: usize) -> Standing
     }
 }
 
-/// Returns what stands at `start` if a whole body stands there after one preamble byte alone, up to `stop`.
+/// Returns what stands at `start` if a whole body stands there, after a single preamble byte and up to `stop`.
 fn lone_body(bytes: &[u8], after: &After, start: usize, stop: usize) -> Standing
     requires one { 1 ≤ start }
     requires order { start < stop }
@@ -217,7 +217,7 @@ fn lone_body(bytes: &[u8], after: &After, start: usize, stop: usize) -> Standing
     Standing::Missed(Miss::OnePreamble)
 }
 
-/// Returns true if bytes that lack this many of a body may become one in which no two preamble bytes in a row begin.
+/// Returns true if bytes that lack `missing` bytes of a body may become one within which no two preamble bytes in a row begin.
 fn can_stand_alone(bytes: &[u8], missing: Option<usize>) -> bool
     requires { IsPrefix bytes.now (Cut missing) }
     ensures may { IsTrue result → MayStandAlone bytes.now 0 }
@@ -226,7 +226,7 @@ fn can_stand_alone(bytes: &[u8], missing: Option<usize>) -> bool
     !has_two_preambles(bytes) && !lacks_one_preamble(bytes, missing)
 }
 
-/// Returns true if bytes that may become a body end in a preamble byte, and lack their check byte alone, which is another.
+/// Returns true if the bytes end in a preamble byte and lack only the check byte of a body, which would be a preamble byte too.
 fn lacks_one_preamble(bytes: &[u8], missing: Option<usize>) -> bool
     requires { IsPrefix bytes.now (Cut missing) }
     ensures { IsTrue result ↔ LacksOnePreamble bytes.now }
@@ -252,8 +252,8 @@ fn has_two_preambles(bytes: &[u8]) -> bool
     false
 }
 
-/// Returns the place up to which bytes are used in which nothing is open. They are used with the character that has fault bits, if one
-/// follows. If more may follow, the last preamble bytes, two at most, are not used.
+/// Returns how far bytes are used that show nothing and leave nothing open. A character with fault bits that follows is used too.
+/// If more may follow, the preamble bytes at the end, at most two, are not used.
 fn passed(bytes: &[u8], after: &After, from: usize) -> usize
     requires within { from ≤ length bytes.now }
     requires places { length bytes.now < 2 ^ 64 - 1 }
@@ -275,7 +275,7 @@ fn passed(bytes: &[u8], after: &After, from: usize) -> usize
     }
 }
 
-/// Finds the next place right before which a preamble byte stands, at `from` or after it, and at which another character stands.
+/// Finds the next place after `from` at which another character follows a preamble byte.
 fn next_asked(bytes: &[u8], after: &After, from: usize) -> Option<usize>
     requires within { from ≤ length bytes.now }
     ensures { IsNextAsked bytes.now after.now from result }
@@ -289,22 +289,22 @@ fn next_asked(bytes: &[u8], after: &After, from: usize) -> Option<usize>
     stands.then_some(place)
 }
 
-/// The rest of a list, from a place on, has exactly the sightings of the list from that place on, so many places later. So whoever keeps
-/// only the rest has all that are left.
+/// The rest of a list, after its first `place` characters, has exactly the list's sightings from `place` on. In the list they stand
+/// `place` places later. So a caller that keeps only the rest has all that are left.
 pub fn the_rest_has_the_later_sightings()
     ensures { (place : ℕ) (chars : List Character) (seen : List Seen)
         → AreSightings (drop place chars) 0 seen → AreSightings chars place (map (moved_seen place) seen) }
 {}
 
-/// A list of characters has one list of sightings from each place on.
+/// A list of characters has exactly one list of sightings from each place on.
 pub fn sightings_are_unambiguous()
     ensures one { (chars : List Character) (from : ℕ) (xs ys : List Seen)
         → AreSightings chars from xs → AreSightings chars from ys → xs ≡ ys }
     ensures some { (chars : List Character) (from : ℕ) → (seen : List Seen) × AreSightings chars from seen }
 {}
 
-/// The sightings that are given one after another are the next ones, also of characters that grow at their end. With what comes after the
-/// characters, the rest alone has those that are left. Once all characters are used, they are all sightings of the list.
+/// Sightings that are found one after another are the next ones, also if the characters grow at their end. The rest alone, with
+/// what comes later, has the sightings that are left. Once all characters are used, those found are all sightings of the list.
 pub fn next_sightings_are_all()
     ensures onward { (chars : List Character) (ended : Bool) (from to after : ℕ) (given found : List Seen)
         → SeesOn chars ended from given to → SeesOn chars ended to found after → SeesOn chars ended from (given ++ found) after }

@@ -8,8 +8,8 @@ ghost use Rattle.hart_frame.specs.scan.Scanner.{Gives, GivesNothing, MovesPast, 
 ghost use Rattle.hart_frame.specs.scan.Streamed.{IsHistory, IsWholeHistory};
 ghost use Rattle.hart_frame.specs.declared.heard.found.Found.{Found};
 
-/// The frames that a scanner gave are the next ones of all that was pushed, up to the first character that it holds. So they are the first
-/// of the frames of all that is pushed, whatever is still to come, and all of them once it ended.
+/// The frames that a scanner gave are the next ones of all that was pushed, up to the first character that it holds. So, whatever
+/// is still to come, they are the first frames of all that is pushed, and all of its frames once the scanner ended.
 pub fn frames_are_streamed()
     ensures next { (past : List Character) (scan : Scan) (given : List Found) → IsHistory past scan given
         → AreNext past scan.finished 0 given scan.first }
@@ -20,8 +20,8 @@ pub fn frames_are_streamed()
         → scan.first + length scan.held ≡ length past }
 {}
 
-/// A scanner that moves past frames and then past others moves past all of them. Whatever it hears later, it moved past the same frames.
-/// In all that was heard, whatever it let go before and whatever comes later, they are the next frames.
+/// A scanner that moves past frames and then past others moves past all of them. Whatever it hears later, it moved past the same
+/// frames. These frames are the next ones in all that was heard, whatever it let go before and whatever comes later.
 pub fn scanners_move_past_the_next_frames()
     ensures onward { (old mid new : Scan) (given found : List Found) → MovesPast old mid given → MovesPast mid new found
         → MovesPast old new (given ++ found) }
@@ -32,21 +32,21 @@ pub fn scanners_move_past_the_next_frames()
         → AreFrames (past ++ (old.held ++ more)) old.first (given ++ later) }
 {}
 
-/// In chunks of whatever size the same characters are pushed, all in all the same frames are given.
+/// The same characters give the same frames in the end, whatever chunks they are pushed in.
 pub fn any_chunking_gives_the_same_frames()
     ensures { (past : List Character) (given other : List Found) → IsWholeHistory past given → IsWholeHistory past other
         → given ≡ other }
 {}
 
-/// A scanner whose characters begin with a frame gives one, and holds less once it gave one.
+/// A scanner whose characters begin with a frame gives a frame, and each frame that it gives leaves it with fewer characters.
 pub fn held_frames_are_given()
     ensures next { (old new : Scan) → BeginsWithFrame old → GivesNothing old new → ⊥ }
     ensures onward { (old new : Scan) (found : Found) → Gives old new found → length new.held < length old.held }
 {}
 
-/// What a scanner holds is what was pushed, from the first place that is held on. The frames of all that is pushed, whatever is still to
-/// come, are those that it gave, and then those of what it holds and of what is still to come, counted from the front of that and moved
-/// to their places. So whoever keeps only what is held, at most 269 characters, has all frames that are left.
+/// A scanner holds what was pushed from its first held place on. Whatever is still to come, the frames of all that is pushed are
+/// those that it gave, and then those of what it holds with what is still to come, moved to their places. So a caller that keeps
+/// only what is held, at most 269 characters, has all frames that are left.
 pub fn held_characters_have_the_later_frames()
     ensures within { (past : List Character) (scan : Scan) (given : List Found) → IsHistory past scan given
         → scan.first ≤ length past }

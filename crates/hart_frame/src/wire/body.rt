@@ -10,7 +10,7 @@ use hart_values::ByteList;
 /// A body of a frame: at most 267 bytes.
 pub type Body = ByteList<267>;
 
-/// Returns the frame whose body the bytes begin with, and the length of that body. Further bytes may follow it.
+/// Reads the frame whose body stands at the front of the bytes, and returns it with the body's length. Further bytes may follow.
 ///
 /// ```rust
 /// let (frame, len) = decode(&[0x02, 0x80, 0x00, 0x00, 0x82])?;

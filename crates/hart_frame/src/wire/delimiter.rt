@@ -19,13 +19,13 @@ const ACK: u8 = 0x06;
 
 const BURST: u8 = 0x01;
 
-/// The delimiter of a request at a unique address, without expansion bytes.
+/// The delimiter of a request to a unique address, without expansion bytes.
 pub const UNIQUE_REQUEST: u8 = 0x82;
 
-// The prover refuses another one.
+// The prover refuses any other value.
 const _: () = prove!(UNIQUE_REQUEST == 0x82);
 
-/// The place of the command after that delimiter: an address of five bytes stands between.
+/// The place of the command after that delimiter: the five address bytes stand between them.
 pub const UNIQUE_COMMAND_PLACE: usize = 6;
 
 /// What a delimiter says of the bytes after it.
@@ -48,8 +48,8 @@ impl Delimiter {
         2 + usize::from(self.address_len) + usize::from(self.expansion_len)
     }
 
-    /// Returns the layout of its body with this byte count, or `None` if it can have none: the payload of an ACK has two status bytes at
-    /// least.
+    /// Returns the layout of a body with this delimiter and byte count, or `None` if the count is too low: the payload of an ACK
+    /// has at least two status bytes.
     pub(crate) fn layout(self, byte_count: u8) -> Option<Layout>
         ensures allowed { IsSome result ↔ ((kind_code self.kind ≡ 2) ⊎ (2 ≤ byte_count)) }
         ensures kind { IfSome result (λ layout. layout.kind ≡ self.kind) }
@@ -85,7 +85,7 @@ pub(crate) fn delimiter_byte(frame: &Frame) -> u8
     address_type + EXPANSION_BYTE * frame.expansion().len() as u8 + kind
 }
 
-/// Returns what the delimiter says, or `None` if it is none of this profile.
+/// Returns what the byte says as a delimiter, or `None` if it is no delimiter of this profile.
 pub(crate) fn read_delimiter(byte: u8) -> Option<Delimiter>
     ensures known { IsSome result ↔ IsDelimiter byte }
     ensures kind { IfSome result (λ delimiter. kind_code delimiter.kind ≡ byte % 8) }
@@ -107,7 +107,7 @@ pub(crate) fn read_delimiter(byte: u8) -> Option<Delimiter>
     })
 }
 
-/// Returns true if it is the delimiter of a burst message, which is none of this profile.
+/// Returns true if the byte is the delimiter of a burst message, which is not part of this profile.
 pub(crate) fn is_burst_delimiter(byte: u8) -> bool
     ensures { IsTrue result ↔ ((byte / 8 % 4 ≡ 0) × (byte % 8 ≡ 1)) }
 {

@@ -6,7 +6,7 @@ use thiserror::Error;
 /// Why a frame was not made, not sent or not found in bytes.
 #[derive(Clone, Copy, Debug, PartialEq, Eq, Error)]
 pub enum FrameFault {
-    /// An ACK with a payload below its two status bytes.
+    /// An ACK whose payload is shorter than its two status bytes.
     #[error("reply too short")]
     TooShortReply,
     /// A number of preamble bytes outside 5 to 20.

@@ -109,7 +109,7 @@ impl Frame {
         }
     }
 
-    /// Returns the reply to this frame: an ACK with its master bit, its address and its command, with the burst bit clear and without
+    /// Returns the reply to this frame: an ACK with the same master bit, address and command, with the burst bit clear and without
     /// expansion bytes.
     ///
     /// The payload begins with the two status bytes.
@@ -128,14 +128,14 @@ impl Frame {
         }
     }
 
-    /// Returns true if it is a request or a reply.
+    /// Returns whether the frame is a request or a reply.
     pub fn kind(&self) -> FrameKind
         ensures { result ≡ self.now.kind }
     {
         self.kind
     }
 
-    /// Returns the master that sends it, or that it is sent to.
+    /// Returns the master that sends the frame, or to which it is sent.
     pub fn master(&self) -> MasterId
         ensures { result ≡ self.now.master }
     {
@@ -171,7 +171,7 @@ impl Frame {
         self.command
     }
 
-    /// Returns the payload, at most 255 bytes; of an ACK at least its two status bytes.
+    /// Returns the payload, at most 255 bytes. An ACK's payload has at least its two status bytes.
     pub fn payload(&self) -> &[u8]
         ensures value { result.now ≡ self.now.payload }
         ensures fits { length result.now ≤ 255 }

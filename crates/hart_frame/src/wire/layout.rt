@@ -5,7 +5,7 @@ ghost use Rattle.hart_frame.specs.wire.Layout.{body_length, byte_count_in, delim
 use crate::FrameKind;
 use crate::wire::delimiter::UNIQUE_COMMAND_PLACE;
 
-/// The parts of a body, as its delimiter and its byte count say.
+/// The kind and the parts of a body, as its delimiter and its byte count say.
 #[derive(Clone, Copy)]
 pub(crate) struct Layout {
     pub(crate) kind: FrameKind,
@@ -26,7 +26,7 @@ impl Layout {
     }
 }
 
-/// Returns the length of the body of a request at a unique address, without expansion bytes, that has this byte count.
+/// Returns the length of the body of a request to a unique address, with this byte count and without expansion bytes.
 pub fn unique_request_len(byte_count: u8) -> usize
     ensures len { result ≡ 9 + byte_count }
     ensures body { (bytes : List ℕ) → delimiter_in bytes ≡ 0x82 → byte_count_in bytes ≡ byte_count → body_length bytes ≡ result }
@@ -34,8 +34,8 @@ pub fn unique_request_len(byte_count: u8) -> usize
     body_len(UNIQUE_COMMAND_PLACE, byte_count)
 }
 
-/// Returns the length of a body whose command stands at this place: after what is before it come the command, the byte count, as many
-/// bytes of a payload, and the check byte.
+/// Returns the length of a body whose command stands at this place. From there on come the command, the byte count, `byte_count`
+/// bytes of payload, and the check byte.
 fn body_len(command_place: usize, byte_count: u8) -> usize
     requires { command_place + 3 + byte_count < 2 ^ 64 }
     ensures { result ≡ command_place + 3 + byte_count }

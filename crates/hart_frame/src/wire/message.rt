@@ -9,22 +9,22 @@ use hart_values::ByteList;
 /// A message on the line: at most 20 preamble bytes and a body of at most 267 bytes.
 pub type Message = ByteList<287>;
 
-/// The least number of preamble bytes that a sender puts.
+/// The least number of preamble bytes that a sender sends.
 pub const LEAST_PREAMBLES: u8 = 5;
 
-/// The greatest number of preamble bytes that a sender puts.
+/// The greatest number of preamble bytes that a sender sends.
 pub const MOST_PREAMBLES: u8 = 20;
 
 pub(crate) const PREAMBLE: u8 = 0xFF;
 
-/// Returns true if a sender may put this number of preamble bytes: [`LEAST_PREAMBLES`] to [`MOST_PREAMBLES`].
+/// Returns true if a sender may send this number of preamble bytes: [`LEAST_PREAMBLES`] to [`MOST_PREAMBLES`].
 pub fn is_preamble_count(preambles: u8) -> bool
     ensures { IsTrue result ↔ IsPreambleCount preambles }
 {
     (LEAST_PREAMBLES..=MOST_PREAMBLES).contains(&preambles)
 }
 
-/// Writes the frame as a message: this number of preamble bytes `FF`, and its body. What `output` held is replaced.
+/// Writes the frame as a message: `preambles` preamble bytes `FF`, and the frame's body. What `output` held is replaced.
 ///
 /// ```rust
 /// let identify = Frame::request(MasterId::Primary, Address::polling(0)?, 0, Payload::new());
@@ -66,7 +66,7 @@ fn push_preamble(preambles: u8, output: &mut Message)
     }
 }
 
-/// Adds the frame's body.
+/// Appends the frame's body.
 pub(crate) fn push_body<const N: usize>(frame: &Frame, output: &mut ByteList<N>)
     requires { length output.old + 267 ≤ N }
     ensures { (body : List ℕ) × IsBody frame.now body × (output.new ≡ output.old ++ body) }
@@ -77,7 +77,7 @@ pub(crate) fn push_body<const N: usize>(frame: &Frame, output: &mut ByteList<N>)
     output.push(check);
 }
 
-/// Adds what stands in the frame's body before the check byte.
+/// Appends the part of the frame's body before the check byte.
 fn push_checked_part<const N: usize>(frame: &Frame, output: &mut ByteList<N>)
     requires { length output.old + 267 ≤ N }
     ensures parts { (checked : List ℕ) × IsCheckedPart frame.now checked × (output.new ≡ output.old ++ checked) }

@@ -4,7 +4,7 @@ use std::simd::prelude::*;
 
 /// Returns the check byte of some bytes: their exclusive or (HCF_SPEC-081).
 ///
-/// After them it makes every bit stand in an even number of bytes, so that the check byte of a whole body is 0.
+/// Once the check byte is appended, each bit is set in an even number of the bytes. So the check byte of a whole body is 0.
 pub fn check_byte(bytes: &[u8]) -> u8
     ensures { IsCheckByte bytes.now result }
 {
@@ -17,7 +17,7 @@ pub fn check_byte(bytes: &[u8]) -> u8
     rest.iter().fold(check, |check, byte| check ^ byte)
 }
 
-/// Returns the same, by four bytes at a time if they are few, as those of most bodies are.
+/// Like [`check_byte`], but takes four bytes at a time if there are fewer than 32, as in most bodies.
 #[inline(always)]
 pub(crate) fn body_check(bytes: &[u8]) -> u8
     ensures { IsCheckByte bytes.now result }

@@ -1,4 +1,4 @@
-//! Addresses in a view, which may hold no value with a model of its own.
+//! Addresses as plain numbers, for a view: a view may not hold a value that has a model of its own.
 ghost use Rattle.std.specs.Prelude.{◌≡◌};
 ghost use Rattle.hart_frame.specs.private.Address.{IsInRange, address_of};
 

@@ -1,4 +1,4 @@
-//! How bytes begin as a body: the one place that reads it.
+//! How bytes begin as a body; only this module reads that.
 ghost use Rattle.std.specs.Prelude.{◌≡◌};
 ghost use Rattle.hart_frame.specs.private.Prefix.{IsPrefix, fault_in, shown_by};
 
@@ -12,9 +12,9 @@ use crate::wire::parity::body_check;
 pub(crate) enum Prefix {
     /// With a whole body, by this layout.
     Whole(Layout),
-    /// With what may become one. If they go on to the byte count, this is how many bytes are missing.
+    /// With what may become a body. If the bytes reach the byte count, this is how many bytes are missing.
     Cut(Option<usize>),
-    /// With what never becomes one.
+    /// With what never becomes a body.
     Wrong(Wrong),
 }
 

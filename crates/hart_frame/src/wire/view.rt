@@ -9,7 +9,7 @@ use crate::wire::plain_address::{PlainAddress, address_of_plain, plain_of};
 use crate::{Expansion, Frame, FrameKind, Payload};
 use hart_values::{Address, MasterId};
 
-/// A frame whose expansion and payload lie where it was found: in a scanner, or in bytes.
+/// A frame whose expansion bytes and payload are borrowed from where it was found: a scanner, or bytes in memory.
 #[derive(Drop)]
 pub struct FrameView<'a> {
     kind: FrameKind,
@@ -29,14 +29,14 @@ impl FrameView<'_> {
     ghost use Rattle.hart_frame.specs.wire.FrameParts.{IsLongEnough};
     ghost use Rattle.hart_frame.specs.wire.View.{parts_of};
 
-    /// Returns true if it is a request or a reply.
+    /// Returns whether the frame is a request or a reply.
     pub fn kind(&self) -> FrameKind
         ensures { result ≡ (parts_of self.now).kind }
     {
         self.kind
     }
 
-    /// Returns the master that sends it or to which it replies.
+    /// Returns the master that sends the frame, or to which it is sent.
     pub fn master(&self) -> MasterId
         ensures { result ≡ (parts_of self.now).master }
     {
@@ -72,7 +72,7 @@ impl FrameView<'_> {
         self.command
     }
 
-    /// Returns the payload, at most 255 bytes; of an ACK at least the two status bytes.
+    /// Returns the payload, at most 255 bytes. An ACK's payload has at least its two status bytes.
     pub fn payload(&self) -> &[u8]
         ensures payload { result.now ≡ (parts_of self.now).payload }
         ensures fits { length result.now ≤ 255 }

@@ -1,4 +1,4 @@
-//! Frames that are made where another one was, so that none is moved.
+//! Frames that are built in the memory of another frame, so that none is moved.
 ghost use Rattle.std.specs.Prelude.{◌≡◌, ◌≤◌, length};
 ghost use Rattle.hart_frame.specs.wire.FrameParts.{reply_parts, request_parts};
 
@@ -6,7 +6,7 @@ use crate::{Frame, FrameKind};
 use hart_values::{Address, MasterId, Payload};
 
 impl Frame {
-    /// Makes this frame the one that [`Frame::request`] gives, in place.
+    /// Turns this frame, in place, into the request that [`Frame::request`] returns.
     pub fn set_request(
         &mut self,
         master: MasterId,
@@ -26,7 +26,7 @@ impl Frame {
         self.payload.extend_from_slice(payload.as_slice());
     }
 
-    /// Makes this frame the one that [`Frame::reply`] gives of `request`, in place.
+    /// Turns this frame, in place, into the reply to `request` that [`Frame::reply`] returns.
     ///
     /// The payload begins with the two status bytes.
     pub fn set_reply(&mut self, request: &Frame, payload: &Payload)
