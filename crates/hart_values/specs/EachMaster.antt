@@ -1,14 +1,14 @@
--- What there is for each of the two masters (HCF_SPEC-081).
+-- One value for each of the two masters (HCF_SPEC-081).
 use Rattle.hart_values.specs.declared.each_master.EachMaster.{EachMaster}
 use Rattle.hart_values.specs.declared.master_id.MasterId.{MasterId}
 use Rattle.hart_values.specs.declared.master_id.MasterId.TheVariants.{Primary, Secondary}
 
--- What there is for this master.
+-- The value of this master.
 abbrev pub of_master : {A : Type 0} → MasterId → EachMaster A → A
 of_master Primary each = each.primary
 of_master Secondary each = each.secondary
 
--- There is this for that master, and for the other one what there was.
+-- The same values, except that this master's value is replaced.
 abbrev pub with_master : {A : Type 0} → MasterId → A → EachMaster A → EachMaster A
 with_master Primary a each = record { primary = a; secondary = each.secondary }
 with_master Secondary a each = record { primary = each.primary; secondary = a }

@@ -23,7 +23,7 @@ pub enum Address {
 impl Address {
     ghost use Rattle.hart_values.specs.address.AddressBytes.{IsAddressBytes, broadcast, is_broadcast};
 
-    /// Returns the address with this polling address.
+    /// Returns the polling address of this number.
     ///
     /// # Errors
     ///
@@ -36,7 +36,7 @@ impl Address {
         Ok(Address::Polling(PollingAddress::new(number)?))
     }
 
-    /// Returns the unique address of this device id and of the lower 14 bits of this expanded device type.
+    /// Returns the unique address of this device id and the lower 14 bits of this expanded device type.
     ///
     /// # Errors
     ///
@@ -61,7 +61,7 @@ impl Address {
         }
     }
 
-    /// Returns the bytes of the address in a message of, or to, this master, with this burst bit.
+    /// Returns the bytes of the address in a message from or to this master, with this burst bit.
     pub fn bytes(self, master: MasterId, burst: bool) -> AddressBytes
         ensures { IsAddressBytes master burst self result }
     {
@@ -84,7 +84,7 @@ impl Address {
 
     /// Reads the master bit, the burst bit and the address in these bytes.
     ///
-    /// One byte is a polling address, five bytes are a unique address. The result is `None` for any other number.
+    /// One byte is a polling address, five bytes are a unique address. The result is `None` for any other number of bytes.
     pub fn read(bytes: &[u8]) -> Option<(MasterId, bool, Address)>
         ensures lengths { IsSome result ↔ ((length bytes.now ≡ 1) ⊎ (length bytes.now ≡ 5)) }
         ensures found { IfSome result (λ (master, burst, address). IsAddressBytes master burst address bytes.now) }

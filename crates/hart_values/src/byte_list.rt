@@ -3,7 +3,7 @@ ghost use Rattle.std.specs.Prelude.{◌≡◌, ◌+◌, ◌<◌, ◌≤◌, ◌�
 use arrayvec::ArrayVec;
 use std::marker::Model;
 
-/// A list of at most `N` bytes, which lie in the value itself.
+/// A list of at most `N` bytes, stored in the value itself.
 #[derive(Debug, Drop, PartialEq, Eq)]
 pub struct ByteList<const N: usize> {
     bytes: ArrayVec<u8, N>,
@@ -25,7 +25,7 @@ impl<const N: usize> Model for ByteList<N> {
 }
 
 impl<const N: usize> ByteList<N> {
-    /// The list of no bytes.
+    /// Returns the empty list.
     pub fn new() -> Self
         ensures { result ≡ [] }
     {
@@ -34,7 +34,7 @@ impl<const N: usize> ByteList<N> {
         }
     }
 
-    /// The list of these bytes, or `None` if they are more than `N`.
+    /// Returns the list of these bytes, or `None` if there are more than `N`.
     pub fn from_slice(bytes: &[u8]) -> Option<Self>
         ensures fits { IsSome result ↔ (length bytes.now ≤ N) }
         ensures kept { IfSome result (λ list. list ≡ bytes.now) }
@@ -47,7 +47,7 @@ impl<const N: usize> ByteList<N> {
         Some(list)
     }
 
-    /// The bytes, in order.
+    /// Returns the bytes, in order.
     pub fn as_slice(&self) -> &[u8]
         ensures value { result.now ≡ self.now }
         ensures fits { length result.now ≤ N }
@@ -56,7 +56,7 @@ impl<const N: usize> ByteList<N> {
         self.bytes.as_slice()
     }
 
-    /// The number of bytes.
+    /// Returns the number of bytes.
     pub fn len(&self) -> usize
         ensures value { result ≡ length self.now }
         ensures fits { result ≤ N }
@@ -64,7 +64,7 @@ impl<const N: usize> ByteList<N> {
         self.bytes.len()
     }
 
-    /// Whether there are no bytes.
+    /// Returns true if there are no bytes.
     pub fn is_empty(&self) -> bool
         ensures { IsTrue result ↔ (self.now ≡ []) }
     {

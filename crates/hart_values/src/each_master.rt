@@ -2,12 +2,12 @@ ghost use Rattle.std.specs.Prelude.{◌≡◌};
 
 use crate::MasterId;
 
-/// One thing for each of the two masters.
+/// One value for each of the two masters.
 #[derive(Clone, Copy, Debug, Drop, PartialEq, Eq)]
 pub struct EachMaster<T> {
-    /// The primary master's.
+    /// The primary master's value.
     pub primary: T,
-    /// The secondary master's.
+    /// The secondary master's value.
     pub secondary: T,
 }
 
@@ -28,7 +28,7 @@ impl<T> EachMaster<T> {
 impl<T: Drop> EachMaster<T> {
     ghost use Rattle.hart_values.specs.EachMaster.{with_master};
 
-    /// Sets the value of a master. The other master's stays.
+    /// Sets the value of a master. The other master's value stays the same.
     pub fn set(&mut self, master: MasterId, thing: T)
         ensures { self.new ≡ with_master master thing self.old }
     {

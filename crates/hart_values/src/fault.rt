@@ -15,7 +15,7 @@ pub enum ValueFault {
     /// Three bytes are neither a calendar date nor three zeros.
     #[error("bad date")]
     BadDate,
-    /// A number is above the greatest one that the value can have.
+    /// A number is greater than the value allows.
     #[error("out of range")]
     OutOfRange,
 }

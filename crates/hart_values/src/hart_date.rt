@@ -1,4 +1,4 @@
-//! Dates, which the calendar has or which are not set.
+//! Dates: a day of the calendar, or "not set".
 ghost use Rattle.std.specs.Prelude.{◌≡◌, ◌≢◌, ◌↔◌, IsOk, IfOk, IfErr, MatchBool};
 ghost use Rattle.hart_values.specs.hart_date.Calendar.{IsDateBytes, not_set};
 

@@ -1,4 +1,4 @@
-//! Laws over the definitions alone, for the crates above.
+//! Laws about the definitions alone, for the crates that use this one.
 ghost use Rattle.std.specs.Prelude.{◌≡◌, ◌↔◌, Bool, true, false, List, ℕ};
 ghost use Rattle.hart_values.specs.address.AddressBytes.{IsAddressBytes};
 ghost use Rattle.hart_values.specs.hart_date.Calendar.{IsDateBytes, is_date};
@@ -8,7 +8,7 @@ ghost use Rattle.hart_values.specs.declared.address.Address.{Address};
 
 use crate::{CommFaults, DeviceStatus};
 
-/// Bytes hold one master bit, one burst bit and one address, and these have one list of bytes.
+/// Address bytes determine the master bit, the burst bit and the address, and these three determine the bytes.
 pub fn address_bytes_are_unambiguous()
     ensures one_reading { (m n : MasterId) (b c : Bool) (x y : Address) (bytes : List ℕ)
         → IsAddressBytes m b x bytes → IsAddressBytes n c y bytes → (m ≡ n) × (b ≡ c) × (x ≡ y) }

@@ -8,7 +8,7 @@ use std::marker::Model;
 
 mod packing;
 
-/// A text of 8, 16 or 32 characters, four for each three of its `N` bytes (HCF_SPEC-127).
+/// A text of 8, 16 or 32 characters, four in every three of its `N` bytes (HCF_SPEC-127).
 ///
 /// Contracts see its bytes.
 #[derive(Clone, Copy, Debug, PartialEq, Eq, Hash)]
@@ -53,7 +53,7 @@ impl<const N: usize> PackedText<N> {
         Ok(PackedText { bytes })
     }
 
-    /// Returns the packed text of these bytes. Any bytes are one.
+    /// Returns the packed text of these bytes. Any bytes are a packed text.
     pub fn from_bytes(bytes: [u8; N]) -> Self
         requires { IsPackedSize N }
         ensures { result ≡ bytes.entry }
@@ -69,7 +69,7 @@ impl<const N: usize> PackedText<N> {
         &self.bytes
     }
 
-    /// Writes the characters of the text.
+    /// Writes the characters to `text`.
     ///
     /// # Errors
     ///

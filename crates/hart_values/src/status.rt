@@ -13,7 +13,7 @@ const FAULTS_BIT: u8 = 0x80;
 /// What the two status bytes of a reply say (HCF_SPEC-099).
 #[derive(Clone, Copy, Debug, PartialEq, Eq)]
 pub enum Status {
-    /// The device has received the request: its answer to it, and its own state.
+    /// The device has received the request: the response code, and the state of the device.
     Code(ResponseCode, DeviceStatus),
     /// The device has received the request with faults.
     Faulty(CommFaults),
@@ -22,7 +22,7 @@ pub enum Status {
 impl Status {
     ghost use Rattle.hart_values.specs.status.StatusBytes.{IsStatusBytes};
 
-    /// The status that two bytes hold.
+    /// Reads the status in two bytes.
     pub fn read(bytes: [u8; 2]) -> Self
         ensures held { IsStatusBytes result bytes }
         ensures only { (status : Status) → IsStatusBytes status bytes → result ≡ status }
@@ -34,7 +34,7 @@ impl Status {
         }
     }
 
-    /// The two bytes that hold the status, the second one 0 beside communication faults.
+    /// Returns the two bytes of the status. For communication faults, the second byte is 0.
     pub fn bytes(self) -> [u8; 2]
         ensures held { IsStatusBytes self result }
         ensures nothing_beside_faults { (faults : ℕ) → self ≡ Status.Faulty faults → slice_index result 1 ≡ 0 }

@@ -16,12 +16,12 @@ abbrev pub burst_bit : Bool → ℕ
 burst_bit true = 1
 burst_bit false = 0
 
--- The first byte of an address has the master bit on top, then the burst bit, then six bits of its own.
+-- The first byte of an address has the master bit on top, then the burst bit, then six bits of the address.
 abbrev pub first_byte : MasterId → Bool → ℕ → ℕ
 first_byte master burst six_bits = 128 * master_bit master + 64 * burst_bit burst + six_bits
 
--- Five bytes hold a unique address: below the master and burst bits of the first stand the upper six of the lower 14 bits
--- of the expanded device type, the second has the lower eight, and three have the device id, the most significant first.
+-- Five bytes hold a unique address. The first has the master bit, the burst bit and bits 13 to 8 of the expanded device type; the
+-- second has bits 7 to 0. The other three have the device id, the most significant byte first.
 pub record IsUniqueBytes (master : MasterId) (burst : Bool) (numbers : DeviceNumbers) (bytes : List ℕ) : Type 0 where
   pub type_high : ℕ
   pub type_low : ℕ
@@ -42,7 +42,7 @@ IsAddressBytes master burst (Unique numbers) bytes = IsUniqueBytes master burst 
 abbrev pub broadcast : Address
 broadcast = Unique (record { expanded_type = 0; device_id = 0 })
 
--- The test of the broadcast address is true for it and false for every other address.
+-- The test of the broadcast address is true for this address and false for every other one.
 abbrev pub is_broadcast : Address → Bool
 is_broadcast (Polling number) = false
 is_broadcast (Unique numbers) = (numbers.expanded_type == 0) && (numbers.device_id == 0)

@@ -1,5 +1,5 @@
--- Dates in three bytes: the day, the month, and the year less 1900 (HCF_SPEC-127). That three zeros are
--- a date, "not set", and that a day must be one of the calendar, is of the own profile.
+-- Dates in three bytes: the day, the month, and the year less 1900 (HCF_SPEC-127). Own profile: three zeros are the date "not set",
+-- and a day must be one of the calendar.
 use Rattle.std.specs.Prelude.{◌≡◌, ℕ, ◌+◌, ◌-◌, ◌%◌, ◌<◌, ◌≤◌, ◌⊎◌, List, [], ◌∷◌, length, slice_index}
 use Rattle.std.specs.Prelude.{Bool, false, not, ◌==◌, ◌&&◌, ◌||◌, nat_le, nat_lt, if◌then◌else◌}
 
@@ -22,11 +22,11 @@ pub record IsCalendarDay (day month year : ℕ) : Type 0 where
   pub day_from : 1 ≤ day
   pub day_to : day ≤ slice_index (month_lengths year) (month - 1)
 
--- The date that is not set has three zero bytes.
+-- The date "not set" is three zero bytes.
 abbrev pub not_set : List ℕ
 not_set = 0 ∷ 0 ∷ 0 ∷ []
 
--- Three bytes are a date if they are not set or name a day of the calendar, of the years 1900 to 2155.
+-- Three bytes are a date if they are "not set" or name a calendar day of the years 1900 to 2155.
 abbrev pub IsDateBytes : List ℕ → Type 0
 IsDateBytes bytes =
     (length bytes ≡ 3)
@@ -34,7 +34,7 @@ IsDateBytes bytes =
     × ((bytes ≡ not_set)
     ⊎ IsCalendarDay (slice_index bytes 0) (slice_index bytes 1) (1900 + slice_index bytes 2))
 
--- The test of a day of the calendar is true if the calendar has it.
+-- The test of a calendar day is true if the calendar has that day.
 abbrev pub is_calendar_day : (day month year : ℕ) → Bool
 is_calendar_day day month year =
     nat_le 1 month && nat_le month 12 && nat_le 1 day && nat_le day (slice_index (month_lengths year) (month - 1))

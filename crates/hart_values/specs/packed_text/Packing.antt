@@ -11,12 +11,12 @@ IsPackedSize size = (size ≡ 6) ⊎ (size ≡ 12) ⊎ (size ≡ 24)
 abbrev pub IsCharacter : ℕ → Type 0
 IsCharacter code = (32 ≤ code) × (code < 96)
 
--- A group of three bytes is one number of 24 bits, which four codes modulo 64 make, the first one on top.
+-- A group of three bytes is one number of 24 bits, made of four codes modulo 64, the first code on top.
 abbrev pub IsPackedGroup : (w x y z a b c : ℕ) → Type 0
 IsPackedGroup w x y z a b c =
     65536 * a + 256 * b + c ≡ 262144 * (w % 64) + 4096 * (x % 64) + 64 * (y % 64) + z % 64
 
--- The group at a place has its four characters from four times the place on, and its bytes from three times on.
+-- The group at a place has its four characters from `4 * place` on, and its three bytes from `3 * place` on.
 abbrev pub IsPackedAt : List ℕ → List ℕ → ℕ → Type 0
 IsPackedAt text bytes place =
     IsPackedGroup
@@ -24,7 +24,7 @@ IsPackedAt text bytes place =
     (slice_index text (4 * place + 2)) (slice_index text (4 * place + 3))
     (slice_index bytes (3 * place)) (slice_index bytes (3 * place + 1)) (slice_index bytes (3 * place + 2))
 
--- A text and bytes are related if the text has packed text's characters alone, there are four characters for three
+-- Bytes are the packed form of a text if the text has only characters of packed text, there are four characters for every three
 -- bytes, and each group is packed.
 pub record IsPacked (text bytes : List ℕ) : Type 0 where
   pub lengths : 3 * length text ≡ 4 * length bytes
@@ -32,14 +32,13 @@ pub record IsPacked (text bytes : List ℕ) : Type 0 where
   pub bytes_fit : All (λ byte. byte < 256) bytes
   pub groups : (place : ℕ) → 3 * place < length bytes → IsPackedAt text bytes place
 
--- The first bad character of a text is one that stands in it, with none at an earlier place.
+-- The first bad character of a text is a bad character with none before it.
 pub record IsFirstBadCharacter (text : List ℕ) (place : ℕ) : Type 0 where
   pub in_text : place < length text
   pub bad : ¬ IsCharacter (slice_index text place)
   pub least : (k : ℕ) → k < place → IsCharacter (slice_index text k)
 
--- A text that should have so many characters is refused for its length, otherwise for its first bad character, and for
--- nothing else.
+-- A text is refused if it does not have `characters` characters, or else for its first bad character, and for nothing else.
 abbrev pub IsTextFault : ℕ → List ℕ → ValueFault → Type 0
 IsTextFault characters text WrongLength = length text ≢ characters
 IsTextFault characters text (BadCharacter place) = (length text ≡ characters) × IsFirstBadCharacter text place

@@ -6,7 +6,7 @@ use std::slice;
 
 /// A polling address, 0 to 63 (HCF_SPEC-081).
 ///
-/// A master sends Command 0 to it to learn the unique address of a device.
+/// A master sends Command 0 to a polling address to learn the unique address of a device.
 #[derive(Clone, Copy, Debug, PartialEq, Eq, Hash)]
 pub struct PollingAddress {
     number: u8,

@@ -11,7 +11,7 @@ const LAST_CHARACTER: u8 = 0x5F;
 /// The bits of a character that packed text keeps.
 const SIX_BITS: u32 = 0x3F;
 
-/// The bit that packed text drops. A character has it if the next lower bit is clear.
+/// The bit that packed text drops. A character has this bit set if the next lower bit is clear.
 const DROPPED_BIT: u8 = 0x40;
 
 /// Returns true if packed text has this character.

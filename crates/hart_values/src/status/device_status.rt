@@ -1,4 +1,4 @@
-/// The state of a device as its replies show it, as eight bits (HCF_SPEC-099).
+/// The state of a device, as eight bits in its replies (HCF_SPEC-099).
 #[derive(Clone, Copy, Debug, PartialEq, Eq)]
 pub struct DeviceStatus(pub u8);
 
@@ -9,7 +9,7 @@ impl DeviceStatus {
     /// The configuration has changed since this master last cleared the bit.
     pub const CONFIGURATION_CHANGED: u8 = 0x40;
 
-    /// The device was restarted, and this is its first reply with a response code to this master since.
+    /// The device was restarted, and this is its first reply with a response code to this master since then.
     pub const COLD_START: u8 = 0x20;
 
     /// More status can be read by Command 48.

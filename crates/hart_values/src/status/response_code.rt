@@ -72,7 +72,7 @@ impl ResponseCode {
     }
 }
 
-// Each name has its number: the prover refuses another one.
+// Each name has the number given here; the prover rejects any other.
 const _: () = prove!(ResponseCode::SUCCESS.value == 0);
 
 const _: () = prove!(ResponseCode::INVALID_SELECTION.value == 2);
