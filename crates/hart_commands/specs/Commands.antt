@@ -20,31 +20,31 @@ use Rattle.hart_commands.specs.RequestReading.{Reading, needing, polling_reading
 use Rattle.hart_commands.specs.SensorBytes.{sensor_of}
 use Rattle.hart_commands.specs.Values.{unit_value_of}
 
--- How the data of a request are read: they always ask the same; or the bytes that the command needs say what is asked; or they have a
--- reading of their own.
+-- How the data of a request are read: the request is always the same, or the needed bytes determine it, or the command has a
+-- reading of its own.
 pub data Asked : Type 0 where
   Always : Request → Asked
   Needing : (List ℕ → Request) → Asked
   AskedBy : (List ℕ → Reading) → Asked
 
--- The request that data ask of a command that needs this number of bytes, or the code that refuses them.
+-- The request that the data ask for, or the code that refuses them, if their command needs this number of bytes.
 abbrev pub asked : ℕ → Asked → List ℕ → Reading
 asked needed (Always request) bytes = Ok request
 asked needed (Needing request) bytes = needing needed request bytes
 asked needed (AskedBy reading) bytes = reading bytes
 
--- How the data of a reply are read: the bytes of its fields say the content, or they have a reading of their own.
+-- How the data of a reply are read: the bytes of its fields determine the content, or the command has a reading of its own.
 pub data Replied : Type 0 where
   Saying : (List ℕ → ReplyContent) → Replied
   SaidBy : (List ℕ → Option ReplyContent) → Replied
 
--- The content that data with these fields say, if they say one.
+-- The content in reply data with these fields, if the data hold one.
 unfoldable pub replied : List Row → Replied → List ℕ → Option ReplyContent
 replied fields (Saying content) bytes = saying (total fields) content bytes
 replied fields (SaidBy reading) bytes = reading bytes
 
--- A command has a number, a name, the fields of its request data, how many bytes of them it needs, the fields of its reply data with code
--- 0, and the registers that it writes. The first register gets the first part of the written request data, and so on.
+-- A command has a number, a name, the fields of its request data, how many of those bytes it needs, the fields of its reply data
+-- with code 0, and the registers that it writes. The first register gets the first part of the request data as written, and so on.
 pub record Command : Type 0 where
   pub number : ℕ
   pub name : List ℕ
@@ -53,13 +53,13 @@ pub record Command : Type 0 where
   pub reply : List Row
   pub writes : List Register
 
--- A row has a command, how the data of its requests are read, and how those of its replies with code 0.
+-- A row holds a command, how its request data are read, and how its reply data with code 0 are read.
 pub record CommandRow : Type 0 where
   pub command : Command
   pub asked : Asked
   pub replied : Replied
 
--- The row of a command that writes no register, in one line.
+-- A short form for the row of a command that writes no register.
 abbrev pub asks : ℕ → String → List Row → ℕ → Asked → List Row → Replied → CommandRow
 asks number name request needed asked reply replied = record {
   command = record { number = number; name = text name; request = request; needed = needed; reply = reply; writes = [] };
@@ -67,11 +67,11 @@ asks number name request needed asked reply replied = record {
   replied = replied;
 }
 
--- The row of a command without request data, which always ask the same.
+-- A short form for the row of a command without request data: the request is always the same.
 abbrev pub reads : ℕ → String → Request → List Row → Replied → CommandRow
 reads number name request reply replied = asks number name [] 0 (Always request) reply replied
 
--- The row of a command whose data are written to registers, and are replied.
+-- A short form for the row of a command whose data are written to registers and returned in the reply.
 abbrev pub writes : ℕ → String → List Row → ℕ → Asked → Replied → List Register → CommandRow
 writes number name fields needed asked replied registers = record {
   command = record { number = number; name = text name; request = fields; needed = needed; reply = fields; writes = registers };
@@ -79,8 +79,8 @@ writes number name fields needed asked replied registers = record {
   replied = replied;
 }
 
--- The commands that are known, each with a row. Command 6 needs one byte of its two. A list of fields that two rows have, or of more than
--- one field, has a name.
+-- The known commands, one row each. Command 6 needs only the first of its two bytes. A list of fields has a name if it is used more
+-- than once or has more than one field.
 abbrev pub commands : List CommandRow
 commands =
     reads 0 "read unique identifier" requests.Identify fields.identity (SaidBy identity_reading)
@@ -123,11 +123,11 @@ command_row number = find (λ row. row.command.number == number) commands
 abbrev pub is_known : ℕ → Bool
 is_known number = is_some (command_row number)
 
--- Own profile: Commands 11 and 21 alone are asked by broadcast, as a device is found by its tag or by its long tag.
+-- Own profile: only Commands 11 and 21 may be broadcast, since they find a device by its tag or its long tag.
 abbrev pub may_be_broadcast : ℕ → Bool
 may_be_broadcast number = (number == 11) || (number == 21)
 
--- What the table says of a command, if it has a row.
+-- The command in the table with this number, if there is one.
 unfoldable pub known : ℕ → Option Command
 known number = option_map (λ row. row.command) (command_row number)
 
@@ -135,11 +135,11 @@ known number = option_map (λ row. row.command) (command_row number)
 abbrev pub command_name : ℕ → Option (List ℕ)
 command_name number = option_map (λ command. command.name) (known number)
 
--- The fields of the data of its requests, none if it has no row.
+-- The fields of a command's request data, none if it has no row.
 abbrev pub request_rows : ℕ → List Row
 request_rows number = option_map_or (λ command. command.request) (known number) []
 
--- The fields of the data of its replies with code 0, none if it has no row.
+-- The fields of a command's reply data with code 0, none if it has no row.
 abbrev pub reply_rows : ℕ → List Row
 reply_rows number = option_map_or (λ command. command.reply) (known number) []
 
@@ -147,7 +147,7 @@ reply_rows number = option_map_or (λ command. command.reply) (known number) []
 unfoldable pub written_by : ℕ → List Register
 written_by number = option_map_or (λ row. row.command.writes) (command_row number) []
 
--- What contracts see of a command of the code.
+-- What contracts see of a command in the code's table.
 abbrev pub seen_command : CommandInCode → Command
 seen_command command = record {
   number = command.number;
@@ -158,7 +158,7 @@ seen_command command = record {
   writes = command.writes.now;
 }
 
--- The command that asks a request.
+-- The number of a request's command.
 abbrev pub command_of : Request → ℕ
 command_of requests.Identify = 0
 command_of requests.ReadPrimary = 1

@@ -1,12 +1,11 @@
--- How many bytes a field has, by how they are meant (HCF_SPEC-127).
+-- How many bytes a field has, by its kind (HCF_SPEC-127).
 use Rattle.std.specs.Prelude.{◌≡◌, ◌*◌, ◌<◌, ◌≤◌, ◌⊎◌, ℕ, length}
 use Rattle.hart_commands.specs.Fields.{Field}
 use Rattle.hart_commands.specs.declared.fields.FieldKind.{FieldKind}
 use Rattle.hart_commands.specs.declared.fields.FieldKind.TheVariants.{Bytes, Number, UnitCode, PackedText, LatinText, Date, Float, Variables}
 
--- A number has one byte or two, the code of a unit one, a date three, and a float four. A packed text has three bytes for each four of
--- its 8, 16 or 32 characters, and a text in ISO Latin-1 one for each of its 32. Device variables have eight bytes each, and are one to
--- eight. Bytes that stand for themselves are one at least.
+-- A number has 1 or 2 bytes, a unit code 1, a date 3 and a float 4. A packed text of 8, 16 or 32 characters has 6, 12 or 24 bytes,
+-- and a text in ISO Latin-1 has 32. There are 1 to 8 device variables of 8 bytes each. A field of plain bytes has at least 1.
 abbrev pub IsWidthOf : FieldKind → ℕ → Type 0
 IsWidthOf Bytes width = 0 < width
 IsWidthOf Number width = (width ≡ 1) ⊎ (width ≡ 2)
@@ -17,6 +16,6 @@ IsWidthOf Date width = width ≡ 3
 IsWidthOf Float width = width ≡ 4
 IsWidthOf Variables width = (count : ℕ) × (0 < count) × (count ≤ 8) × (width ≡ 8 * count)
 
--- A field has a number of bytes that its kind may have.
+-- Whether the number of bytes of a field is one that its kind allows.
 abbrev pub HasWidthOfKind : Field → Type 0
 HasWidthOfKind field = IsWidthOf field.kind (length field.bytes)

@@ -1,4 +1,4 @@
--- A field of data, the fields of each command, and how data fall into fields (HCF_SPEC-127).
+-- A field of data, the fields of each command, and how data are split into fields (HCF_SPEC-127).
 use Prim.Native.String.{String}
 use Rattle.std.specs.Prelude.{ℕ, ◌+◌, ◌-◌, nat_lt, if◌then◌else◌, List, [], ◌∷◌, codes, length, map, take, drop, Option, None, Some}
 use Rattle.std.specs.List.{flat_map}
@@ -13,17 +13,17 @@ use Rattle.hart_commands.specs.declared.fields.FieldSize.TheVariants.{Exactly, A
 unfoldable pub text : String → List ℕ
 text name = codes name
 
--- A row says of a field its name, how many bytes it has, and how they are meant.
+-- A row holds the name, the size and the kind of a field.
 pub record Row : Type 0 where
   pub name : List ℕ
   pub size : FieldSize
   pub kind : FieldKind
 
--- A row, written in one line.
+-- A short form for a row.
 abbrev pub field : String → FieldSize → FieldKind → Row
 field name size kind = record { name = text name; size = size; kind = kind }
 
--- The least number of bytes that a field has: one that takes all but the last bytes has one at least.
+-- The least number of bytes of a field: its exact size, or 1 for a size of `AllBut`.
 abbrev pub least : FieldSize → ℕ
 least (Exactly size) = size
 least (AllBut after) = 1
@@ -68,7 +68,7 @@ current =
     ∷ field "percent of range" (Exactly 4) Float
     ∷ []
 
--- The loop current, and the fields of the dynamic variables that there are (Command 3).
+-- The loop current, and the fields of up to four dynamic variables (Command 3).
 abbrev pub dynamic : List Row
 dynamic =
     field "loop current" (Exactly 4) Float
@@ -82,7 +82,7 @@ dynamic =
     ∷ field "quaternary variable" (Exactly 4) Float
     ∷ []
 
--- The polling address, and the loop current mode, which older masters leave out (Commands 6 and 7).
+-- The polling address and the loop current mode; older masters leave out the mode (Commands 6 and 7).
 abbrev pub polling : List Row
 polling =
     field "polling address" (Exactly 1) Number
@@ -98,7 +98,7 @@ classes =
     ∷ field "quaternary variable classification" (Exactly 1) Number
     ∷ []
 
--- The device variables that were asked for, between an extended device status and their time stamp (Command 9).
+-- The extended device status, the device variables that were asked for, and their time stamp (Command 9).
 abbrev pub variables : List Row
 variables =
     field "extended device status" (Exactly 1) Bytes
@@ -154,23 +154,23 @@ long_tag = field "long tag" (Exactly 32) LatinText ∷ []
 abbrev pub counter : List Row
 counter = field "configuration change counter" (Exactly 2) Number ∷ []
 
--- How many of so many bytes a field has: exactly so many if there are enough, or all but so many at the end if there are more.
+-- How many of the `left` bytes a field takes: its exact size if there are enough, or all but the last `after` if there are more.
 abbrev pub size_in : FieldSize → ℕ → Option ℕ
 size_in (Exactly size) left = if nat_lt left size then None else Some size
 size_in (AllBut after) left = if nat_lt after left then Some (left - after) else None
 
--- Bytes fall into those of a field, with which they begin, and those after it, if there are enough for it.
+-- Splits bytes into those of the field, which come first, and the rest, if there are enough for the field.
 abbrev pub split : FieldSize → List ℕ → Option (List ℕ × List ℕ)
 split size bytes = option_map (λ n. (take n bytes, drop n bytes)) (size_in size (length bytes))
 
--- A field of data has a name, a way in which its bytes are meant, and the bytes.
+-- A field of data has a name, a kind and its bytes.
 pub record Field : Type 0 where
   pub name : List ℕ
   pub kind : FieldKind
   pub bytes : List ℕ
 
--- The field of the first row is the beginning of the bytes, and the fields of the other rows are those of the bytes after it; a row
--- for which there are not enough bytes has no field, and neither has any row after it.
+-- The field of the first row stands at the start of the bytes, and the fields of the other rows follow it. A row for which there
+-- are not enough bytes has no field, and no row after it has one.
 abbrev pub fields_of : List Row → List ℕ → List Field
 fields_of [] bytes = []
 fields_of (row ∷ others) bytes =
@@ -185,6 +185,6 @@ field_bytes fields = map (λ field. field.bytes) fields
 abbrev pub bytes_of : List Field → List ℕ
 bytes_of fields = flat_map (λ field. field.bytes) fields
 
--- What contracts see of a row of a field.
+-- What contracts see of a field's row in the code.
 abbrev pub seen : FieldRow → Row
 seen row = record { name = row.name.now; size = row.size; kind = row.kind }

@@ -1,9 +1,9 @@
--- The identity of a device, as a reply gives it in 22 bytes (HCF_SPEC-127).
+-- The identity of a device in 22 bytes of a reply (HCF_SPEC-127).
 use Rattle.std.specs.Prelude.{ℕ, List, [], ◌∷◌, slice_index, slice_range}
 use Rattle.hart_commands.specs.declared.identity.IdentityContent.{IdentityContent}
 use Rattle.hart_commands.specs.Values.{joined, one}
 
--- After the first byte each field stands in its place.
+-- After the first byte, each field of an identity has a fixed place.
 abbrev pub identity_of : List ℕ → IdentityContent
 identity_of bytes = record {
   expanded_device_type = slice_range bytes 1 3;

@@ -1,4 +1,4 @@
--- What a reply says of the loop current output, in 18 bytes (HCF_SPEC-127).
+-- The loop current output of a device in 18 bytes of a reply (HCF_SPEC-127).
 use Rattle.std.specs.Prelude.{ℕ, List, [], ◌∷◌, slice_index}
 use Rattle.hart_commands.specs.declared.output.OutputContent.{OutputContent}
 use Rattle.hart_commands.specs.Values.{float_at, joined, one}

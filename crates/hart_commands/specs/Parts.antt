@@ -1,5 +1,5 @@
--- The parts of the data of requests and replies, each of which is one field, and the data that they make (HCF_SPEC-127). Of the own
--- profile is that Command 6 is always written with two bytes.
+-- The parts of the data of requests and replies, one for each field, and the data that they make (HCF_SPEC-127). Own profile:
+-- Command 6 is always written with two bytes.
 use Rattle.std.specs.Prelude.{ℕ, ◌/◌, ◌%◌, List, [], ◌∷◌, map, None, Some}
 use Rattle.std.specs.List.{flat_map}
 pub use Rattle.hart_values.specs.LoopMode.{mode_byte}
@@ -12,7 +12,7 @@ use Rattle.hart_commands.specs.OutputBytes.{output_parts}
 use Rattle.hart_commands.specs.SensorBytes.{sensor_parts}
 use Rattle.hart_commands.specs.Values.{joined, one, unit_value_parts, variable_bytes}
 
--- The parts of a content. The device variables of Command 9 are one part, all of them.
+-- The parts of a content. All device variables of Command 9 together are one part.
 abbrev pub content_parts : ReplyContent → List (List ℕ)
 content_parts (contents.Identity identity) = identity_parts identity
 content_parts (contents.Primary value) = unit_value_parts value

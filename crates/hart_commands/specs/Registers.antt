@@ -15,7 +15,7 @@ use Rattle.hart_commands.specs.RequestCode.{is_write}
 abbrev pub registers : List Register
 registers = Polling ∷ Mode ∷ Message ∷ Tag ∷ Descriptor ∷ Date ∷ Assembly ∷ LongTag ∷ []
 
--- The place of a register among them, from 0.
+-- The place of a register in this order, from 0.
 abbrev pub place_of : Register → ℕ
 place_of Polling = 0
 place_of Mode = 1
@@ -26,7 +26,7 @@ place_of Date = 5
 place_of Assembly = 6
 place_of LongTag = 7
 
--- A row of the table of registers says how many bytes a register has, and which of so many are valid in it.
+-- A row of the table of registers says how many bytes a register has, and which bytes are valid in it.
 pub record RegisterRow : Type 1 where
   pub size : ℕ
   pub IsValid : List ℕ → Type 0
@@ -39,8 +39,8 @@ Any bytes = Unit {0}
 abbrev pub BeginsBelow : ℕ → List ℕ → Type 0
 BeginsBelow limit bytes = slice_index bytes 0 < limit
 
--- The table of the registers: a polling address is below 64, a loop current mode below 2, and a date is one of the calendar or
--- not set; in every other register any bytes are valid.
+-- The table of the registers: a polling address is below 64, a loop current mode below 2, and a date is in the calendar or not set;
+-- in every other register any bytes are valid.
 abbrev pub row_of : Register → RegisterRow
 row_of Polling = record { size = 1; IsValid = BeginsBelow 64 }
 row_of Mode = record { size = 1; IsValid = BeginsBelow 2 }
@@ -55,7 +55,7 @@ row_of LongTag = record { size = 32; IsValid = Any }
 abbrev pub size_of : Register → ℕ
 size_of register = (row_of register).size
 
--- Bytes are valid in a register if they are as many as it has and its row takes them.
+-- Bytes are valid in a register if there are as many as it has and its row allows them.
 abbrev pub IsValidIn : Register → List ℕ → Type 0
 IsValidIn register bytes = (length bytes ≡ size_of register) × (row_of register).IsValid bytes
 
@@ -81,7 +81,7 @@ bytes_in contents Date = contents.date
 bytes_in contents Assembly = contents.assembly
 bytes_in contents LongTag = contents.long_tag
 
--- The contents in which each register holds the bytes that a function gives it.
+-- The contents in which each register holds the bytes that a function returns for it.
 abbrev pub contents_by : (Register → List ℕ) → Contents
 contents_by bytes = record {
   polling = bytes Polling;
@@ -98,18 +98,18 @@ contents_by bytes = record {
 abbrev pub AreValid : Contents → Type 0
 AreValid contents = (register : Register) → IsValidIn register (bytes_in contents register)
 
--- An overwrite is seen as the request that it is of; one of a request that is no configuration write names no register.
+-- Contracts see an overwrite as its request. A request that is no configuration write names no register.
 abbrev pub Overwrite : Type 0
 Overwrite = Request
 
--- Of registers and of parts, the part that stands where a register stands.
+-- The part whose place among the parts is the register's place among the registers, if there is one.
 abbrev pub part_for : Register → List Register → List (List ℕ) → Option (List ℕ)
 part_for register (first ∷ registers) (part ∷ parts) =
     if place_of first == place_of register then Some part else part_for register registers parts
 part_for register _ _ = None
 
--- The bytes that an overwrite gives a register, if it names that: the part of the request that stands where the register stands among
--- those that its command writes.
+-- The new bytes of a register, if the overwrite names it: the part of the request at the register's place in the list of the
+-- registers that the command writes.
 abbrev pub named_in : Overwrite → Register → Option (List ℕ)
 named_in overwrite register = part_for register (written_by (command_of overwrite)) (request_parts overwrite)
 
@@ -121,16 +121,16 @@ NamesValid overwrite = (register : Register) → IfSome (named_in overwrite regi
 abbrev pub overwrite_of : Request → Option Overwrite
 overwrite_of request = if is_write (command_of request) then Some request else None
 
--- After an overwrite a register that it names holds its bytes, and every other what it held.
+-- After an overwrite, each register that it names holds its new bytes, and every other register is unchanged.
 abbrev pub overwritten : Overwrite → Contents → Contents
 overwritten overwrite old = contents_by (λ register. unwrap_or (named_in overwrite register) (bytes_in old register))
 
--- The bytes of the last overwrite in a list that names the register, if any does.
+-- The register's new bytes in the last overwrite that names it, if any overwrite in the list does.
 abbrev pub last_named : List Overwrite → Register → Option (List ℕ)
 last_named [] register = None
 last_named (overwrite ∷ later) register = option_or (last_named later register) (named_in overwrite register)
 
--- Each register holds the bytes of the last overwrite in the list that names it, otherwise its initial bytes.
+-- Each register holds its new bytes from the last overwrite in the list that names it, or its initial bytes if none does.
 abbrev pub registers_of : List Overwrite → Contents → Contents
 registers_of overwrites initial =
     contents_by (λ register. unwrap_or (last_named overwrites register) (bytes_in initial register))

@@ -1,4 +1,4 @@
--- What the payload of a reply says, and which bytes a reply is written as (HCF_SPEC-127).
+-- How the payload of a reply is read, and how a reply is written (HCF_SPEC-127).
 use Rattle.std.specs.Prelude.{ℕ, ◌≡◌, ◌==◌, nat_lt, if◌then◌else◌, List, ◌∷◌, Option, Some, None}
 use Rattle.std.specs.Option.{option_map}
 use Rattle.hart_commands.specs.declared.content.ReplyContent.{ReplyContent}
@@ -12,12 +12,12 @@ abbrev pub content_by : Option CommandRow → List ℕ → Option ReplyContent
 content_by None bytes = None
 content_by (Some row) bytes = replied row.command.reply row.replied bytes
 
--- They are read by the row of the command.
+-- The data of a reply with code 0 are read by the row of its command.
 abbrev pub content_reading : ℕ → List ℕ → Option ReplyContent
 content_reading command = content_by (command_row command)
 
--- A payload of two bytes or more is a reply to a command of the table if its first byte is a response code below 128: with
--- code 0 the data must be those of a content, and with another code the request was refused, whatever the data.
+-- A payload of at least two bytes is a reply to a known command if its first byte, the response code, is below 128. With code 0,
+-- the data must hold a content; with any other code, the request was refused, whatever the data.
 abbrev pub reply_reading : ℕ → List ℕ → Option Reply
 reply_reading command (code ∷ status ∷ bytes) =
     let saying : ReplyContent → Reply =
@@ -32,6 +32,6 @@ reply_reading command _ = None
 abbrev pub reply_payload : Reply → List ℕ
 reply_payload reply = reply.code ∷ reply.status.0 ∷ content_bytes reply.content
 
--- A reply is well made if some payload is read as it.
+-- A reply is well made if some payload is read as that reply.
 abbrev pub IsReply : Reply → Type 0
 IsReply reply = (payload : List ℕ) × (reply_reading reply.command payload ≡ Some reply)

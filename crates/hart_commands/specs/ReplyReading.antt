@@ -9,19 +9,19 @@ use Rattle.hart_commands.specs.TagBytes.{tag_in, descriptor_in, date_in}
 use Rattle.hart_commands.specs.Values.{float_at, unit_value_of, variable_of}
 use Rattle.hart_commands.specs.IdentityBytes.{identity_of}
 
--- So many bytes say a content; fewer are no reply.
+-- The first `size` bytes determine the content; fewer bytes are no reply.
 abbrev pub saying : ℕ → (List ℕ → ReplyContent) → List ℕ → Option ReplyContent
 saying size content = having size None (λ xs. Some (content xs))
 
--- An identity has 22 bytes, of which the first is 254.
+-- An identity has 22 bytes, the first of them 254.
 abbrev pub identity_reading : List ℕ → Option ReplyContent
 identity_reading = having 22 None (λ xs. if slice_index xs 0 == 254 then Some (Identity (identity_of xs)) else None)
 
--- Eight bytes say a loop current and a percent of range.
+-- Eight bytes hold a loop current and a percent of range.
 abbrev pub current_of : List ℕ → ReplyContent
 current_of bytes = Current (float_at bytes 0) (float_at bytes 4)
 
--- A loop current, and after it whole groups of five, one at least, of which the first four are taken.
+-- A loop current, then at least one whole group of five bytes; only the first four groups are read.
 abbrev pub dynamic_reading : List ℕ → Option ReplyContent
 dynamic_reading bytes =
     if nat_lt (length bytes) 9 then None
@@ -29,11 +29,11 @@ dynamic_reading bytes =
     let groups = min (length (drop 4 bytes) / 5) 4 in
     Some (Dynamic (float_at bytes 0) (map unit_value_of (first_chunks 5 groups (drop 4 bytes))))
 
--- Two bytes say a polling address and a loop current mode, as they come.
+-- Two bytes hold a polling address and a loop current mode, both unchecked.
 abbrev pub polling_of : List ℕ → ReplyContent
 polling_of bytes = Polling (slice_index bytes 0) (slice_index bytes 1)
 
--- An extended device status, one to eight groups of eight and a time stamp of four bytes, which end the data.
+-- An extended device status, one to eight groups of eight bytes, and a time stamp of four bytes that ends the data.
 abbrev pub variables_reading : List ℕ → Option ReplyContent
 variables_reading bytes =
     let groups = (length bytes - 5) / 8 in
@@ -41,11 +41,11 @@ variables_reading bytes =
     then Some (Variables (slice_index bytes 0) (map variable_of (first_chunks 8 groups (drop 1 bytes))) (drop (1 + 8 * groups) bytes))
     else None
 
--- Twenty-one bytes say a tag, a descriptor and a date, as it comes.
+-- Twenty-one bytes hold a tag, a descriptor and an unchecked date.
 abbrev pub tag_of : List ℕ → ReplyContent
 tag_of bytes = Tag (tag_in bytes) (descriptor_in bytes) (date_in bytes)
 
--- The additional status bytes, one at least, of which the first 25 are taken.
+-- The additional status bytes: at least one is needed, and only the first 25 are read.
 abbrev pub more_reading : List ℕ → Option ReplyContent
 more_reading [] = None
 more_reading (byte ∷ bytes) = Some (More (take 25 (byte ∷ bytes)))

@@ -1,4 +1,4 @@
--- The response code of a request (HCF_SPEC-127; the order is of the own profile).
+-- The response code of a request (HCF_SPEC-127; own profile: the order of the codes).
 use Rattle.std.specs.Prelude.{ℕ, ◌==◌, ◌||◌, ◌&&◌, if◌then◌else◌, Bool, true, false, List, [], ◌∷◌, Ok, Err, Some}
 use Rattle.hart_commands.specs.declared.register.Register.{Register}
 use Rattle.hart_commands.specs.declared.request.Request.{Request}
@@ -15,18 +15,18 @@ are_some (register ∷ registers) = true
 abbrev pub is_write : ℕ → Bool
 is_write command = are_some (written_by command)
 
--- A given counter of Command 38 that is not the device's is refused with code 9; nothing else is, if the data are good.
+-- Code 9 refuses Command 38 if it names a counter other than the device's; any other request with good data has code 0.
 abbrev pub counter_code : Request → ℕ → ℕ
 counter_code (ResetChanged (Some given)) counter = if given == counter then 0 else 9
 counter_code _ counter = 0
 
--- What the data are read as is data_code: bad data by their code, and a request by the counter that it names.
+-- The code of the data: bad data have the code that refuses them, and a request has the code of the counter that it names.
 abbrev pub data_code : Reading → ℕ → ℕ
 data_code (Err code) counter = code
 data_code (Ok request) counter = counter_code request counter
 
--- A command that is not in the table is refused first, then too few data bytes, then a write under protection, then what the
--- data and the counter say; otherwise the code is 0.
+-- Refusals come in this order: a command that is not in the table, too few data bytes, a write under protection, other bad data or
+-- a wrong counter. Otherwise the code is 0.
 abbrev pub request_code : ℕ → Reading → Bool → ℕ → ℕ
 request_code command reading protected counter =
     let code = data_code reading counter in

@@ -18,7 +18,7 @@ read_by (Some row) bytes = asked row.command.needed row.asked bytes
 abbrev pub request_reading : ℕ → List ℕ → Reading
 request_reading command = read_by (command_row command)
 
--- A request is well made if each of its parts has the size and the values that its command gives it.
+-- A request is well made if each of its parts has the size and the values that its command requires.
 abbrev pub IsRequest : Request → Type 0
 IsRequest (SetPolling address mode) = address < 64
 IsRequest (ReadVariables codes) = (0 < length codes) × (length codes ≤ 8)
@@ -30,8 +30,8 @@ IsRequest (IdentifyByLongTag long_tag) = length long_tag ≡ 32
 IsRequest (WriteLongTag long_tag) = length long_tag ≡ 32
 IsRequest _ = Unit {0}
 
--- Anything may follow the data of a request, but nothing after fewer than eight codes of Command 9, which would be read as a
--- further one, and nothing after Command 38 without a counter.
+-- Anything may follow the data of a request, with two exceptions: nothing after fewer than eight codes of Command 9, as it would be
+-- read as another code, and nothing after Command 38 without a counter.
 abbrev pub MayFollow : Request → List ℕ → Type 0
 MayFollow (ReadVariables codes) rest = (length codes ≡ 8) ⊎ (rest ≡ [])
 MayFollow (ResetChanged None) rest = rest ≡ []

@@ -1,5 +1,4 @@
--- How the data bytes of a request are read (HCF_SPEC-127). Of the own profile are
--- the meanings of the codes 9 and 12, and the order of refusals.
+-- How the data bytes of a request are read (HCF_SPEC-127). Own profile: the meanings of codes 9 and 12, and the order of refusals.
 use Rattle.std.specs.Prelude.{ℕ, ◌+◌, ◌*◌, ◌==◌, nat_lt, if◌then◌else◌, List, [], ◌∷◌, length, take, Result, Ok, Err, Some, None}
 use Rattle.hart_values.specs.declared.loop_mode.LoopMode.TheVariants.{Disabled, Enabled}
 use Rattle.hart_values.specs.hart_date.Calendar.{is_date}
@@ -12,7 +11,7 @@ use Rattle.hart_commands.specs.declared.request.Request.TheVariants.{SetPolling,
 abbrev pub Reading : Type 0
 Reading = Result Request ℕ
 
--- A command that needs so many bytes asks by them; fewer are refused with code 5.
+-- The first `size` bytes determine the request; fewer bytes are refused with code 5.
 abbrev pub needing : ℕ → (List ℕ → Request) → List ℕ → Reading
 needing size asked = having size (Err 5) (λ xs. Ok (asked xs))
 
@@ -24,7 +23,7 @@ polling_with address mode =
     else if mode == 1 then Ok (SetPolling address Enabled)
     else Err 12
 
--- Without a mode, as older masters send it, Command 6 means mode 1 for address 0 and mode 0 for every other.
+-- Without a mode, as older masters send it, Command 6 means mode 1 for address 0 and mode 0 for every other address.
 abbrev pub mode_left_out : ℕ → ℕ
 mode_left_out address = if address == 0 then 1 else 0
 
@@ -34,7 +33,7 @@ polling_reading [] = Err 5
 polling_reading (address ∷ []) = polling_with address (mode_left_out address)
 polling_reading (address ∷ mode ∷ rest) = polling_with address mode
 
--- Command 9 needs a code of a device variable, and takes at most eight.
+-- Command 9 needs at least one code of a device variable, and takes at most eight.
 abbrev pub codes_reading : List ℕ → Reading
 codes_reading [] = Err 5
 codes_reading (code ∷ codes) = Ok (ReadVariables (take 8 (code ∷ codes)))
@@ -46,7 +45,7 @@ tag_reading bytes =
     else if is_date (date_in bytes) then Ok (WriteTag (tag_in bytes) (descriptor_in bytes) (date_in bytes))
     else Err 9
 
--- Command 38 names no counter, or one of two bytes, the most significant first; one byte is too few.
+-- Command 38 names no counter, or a counter of two bytes, the most significant first; one byte is too few.
 abbrev pub reset_reading : List ℕ → Reading
 reset_reading [] = Ok (ResetChanged None)
 reset_reading (high ∷ []) = Err 5

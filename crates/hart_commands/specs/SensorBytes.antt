@@ -1,4 +1,4 @@
--- What a reply says of the sensor, in 16 bytes (HCF_SPEC-127).
+-- The sensor of a device in 16 bytes of a reply (HCF_SPEC-127).
 use Rattle.std.specs.Prelude.{ℕ, List, [], ◌∷◌, slice_index, slice_range}
 use Rattle.hart_commands.specs.declared.sensor.SensorContent.{SensorContent}
 use Rattle.hart_commands.specs.Values.{float_at, joined, one}

@@ -10,12 +10,12 @@ pub record UnitRow : Type 0 where
   pub code : ℕ
   pub name : List ℕ
 
--- The row of a unit, in one line.
+-- A short form for the row of a unit.
 abbrev pub unit : ℕ → String → UnitRow
 unit code name = record { code = code; name = text name }
 
--- The units that have the same code in every class of device variables. Codes without a row have no name, and among them are those that
--- mean something else in each class.
+-- The unit codes that mean the same in every class of device variables. Codes without a row have no name; some of these mean
+-- something else in each class.
 abbrev pub units : List UnitRow
 units =
     unit 1 "inches of water at 68 degrees Fahrenheit"
@@ -202,6 +202,6 @@ unit_row code = find (λ row. row.code == code) units
 abbrev pub unit_name : ℕ → Option (List ℕ)
 unit_name code = option_map (λ row. row.name) (unit_row code)
 
--- What contracts see of a row of the code.
+-- What contracts see of a unit's row in the code.
 abbrev pub seen_unit : UnitRowInCode → UnitRow
 seen_unit row = record { code = row.code; name = row.name.now }

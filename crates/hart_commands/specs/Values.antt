@@ -14,7 +14,7 @@ joined [] = []
 joined (part ∷ []) = part
 joined (part ∷ other ∷ others) = part ++ joined (other ∷ others)
 
--- A float is four bytes from a place on, kept as they come.
+-- A float is four bytes from a place on, kept unchanged.
 abbrev pub float_at : List ℕ → ℕ → Bits32
 float_at bytes place = record { 0 = slice_range bytes place (place + 4) }
 

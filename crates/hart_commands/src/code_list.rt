@@ -41,7 +41,7 @@ impl CodeList {
         Ok(CodeList { codes })
     }
 
-    /// Returns the same list.
+    /// Returns a copy of the list.
     pub(crate) fn copy(&self) -> Self
         ensures { result ≡ self.now }
     {

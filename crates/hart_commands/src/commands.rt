@@ -25,8 +25,8 @@ pub fn command_name(command: u8) -> Option<&'static str>
     Some(row_for(command)?.name)
 }
 
-/// Returns the fields of the data of a request of this command, in their order. An unknown command has none. Bytes that the command
-/// does not take belong to no field.
+/// Returns the fields of this command's request data, in order. An unknown command has no fields. The fields cover the first
+/// [`Request::data_len`](crate::Request::data_len) bytes; cut off further bytes, which the command ignores.
 pub fn request_rows(command: u8) -> &'static [FieldRow]
     ensures { map seen result.now ≡ request_rows command }
 {
@@ -36,8 +36,8 @@ pub fn request_rows(command: u8) -> &'static [FieldRow]
     }
 }
 
-/// Returns the fields of the data of a reply to this command with response code 0, in their order. An unknown command has none. Data
-/// after the content belong to no field.
+/// Returns the fields of this command's reply data with response code 0, in order. An unknown command has no fields. The fields
+/// cover the first [`Reply::data_len`](crate::Reply::data_len) data bytes; cut off further data, which are ignored.
 pub fn reply_rows(command: u8) -> &'static [FieldRow]
     ensures { map seen result.now ≡ reply_rows command }
 {
@@ -47,8 +47,8 @@ pub fn reply_rows(command: u8) -> &'static [FieldRow]
     }
 }
 
-/// Returns how many data bytes a request of this command needs, 0 if the command is not known (HCF_SPEC-127). Fewer are refused with
-/// code 5, too few data bytes; but Command 38 may have none.
+/// Returns how many data bytes a request of this command needs, or 0 if the command is not known (HCF_SPEC-127). Fewer bytes are
+/// refused with code 5, too few data bytes, except that Command 38 may have none.
 #[tactic(auto, unfolding(crate::specs::Commands::known))]
 pub fn needed_data(command: u8) -> usize
     ensures { result ≡ needed_data command }
@@ -59,7 +59,7 @@ pub fn needed_data(command: u8) -> usize
     }
 }
 
-/// Returns true for a configuration write, which sets a register: 6, 17, 18, 19 or 22.
+/// Returns true if the command is a configuration write, which sets a register: 6, 17, 18, 19 or 22.
 #[tactic(auto, unfolding(crate::specs::Commands::known, crate::specs::Commands::written_by))]
 pub fn is_write(command: u8) -> bool
     ensures { result ≡ is_write command }

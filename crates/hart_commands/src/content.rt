@@ -15,7 +15,7 @@ mod writing;
 
 /// The content of a reply after its status bytes, by its command (HCF_SPEC-127).
 ///
-/// Numbers are not checked: a polling address may be above 63, a mode above 1, a date none of the calendar.
+/// Numbers are not checked: a polling address may be above 63, a mode above 1, a date outside the calendar.
 #[derive(Debug, Drop, PartialEq, Eq)]
 pub enum ReplyContent {
     /// Who the device is (Commands 0, 11 and 21).
@@ -70,7 +70,7 @@ pub enum ReplyContent {
 }
 
 impl ReplyContent {
-    /// Reads the content of a reply with code 0, by its command's row of the table.
+    /// Reads the content of a reply with code 0 as its command's row of the table says.
     #[tactic(auto, unfolding(crate::specs::Commands::replied))]
     pub(crate) fn read(command: u8, bytes: &[u8]) -> Option<Self>
         ensures { result ≡ content_reading command bytes.now }

@@ -2,7 +2,7 @@
 ghost use Rattle.std.specs.Prelude.{◌≡◌, option_map};
 ghost use Rattle.hart_commands.specs.Fields.{split};
 
-/// The kind of value that the bytes of a field are.
+/// The kind of value that a field holds.
 #[derive(Clone, Copy, Debug, PartialEq, Eq)]
 pub enum FieldKind {
     /// Plain bytes: an id, flags, a status, codes of device variables, a time stamp.
@@ -26,9 +26,9 @@ pub enum FieldKind {
 /// The number of bytes of a field.
 #[derive(Clone, Copy, Debug, PartialEq, Eq)]
 pub enum FieldSize {
-    /// This number.
+    /// Exactly this number of bytes.
     Exactly(u8),
-    /// All that are left except this number at the end, and at least one.
+    /// All remaining bytes except this number at the end, but at least one byte.
     AllBut(u8),
 }
 
@@ -44,7 +44,7 @@ pub struct FieldRow {
 }
 
 impl FieldRow {
-    /// Splits data into the bytes of the field, which come first, and the rest. The result is `None` if there are too few.
+    /// Splits data into the bytes of the field, which come first, and the rest. Returns `None` if there are too few bytes.
     pub fn split<'a>(&self, bytes: &'a [u8]) -> Option<(&'a [u8], &'a [u8])>
         ensures { option_map (λ parts. (parts.0.now, parts.1.now)) result ≡ split self.now.size bytes.now }
     {

@@ -3,7 +3,7 @@ ghost use Rattle.hart_commands.specs.IdentityBytes.{identity_of, identity_bytes}
 
 use hart_values::Payload;
 
-/// The byte with which an identity begins.
+/// The first byte of an identity.
 pub(crate) const FIRST_BYTE: u8 = 254;
 
 /// Who a device is, in its reply to Command 0, 11 or 21 (HCF_SPEC-127).
@@ -19,9 +19,9 @@ pub struct IdentityContent {
     pub protocol_revision: u8,
     /// The revision of the device.
     pub device_revision: u8,
-    /// The revision of its software.
+    /// The revision of the device's software.
     pub software_revision: u8,
-    /// The revision of its hardware in the upper five bits, the physical signalling code in the lower three.
+    /// The revision of the hardware in the upper five bits, the physical signalling code in the lower three.
     pub hardware_and_signalling: u8,
     /// The flags.
     pub flags: u8,
@@ -44,7 +44,7 @@ pub struct IdentityContent {
 }
 
 impl IdentityContent {
-    /// Reads the identity after the first of 22 bytes.
+    /// Reads the identity in 22 bytes, of which the first is ignored.
     pub(crate) fn from_bytes(bytes: [u8; 22]) -> Self
         ensures { result ≡ identity_of bytes }
     {

@@ -1,4 +1,4 @@
-//! Laws over the definitions alone, for the crates above.
+//! Laws about the definitions alone, for the crates that use this one.
 ghost use Rattle.std.specs.Prelude.{◌≡◌, ◌≢◌, ◌==◌, ◌||◌, ◌<◌, ◌≤◌, All, AllPairs, Contains, ◌↔◌, ◌++◌, List, ℕ, false, true, Ok, Err, Some};
 ghost use Rattle.std.specs.Prelude.{IsTrue, IsSome, drop, is_some, length, take};
 ghost use Rattle.hart_commands.specs.RequestData.{IsRequest, MayFollow, command_of, is_known, request_data, request_reading};
@@ -17,35 +17,35 @@ ghost use Rattle.hart_commands.specs.declared.content.ReplyContent.TheVariants.{
 
 use crate::{Register, Request};
 
-/// A request is well made, whoever made it: the types of its parts say so.
+/// Every request is well made, whoever made it: the types of its parts ensure it.
 pub fn requests_are_well_made(request: &Request)
     ensures { IsRequest request.now }
 {
     request.command();
 }
 
-/// The data that a request is written as are read as that request, whatever may follow them.
+/// The written data of a well-made request are read back as that request, even with bytes after them that `MayFollow` allows.
 #[tactic(auto, using(crate::proofs::lemmas::Request::written_is_read))]
 pub fn written_data_are_read_again()
     ensures { (request : Request) (rest : List ℕ) → IsRequest request → MayFollow request rest
         → request_reading (command_of request) (request_data request ++ rest) ≡ Ok request }
 {}
 
-/// The data that a request is written as, with none after them, are read as that request.
+/// The written data of a well-made request, with nothing after them, are read back as that request.
 #[tactic(auto, using(crate::proofs::lemmas::Request::written_is_own))]
 pub fn written_data_are_their_request()
     ensures { (request : Request) → IsRequest request
         → request_reading (command_of request) (request_data request) ≡ Ok request }
 {}
 
-/// What is read of a command and its data is a well-made request of that command.
+/// If the data of a command are read as a request, it is a well-made request of that command.
 pub fn requests_have_their_command()
     ensures { (command : ℕ) (bytes : List ℕ) (request : Request)
         → request_reading command bytes ≡ Ok request → (command_of request ≡ command) × IsRequest request }
 {}
 
-/// Data that are read as a request agree with those that it is written as, as far as both go. They begin with all of them unless they
-/// are fewer, and are fewer only for Command 6 without its mode; then they have the first of its fields.
+/// Data that are read as a request agree with the request's written data over the length that both have. They begin with all the
+/// written data, except for Command 6 without its mode: that is one byte, the first field.
 pub fn read_data_begin_as_written()
     ensures agree { (command : ℕ) (bytes : List ℕ) (request : Request) → All (λ byte. byte < 256) bytes
         → request_reading command bytes ≡ Ok request
@@ -62,8 +62,8 @@ pub fn read_data_begin_as_written()
         ≡ take 1 (fields_of (request_rows command) (request_data request)) }
 {}
 
-/// Data are refused with code 5 exactly if they are too few for their command. So data of at least as many bytes as it needs are never
-/// refused with it, and data that are, stay so with further bytes while they are fewer than needed.
+/// Data are refused with code 5 exactly if they are too few for their command. So code 5 never refuses data of at least the needed
+/// length. Data refused with code 5 are still refused with it when bytes are added, while they are fewer than needed.
 pub fn too_few_data_are_fewer_than_needed()
     ensures exactly { (command : ℕ) (bytes : List ℕ) → (request_reading command bytes ≡ Err 5) ↔ AreTooFew command bytes }
     ensures enough { (command : ℕ) (bytes : List ℕ) → needed_data command ≤ length bytes → request_reading command bytes ≢ Err 5 }
@@ -71,21 +71,21 @@ pub fn too_few_data_are_fewer_than_needed()
         → length (bytes ++ rest) < needed_data command → request_reading command (bytes ++ rest) ≡ Err 5 }
 {}
 
-/// A command is known exactly if none of its data are refused with code 64.
+/// Data are refused with code 64 exactly if their command is not known.
 pub fn unknown_commands_are_refused()
     ensures { (command : ℕ) (bytes : List ℕ)
         → (request_reading command bytes ≡ Err 64) ↔ (is_known command ≡ false) }
 {}
 
-/// `Register::ALL` has every register, and none twice.
+/// `Register::ALL` lists every register exactly once.
 pub fn all_registers_are_listed_once()
     ensures same { Register.ALL ≡ registers }
     ensures every { (register : Register) → Contains registers register }
     ensures once { AllPairs (λ register other. register ≢ other) registers }
 {}
 
-/// A request has an overwrite exactly if its command is a configuration write; then it names a register for each part of its data, and no
-/// other request names one.
+/// A request has an overwrite exactly if its command is a configuration write. The overwrite names one register for each part of
+/// the request's data. No other request names a register.
 pub fn writes_have_overwrites()
     ensures exactly { (request : Request) → IsTrue (is_write (command_of request)) ↔ IsSome (overwrite_of request) }
     ensures some_register { (request : Request) → IsTrue (is_write (command_of request))
@@ -108,9 +108,9 @@ pub fn overwrites_are_valid()
     ensures { (write : Request) (old : Contents) → IsRequest write → AreValid old → AreValid (overwritten write old) }
 {}
 
-/// The payload that a reply is written as is read as that reply, for every well-made reply; and every reply that is read is
-/// well made, and is written as the front of the payload that it was read from: its bytes are handed on as they came. It is to a
-/// command that is known, its response code is below 128, and with another code than 0 it says nothing.
+/// The written payload of a well-made reply is read back as that reply. Every reply that is read is well made, and is written as
+/// the first bytes of the payload that it was read from, unchanged. Its command is known, its response code is below 128, and with
+/// a code other than 0 its content is `Refused`.
 pub fn written_payloads_are_read_again()
     ensures again { (reply : Reply) → IsReply reply → reply_reading reply.command (reply_payload reply) ≡ Some reply }
     ensures well_made { (command : ℕ) (payload : List ℕ) (reply : Reply)
@@ -130,8 +130,8 @@ pub fn known_commands_have_names()
         → command ≡ other }
 {}
 
-/// Each field of a well-made request's data is one part of the request, and each field of a well-made reply's is one part of its
-/// content: they are as many, in the same order, and have the same bytes.
+/// The fields of a well-made request's data are the parts of the request: equally many, in the same order, with the same bytes.
+/// Likewise, the fields of a well-made reply's data are the parts of its content.
 #[tactic(auto, using(crate::proofs::lemmas::RequestFields::parts_of_request, crate::proofs::lemmas::Reply::parts_of_reply))]
 pub fn fields_are_the_parts()
     ensures request { (request : Request) → IsRequest request
@@ -140,8 +140,8 @@ pub fn fields_are_the_parts()
         → field_bytes (fields_of (reply_rows reply.command) (content_bytes reply.content)) ≡ content_parts reply.content }
 {}
 
-/// Nothing is left out by the names: the bytes of the fields of a well-made request's data are those data, and so are those of
-/// a well-made reply's.
+/// The fields leave out no data: the bytes of a well-made request's fields, one after another, are all of its data. The same holds
+/// for a well-made reply.
 pub fn fields_are_all_of_the_data()
     ensures request { (request : Request) → IsRequest request
         → bytes_of (fields_of (request_rows (command_of request)) (request_data request)) ≡ request_data request }
@@ -149,8 +149,8 @@ pub fn fields_are_all_of_the_data()
         → bytes_of (fields_of (reply_rows reply.command) (content_bytes reply.content)) ≡ content_bytes reply.content }
 {}
 
-/// The kind of a field says how many bytes it has: a float 4, a date 3, a number 1 or 2, a packed text 6, 12 or 24, and device variables
-/// 8 each. This holds for the fields of any data of a request, and for those of a reply in any payload that is read as it.
+/// The kind of a field limits its number of bytes: 4 for a float, 3 for a date, 1 or 2 for a number, 6, 12 or 24 for a packed text,
+/// and 8 for each device variable. This holds for the fields of any request data, and of any payload that is read as a reply.
 pub fn fields_have_the_width_of_their_kind()
     ensures request { (command : ℕ) (bytes : List ℕ) → All HasWidthOfKind (fields_of (request_rows command) bytes) }
     ensures reply { (command : ℕ) (payload : List ℕ) (reply : Reply) → reply_reading command payload ≡ Some reply

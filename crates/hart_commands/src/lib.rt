@@ -1,8 +1,8 @@
 //! What the data bytes of HART messages mean: requests, replies and what a write overwrites (HCF_SPEC-127).
 //!
-//! A definition in `specs/` has the table of the standard, one row a command: what the data bytes of a request ask, which response
-//! code refuses them, and what the payload of a reply says. [`Request::read`] and [`Reply::read`] return exactly that, and `write`
-//! goes the other way.
+//! The definitions in `specs/` hold the table of the standard, one row for each command: what the data bytes of a request ask,
+//! which response code refuses them, and what the payload of a reply says. [`Request::read`] and [`Reply::read`] return exactly
+//! that; `write` goes the other way.
 //!
 //! ```rust
 //! let request = Request::read(19, &[0x01, 0x23, 0x45, 0x67])?;
@@ -12,14 +12,14 @@
 //! assert_eq!(rt; data.as_slice(), [0x01, 0x23, 0x45].as_slice());
 //! ```
 //!
-//! [`request_code`] returns the first refusal of a request, given a device's write protection and counter. [`writes_of`] returns the
-//! registers that a write sets. Who answers is decided in `hart_device`. No call of this crate allocates.
+//! [`request_code`] returns the response code of a request, given a device's write protection and counter. [`writes_of`] returns
+//! the registers that a write sets. Whether a device answers is decided in `hart_device`. No call of this crate allocates.
 //!
-//! [`command_name`] names a command, [`request_rows`] and [`reply_rows`] the fields of its data. [`needed_data`] returns how many data
-//! bytes a command needs, [`Request::data_len`] and [`Reply::data_len`] how many a request or a reply has.
+//! [`command_name`] names a command; [`request_rows`] and [`reply_rows`] name the fields of its data. [`needed_data`] returns how
+//! many data bytes a command needs; [`Request::data_len`] and [`Reply::data_len`] return how many a message has.
 //!
-//! Nothing else of `hart` calls [`is_write`] or [`CodeList::new`]: they are for programs that make requests. [`laws`] has what is proved of
-//! the definitions alone: that what is written is read again, that fields cover the data, which commands write, what widths fields have.
+//! No other crate of `hart` calls [`is_write`] or [`CodeList::new`]: they are for programs that make requests. [`laws`] proves of
+//! the definitions alone that written data are read back, that fields cover the data, which commands write, and field widths.
 #![tactic(auto)]
 
 mod code_list;

@@ -7,7 +7,7 @@ use std::marker::Model;
 
 /// The registers that a write sets, each with its new bytes (HCF_SPEC-127).
 ///
-/// Contracts see the write, and by it the bytes that each register gets, or none.
+/// Contracts see the write, which determines the bytes that each register gets, if any.
 #[derive(Debug, Drop)]
 pub struct Overwrite<'a> {
     write: &'a Request,

@@ -14,16 +14,16 @@ pub struct Reply {
     pub code: ResponseCode,
     /// The state of the device.
     pub status: DeviceStatus,
-    /// The content: with code 0 that of the command, otherwise [`ReplyContent::Refused`].
+    /// The content: the command's own with code 0, otherwise [`ReplyContent::Refused`].
     pub content: ReplyContent,
 }
 
 impl Reply {
-    /// Reads the reply to a command from a payload. The result is `None` if the payload has fewer than two bytes, if bit 7 of the first
-    /// is set, if [`Request::read`] does not know the command, or if with code 0 the data are no content of the command.
+    /// Reads the reply to a command from a payload. Returns `None` if the payload has fewer than two bytes, if bit 7 of the first
+    /// is set, if [`Request::read`] does not know the command, or if the code is 0 and the data are no content of the command.
     ///
-    /// Data after the content are ignored, except that the data of Command 9 must end with the time stamp. With another code than 0 all
-    /// data are ignored.
+    /// Data after the content are ignored, except that the data of Command 9 must end with the time stamp. With any code other than
+    /// 0, all data are ignored.
     ///
     /// ```rust
     /// let reply = Reply::read(16, &[0x00, 0x40, 0x01, 0x23, 0x45]).ok_or("no reply")?;
@@ -38,7 +38,7 @@ impl Reply {
 
     /// Replaces `payload` by the two status bytes and the data of the content.
     ///
-    /// A reply from [`Reply::read`] is read again as itself. A reply that no device sends, such as one with the content of another
+    /// A reply from [`Reply::read`] is read back unchanged. A reply that no device sends, such as one with the content of another
     /// command, can be written too.
     pub fn write(&self, payload: &mut Payload)
         ensures { payload.new ≡ reply_payload self.now }
@@ -60,7 +60,7 @@ impl Reply {
     }
 }
 
-/// Reads the reply to a command from its two status bytes and its data.
+/// Reads the reply to a command from a payload: two status bytes, then the data.
 fn reply_in(command: u8, payload: &[u8]) -> Option<Reply>
     ensures { result ≡ reply_reading command payload.now }
 {

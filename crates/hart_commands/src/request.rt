@@ -58,15 +58,14 @@ pub enum Request {
     IdentifyByLongTag([u8; 32]),
     /// Command 22, a write: the long tag.
     WriteLongTag([u8; 32]),
-    /// Command 38: that this master has seen the changes of the configuration, up to this configuration change counter, if
-    /// it names one.
+    /// Command 38: this master has seen the configuration changes, up to this configuration change counter if one is given.
     ResetChanged(Option<u16>),
     /// Command 48: the additional status bytes.
     ReadMore,
 }
 
 impl Request {
-    /// Reads the data bytes of a request of this command. Bytes after those that the command needs are ignored.
+    /// Reads the data bytes of a request of this command. Bytes beyond those that the command takes are ignored.
     ///
     /// ```rust
     /// let request = Request::read(19, &[0x01, 0x23, 0x45, 0x67])?;
@@ -108,12 +107,12 @@ impl Request {
         }
     }
 
-    /// Returns the number of its command.
+    /// Returns the number of the request's command.
     pub fn command(&self) -> u8
         ensures command { result ≡ command_of self.now }
         ensures well_made { IsRequest self.now }
     {
-        // What reads the parts says that they are well made.
+        // The contract of `parts` says that the request is well made.
         self.parts(&mut [0; 2]);
         match self {
             Request::Identify => 0,
@@ -141,7 +140,7 @@ impl Request {
         }
     }
 
-    /// Returns the same request.
+    /// Returns a copy of the request.
     #[tactic(auto, using(crate::proofs::lemmas::Request::written_is_own))]
     pub fn copy(&self) -> Self
         ensures same { result ≡ self.now }
@@ -152,7 +151,7 @@ impl Request {
         Request::read(self.command(), data.as_slice()).unwrap()
     }
 
-    /// Replaces `data` by the data bytes of the request. Command 6 always has both of its bytes.
+    /// Replaces `data` by the data bytes of the request. Command 6 is always written with both of its bytes.
     pub fn write(&self, data: &mut Payload)
         ensures written { «data».new ≡ request_data self.now }
         ensures well_made { IsRequest self.now }
@@ -176,7 +175,7 @@ impl Request {
         parts.first.len() + parts.second.len() + parts.third.len()
     }
 
-    /// Returns the parts of its data. `counter` gets the bytes of a counter.
+    /// Returns the parts of the request's data. The bytes of a counter are stored in `counter`.
     fn parts<'a>(&'a self, counter: &'a mut [u8; 2]) -> Parts<'a>
         ensures written { result.first.now ++ result.second.now ++ result.third.now ≡ request_data self.now }
         ensures few { length result.first.now + length result.second.now + length result.third.now ≤ 32 }
@@ -221,7 +220,7 @@ struct Parts<'a> {
 }
 
 impl<'a> Parts<'a> {
-    /// Returns one part, which may be empty.
+    /// Makes `Parts` of a single part, which may be empty.
     fn one(part: &'a [u8]) -> Self
         ensures parts { (result.first.now ≡ part.now) × (result.second.now ≡ []) × (result.third.now ≡ []) }
     {

@@ -3,7 +3,7 @@ ghost use Rattle.std.specs.Prelude.{◌≡◌, ◌+◌, ◌<◌, ◌≤◌, [], 
 use arrayvec::ArrayVec;
 use std::marker::Model;
 
-/// A list of at most `N` items, which lie in the value itself.
+/// A list of at most `N` items, stored in the value itself.
 ///
 /// Contracts see the list of the items.
 #[derive(Debug, Drop, PartialEq, Eq)]
@@ -22,7 +22,7 @@ impl<T, const N: usize> Model for ShortList<T, N> {
 }
 
 impl<T: Copy + Default, const N: usize> ShortList<T, N> {
-    /// The list of no items.
+    /// Returns the empty list.
     pub fn new() -> Self
         ensures { result ≡ [] }
     {
@@ -39,7 +39,7 @@ impl<T: Copy + Default, const N: usize> ShortList<T, N> {
         self.items.push(item);
     }
 
-    /// The items, in order.
+    /// Returns the items, in order.
     pub fn as_slice(&self) -> &[T]
         ensures value { result.now ≡ self.now }
         ensures fits { length result.now ≤ N }

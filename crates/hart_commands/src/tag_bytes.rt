@@ -3,7 +3,7 @@ ghost use Rattle.hart_commands.specs.TagBytes.{tag_in, descriptor_in, date_in};
 
 use crate::first_bytes::first_bytes;
 
-/// The tag, the descriptor and the date with which these bytes begin, or `None` if the bytes are too few.
+/// Returns the tag, the descriptor and the date at the start of these bytes, or `None` if there are too few bytes.
 pub fn tag_parts(bytes: &[u8]) -> Option<([u8; 6], [u8; 12], [u8; 3])>
     ensures accepted { IsSome result ↔ (21 ≤ length bytes.now) }
     ensures tag { IfSome result (λ parts. parts.0 ≡ tag_in bytes.now) }

@@ -9,14 +9,14 @@ pub struct UnitRow {
     pub name: &'static str,
 }
 
-/// Units, one a line.
+/// A list of units, one per line.
 macro_rules! units {
     ($($code:literal, $name:literal;)*) => {
         &[$(UnitRow { code: $code, name: $name }),*]
     };
 }
 
-/// The units that have the same code in every class of device variables.
+/// The unit codes that mean the same in every class of device variables.
 const UNITS: &[UnitRow] = units! {
     1, "inches of water at 68 degrees Fahrenheit";
     2, "inches of mercury at 0 degrees Celsius";
@@ -194,8 +194,8 @@ const UNITS: &[UnitRow] = units! {
     253, "special";
 };
 
-/// Returns the name of a unit code, as `degrees Celsius` for 32, or `None` if it has none that holds for every class of device variables
-/// (HCF_SPEC-183).
+/// Returns the name of a unit code, such as `degrees Celsius` for 32, or `None` if it has no name that holds for every class of
+/// device variables (HCF_SPEC-183).
 pub fn unit_name(code: u8) -> Option<&'static str>
     ensures { option_map (λ name. name.now) result ≡ unit_name code }
 {

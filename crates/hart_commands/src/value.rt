@@ -4,7 +4,7 @@ ghost use Rattle.hart_commands.specs.Values.{unit_value_of, unit_value_bytes, va
 
 use hart_values::Bits32;
 
-/// A value and the code of its unit, as Commands 1 and 3 give it (HCF_SPEC-127).
+/// A value and the code of its unit, as in replies to Commands 1 and 3 (HCF_SPEC-127).
 #[derive(Clone, Copy, Debug, Default, PartialEq, Eq)]
 pub struct UnitValue {
     /// The code of the unit.
@@ -34,7 +34,7 @@ impl UnitValue {
     }
 }
 
-/// A device variable, as Command 9 gives it (HCF_SPEC-127).
+/// A device variable, as in replies to Command 9 (HCF_SPEC-127).
 #[derive(Clone, Copy, Debug, Default, PartialEq, Eq)]
 pub struct VariableReading {
     /// The variable code that was asked for.

@@ -2,8 +2,8 @@
 use crate::FieldSize::{AllBut, Exactly};
 use crate::{FieldKind, FieldRow, Register};
 
-/// A command: its number, its name, the fields of its request data, how many bytes of them it needs, the fields of its reply data with code
-/// 0, and the registers that it writes. The first register gets the first part of the written request data, and so on.
+/// A command: its number, its name, the fields of its request data, how many of those bytes it needs, the fields of its reply data
+/// with code 0, and the registers that it writes. The first register gets the first part of the request data as written, and so on.
 pub struct Command {
     pub number: u8,
     pub name: &'static str,
@@ -13,14 +13,14 @@ pub struct Command {
     pub writes: &'static [Register],
 }
 
-/// Fields, one a line.
+/// A list of fields, one per line.
 macro_rules! fields {
     ($($name:literal, $size:expr, $kind:ident;)*) => {
         &[$(FieldRow { name: $name, size: $size, kind: FieldKind::$kind }),*]
     };
 }
 
-/// Commands, one a line.
+/// A list of commands, one per line.
 macro_rules! commands {
     ($($number:literal, $name:literal, $request:expr, $needed:literal, $reply:expr, [$($register:ident),*];)*) => {
         &[$(Command {
@@ -61,7 +61,7 @@ const CURRENT: &[FieldRow] = fields! {
     "percent of range", Exactly(4), Float;
 };
 
-/// The loop current, and the fields of the dynamic variables that there are (Command 3).
+/// The loop current, and the fields of up to four dynamic variables (Command 3).
 const DYNAMIC: &[FieldRow] = fields! {
     "loop current", Exactly(4), Float;
     "primary variable unit", Exactly(1), UnitCode;
@@ -74,7 +74,7 @@ const DYNAMIC: &[FieldRow] = fields! {
     "quaternary variable", Exactly(4), Float;
 };
 
-/// The polling address, and the loop current mode, which older masters leave out (Commands 6 and 7).
+/// The polling address and the loop current mode; older masters leave out the mode (Commands 6 and 7).
 const POLLING: &[FieldRow] = fields! {
     "polling address", Exactly(1), Number;
     "loop current mode", Exactly(1), Number;
@@ -88,7 +88,7 @@ const CLASSES: &[FieldRow] = fields! {
     "quaternary variable classification", Exactly(1), Number;
 };
 
-/// The device variables that were asked for, between an extended device status and their time stamp (Command 9).
+/// The extended device status, the device variables that were asked for, and their time stamp (Command 9).
 const VARIABLES: &[FieldRow] = fields! {
     "extended device status", Exactly(1), Bytes;
     "device variables", AllBut(4), Variables;
@@ -136,8 +136,8 @@ const LONG_TAG: &[FieldRow] = fields! { "long tag", Exactly(32), LatinText; };
 /// The configuration change counter (Command 38).
 const COUNTER: &[FieldRow] = fields! { "configuration change counter", Exactly(2), Number; };
 
-/// The commands that are known, each with a row: number, name, request fields, bytes needed, reply fields, registers written. Command 6
-/// needs one byte of its two.
+/// The known commands, one row each: number, name, request fields, bytes needed, reply fields, registers written. Command 6 needs
+/// only the first of its two bytes.
 pub const TABLE: &[Command] = commands! {
     0, "read unique identifier", &[], 0, IDENTITY, [];
     1, "read primary variable", &[], 0, PRIMARY, [];

@@ -1,4 +1,4 @@
-//! Reading the contents that take more than one line of the table.
+//! Reads the contents that need more than one line in `ReplyContent::read`.
 ghost use Rattle.std.specs.Prelude.{◌≡◌, ◌<◌, ◌≤◌, length, map};
 ghost use Rattle.hart_commands.specs.ReplyReading.{saying, current_of, polling_of, tag_of, identity_reading, dynamic_reading};
 ghost use Rattle.hart_commands.specs.ReplyReading.{variables_reading, more_reading};
@@ -47,7 +47,7 @@ pub fn read_dynamic(bytes: &[u8]) -> Option<ReplyContent>
     })
 }
 
-/// Reads the values of at most four groups.
+/// Reads one value from each of at most four groups.
 fn values_in(groups: &[[u8; 5]]) -> ShortList<UnitValue, 4>
     requires { length groups.now ≤ 4 }
     ensures { result ≡ map unit_value_of groups.now }
@@ -83,7 +83,7 @@ pub fn read_variables(bytes: &[u8]) -> Option<ReplyContent>
     })
 }
 
-/// Reads the variables of at most eight groups.
+/// Reads one variable from each of at most eight groups.
 fn variables_in(groups: &[[u8; 8]]) -> ShortList<VariableReading, 8>
     requires { length groups.now ≤ 8 }
     ensures { result ≡ map variable_of groups.now }

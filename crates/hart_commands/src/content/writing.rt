@@ -1,4 +1,4 @@
-//! Writing the contents that take more than one line of the table.
+//! Writes the contents that need more than one line in `ReplyContent::push_to`.
 ghost use Rattle.std.specs.Prelude.{◌≡◌, ◌+◌, ◌*◌, ◌≤◌, ◌∷◌, ◌++◌, length};
 ghost use Rattle.std.specs.List.{flat_map};
 ghost use Rattle.hart_commands.specs.Values.{joined, unit_value_bytes, unit_value_parts, variable_bytes};
@@ -15,7 +15,7 @@ pub fn push_current(loop_current: Bits32, percent_of_range: Bits32, payload: &mu
     payload.extend_from_slice(&percent_of_range.0);
 }
 
-/// Adds a loop current, and after it values with their units, at the end of a payload.
+/// Adds a loop current, then values with their units, at the end of a payload.
 pub fn push_dynamic(loop_current: Bits32, values: &[UnitValue], payload: &mut Payload)
     requires few { length values.now ≤ 4 }
     requires room { length payload.old ≤ 2 }
@@ -25,7 +25,7 @@ pub fn push_dynamic(loop_current: Bits32, values: &[UnitValue], payload: &mut Pa
     push_values(values, payload);
 }
 
-/// Adds an extended device status, and after it variables and their time stamp, at the end of a payload.
+/// Adds an extended device status, then variables and their time stamp, at the end of a payload.
 pub fn push_variables(
     extended_device_status: u8,
     variables: &[VariableReading],

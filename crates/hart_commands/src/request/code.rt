@@ -1,12 +1,12 @@
-//! The response code of a request (HCF_SPEC-127; the order is of the own profile).
+//! The response code of a request (HCF_SPEC-127; own profile: the order of the codes).
 ghost use Rattle.std.specs.Prelude.{◌≡◌};
 ghost use Rattle.hart_commands.specs.RequestCode.{counter_code, data_code, request_code};
 
 use crate::{Request, is_write};
 use hart_values::ResponseCode;
 
-/// Returns the response code of a command with this reading of its data, for a device with this protection and this configuration
-/// change counter: 64 and 5 come first, then 7 for a write under protection, then the code of the data and of the counter.
+/// Returns the response code of a command, given the reading of its data, and the device's write protection and configuration
+/// change counter. Codes 64 and 5 come first, then 7 for a write under protection, then the code of the data or the counter.
 pub fn request_code(
     command: u8,
     reading: &Result<Request, ResponseCode>,
@@ -28,7 +28,7 @@ pub fn request_code(
     }
 }
 
-/// Returns the code of the data and the counter.
+/// Returns the code of bad data, or otherwise the code of the counter.
 fn data_code(reading: &Result<Request, ResponseCode>, counter: u16) -> ResponseCode
     ensures { result ≡ data_code reading.now counter }
 {
@@ -38,7 +38,7 @@ fn data_code(reading: &Result<Request, ResponseCode>, counter: u16) -> ResponseC
     }
 }
 
-/// Returns the code of the counter: 9 if the request names another.
+/// Returns 9 if the request names a counter other than `counter`, and otherwise 0.
 fn counter_code(request: &Request, counter: u16) -> ResponseCode
     ensures { result ≡ counter_code request.now counter }
 {

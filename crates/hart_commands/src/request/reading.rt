@@ -1,4 +1,4 @@
-//! Reading the data of requests that have parts.
+//! Reads the data of requests that have parts.
 ghost use Rattle.std.specs.Prelude.{◌≡◌, ◌≤◌, ◌↔◌, if◌then◌else◌, length, take, IsOk, IfOk, IfErr, Ok, Err};
 ghost use Rattle.hart_values.specs.hart_date.Calendar.{is_date};
 ghost use Rattle.hart_commands.specs.RequestReading.{polling_reading, codes_reading, tag_reading, reset_reading};
@@ -7,7 +7,7 @@ use crate::tag_bytes::tag_parts;
 use crate::{CodeList, Request};
 use hart_values::{HartDate, LoopMode, PackedText, PollingAddress, ResponseCode};
 
-/// Returns the first `N` bytes, or the code of too few.
+/// Returns the first `N` bytes, or code 5 if there are fewer.
 pub fn needed<const N: usize>(all: &[u8]) -> Result<[u8; N], ResponseCode>
     ensures accepted { IsOk result ↔ (N ≤ length all.now) }
     ensures first { IfOk result (λ bytes. bytes ≡ take N all.now) }
@@ -64,7 +64,7 @@ pub fn read_tag(bytes: &[u8]) -> Result<Request, ResponseCode>
     })
 }
 
-/// Reads a date, or returns the code of a bad one.
+/// Reads a date, or returns code 9 if the date is bad.
 fn read_date(bytes: [u8; 3]) -> Result<HartDate, ResponseCode>
     ensures { result ≡ if is_date bytes then Ok bytes else Err 9 }
 {
@@ -74,7 +74,7 @@ fn read_date(bytes: [u8; 3]) -> Result<HartDate, ResponseCode>
     }
 }
 
-/// Reads Command 38: no counter, or one of two bytes.
+/// Reads Command 38: no counter, or a counter of two bytes.
 pub fn read_reset(bytes: &[u8]) -> Result<Request, ResponseCode>
     ensures { result ≡ reset_reading bytes.now }
 {
