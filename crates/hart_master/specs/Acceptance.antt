@@ -1,5 +1,4 @@
--- Which deliveries a master accepts as the reply to its request (HCF_SPEC-081; that the burst bit is not looked at is of the own
--- profile).
+-- Which deliveries a master accepts as the reply to its request (HCF_SPEC-081; own profile: the burst bit is ignored).
 use Rattle.std.specs.Prelude.{◌≡◌, List, [], ◌∷◌, Some}
 use Rattle.hart_values.specs.declared.master_id.MasterId.{MasterId}
 use Rattle.hart_values.specs.declared.address.Address.{Address}
@@ -13,8 +12,8 @@ use Rattle.hart_commands.specs.ReplyData.{reply_reading}
 use Rattle.hart_commands.specs.declared.request.Request.{Request}
 use Rattle.hart_commands.specs.declared.reply.Reply.{Reply}
 
--- A frame answers a request that a master sends to an address if it is an ACK without expansion bytes, with this master's
--- bit, this address and the command of the request; the burst bit is not looked at.
+-- A frame answers a request that a master sends to an address if it is an ACK without expansion bytes, with this master's bit, this
+-- address and the command of the request; the burst bit is ignored.
 pub record MatchesRequest (id : MasterId) (address : Address) (request : Request) (frame : FrameParts) : Type 0 where
   pub kind : frame.kind ≡ Ack
   pub expansion : frame.expansion ≡ []
@@ -22,12 +21,12 @@ pub record MatchesRequest (id : MasterId) (address : Address) (request : Request
   pub sender : frame.address ≡ address
   pub command : frame.command ≡ command_of request
 
--- A frame that answers is the reply that its payload is read as, and none if it is read as none, as with communication faults.
+-- A frame that answers the request is the reply that is read from its payload, if one is read. With communication faults, none is.
 pub record IsReplyTo (id : MasterId) (address : Address) (request : Request) (frame : FrameParts) (reply : Reply) : Type 0 where
   pub answers : MatchesRequest id address request frame
   pub read : reply_reading frame.command frame.payload ≡ Some reply
 
--- A delivery is accepted as a reply if its frames are one alone, and this one is that reply.
+-- A delivery is accepted as a reply if it has exactly one frame, and this frame is that reply.
 pub record IsAccepted (id : MasterId) (address : Address) (request : Request) (delivery : List Character) (reply : Reply) : Type 0 where
   pub found : Found
   pub alone : AreFrames delivery 0 (found ∷ [])

@@ -1,4 +1,4 @@
--- What a contract sees of a master, and what its calls give and leave (HCF_SPEC-081; the limits are of the own profile).
+-- What a contract sees of a master, and what its calls return and change (HCF_SPEC-081; own profile: the limits).
 use Rattle.std.specs.Prelude.{◌≡◌, ◌≤◌, ◌<◌, ℕ, ◌+◌, min, nat_le, nat_lt, if◌then◌else◌, List, Option, None, Some, Result, Ok, Err}
 use Rattle.hart_values.specs.declared.master_id.MasterId.{MasterId}
 use Rattle.hart_values.specs.declared.address.Address.{Address}
@@ -16,7 +16,7 @@ use Rattle.hart_master.specs.declared.hand.Hand.TheVariants.{Empty, ToSend, Awai
 use Rattle.hart_master.specs.Acceptance.{IsAccepted, IsReplyTo}
 use Rattle.hart_master.specs.Pairing.{may_ask}
 
--- A master is the primary or the secondary one, sends a request again so many times at most, awaits each reply for so many
+-- A master is the primary or the secondary one, sends a request again at most `retries` times, awaits each reply for `reply_limit`
 -- character times, and has one request in hand or none.
 pub record MasterState : Type 0 where
   pub id : MasterId
@@ -30,21 +30,21 @@ sendings_of Empty = 0
 sendings_of (ToSend transaction) = transaction.sendings
 sendings_of (Awaiting transaction time) = transaction.sendings
 
--- A request that is to be sent was sent as often as there are retries at most; one whose reply is awaited was sent once at least,
--- and once more than there are retries at most.
+-- A request that is to be sent was sent at most `retries` times so far; one whose reply is awaited was sent at least once and at
+-- most `retries + 1` times.
 abbrev pub IsWithin : ℕ → Hand → Type 0
 IsWithin retries Empty = Unit {0}
 IsWithin retries (ToSend transaction) = transaction.sendings ≤ retries
 IsWithin retries (Awaiting transaction time) = (0 < transaction.sendings) × (transaction.sendings ≤ retries + 1)
 
--- A submission is rejected if a request is in hand, and otherwise if the request may not be sent to the address.
+-- A submission is rejected if a request is in hand, or else if the new request may not be sent to the address.
 abbrev pub result_submitted : Hand → Address → Request → Result (Unit {0}) Rejected
 result_submitted Empty address request =
     if may_ask address request then Ok tt else Err (record { fault = WrongAddress; request = request })
 result_submitted (ToSend transaction) address request = Err (record { fault = Pending; request = request })
 result_submitted (Awaiting transaction time) address request = Err (record { fault = Pending; request = request })
 
--- A request that is not rejected is then in hand, not sent yet; a rejected one changes nothing.
+-- A request that is not rejected is then in hand and not sent yet; a rejected request changes nothing.
 abbrev pub hand_submitted : Hand → Address → Request → Hand
 hand_submitted Empty address request =
     if may_ask address request then ToSend (record { address = address; request = request; sendings = 0 }) else Empty
@@ -58,45 +58,44 @@ frame_sent id (ToSend transaction) =
     Some (request_parts id transaction.address (command_of transaction.request) (request_data transaction.request))
 frame_sent id (Awaiting transaction time) = None
 
--- It was then sent once more, and its reply is awaited from now on.
+-- A request that is sent has one sending more, and its reply is awaited from then on.
 abbrev pub hand_sent : Hand → Hand
 hand_sent Empty = Empty
 hand_sent (ToSend transaction) = Awaiting (record transaction { sendings = transaction.sendings + 1 }) 0
 hand_sent (Awaiting transaction time) = Awaiting transaction time
 
--- A delivery brings a reply if that is awaited, and the delivery is accepted as it.
+-- A delivery brings a reply if one is awaited and the delivery is accepted as this reply.
 abbrev pub DeliveryBrings : MasterId → Hand → List Character → Reply → Type 0
 DeliveryBrings id Empty delivery reply = ⊥
 DeliveryBrings id (ToSend transaction) delivery reply = ⊥
 DeliveryBrings id (Awaiting transaction time) delivery reply = IsAccepted id transaction.address transaction.request delivery reply
 
--- A frame brings a reply if that is awaited, and the frame is it.
+-- A frame brings a reply if one is awaited and the frame is this reply.
 abbrev pub FrameBrings : MasterId → Hand → FrameParts → Reply → Type 0
 FrameBrings id Empty frame reply = ⊥
 FrameBrings id (ToSend transaction) frame reply = ⊥
 FrameBrings id (Awaiting transaction time) frame reply = IsReplyTo id transaction.address transaction.request frame reply
 
--- The request is answered, with the reply that is brought and the number of its sendings, or nothing is heard, if none is
--- brought.
+-- The event is `Answered`, with the reply that was brought and the number of sendings, or `Nothing` if no reply was brought.
 abbrev pub IsHeard : Hand → (Reply → Type 0) → MasterEvent → Type 0
 IsHeard hand Brought (Answered reply sendings) = Brought reply × (sendings ≡ sendings_of hand)
 IsHeard hand Brought Nothing = (reply : Reply) → Brought reply → ⊥
 IsHeard hand Brought Retry = ⊥
 IsHeard hand Brought (NoReply sendings) = ⊥
 
--- An answered request is no longer in hand, and otherwise nothing changes.
+-- An answered request is no longer in hand; without an answer, nothing changes.
 abbrev pub hand_heard : Hand → MasterEvent → Hand
 hand_heard hand (Answered reply sendings) = Empty
 hand_heard hand Nothing = hand
 hand_heard hand Retry = hand
 hand_heard hand (NoReply sendings) = hand
 
--- Character times add up to 255 at most.
+-- Character times add up, but to 255 at most.
 abbrev pub time_ticked : ℕ → ℕ → ℕ
 time_ticked time character_times = min (time + character_times) 255
 
--- Below the reply limit a reply is still awaited; from it on the request is to be sent again if it was sent as often as there
--- are retries at most, and otherwise it has no reply.
+-- Below the reply limit, a reply is still awaited. From the limit on, the request is to be sent again if it was sent at most
+-- `retries` times; otherwise it has no reply.
 abbrev pub event_ticked : (retries reply_limit : ℕ) → Hand → ℕ → MasterEvent
 event_ticked retries reply_limit Empty character_times = Nothing
 event_ticked retries reply_limit (ToSend transaction) character_times = Nothing
@@ -105,7 +104,7 @@ event_ticked retries reply_limit (Awaiting transaction time) character_times =
     else if nat_le transaction.sendings retries then Retry
     else NoReply transaction.sendings
 
--- The time of a wait goes on, a request that is to be sent again stays in hand, and one that has no reply does not.
+-- A wait goes on with its new time, a request that is to be sent again stays in hand, and a request without a reply is dropped.
 abbrev pub hand_ticked : (retries reply_limit : ℕ) → Hand → ℕ → Hand
 hand_ticked retries reply_limit Empty character_times = Empty
 hand_ticked retries reply_limit (ToSend transaction) character_times = ToSend transaction

@@ -7,8 +7,7 @@ use Rattle.hart_commands.specs.Commands.{may_be_broadcast}
 use Rattle.hart_commands.specs.RequestData.{command_of}
 use Rattle.hart_commands.specs.declared.request.Request.{Request}
 
--- To a polling address Command 0 alone is sent, to broadcast Commands 11 and 21 alone, and to any other unique address every
--- command.
+-- Only Command 0 is sent to a polling address, only Commands 11 and 21 by broadcast, and every command to any other unique address.
 abbrev pub may_ask : Address → Request → Bool
 may_ask (Polling number) request = command_of request == 0
 may_ask (Unique numbers) request =

@@ -1,4 +1,4 @@
--- The unique address that a reply gives (HCF_SPEC-127).
+-- The unique address in a reply (HCF_SPEC-127).
 use Rattle.std.specs.Prelude.{◌+◌, ◌*◌, ◌%◌, ◌^◌, ◌==◌, if◌then◌else◌, slice_index, Option, None, Some}
 use Rattle.hart_values.specs.declared.address.Address.{Address}
 use Rattle.hart_values.specs.declared.address.Address.TheVariants.{Unique}
@@ -18,11 +18,11 @@ address_of identity = Unique (record {
       65536 * slice_index identity.device_id 0 + 256 * slice_index identity.device_id 1 + slice_index identity.device_id 2;
 })
 
--- An identity gives its address, unless that is broadcast, and no other content gives one.
+-- An identity has a unique address, unless this is the broadcast address; no other content has one.
 abbrev pub address_in : ReplyContent → Option Address
 address_in (Identity identity) = if is_broadcast (address_of identity) then None else Some (address_of identity)
 address_in _ = None
 
--- A reply gives the address in its content if its code is 0.
+-- The unique address in a reply is that of its content if the code is 0; otherwise there is none.
 abbrev pub unique_in : Reply → Option Address
 unique_in reply = if reply.code == 0 then address_in reply.content else None

@@ -5,10 +5,10 @@ use hart_commands::Reply;
 pub enum MasterEvent {
     /// This reply was accepted, after this number of sendings.
     Answered(Reply, u8),
-    /// Nothing: there is no request, its reply is still awaited, or it is due to be sent.
+    /// Nothing: no request is in hand, its reply is still awaited, or the request is due to be sent.
     Nothing,
-    /// Its reply did not come in time, and it is due to be sent again.
+    /// The reply did not come in time, and the request is due to be sent again.
     Retry,
-    /// It was given up, since none of this number of sendings had a reply.
+    /// The request was given up: it was sent this number of times, and no reply was accepted.
     NoReply(u8),
 }

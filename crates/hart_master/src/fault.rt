@@ -34,7 +34,7 @@ impl MasterFault {
 /// A request that a master did not take, and the reason.
 #[derive(Debug, Drop, PartialEq, Eq)]
 pub struct Rejected {
-    /// Why it was not taken.
+    /// Why the request was not taken.
     pub fault: MasterFault,
     /// The request.
     pub request: Request,

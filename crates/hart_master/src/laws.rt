@@ -1,4 +1,4 @@
-//! Laws over the definitions alone, for the crates above.
+//! Laws about the definitions alone, for the crates that use this one.
 ghost use Rattle.std.specs.Prelude.{◌≡◌, ◌≤◌, ◌⊎◌, ◌∷◌, [], List, slice_index};
 ghost use Rattle.hart_values.specs.declared.master_id.MasterId.{MasterId};
 ghost use Rattle.hart_values.specs.declared.address.Address.{Address};
@@ -12,7 +12,7 @@ ghost use Rattle.hart_master.specs.Acceptance.{IsAccepted, IsReplyTo};
 
 use hart_frame::laws::{every_list_has_frames, frames_are_unambiguous};
 
-/// A frame is one reply to a request, or none.
+/// A frame is exactly one reply to a request, or is no reply to it.
 pub fn replies_are_decided()
     ensures one_reply { (id : MasterId) (address : Address) (request : Request) (frame : FrameParts) (r s : Reply)
         → IsReplyTo id address request frame r → IsReplyTo id address request frame s → r ≡ s }
@@ -21,7 +21,7 @@ pub fn replies_are_decided()
         ⊎ ((reply : Reply) → IsReplyTo id address request frame reply → ⊥) }
 {}
 
-/// A delivery is accepted as one reply or as none. Its frames decide which.
+/// A delivery is accepted as exactly one reply or as none. Its frames decide which.
 pub fn acceptance_is_decided()
     ensures one_reply { (id : MasterId) (address : Address) (request : Request) (delivery : List Character) (r s : Reply)
         → IsAccepted id address request delivery r → IsAccepted id address request delivery s → r ≡ s }
@@ -40,8 +40,8 @@ pub fn acceptance_is_decided()
     replies_are_decided();
 }
 
-/// Communication faults are no reply. A frame whose first status byte has bit 7 set is a reply to no request, so a delivery that has
-/// only this frame is never accepted.
+/// Communication faults are no reply. A frame whose first status byte has bit 7 set is not a reply to any request. So a delivery
+/// that has only this frame is never accepted.
 pub fn communication_faults_are_no_reply()
     ensures frame { (id : MasterId) (address : Address) (request : Request) (frame : FrameParts) (reply : Reply)
         → 128 ≤ slice_index frame.payload 0 → IsReplyTo id address request frame reply → ⊥ }

@@ -1,7 +1,7 @@
 //! A master of a HART line: one request in hand, how often it is sent, and which reply is accepted (HCF_SPEC-081).
 //!
-//! A [`Master`] is a value without input or output. Its caller submits a request, sends the frame that [`Master::send`] gives,
-//! and hands in what is then heard, or the time that passes while nothing is.
+//! A [`Master`] does no input or output. Its caller submits a request, sends the frame that [`Master::send`] returns, and passes in
+//! what is then heard, or the time that passes in silence.
 //!
 //! ```rust
 //! let mut master = Master::new(MasterId::Primary, 1, 33)?;

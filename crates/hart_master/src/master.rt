@@ -16,13 +16,13 @@ use hart_values::{Address, MasterId, Payload};
 use std::marker::Model;
 use std::mem;
 
-/// The retry limit that a master can have at most.
+/// The highest retry limit that a master can have.
 const MOST_RETRIES: u8 = 15;
 
 /// One of the two masters, with one request in hand or none.
 ///
-/// A request is submitted and then sent. The master waits for its reply until the reply limit, and then sends it again, in all once
-/// more than its retries.
+/// A request is submitted and then sent. The master waits for the reply until the reply limit, and then sends the request again, at
+/// most `retries + 1` times in all.
 #[derive(Debug, Drop)]
 pub struct Master {
     id: MasterId,
@@ -43,8 +43,8 @@ impl Model for Master {
 }
 
 impl Master {
-    /// Makes a master with no request in hand. It sends a request again if it accepted no reply within `reply_limit` character times,
-    /// which is at least 1, and does so at most `retries` times, which is at most 15.
+    /// Makes a master with no request in hand. If it accepts no reply within `reply_limit` character times, it sends the request
+    /// again, at most `retries` times. The limit is at least 1, and there are at most 15 retries.
     ///
     /// # Errors
     ///
@@ -91,7 +91,7 @@ impl Master {
         }
     }
 
-    /// Takes a request in hand, for this address.
+    /// Takes a request for this address in hand.
     ///
     /// # Errors
     ///
@@ -117,13 +117,13 @@ impl Master {
         Err(Rejected { fault, request })
     }
 
-    /// Returns the frame of the request in hand if it is due, and waits for its reply from then on. The frame is an STX of this master
-    /// with the burst bit clear, no expansion bytes and the data of the request. If nothing is due the result is `None`, and nothing
-    /// changes.
+    /// Returns the frame of the request in hand if the request is due, and awaits the reply from then on. The frame is an STX of
+    /// this master with the burst bit clear, no expansion bytes and the data of the request. If nothing is due, the result is
+    /// `None` and nothing changes.
     pub fn send(&mut self) -> Option<Frame>
         ensures frame { result ≡ frame_sent self.old.id self.old.hand }
         ensures state { self.new ≡ record self.old { hand = hand_sent self.old.hand } }
-        // A request is sent once more than there are retries at most.
+        // A request is sent at most `retries + 1` times.
         ensures sent_before { IsSome result → sendings_of self.old.hand ≤ self.old.retries }
         ensures at_most { sendings_of self.new.hand ≤ self.old.retries + 1 }
     {
@@ -147,8 +147,8 @@ impl Master {
         }
     }
 
-    /// Like [`Master::send`], but writes the frame over `frame` and returns true. If nothing is due it returns false, and `frame` is
-    /// unchanged.
+    /// Like [`Master::send`], but writes the frame over `frame` and returns true. If nothing is due, it returns false and `frame`
+    /// is unchanged.
     pub fn send_into(&mut self, frame: &mut Frame) -> bool
         ensures sends { IsTrue result ↔ IsSome (frame_sent self.old.id self.old.hand) }
         ensures frame { IfSome (frame_sent self.old.id self.old.hand) (λ sent. frame.new ≡ sent) }
@@ -180,7 +180,7 @@ impl Master {
         }
     }
 
-    /// Hears a delivery. If it has exactly one frame, that is received as by [`Master::receive`]. Otherwise the result is
+    /// Hears a delivery. If it has exactly one frame, that frame is received as by [`Master::receive`]. Otherwise the result is
     /// [`MasterEvent::Nothing`], and nothing changes.
     pub fn hear(&mut self, delivery: &[Char]) -> MasterEvent
         ensures event { IsHeard self.old.hand (DeliveryBrings self.old.id self.old.hand delivery.now) result }
@@ -200,11 +200,11 @@ impl Master {
         }
     }
 
-    /// Receives a frame. If it is the awaited reply, returns that and the number of sendings, and lets go of the request. Otherwise the
-    /// result is [`MasterEvent::Nothing`], and nothing changes.
+    /// Receives a frame. If it is the awaited reply, returns the reply and the number of sendings, and drops the request. Otherwise
+    /// the result is [`MasterEvent::Nothing`], and nothing changes.
     ///
-    /// A reply is an ACK without expansion bytes, with the master's bit, the address and the command of the request, whose payload
-    /// [`Reply::read`](hart_commands::Reply::read) accepts. Its burst bit is ignored.
+    /// A reply is an ACK without expansion bytes. It has this master's bit and the request's address and command, and
+    /// [`Reply::read`](hart_commands::Reply::read) accepts its payload. Its burst bit is ignored.
     pub fn receive(&mut self, frame: &Frame) -> MasterEvent
         ensures event { IsHeard self.old.hand (FrameBrings self.old.id self.old.hand frame.now) result }
         ensures state { self.new ≡ record self.old { hand = hand_heard self.old.hand result } }
@@ -224,11 +224,11 @@ impl Master {
         MasterEvent::Answered(reply, sendings)
     }
 
-    /// Lets some character times pass. 255 stands for longer times too.
+    /// Lets some character times pass. 255 means 255 or more.
     ///
-    /// While a reply is awaited the times add up, to 255 at most. From the reply limit on the result is [`MasterEvent::Retry`], and the
-    /// request is due again; or [`MasterEvent::NoReply`] if it was sent once more than the retries, and it is no longer in hand.
-    /// Otherwise the result is [`MasterEvent::Nothing`].
+    /// While a reply is awaited, the times add up to 255 at most. Once they reach the reply limit, the result is
+    /// [`MasterEvent::Retry`] and the request is due again; but if it was sent `retries + 1` times, the result is
+    /// [`MasterEvent::NoReply`] and the request is no longer in hand. Otherwise the result is [`MasterEvent::Nothing`].
     pub fn tick(&mut self, character_times: u8) -> MasterEvent
         ensures event { result ≡ event_ticked self.old.retries self.old.reply_limit self.old.hand character_times }
         ensures state { self.new ≡ record self.old {

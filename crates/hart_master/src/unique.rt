@@ -4,7 +4,7 @@ ghost use Rattle.hart_master.specs.Unique.{address_of, unique_in};
 use hart_commands::{IdentityContent, Reply, ReplyContent};
 use hart_values::Address;
 
-/// Returns the unique address in an identity with code 0. The result is `None` for every other reply, and for the broadcast address.
+/// Returns the unique address of an identity with code 0, or `None` for any other reply and for the broadcast address.
 ///
 /// An address has only the lower 14 bits of the expanded device type.
 pub fn unique_of(reply: &Reply) -> Option<Address>
@@ -18,7 +18,7 @@ pub fn unique_of(reply: &Reply) -> Option<Address>
     }
 }
 
-/// Returns the address of these numbers, which may be broadcast.
+/// Returns the address of an identity, which may be the broadcast address.
 fn address_of(identity: &IdentityContent) -> Address
     ensures { result ≡ address_of identity.now }
 {
