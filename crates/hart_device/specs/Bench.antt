@@ -1,4 +1,4 @@
--- The bench device: the device that a program has if it is given no other (own profile).
+-- The bench device: the default device of a program (own profile).
 use Rattle.std.specs.Prelude.{ℕ, List, [], ◌∷◌, ◌++◌, replicate}
 use Rattle.hart_values.specs.hart_date.Calendar.{not_set}
 use Rattle.hart_values.specs.declared.bits32.Bits32.{Bits32}
@@ -7,7 +7,7 @@ use Rattle.hart_device.specs.declared.identity_parts.IdentityParts.{IdentityPart
 use Rattle.hart_device.specs.declared.process.Process.{Process}
 use Rattle.hart_device.specs.declared.registers.values.RegisterValues.{RegisterValues}
 
--- It is a device of type hex 3742 and id hex 0A1B2C.
+-- The bench device has type hex 3742 and id hex 0A1B2C.
 abbrev pub bench_identity : IdentityParts
 bench_identity = record {
   expanded_device_type = 0x3742;
@@ -43,12 +43,12 @@ bench_values = record {
   long_tag = replicate 32 0x20;
 }
 
--- Four bytes of a float, the most significant first.
+-- A float of four bytes, the most significant first.
 abbrev pub float : ℕ → ℕ → ℕ → ℕ → Bits32
 float a b c d = record { 0 = a ∷ b ∷ c ∷ d ∷ [] }
 
--- Its process is at 12 mA, 50 percent and 25 degrees Celsius, and has one variable, of a sensor from 0 to 200 degrees that is
--- ranged from 0 to 100.
+-- Its process is at 12 mA, 50 percent and 25 degrees Celsius. It has one variable. The limits of the sensor are 0 and 200 degrees,
+-- and the range is from 0 to 100.
 abbrev pub bench_process : Process
 bench_process = record {
   loop_current = float 0x41 0x40 0x00 0x00;

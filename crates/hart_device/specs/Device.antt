@@ -1,5 +1,5 @@
--- What a contract sees of a device, and how a command, a reply and a restart change it (HCF_SPEC-099, HCF_SPEC-127; that Command 38 is no
--- write, that a write counts also if the value was there already, and that each master has a cold start bit, is of the own profile).
+-- What a contract sees of a device, and how a command, a reply and a restart change it (HCF_SPEC-099, HCF_SPEC-127; of the own
+-- profile: Command 38 is no write, a write of the value that was there already counts, and each master has a cold start bit).
 use Rattle.std.specs.Prelude.{ℕ, ◌<◌, ◌+◌, ◌%◌, ◌^◌, Bool, true, false}
 use Rattle.hart_values.specs.declared.master_id.MasterId.{MasterId}
 use Rattle.hart_values.specs.EachMaster.{with_master}
@@ -10,9 +10,9 @@ use Rattle.hart_device.specs.declared.registers.values.RegisterValues.{RegisterV
 use Rattle.hart_device.specs.Identity.{AreIdentityParts}
 use Rattle.hart_device.specs.registers.Values.{values_of}
 
--- A device is who it is, what its registers hold, its configuration change counter, for each master its configuration-changed
--- bit, which is set if the configuration has changed since this master last reset it, whether it is write protected, and for each
--- master its cold start bit. That is set from a restart on, until a reply with a response code has shown it to this master.
+-- The state of a device: its identity, register contents, configuration change counter, write protection, and two bits for each
+-- master. The configuration-changed bit is set if the configuration has changed since this master last reset the bit. The cold
+-- start bit is set from a restart on, until a reply with a response code has shown it to this master.
 pub record DeviceState : Type 0 where
   pub identity : IdentityParts
   pub contents : Contents
@@ -21,18 +21,18 @@ pub record DeviceState : Type 0 where
   pub protected : Bool
   pub cold_start : EachMaster Bool
 
--- Every device is well made: its parts are an identity, its registers hold bytes that are valid in them, and its counter has two bytes.
+-- Every device is well made: its parts make an identity, its registers hold valid bytes, and its counter fits in two bytes.
 pub record IsDevice (state : DeviceState) : Type 0 where
   pub identity : AreIdentityParts state.identity
   pub contents : AreValid state.contents
   pub counter : state.counter < 2 ^ 16
 
--- A bit that is set for both masters, or for neither.
+-- The same bit for both masters.
 abbrev pub for_both : Bool → EachMaster Bool
 for_both bit = record { primary = bit; secondary = bit }
 
--- A new device holds the values that it is given; its counter is 0, it is not protected, and no master's configuration-changed bit or
--- cold start bit is set.
+-- A new device holds the values that it is given. Its counter is 0, it is not protected, and its configuration-changed bits and
+-- cold start bits are clear.
 abbrev pub new_device : IdentityParts → RegisterValues → DeviceState
 new_device identity values = record {
   identity = identity;
@@ -50,9 +50,9 @@ pub data Effect : Type 0 where
   Executes : (overwrite : Overwrite) → Effect
   Resets : Effect
 
--- An execution overwrites the registers, adds one to the counter, in which 65535 is followed by 0, and sets both masters'
--- configuration-changed bits, also if the registers held these bytes before; a reset clears the bit of the asking master
--- alone; all else stays as it is.
+-- An execution overwrites the registers, adds one to the counter (65535 is followed by 0) and sets both masters'
+-- configuration-changed bits, even if the registers held these bytes before. A reset clears only the bit of the asking master.
+-- All else stays as it is.
 abbrev pub after : MasterId → Effect → DeviceState → DeviceState
 after master Nothing state = state
 after master (Executes overwrite) state = record state {

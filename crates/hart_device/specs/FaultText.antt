@@ -3,7 +3,7 @@ use Rattle.std.specs.Prelude.{ℕ, List, codes}
 use Rattle.hart_device.specs.declared.fault.DeviceFault.{DeviceFault}
 use Rattle.hart_device.specs.declared.fault.DeviceFault.TheVariants.{BroadcastAddress, OutOfRange, BadVersion, BadLength, BadField}
 
--- A fault of a device has this text.
+-- The text of each fault of a device.
 abbrev pub device_fault_text : DeviceFault → List ℕ
 device_fault_text BroadcastAddress = codes "broadcast address"
 device_fault_text OutOfRange = codes "out of range"

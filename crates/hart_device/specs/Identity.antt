@@ -1,4 +1,4 @@
--- Who a device is (HCF_SPEC-127), by the numbers that it is made with.
+-- The identity of a device (HCF_SPEC-127), from the numbers that it is made with.
 use Rattle.std.specs.Prelude.{◌≡◌, ℕ, ◌+◌, ◌*◌, ◌/◌, ◌%◌, ◌^◌, ◌<◌, List, [], ◌∷◌}
 use Rattle.hart_values.specs.address.DeviceNumbers.{DeviceNumbers}
 use Rattle.hart_values.specs.address.AddressBytes.{broadcast}
@@ -9,8 +9,8 @@ use Rattle.hart_device.specs.declared.identity_parts.IdentityParts.{IdentityPart
 use Rattle.hart_device.specs.declared.fault.DeviceFault.{DeviceFault}
 use Rattle.hart_device.specs.declared.fault.DeviceFault.TheVariants.{BroadcastAddress, OutOfRange}
 
--- The parts of an identity are in range if the device id has 24 bits, a sender can put both numbers of preamble bytes, the
--- hardware revision has 5 bits and the physical signalling code has 3.
+-- The parts of an identity are in range if the device id has at most 24 bits, both numbers of preamble bytes are 5 to 20, the
+-- hardware revision has at most 5 bits and the physical signalling code has at most 3.
 pub record AreInRange (parts : IdentityParts) : Type 0 where
   pub device_id : parts.device_id < 2 ^ 24
   pub request_preambles : IsPreambleCount parts.request_preambles
@@ -22,12 +22,12 @@ pub record AreInRange (parts : IdentityParts) : Type 0 where
 abbrev pub own_numbers : IdentityParts → DeviceNumbers
 own_numbers parts = record { expanded_type = parts.expanded_device_type % 2 ^ 14; device_id = parts.device_id }
 
--- Parts are an identity if they are in range and the device's unique address is not the broadcast address.
+-- Parts make an identity if they are in range and the device's unique address is not the broadcast address.
 pub record AreIdentityParts (parts : IdentityParts) : Type 0 where
   pub in_range : AreInRange parts
   pub own_address : ¬ (Unique (own_numbers parts) ≡ broadcast)
 
--- Parts are refused as out of range, otherwise for the broadcast address, and for nothing else.
+-- Parts are refused if they are out of range, and otherwise only if the device's unique address is the broadcast address.
 abbrev pub IsIdentityFault : IdentityParts → DeviceFault → Type 0
 IsIdentityFault parts OutOfRange = ¬ AreInRange parts
 IsIdentityFault parts BroadcastAddress = AreInRange parts × (Unique (own_numbers parts) ≡ broadcast)
@@ -41,8 +41,8 @@ two_bytes n = n / 256 ∷ n % 256 ∷ []
 abbrev pub three_bytes : ℕ → List ℕ
 three_bytes n = n / 65536 ∷ n / 256 % 256 ∷ n % 256 ∷ []
 
--- What an identity, a configuration change counter and an extended device status say to a master: the major revision of the
--- protocol is 7, and the hardware revision stands in the upper five bits of the byte that it shares with the signalling code.
+-- The identity content of a reply, with this configuration change counter and this extended device status. The major revision of
+-- the protocol is 7. The hardware revision stands in the upper five bits of the byte that it shares with the signalling code.
 abbrev pub identity_content : IdentityParts → ℕ → ℕ → IdentityContent
 identity_content parts counter extended_device_status = record {
   expanded_device_type = two_bytes parts.expanded_device_type;

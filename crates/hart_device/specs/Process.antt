@@ -1,5 +1,4 @@
--- The values of the process that a device is handed with each request (HCF_SPEC-127; how they are handed over is of the own
--- profile).
+-- The process values that are passed to a device with each request (HCF_SPEC-127; how they are passed is of the own profile).
 use Rattle.std.specs.Prelude.{◌≡◌, ◌≤◌, ℕ, Bool, ◌||◌, not, ◌==◌, All, List, ◌∷◌, length, take, drop, slice_index}
 use Rattle.std.specs.List.{list_any}
 use Rattle.hart_values.specs.declared.bits32.Bits32.{Bits32}
@@ -14,7 +13,7 @@ dynamic_variables process = process.first ∷ process.others
 abbrev pub extended_device_status : Process → ℕ
 extended_device_status process = slice_index process.additional_status 6
 
--- Some byte of a list is not zero.
+-- Whether any byte of a list is not zero.
 abbrev pub is_any_set : List ℕ → Bool
 is_any_set bytes = list_any (λ byte. not (byte == 0)) bytes
 
@@ -26,8 +25,8 @@ has_more_status process = is_any_set (take 6 process.additional_status) || is_an
 abbrev pub IsFloat : Bits32 → Type 0
 IsFloat float = length float.0 ≡ 4
 
--- A process is well made if it has three dynamic variables beside the first at most, and each of its parts has the size of its type: a
--- float and the time stamp four bytes, the additional status 25 and the serial number of the sensor three.
+-- A process is well made if it has at most three dynamic variables beside the first, and each of its parts has the size of its
+-- type: four bytes for a float and for the time stamp, 25 for the additional status and three for the serial number of the sensor.
 pub record IsProcess (process : Process) : Type 0 where
   pub loop_current : IsFloat process.loop_current
   pub percent_of_range : IsFloat process.percent_of_range

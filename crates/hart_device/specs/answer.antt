@@ -1,4 +1,4 @@
--- The answer: who is answered, with what, and what it does to the device.
+-- The answer: which frames are answered, with what, and how that changes the device.
 pub mod Status
 pub mod Variables
 pub mod Content

@@ -26,9 +26,9 @@ mod variables;
 const IDENTIFY: u8 = 0;
 
 impl<S: RegisterStore> Device<S> {
-    /// Hears a delivery, which is what was heard at once, and returns the reply. If the delivery has exactly one frame, the device
-    /// receives it as by [`Device::receive`]. If it has no frame but a garbled request, the reply has its communication faults, and
-    /// the device is unchanged. To any other delivery the device is silent (`None`) and unchanged.
+    /// Hears a delivery, all that was heard at once, and returns the reply. If the delivery has exactly one frame, the device
+    /// receives that frame as [`Device::receive`] does. If it has no frame but a garbled request, the reply has the communication
+    /// faults of the request, and the device is unchanged. For any other delivery the device is silent (`None`) and unchanged.
     ///
     /// ```rust
     /// let mut device: Device<FieldRegisters> = Device::new(
@@ -47,14 +47,14 @@ impl<S: RegisterStore> Device<S> {
     {
         match lone_frame(delivery) {
             LoneFrame::Alone(found) => self.receive(&found.frame, process),
-            // Nothing is carried out of a garbled request.
+            // A garbled request is answered, but not carried out.
             LoneFrame::NoFrame => self.reply_to_garbled(delivery),
             LoneFrame::Several => None,
         }
     }
 
-    /// Returns the communication-fault reply to the garbled request of a delivery, or `None` if it has none. Use it for a delivery
-    /// without a frame, since a whole request has the form of a garbled one too.
+    /// Returns the communication-fault reply to the garbled request of a delivery, or `None` if there is no such request. Use it
+    /// only for a delivery without a frame: a whole request also has the form of a garbled one.
     pub fn reply_to_garbled(&self, delivery: &[Char]) -> Option<Frame>
         ensures reply { MatchOption result ((request : GarbledRequest) → HasGarbled self.now.identity delivery.now request → ⊥)
             (λ reply. (request : GarbledRequest) × HasGarbled self.now.identity delivery.now request
@@ -64,10 +64,10 @@ impl<S: RegisterStore> Device<S> {
         Some(request.reply(&self.identity))
     }
 
-    /// Receives a frame and returns the reply. Silence (`None`) changes nothing.
+    /// Receives a frame and returns the reply, or `None` for silence, which changes nothing.
     ///
-    /// The reply describes the state after the command. It shows the master's cold start bit and clears it, whatever its response code.
-    /// A command with another code than 0 changes nothing else.
+    /// The reply describes the state after the command. Whatever its response code, it shows the master's cold start bit and clears
+    /// it. A command with another code than 0 changes nothing else.
     pub fn receive(&mut self, frame: &Frame, process: &Process) -> Option<Frame>
         ensures answer { result ≡ answer_of self.old process.now frame.now }
         ensures state { self.new ≡ state_after self.old frame.now }
@@ -80,7 +80,7 @@ impl<S: RegisterStore> Device<S> {
         }
     }
 
-    /// Like [`Device::receive`], but writes the reply over `reply` and returns true. In silence it returns false, and `reply` is
+    /// Like [`Device::receive`], but writes the reply to `reply` and returns true. For silence it returns false, and `reply` is
     /// unchanged.
     pub fn receive_into(&mut self, frame: &Frame, process: &Process, reply: &mut Frame) -> bool
         ensures answers { IsTrue result ↔ IsSome (answer_of self.old process.now frame.now) }
@@ -112,7 +112,7 @@ impl<S: RegisterStore> Device<S> {
         true
     }
 
-    /// Judges a frame: the request to carry out, or the code that refuses it. `None` is silence.
+    /// Judges a frame: returns the request to carry out, or the code that refuses it, or `None` for silence.
     fn judge(&self, frame: &Frame) -> Option<Result<Request, ResponseCode>>
         ensures { MatchOption result (is_answered self.now frame.now ≡ false)
             (λ judged. (is_answered self.now frame.now ≡ true) × (judged ≡ judged_of self.now frame.now)) }
@@ -145,7 +145,7 @@ impl<S: RegisterStore> Device<S> {
             && !(frame.address().is_broadcast() && code != ResponseCode::SUCCESS)
     }
 
-    /// Returns true for a request without expansion bytes whose address and command are paired.
+    /// Returns true for a request without expansion bytes, if the device answers its command at its address.
     fn is_addressed(&self, frame: &Frame) -> bool
         ensures { result ≡ is_addressed self.now frame.now }
     {
@@ -207,7 +207,7 @@ impl<S: RegisterStore> Device<S> {
         }
     }
 
-    /// Replaces `payload` by that of the reply to a judged frame.
+    /// Replaces `payload` by the payload of the reply to a judged frame.
     fn write_payload(
         &self,
         frame: &Frame,

@@ -1,4 +1,4 @@
-//! The bench device (own profile): the device of a program that is given no other.
+//! The bench device (own profile): the default device of a program.
 ghost use Rattle.std.specs.Prelude.{◌≡◌};
 ghost use Rattle.hart_device.specs.Bench.{bench_identity, bench_process, bench_values};
 
@@ -48,8 +48,8 @@ pub fn identity() -> Identity
     .unwrap()
 }
 
-/// Returns the first values of the registers: polling address 0, loop current enabled, texts of spaces, date not set, assembly number
-/// 0, long tag of spaces.
+/// Returns the initial values of the registers: polling address 0, loop current enabled, texts of spaces, date not set, assembly
+/// number 0, long tag of spaces.
 pub fn register_values() -> RegisterValues
     ensures { result ≡ bench_values }
 {

@@ -2,7 +2,7 @@
 ghost use Rattle.std.specs.Prelude.{◌≡◌};
 ghost use Rattle.hart_device.specs.Bits.{bit_if};
 
-/// Returns a bit, or 0 if a condition does not hold.
+/// Returns `bit` if the condition holds, and 0 otherwise.
 pub(crate) fn bit_if(holds: bool, bit: u8) -> u8
     ensures { result ≡ bit_if holds bit }
 {

@@ -12,7 +12,7 @@ use std::marker::Model;
 
 /// A HART field device (HCF_SPEC-081, HCF_SPEC-127), over any store of its registers.
 ///
-/// Contracts see who it is, the contents of its registers, the configuration change counter, the configuration-changed bit of
+/// Contracts see its identity, the contents of its registers, the configuration change counter, the configuration-changed bit of
 /// each master, whether it is write protected, and the cold start bit of each master. Every register holds bytes that are valid in
 /// it.
 #[derive(Debug, Drop)]
@@ -45,8 +45,8 @@ impl<S: RegisterStore> Model for Device<S> {
 }
 
 impl<S: RegisterStore> Device<S> {
-    /// Makes a device with this identity and these values of its registers. Its counter is 0, its configuration has changed for neither
-    /// master, it is not write protected, and its cold start bits are clear.
+    /// Makes a device with this identity and these register values. Its counter is 0, its configuration-changed bits and cold start
+    /// bits are clear, and it is not write protected.
     pub fn new(identity: Identity, values: &RegisterValues) -> Self
         ensures { result ≡ new_device identity values.now }
     {
@@ -87,7 +87,7 @@ impl<S: RegisterStore> Device<S> {
         }
     }
 
-    /// Restarts the device: the next reply with a response code to each master shows a cold start, once. Nothing else changes.
+    /// Restarts the device: to each master, only the next reply with a response code shows a cold start. Nothing else changes.
     pub fn restart(&mut self)
         ensures { self.new ≡ restarted self.old }
     {
@@ -104,7 +104,7 @@ impl<S: RegisterStore> Device<S> {
         *self.cold_start.get(master)
     }
 
-    /// Sets the cold start bit of each master, for a device that was made from its image, which has none. Nothing else changes.
+    /// Sets the cold start bits, which are clear in a device made from an image. Nothing else changes.
     pub fn restore_cold_start(&mut self, cold_start: EachMaster<bool>)
         ensures { self.new ≡ record self.old { cold_start = cold_start } }
     {
@@ -147,7 +147,7 @@ impl<S: RegisterStore> Device<S> {
         *self.changed.get(master)
     }
 
-    /// Returns the number of preamble bytes of its replies, 5 to 20.
+    /// Returns the number of preamble bytes of the device's replies, 5 to 20.
     pub fn response_preambles(&self) -> u8
         ensures same { result ≡ self.now.identity.response_preambles }
         ensures in_range { IsPreambleCount result }

@@ -5,16 +5,16 @@ ghost use Rattle.hart_device.specs.FaultText.{device_fault_text};
 use std::fmt;
 use thiserror::Error;
 
-/// Why the parts of a device or its image were refused.
+/// Why the parts of an identity, or an image, were refused.
 #[derive(Clone, Copy, Debug, PartialEq, Eq, Error)]
 pub enum DeviceFault {
     /// The unique address would be the broadcast address.
     BroadcastAddress,
     /// A number of an identity is outside its range.
     OutOfRange,
-    /// An image of a version that is not known.
+    /// An image of an unknown version.
     BadVersion,
-    /// An image of no bytes, or of another length than its version has.
+    /// An image with no bytes, or with the wrong length for its version.
     BadLength,
     /// An image with bytes that are not valid in their register, or with flags above 7.
     BadField,

@@ -33,7 +33,7 @@ impl Model for Identity {
 }
 
 impl Identity {
-    /// Makes an identity of these parts.
+    /// Makes an identity from these parts.
     ///
     /// # Errors
     ///
@@ -61,7 +61,7 @@ impl Identity {
         address_of(&self.parts)
     }
 
-    /// The number of preamble bytes of a reply, 5 to 20.
+    /// Returns the number of preamble bytes of a reply, 5 to 20.
     pub fn response_preambles(&self) -> u8
         ensures same { result ≡ self.now.response_preambles }
         ensures in_range { IsPreambleCount result }
@@ -106,7 +106,7 @@ fn is_in_range(parts: &IdentityParts) -> bool
         && parts.signalling_code < 1 << 3
 }
 
-/// Returns the unique address of the lower 14 bits of the type and of the device id.
+/// Returns the unique address made of the lower 14 bits of the device type and of the device id.
 fn address_of(parts: &IdentityParts) -> UniqueAddress
     requires { parts.now.device_id < 2 ^ 24 }
     ensures { result ≡ own_numbers parts.now }

@@ -1,4 +1,4 @@
-//! The image of a device: what it holds, in bytes that are kept while it is stopped (own profile).
+//! The image of a device: the bytes that are kept of it while it is stopped (own profile).
 ghost use Rattle.std.specs.Prelude.{◌≡◌, ◌<◌, ◌^◌, ◌↔◌, ◌⊎◌, [], ◌∷◌, ◌++◌, false, IsOk, IfOk, IfErr, IfSome, IfNone, length, slice_index};
 ghost use Rattle.hart_commands.specs.Registers.{AreValid};
 ghost use Rattle.hart_device.specs.Identity.{two_bytes};
@@ -30,10 +30,10 @@ const VERSION_2: u8 = 2;
 /// The number of bytes of the registers in an image of version 1.
 const ARRAY_LEN_OF_VERSION_1: usize = 50;
 
-/// An image ends with two bytes of the counter and the flags.
+/// The number of bytes at the end of an image: two for the counter and one for the flags.
 const ENDING_LEN: usize = 3;
 
-/// What an image says.
+/// The contents of an image.
 #[derive(Clone, Copy)]
 pub(crate) struct ImageParts {
     /// The values of the registers.
@@ -45,7 +45,7 @@ pub(crate) struct ImageParts {
 }
 
 impl<S: RegisterStore> Device<S> {
-    /// Returns the image of the device, of version 2: what it holds without its identity and its cold start bits.
+    /// Returns the image of the device, in version 2: all that it holds except its identity and its cold start bits.
     /// [`Device::from_image`] reads it, and [`Device::restore_cold_start`] restores the cold start bits.
     pub fn image(&self) -> Image
         ensures written { result ≡ image_of self.now }
@@ -71,8 +71,8 @@ impl<S: RegisterStore> Device<S> {
         image
     }
 
-    /// Makes a device with this identity from an image of version 1 or 2, with clear cold start bits. From version 1 its long tag is the
-    /// text of its tag and 24 spaces.
+    /// Makes a device with this identity from an image of version 1 or 2, with clear cold start bits. An image of version 1 has no
+    /// long tag: the device then gets the text of its tag and 24 spaces.
     ///
     /// # Errors
     ///
@@ -96,7 +96,7 @@ impl<S: RegisterStore> Device<S> {
     }
 }
 
-/// What an image says.
+/// Reads an image of either version.
 fn read_image(image: &[u8]) -> Result<ImageParts, DeviceFault>
     ensures kept { IfOk result (λ parts. (identity : IdentityParts) → IsImageOf (state_with identity parts) image.now) }
     ensures refused { IfErr result (IsImageFault image.now) }
@@ -139,7 +139,7 @@ fn read_version_2(rest: &[u8]) -> Result<ImageParts, DeviceFault>
     read_parts(&ImageRegisters { bytes }, ending).ok_or(DeviceFault::BadField)
 }
 
-/// Reads the registers and the last bytes of an image. The result is `None` if a field is bad.
+/// Reads the registers and the last bytes of an image, or returns `None` if a field is bad.
 fn read_parts(registers: &ImageRegisters, ending: &[u8]) -> Option<ImageParts>
     requires { length ending.now ≡ 3 }
     ensures registers { IfSome result (λ parts. values_of parts.values ≡ contents_in «registers».now.bytes) }

@@ -1,4 +1,4 @@
-//! Laws over the definitions alone, for the crates above.
+//! Laws about the definitions alone, for the crates that use this one.
 ghost use Rattle.std.specs.Prelude.{◌≡◌, ◌≢◌, ◌<◌, ◌⊎◌, ◌↔◌, ℕ, Bool, false, true, IsTrue, All, Ok, Option, None, Some, IfSome, IsSomeAnd};
 ghost use Rattle.std.specs.Prelude.{length, unwrap_or};
 ghost use Rattle.std.specs.Prelude.{List, [], ◌∷◌, ◌++◌, Contains, slice_get, if◌then◌else◌};
@@ -37,8 +37,8 @@ use hart_commands::laws::all_registers_are_listed_once;
 use hart_values::Bits32;
 use hart_values::laws::packed_text_and_bytes_determine_each_other;
 
-/// A command that is refused, or not answered, has no effect. It changes nothing of the device but the cold start bit of its master,
-/// which the reply shows and clears; without a reply nothing changes at all.
+/// A command that is refused, or not answered, has no effect. A command without effect changes only the cold start bit of its
+/// master, which the reply shows and clears; without a reply it changes nothing.
 pub fn refused_commands_change_nothing()
     ensures refused { (state : DeviceState) (frame : FrameParts) → code_of state frame ≢ 0 → effect_of state frame ≡ Nothing }
     ensures silent { (state : DeviceState) (frame : FrameParts)
@@ -49,8 +49,8 @@ pub fn refused_commands_change_nothing()
         → is_answered state frame ≡ false → state_after state frame ≡ state }
 {}
 
-/// An answer is a reply to the frame, whose first byte is the frame's response code; silence means that the frame is not
-/// answered.
+/// An answer is a reply to the frame, and the first byte of its payload is the frame's response code. Silence means that the frame
+/// is not answered.
 pub fn answers_give_their_code()
     ensures answered { (state : DeviceState) (process : Process) (frame reply : FrameParts)
         → answer_of state process frame ≡ Some reply
@@ -60,11 +60,11 @@ pub fn answers_give_their_code()
         → answer_of state process frame ≡ None → is_answered state frame ≡ false }
 {}
 
-/// A process is well made, whoever made it: the types of its parts say so.
+/// Every process is well made: the types of its parts ensure it.
 pub fn processes_are_well_made(process: &Process)
     ensures { IsProcess process.now }
 {
-    // No-ops, but for what their contracts say of each part.
+    // These calls do nothing: only their contracts are needed, one for each part.
     floats_have_four_bytes(&process.loop_current);
     floats_have_four_bytes(&process.percent_of_range);
     floats_have_four_bytes(&process.first.value);
@@ -94,8 +94,8 @@ fn serial_numbers_have_three_bytes(sensor: &SensorContent)
     sensor.serial_number.as_slice();
 }
 
-/// What a device with valid contents and a well-made process replies to a command that is known is a well-made reply, and a master
-/// reads the answer as that reply.
+/// To a known command, a device with valid contents and a well-made process gives a well-made reply, and a master reads the answer
+/// as that reply.
 pub fn answers_are_replies()
     ensures well_made { (state : DeviceState) (process : Process) (frame : FrameParts)
         → AreValid state.contents → IsProcess process → is_known frame.command ≡ true → IsReply (reply_of state process frame) }
@@ -105,9 +105,9 @@ pub fn answers_are_replies()
         → reply_reading frame.command answer.payload ≡ Some (reply_of state process frame) }
 {}
 
-/// A restart sets both masters' cold start bits. A reply with a response code shows its master's, and clears it; the other master's
-/// stays, and without a reply both stay. So after a restart the first such reply to each master shows the bit, and no other does until
-/// the next restart.
+/// A restart sets both masters' cold start bits. A reply with a response code shows the bit of its master and clears it. The bit of
+/// the other master stays, and without a reply both bits stay. So after a restart only the first such reply to each master shows
+/// the bit, until the next restart.
 pub fn cold_starts_are_shown_once()
     ensures shown { (state : DeviceState) (process : Process) (frame reply : FrameParts)
         → answer_of state process frame ≡ Some reply
@@ -123,8 +123,8 @@ pub fn cold_starts_are_shown_once()
         → (state_after state frame).cold_start ≡ state.cold_start }
 {}
 
-/// A list of characters has one garbled request for a device at most, and it has one or none. The bytes of the address with which
-/// one begins are those of the device's own, for either master and with any burst bit.
+/// A list of characters has at most one garbled request for a device, and it is decidable whether it has one. The test for the
+/// device's own address accepts exactly the bytes of its unique address, for either master and with any burst bit.
 pub fn garbled_requests_are_decided()
     ensures one { (identity : IdentityParts) (chars : List Character) (request other : GarbledRequest)
         → HasGarbled identity chars request → HasGarbled identity chars other → request ≡ other }
@@ -135,7 +135,7 @@ pub fn garbled_requests_are_decided()
         ↔ ((master : MasterId) × (burst : Bool) × IsAddressBytes master burst (Unique (own_numbers identity)) bytes) }
 {}
 
-/// Every delivery brings a device one thing: a frame, a garbled request, or no message.
+/// Every delivery brings a device exactly one of these: a frame, a garbled request, or no message.
 pub fn deliveries_bring_one()
     ensures brings { (identity : IdentityParts) (delivery : List Character)
         → (brought : Brought) × Brings identity delivery brought }
@@ -143,13 +143,13 @@ pub fn deliveries_bring_one()
         → Brings identity delivery brought → Brings identity delivery other → brought ≡ other }
 {}
 
-/// No frame changes who the device is, or whether it is protected.
+/// No frame changes the identity of the device or its write protection.
 pub fn frames_leave_identity_and_protection()
     ensures identity { (state : DeviceState) (frame : FrameParts) → (state_after state frame).identity ≡ state.identity }
     ensures protected { (state : DeviceState) (frame : FrameParts) → (state_after state frame).protected ≡ state.protected }
 {}
 
-/// A configuration write that is answered with code 0 executes its own overwrite, which is well made, and nothing else executes one.
+/// A configuration write answered with code 0 executes its own well-made overwrite, and nothing else executes an overwrite.
 pub fn writes_execute_their_overwrite()
     ensures executes { (state : DeviceState) (frame : FrameParts) (request : Request) (overwrite : Overwrite)
         → is_answered state frame ≡ true → code_of state frame ≡ 0
@@ -163,7 +163,7 @@ pub fn writes_execute_their_overwrite()
         → effect_of state frame ≡ Executes overwrite → IsRequest overwrite }
 {}
 
-/// Command 38 that is answered with code 0 resets, and nothing else does; the counter that it names, if any, is the device's.
+/// Command 38 answered with code 0 resets, and nothing else does. If the command names a counter, it is the device's counter.
 pub fn resets_name_this_counter()
     ensures resets { (state : DeviceState) (frame : FrameParts) (counter : Option ℕ)
         → is_answered state frame ≡ true → code_of state frame ≡ 0 → reading_of frame ≡ Ok (ResetChanged counter)
@@ -174,14 +174,14 @@ pub fn resets_name_this_counter()
         × (counter : Option ℕ) × (reading_of frame ≡ Ok (ResetChanged counter)) × IfSome counter (λ n. n ≡ state.counter) }
 {}
 
-/// An overwrite, another and the first again leave what the other and then the first leave.
+/// If the same overwrite is applied before and after another one, its first application makes no difference.
 pub fn overwrites_absorb()
     ensures { (first other : Overwrite) (old : Contents)
         → overwritten first (overwritten other (overwritten first old)) ≡ overwritten first (overwritten other old) }
 {}
 
-/// The registers of a list of overwrites are those that its first one and then the others leave, and those that the others and
-/// then its last one leave; and an overwrite that comes again later changes nothing.
+/// The registers of a list of overwrites result from applying them in order: each register holds the bytes of the last overwrite
+/// that names it, or else its initial bytes. An overwrite can be left out where the same one comes again later in the list.
 pub fn registers_of_lists()
     ensures each { (overwrites : List Overwrite) (initial : Contents) (register : Register)
         → bytes_in (registers_of overwrites initial) register
@@ -207,8 +207,8 @@ pub fn bytes_have_one_image_fault()
         → IsImageFault image fault → IsImageFault image other → fault ≡ other }
 {}
 
-/// A device's state has one image of each version, and an image is of one state of a device, but for who it is and for its cold start
-/// bits.
+/// A device's state has at most one image of each version. An image determines the state, except for the identity and the cold
+/// start bits.
 pub fn images_have_one_state()
     ensures one_image { (state : DeviceState) (image other : List ℕ) (is : IsImageOf state image) (other_is : IsImageOf state other)
         → is.version ≡ other_is.version → image ≡ other }
@@ -221,9 +221,9 @@ pub fn images_have_one_state()
     packed_text_and_bytes_determine_each_other();
 }
 
-/// A device is kept whole by who it is, an image of it and its cold start bits: what goes on from the image with this identity, and has
-/// these bits put back, stands in the state of the device. The image may be the one that the device writes, or any other of it in either
-/// version; it is an image of the device whichever cold start bits are set.
+/// The identity, an image and the cold start bits keep a device whole: a device made again from these three has the same state. The
+/// image may be the one that the device writes, or any other image of it in either version. It is an image of the device whichever
+/// cold start bits are set.
 pub fn devices_are_kept_whole()
     ensures image { (state : DeviceState) → IsDevice state → IsImageOf state (image_of state) }
     ensures any_cold_start { (state : DeviceState) (image : List ℕ) (cold_start : EachMaster Bool)
@@ -236,7 +236,7 @@ pub fn devices_are_kept_whole()
         → record other { cold_start = state.cold_start } ≡ state }
 {}
 
-/// A whole request of a master to the device's own unique address has the form of a garbled one, with its master and its command and
+/// A whole request to the device's own unique address has the form of a garbled request with the same master and command, and
 /// without a fault.
 pub fn whole_requests_have_the_form_of_garbled_ones()
     ensures { (identity : IdentityParts) (master : MasterId) (command : ℕ) (payload body : List ℕ)

@@ -1,8 +1,8 @@
-//! A HART field device (HCF_SPEC-081, HCF_SPEC-099, HCF_SPEC-127): its registers, what it answers to what it hears, and its
-//! state afterwards.
+//! A HART field device (HCF_SPEC-081, HCF_SPEC-099, HCF_SPEC-127): its registers, how it answers what it hears, and its state
+//! afterwards.
 //!
-//! A [`Device`] has an [`Identity`], registers in a [`RegisterStore`], a configuration change counter, a configuration-changed bit and
-//! a cold start bit for each master, and write protection. What the device measures is passed with each request, as a [`Process`].
+//! A [`Device`] has an [`Identity`], registers in a [`RegisterStore`], a configuration change counter, a configuration-changed bit
+//! and a cold start bit for each master, and write protection. What it measures is passed with each request, as a [`Process`].
 //!
 //! ```rust
 //! let mut device: Device<FieldRegisters> = Device::new(
@@ -17,16 +17,16 @@
 //! assert_eq!(rt; reply.payload(), [0, 0, 0, 1].as_slice());
 //! ```
 //!
-//! The program `hart` has the device of [`bench`]. Use [`Identity::new`] and [`RegisterStore`] for devices of your own. Of its [`laws`]
-//! no crate of `hart` cites `overwrites_absorb`, `frames_leave_identity_and_protection`, `cold_starts_are_shown_once`,
-//! `garbled_requests_are_decided` and `devices_are_kept_whole`: they are for whoever proves more of a device, and the last one for
-//! whoever keeps a device as bytes. No call of this crate allocates.
+//! The program `hart` uses the device of [`bench`]. Use [`Identity::new`] and [`RegisterStore`] for devices of your own. No call of
+//! this crate allocates. No crate of `hart` cites these [`laws`]: `overwrites_absorb`, `frames_leave_identity_and_protection`,
+//! `cold_starts_are_shown_once`, `garbled_requests_are_decided` and `devices_are_kept_whole`. They are for whoever proves more
+//! about a device, and the last one is for whoever keeps a device as bytes.
 //!
-//! The root has the device and what it is made with. The modules:
+//! The root exports the device and what it is made with. The modules:
 //!
-//! - `registers`: what holds the registers, and the two stores, a field for each and one array of them all.
-//! - `answer`: who is answered, with what, and what that does to the device.
-//! - `image`: what a device holds, in bytes that are kept while it is stopped.
+//! - `registers`: the trait of a register store, and two stores: one field for each register, and one array for all.
+//! - `answer`: which frames are answered, with what, and how that changes the device.
+//! - `image`: the bytes that are kept of a device while it is stopped.
 #![tactic(auto)]
 
 mod answer;

@@ -1,4 +1,4 @@
-//! What a device measures, and what it knows of its parts: handed in with each request, so that a device holds none of it.
+//! What a device measures and knows of its parts. All of it is passed with each request, so a device holds none of it.
 ghost use Rattle.std.specs.Prelude.{◌≡◌};
 ghost use Rattle.hart_device.specs.Process.{extended_device_status, has_more_status, is_any_set};
 
@@ -64,7 +64,7 @@ pub struct Process {
 }
 
 impl Process {
-    /// The extended device status.
+    /// Returns the extended device status.
     pub(crate) fn extended_device_status(&self) -> u8
         ensures { result ≡ extended_device_status self.now }
     {
@@ -81,7 +81,7 @@ impl Process {
     }
 }
 
-/// Returns true if one of some bytes is not 0.
+/// Returns true if any of the bytes is not 0.
 fn is_any_set(bytes: &[u8]) -> bool
     ensures { result ≡ is_any_set bytes.now }
 {

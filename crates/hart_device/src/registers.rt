@@ -23,7 +23,7 @@ pub trait RegisterStore {
         ensures held { (register : Register) → bytes_in (contents result) register ≡ bytes_in (values_of values.now) register }
         ensures valid { AreValid (contents result) };
 
-    /// The bytes of a register.
+    /// Returns the bytes of a register.
     fn get(&self, register: Register) -> &[u8]
         ensures value { result.now ≡ bytes_in (contents self.now) register }
         ensures size { length result.now ≡ size_of register };
@@ -34,7 +34,7 @@ pub trait RegisterStore {
             ≡ unwrap_or (named_in overwrite.now register) (bytes_in (contents self.old) register) };
 }
 
-/// The bytes of a register that has `N` bytes.
+/// Returns the bytes of a register that has `N` bytes.
 pub(crate) fn bytes_of<S: RegisterStore, const N: usize>(store: &S, register: Register) -> [u8; N]
     requires { size_of register ≡ N }
     ensures { result ≡ bytes_in (S.contents store.now) register }

@@ -1,5 +1,5 @@
--- What a device answers to a frame, and what the frame does to it (HCF_SPEC-081, HCF_SPEC-127; who is answered, and the order of
--- refusals, are of the own profile).
+-- What a device answers to a frame, and how the frame changes the device (HCF_SPEC-081, HCF_SPEC-127; which frames are answered,
+-- and the order of refusals, are of the own profile).
 use Rattle.std.specs.Prelude.{ℕ, ◌==◌, ◌&&◌, ◌||◌, not, if◌then◌else◌, Bool, true, false, length, slice_index}
 use Rattle.std.specs.Prelude.{Option, Some, None, Ok, Err}
 use Rattle.std.specs.Str.{bytes_eq}
@@ -35,80 +35,80 @@ is_request Ack = false
 abbrev pub same_numbers : DeviceNumbers → DeviceNumbers → Bool
 same_numbers a b = (a.expanded_type == b.expanded_type) && (a.device_id == b.device_id)
 
--- Command 0 is asked at the polling address that the device has, every command at its own unique address, and at the broadcast address
--- those that may be asked by broadcast.
+-- The device accepts Command 0 at its polling address, every command at its own unique address, and at the broadcast address the
+-- commands that may be broadcast.
 abbrev pub is_paired : DeviceState → Address → ℕ → Bool
 is_paired state (Polling number) command = (command == 0) && (slice_index state.contents.polling 0 == number)
 is_paired state (Unique numbers) command =
     same_numbers numbers (own_numbers state.identity) || (may_be_broadcast command && is_broadcast (Unique numbers))
 
--- A frame is for the device if it is a request without expansion bytes whose address and command are paired so; the burst bit
--- is not looked at.
+-- A frame is for the device if it is a request without expansion bytes, and the device accepts its command at its address. The
+-- burst bit is ignored.
 abbrev pub is_addressed : DeviceState → FrameParts → Bool
 is_addressed state frame =
     is_request frame.kind && (length frame.expansion == 0) && is_paired state frame.address frame.command
 
--- What the data bytes of a frame ask, or the code with which they are refused.
+-- The request in the data bytes of a frame, or the code that refuses them.
 abbrev pub reading_of : FrameParts → Reading
 reading_of frame = request_reading frame.command frame.payload
 
--- The response code of a frame is that of its request, for this device's protection and counter.
+-- The response code of the request in a frame, for this device's write protection and counter.
 abbrev pub code_of : DeviceState → FrameParts → ℕ
 code_of state frame = request_code frame.command (reading_of frame) state.protected state.counter
 
--- Command 11 names another device if its tag is not the bytes of the register Tag, and Command 21 if its long tag is not those of the
--- register LongTag; every other request names none.
+-- Command 11 names another device if its tag differs from the register Tag, and Command 21 if its long tag differs from the
+-- register LongTag. No other request names another device.
 abbrev pub names_another : DeviceState → Reading → Bool
 names_another state (Ok (IdentifyByTag tag)) = not (bytes_eq state.contents.tag tag)
 names_another state (Ok (IdentifyByLongTag long_tag)) = not (bytes_eq state.contents.long_tag long_tag)
 names_another state _ = false
 
--- A frame is answered if it is for the device, names no other device by its tag or long tag, and did not come by broadcast with
--- another code than 0.
+-- A frame is answered if it is for the device and names no other device by tag or long tag. A broadcast frame is answered only with
+-- code 0.
 abbrev pub is_answered : DeviceState → FrameParts → Bool
 is_answered state frame =
     is_addressed state frame && not (names_another state (reading_of frame))
     && not (is_broadcast frame.address && not (code_of state frame == 0))
 
--- An overwrite is executed; no overwrite is no effect.
+-- An overwrite is executed. Without an overwrite there is no effect.
 abbrev pub executed : Option Overwrite → Effect
 executed None = Nothing
 executed (Some overwrite) = Executes overwrite
 
--- What a request does with code 0: Command 38 resets, a configuration write executes its overwrite, and every other request, as
--- bad data, has no effect.
+-- The effect of a request with code 0: Command 38 resets, a configuration write executes its overwrite, and every other request has
+-- no effect. Refused data have no effect either.
 abbrev pub asked_effect : Reading → Effect
 asked_effect (Ok (ResetChanged counter)) = Resets
 asked_effect (Ok request) = executed (overwrite_of request)
 asked_effect (Err code) = Nothing
 
--- A frame that is not answered has no effect, and a refused one has none.
+-- A frame has an effect only if it is answered and its code is 0.
 abbrev pub effect_of : DeviceState → FrameParts → Effect
 effect_of state frame =
     if is_answered state frame && (code_of state frame == 0) then asked_effect (reading_of frame) else Nothing
 
--- The state of the device after the command of a frame; the reply is about this state.
+-- The state of the device after the command of a frame. The reply describes this state.
 abbrev pub after_command : DeviceState → FrameParts → DeviceState
 after_command state frame = after frame.master (effect_of state frame) state
 
--- After a frame that it answers the device is in the state after the command and then the reply; after any other its state stays.
+-- After an answered frame, the device is in the state after the command and then the reply. After any other frame its state stays.
 abbrev pub state_after : DeviceState → FrameParts → DeviceState
 state_after state frame = if is_answered state frame then after_reply frame.master (after_command state frame) else state
 
--- What a frame that has no effect leaves of a device is all but the cold start bit of its master. That is clear if the frame was
--- answered, since the reply has shown it, and otherwise as it was.
+-- A frame without effect changes at most the cold start bit of its master. This bit is clear if the frame was answered, since the
+-- reply has shown it, and otherwise as it was.
 abbrev pub after_refusal : DeviceState → FrameParts → DeviceState
 after_refusal state frame = record state {
   cold_start = if is_answered state frame then with_master frame.master false state.cold_start else state.cold_start;
 }
 
--- What a reply says of a request that is read so, if it has code 0.
+-- The content of the reply to a request with this reading, if the code is 0.
 abbrev pub asked_content : DeviceState → Process → Reading → ReplyContent
 asked_content state process (Ok request) = reply_content state process request
 asked_content state process (Err code) = Refused
 
--- What the device replies to a frame that it answers: the code of the frame, and the status after the command; with code 0 also the data
--- that were asked for, by the state after the command. So a reply shows the cold start bit that it clears.
+-- The reply to an answered frame has the code of the frame and the device status after the command. With code 0 it also has the
+-- requested data, from the state after the command. So a reply still shows the cold start bit that it clears.
 abbrev pub reply_of : DeviceState → Process → FrameParts → Reply
 reply_of state process frame = record {
   command = frame.command;
@@ -123,18 +123,18 @@ abbrev pub answer_of : DeviceState → Process → FrameParts → Option FramePa
 answer_of state process frame =
     if is_answered state frame then Some (reply_parts frame (reply_payload (reply_of state process frame))) else None
 
--- For private calls alone: a frame and its code in one.
+-- For private calls only: the request of a frame and its code, joined in one judgement.
 
--- What a frame that is answered comes to: with code 0 the request that it asks, and with another code its refusal with that.
+-- The judgement of an answered frame: its request if the code is 0, and otherwise the code that refuses it.
 abbrev pub judged_of : DeviceState → FrameParts → Reading
 judged_of state frame = if code_of state frame == 0 then reading_of frame else Err (code_of state frame)
 
--- The code of a frame that is judged so.
+-- The code of a frame with this judgement.
 abbrev pub judged_code : Reading → ℕ
 judged_code (Ok request) = 0
 judged_code (Err code) = code
 
--- The reply to a frame that is judged so, by a device that is in this state after the command.
+-- The reply to a frame with this judgement, from a device that is in this state after the command.
 abbrev pub reply_with : DeviceState → Process → FrameParts → Reading → Reply
 reply_with state process frame judged = record {
   command = frame.command;

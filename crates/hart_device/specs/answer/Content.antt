@@ -1,4 +1,4 @@
--- What a device says in reply to a request (HCF_SPEC-127).
+-- The content of a device's reply to a request (HCF_SPEC-127).
 use Rattle.std.specs.Prelude.{ℕ, Bool, if◌then◌else◌, [], ◌∷◌, List, map, slice_get, slice_index}
 use Rattle.std.specs.Option.{option_map_or}
 use Rattle.hart_commands.specs.declared.content.ReplyContent.{ReplyContent}
@@ -24,7 +24,7 @@ reply_identity state process =
 abbrev pub unit_value : ProcessVariable → UnitValue
 unit_value variable = record { unit = variable.unit; value = variable.value }
 
--- The classification of the dynamic variable at a place, 0 if there is none (own profile).
+-- The classification of the dynamic variable at a place, or 0 if there is none (own profile).
 abbrev pub class_at : Process → ℕ → ℕ
 class_at process place = option_map_or (λ variable. variable.classification) (slice_get (dynamic_variables process) place) 0
 
@@ -61,7 +61,7 @@ output_content output protected = record {
   channel_flags = output.channel_flags;
 }
 
--- What a device in this state replies with code 0 to a request, a row for each.
+-- The content of a reply with code 0 from a device in this state, with a row for each request.
 abbrev pub reply_content : DeviceState → Process → Request → ReplyContent
 reply_content state process asked.Identify = reply_identity state process
 reply_content state process asked.ReadPrimary = replied.Primary (unit_value process.first)

@@ -1,4 +1,4 @@
--- What a delivery, which is what a device heard at once, brings it, and what the device does with that (own profile).
+-- What a delivery (all that a device heard at once) brings the device, and how the device answers and changes (own profile).
 use Rattle.std.specs.Prelude.{◌≡◌, List, [], ◌∷◌, Option, None, Some}
 use Rattle.hart_frame.specs.heard.Character.{Character}
 use Rattle.hart_frame.specs.wire.FrameParts.{FrameParts}
@@ -17,8 +17,8 @@ pub data Brought : Type 0 where
   Garbled : (request : GarbledRequest) → Brought
   NoMessage : Brought
 
--- A delivery with exactly one frame brings that frame. One without a frame brings the garbled request that it has, and no message if it
--- has none. One with more frames brings no message.
+-- A delivery with exactly one frame brings that frame, and one with more frames brings no message. A delivery without a frame
+-- brings its garbled request, or no message if it has no garbled request.
 abbrev pub BringsBy : IdentityParts → List Character → List Found → Brought → Type 0
 BringsBy identity delivery (found ∷ []) brought = brought ≡ OneFrame found.frame
 BringsBy identity delivery [] (OneFrame frame) = ⊥
@@ -26,7 +26,7 @@ BringsBy identity delivery [] (Garbled request) = HasGarbled identity delivery r
 BringsBy identity delivery [] NoMessage = (request : GarbledRequest) → HasGarbled identity delivery request → ⊥
 BringsBy identity delivery (found ∷ other ∷ more) brought = brought ≡ NoMessage
 
--- What a delivery brings a device, by the frames that the delivery has.
+-- What a delivery brings a device depends on the frames that the delivery has.
 pub record Brings (identity : IdentityParts) (delivery : List Character) (brought : Brought) : Type 0 where
   pub frames : List Found
   pub are_frames : AreFrames delivery 0 frames
@@ -39,7 +39,7 @@ answer_to state process (OneFrame frame) = answer_of state process frame
 answer_to state process (Garbled request) = Some (garbled_reply state.identity request)
 answer_to state process NoMessage = None
 
--- The state after a delivery is that after the frame that it brings. If it brings no frame the state stays.
+-- If a delivery brings a frame, the state afterwards is the state after that frame. Otherwise the state stays.
 abbrev pub state_after_delivery : DeviceState → Brought → DeviceState
 state_after_delivery state (OneFrame frame) = state_after state frame
 state_after_delivery state (Garbled request) = state

@@ -1,5 +1,5 @@
--- The device variables that Command 9 asks for by their codes (HCF_SPEC-127; what classification and status 244 and 245 have,
--- and that 0 to 3 stand for the dynamic variables too, is of the own profile).
+-- The device variables that Command 9 asks for by their codes (HCF_SPEC-127; of the own profile: the classification and status of
+-- 244 and 245, and 0 to 3 as codes of the dynamic variables).
 use Rattle.std.specs.Prelude.{ℕ, ◌-◌, ◌==◌, ◌&&◌, nat_lt, if◌then◌else◌, [], ◌∷◌, Option, Some, None, slice_get, unwrap_or}
 use Rattle.hart_commands.specs.declared.value.VariableReading.{VariableReading}
 use Rattle.hart_device.specs.declared.process.Process.{Process}
@@ -16,7 +16,7 @@ abbrev pub current_variable : Process → ProcessVariable
 current_variable process =
     record { classification = 0; unit = 39; value = process.loop_current; status = process.first.status }
 
--- A variable that is not there has classification 0, unit 250, the value 7F A0 00 00 and the status hex 30.
+-- An absent variable has classification 0, unit 250, the value 7F A0 00 00 and the status hex 30.
 abbrev pub missing_variable : ProcessVariable
 missing_variable = record {
   classification = 0;
@@ -25,7 +25,7 @@ missing_variable = record {
   status = 0x30;
 }
 
--- The codes 0 to 3 and the codes 246 to 249 are the places of the dynamic variables.
+-- The codes 0 to 3, and also 246 to 249, stand for the places 0 to 3 of the dynamic variables.
 abbrev pub place_of : ℕ → Option ℕ
 place_of code =
     if nat_lt code 4 then Some code
@@ -37,15 +37,15 @@ abbrev pub dynamic_at : Process → Option ℕ → Option ProcessVariable
 dynamic_at process None = None
 dynamic_at process (Some place) = slice_get (dynamic_variables process) place
 
--- The variable of a code: 244 is the percent of range, 245 the loop current, and 246 to 249 and 0 to 3 are dynamic variables; of
--- any other code, or of a dynamic variable that the process lacks, it is not there.
+-- The variable of a code: 244 is the percent of range, 245 the loop current, and 246 to 249 and 0 to 3 are dynamic variables. The
+-- variable is absent for any other code, and for a dynamic variable that the process lacks.
 abbrev pub variable_of_code : Process → ℕ → ProcessVariable
 variable_of_code process code =
     if code == 244 then percent_variable process
     else if code == 245 then current_variable process
     else unwrap_or (dynamic_at process (place_of code)) missing_variable
 
--- What is said of a code that was asked: that code, and its variable.
+-- The reading of a requested code: that code, and its variable.
 abbrev pub variable_reading : Process → ℕ → VariableReading
 variable_reading process code =
     let variable = variable_of_code process code in

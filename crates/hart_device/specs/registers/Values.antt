@@ -1,10 +1,10 @@
--- The bytes of the values that the registers begin with (HCF_SPEC-127).
+-- The bytes of the values of the registers (HCF_SPEC-127).
 use Rattle.std.specs.Prelude.{[], ◌∷◌}
 use Rattle.hart_commands.specs.RequestData.{mode_byte}
 use Rattle.hart_commands.specs.Registers.{Contents}
 use Rattle.hart_device.specs.declared.registers.values.RegisterValues.{RegisterValues}
 
--- Each register holds the bytes of its value; the polling address and the loop current mode have one each.
+-- Each register holds the bytes of its value; the polling address and the loop current mode have one byte each.
 abbrev pub values_of : RegisterValues → Contents
 values_of values = record {
   polling = values.polling ∷ [];

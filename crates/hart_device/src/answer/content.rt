@@ -16,7 +16,7 @@ use hart_commands::{CodeList, Register, ReplyContent, Request};
 use hart_values::{DeviceStatus, MasterId, PackedText};
 
 impl<S: RegisterStore> Device<S> {
-    /// Returns the device status that this master is shown.
+    /// Returns the device status that the reply shows to this master.
     pub(super) fn status(&self, process: &Process, master: MasterId) -> DeviceStatus
         ensures { result.0 ≡ device_status self.now process.now master }
     {
@@ -107,7 +107,7 @@ impl<S: RegisterStore> Device<S> {
         bytes_of(&self.registers, register)
     }
 
-    /// Returns the byte of a register that has one.
+    /// Returns the byte of a register that has one byte.
     pub(super) fn byte(&self, register: Register) -> u8
         requires { size_of register ≡ 1 }
         ensures { result ≡ slice_index (bytes_in self.now.contents register) 0 }

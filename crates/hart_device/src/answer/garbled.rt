@@ -16,7 +16,7 @@ use hart_frame::{
 };
 use hart_values::{Address, CommFaults, MasterId, Status};
 
-/// A request for a device that was heard with faults.
+/// A request to a device, heard with faults.
 #[derive(Clone, Copy, Debug, PartialEq, Eq)]
 pub struct GarbledRequest {
     /// The master that its address names.
@@ -28,7 +28,7 @@ pub struct GarbledRequest {
 }
 
 impl GarbledRequest {
-    /// Returns the communication-fault reply of the device of this identity.
+    /// Returns the communication-fault reply of the device with this identity.
     pub(crate) fn reply(self, identity: &Identity) -> Frame
         ensures { result ≡ garbled_reply identity.now self }
     {
@@ -40,7 +40,7 @@ impl GarbledRequest {
     }
 }
 
-/// Finds the garbled request for the device of this identity in a delivery, or returns `None`.
+/// Finds the garbled request to the device with this identity in a delivery, or returns `None`.
 ///
 /// It looks only at the first place where a body may start.
 pub(crate) fn garbled_in(identity: &Identity, delivery: &[Char]) -> Option<GarbledRequest>
@@ -65,7 +65,7 @@ fn garbled_at(identity: &Identity, chars: &[Char]) -> Option<GarbledRequest>
     })
 }
 
-/// Returns the master that asks the device of this identity by the six characters of a head, or `None`.
+/// Returns the master whose request to the device with this identity has this head of six characters, or `None`.
 fn asking_master(identity: &Identity, head: &[Char]) -> Option<MasterId>
     ensures { result ≡ asking_master identity.now head.now }
 {
@@ -88,7 +88,7 @@ fn asking_master(identity: &Identity, head: &[Char]) -> Option<MasterId>
     Some(master)
 }
 
-/// Returns true for the unique address of the device of this identity.
+/// Returns true for the unique address of the device with this identity.
 fn is_own(identity: &Identity, address: Address) -> bool
     ensures { IsTrue result ↔ (address ≡ Unique (own_numbers identity.now)) }
 {

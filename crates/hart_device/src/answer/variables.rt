@@ -20,7 +20,7 @@ const MILLIAMPERE: u8 = 39;
 /// The code of the first dynamic variable.
 const FIRST: u8 = 246;
 
-/// The variable that stands for one that is absent.
+/// The values that stand for an absent variable.
 const MISSING: ProcessVariable = ProcessVariable {
     classification: 0,
     unit: 250,
@@ -42,7 +42,7 @@ pub(crate) fn variable_readings(
     readings
 }
 
-/// Returns the variable of a code, or the one that stands for an absent one.
+/// Returns the variable of a code, or the values that stand for an absent variable.
 fn variable_reading(process: &Process, code: u8) -> VariableReading
     ensures { result ≡ variable_reading process.now code }
 {

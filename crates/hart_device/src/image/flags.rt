@@ -17,7 +17,7 @@ const PROTECTED: u8 = 4;
 /// The flags of an image.
 #[derive(Clone, Copy)]
 pub(crate) struct Flags {
-    /// For each master its configuration-changed bit.
+    /// The configuration-changed bit of each master.
     pub changed: EachMaster<bool>,
     /// Whether the device is write protected.
     pub protected: bool,
@@ -41,7 +41,7 @@ impl Flags {
         })
     }
 
-    /// Returns the byte of the flags.
+    /// Returns the flags as a byte.
     pub fn byte(&self) -> u8
         ensures value { result ≡ flags_of self.now.changed self.now.protected }
     {

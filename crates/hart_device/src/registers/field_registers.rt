@@ -4,7 +4,7 @@ ghost use Rattle.hart_commands.specs.Registers.{named_in, size_of};
 use crate::{RegisterStore, RegisterValues};
 use hart_commands::{Overwrite, Register};
 
-/// Registers that have a field each.
+/// A store with one field for each register.
 #[derive(Clone, Copy, Debug, PartialEq, Eq)]
 pub struct FieldRegisters {
     polling: [u8; 1],

@@ -14,7 +14,7 @@ use crate::{RegisterStore, RegisterValues};
 use hart_commands::{Overwrite, Register};
 use hart_values::{HartDate, LoopMode, PackedText, PollingAddress};
 
-/// Registers that lie one after the other in one array, in the order of an image.
+/// A store with all registers in one array, one after the other, in the order of an image.
 #[derive(Clone, Copy, Debug, PartialEq, Eq)]
 pub struct ImageRegisters {
     pub(crate) bytes: [u8; ARRAY_LEN],
@@ -49,7 +49,7 @@ impl RegisterStore for ImageRegisters {
 }
 
 impl ImageRegisters {
-    /// Returns the values of the registers, or `None` if one holds bytes that are not valid in it. Any bytes are valid in the long tag.
+    /// Returns the values of the registers, or `None` if one of them holds invalid bytes. Any bytes are valid in the long tag.
     pub(crate) fn values(&self) -> Option<RegisterValues>
         ensures kept { IfSome result (λ values. values_of values ≡ contents_in self.now.bytes) }
         ensures valid { IfSome result (λ values. AreValid (values_of values)) }
@@ -103,7 +103,7 @@ fn long_tag_of(tag: &PackedText<6>) -> [u8; 32]
     long_tag
 }
 
-/// Returns the polling address in the byte of its register, if that is valid.
+/// Reads the polling address from the byte of its register, or returns `None` if the byte is not valid.
 fn polling_in(bytes: &[u8]) -> Option<PollingAddress>
     requires { length bytes.now ≡ size_of Polling }
     ensures valid { IsSome result ↔ IsValidIn Polling bytes.now }
@@ -112,7 +112,7 @@ fn polling_in(bytes: &[u8]) -> Option<PollingAddress>
     PollingAddress::new(bytes[0]).ok()
 }
 
-/// Returns the loop current mode in the byte of its register, if that is valid.
+/// Reads the loop current mode from the byte of its register, or returns `None` if the byte is not valid.
 fn mode_in(bytes: &[u8]) -> Option<LoopMode>
     requires { length bytes.now ≡ size_of Mode }
     ensures valid { IsSome result ↔ IsValidIn Mode bytes.now }

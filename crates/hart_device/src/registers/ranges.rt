@@ -1,4 +1,4 @@
-//! Where each register stands in one array of them all.
+//! Where each register stands in the array of all registers.
 ghost use Rattle.std.specs.Prelude.{◌≡◌};
 ghost use Rattle.hart_device.specs.registers.Ranges.{end_of, start_of};
 
@@ -8,7 +8,7 @@ use std::ops::Range;
 /// The number of bytes of all registers.
 pub(crate) const ARRAY_LEN: usize = 82;
 
-/// The table of the ranges.
+/// Returns the range of a register in the array.
 pub(crate) fn range_of(register: Register) -> Range<usize>
     ensures start { result.start ≡ start_of register }
     ensures end { result.end ≡ end_of register }
