@@ -1,4 +1,4 @@
--- What reading the data of a message, and telling the names of its fields, promise to a caller in C (own profile).
+-- What a caller in C can rely on when it reads the data of a message, or asks for the names of its fields (own profile).
 use Rattle.std.specs.Prelude.{◌≡◌, ◌<◌, ◌≤◌, ◌⊎◌, ◌++◌, ◌+◌, ◌==◌, if◌then◌else◌, ℕ, Bool, true, false, List, drop, length, slice_get}
 use Rattle.std.specs.Prelude.{Option, None, Some, option_map, [], ◌∷◌, take, Ok, Err}
 use Rattle.hart_commands.specs.ReplyData.{reply_payload, reply_reading}
@@ -8,7 +8,7 @@ use Rattle.hart_commands.specs.{Commands.reply_rows, Commands.request_rows, decl
 use Rattle.hart_commands.specs.{FieldWidths.IsWidthOf, Fields.Field, Fields.Row, Fields.bytes_of, Fields.fields_of, Parts.content_bytes}
 use Rattle.hart_c.specs.declared.{data.HartField.HartField, data.HartReading.HartReading, fault.HartOutcome.HartOutcome}
 
--- A name that fits is written over the front of the output; otherwise that stays, and the fault is 15 for no name and 12 for no room.
+-- A name that fits is written to the front of the output. Otherwise the output stays; the fault is 15 for no name, 12 for no room.
 abbrev pub NameOutcome : Option (List ℕ) → List ℕ → List ℕ → HartOutcome → Type 0
 NameOutcome None before after outcome = (outcome ≡ record { len = 0; fault = 15 }) × (after ≡ before)
 NameOutcome (Some name) before after outcome =
@@ -20,11 +20,11 @@ abbrev pub rows_for : Bool → ℕ → List Row
 rows_for true command = reply_rows command
 rows_for false command = request_rows command
 
--- The name of a field of a command, counted from 0, if it has so many.
+-- The name of the field of a command at an index, counted from 0, if there is such a field.
 abbrev pub field_name : Bool → ℕ → ℕ → Option (List ℕ)
 field_name is_reply command index = option_map (λ row. row.name) (slice_get (rows_for is_reply command) index)
 
--- The numbers of the ways in which the bytes of a field are meant.
+-- The numbers of the kinds of fields.
 abbrev pub kind_number : FieldKind → ℕ
 kind_number Bytes = 0
 kind_number Number = 1
@@ -35,28 +35,28 @@ kind_number Variables = 5
 kind_number LatinText = 6
 kind_number UnitCode = 7
 
--- The first field starts at a place, and each other one where the field before it stops.
+-- The first field starts at `start`, and each other field where the field before it stops.
 abbrev pub placed : ℕ → List Field → List HartField
 placed start [] = []
 placed start (field ∷ fields) =
     record { start = start; len = length field.bytes; kind = kind_number field.kind } ∷ placed (start + length field.bytes) fields
 
--- What stood somewhere, with other things written over its front, as many as fit.
+-- The fields that stood in `before`, with the written ones over their front, as many as fit.
 abbrev pub written_over : List HartField → List HartField → List HartField
 written_over written before = take (length before) written ++ drop (length written) before
 
--- Fields are shown over the front of what was there; told are how many there are, of how many bytes, a code and a device status.
+-- Fields are shown over the front of the old ones. Their number, the number of bytes taken, a code and a device status are told.
 pub record IsShown (start : ℕ) (fields : List Field) (taken code status : ℕ) (before after : List HartField) (reading : HartReading)
     : Type 0 where
   pub told : reading ≡ record { count = length fields; taken = taken; code = code; status = status; fault = 0 }
   pub shown : after ≡ written_over (placed start fields) before
 
--- A request that is read has the fields of its command in its data, as far as it is written; one that is refused has none.
+-- A request that is read has the fields of its command in the data bytes that it takes. A refused request has no fields.
 abbrev pub request_fields : ℕ → List ℕ → Reading → List Field
 request_fields command bytes (Ok request) = fields_of (request_rows command) (take (length (request_data request)) bytes)
 request_fields command bytes (Err code) = []
 
--- The fields of a request that is read are shown, and its data taken as far as it is written; one that is refused tells its code alone.
+-- Of a request that is read, the fields are shown and the bytes taken are told. Of a refused request, only the code is told.
 abbrev pub RequestShown : ℕ → List ℕ → Reading → List HartField → List HartField → HartReading → Type 0
 RequestShown command bytes (Ok request) before after reading =
     IsShown 0 (request_fields command bytes (Ok request)) (length (take (length (request_data request)) bytes)) 0 0 before after reading
@@ -66,12 +66,12 @@ RequestShown command bytes (Err code) before after reading = IsShown 0 [] 0 code
 abbrev pub RequestOutcome : ℕ → List ℕ → List HartField → List HartField → HartReading → Type 0
 RequestOutcome command bytes = RequestShown command bytes (request_reading command bytes)
 
--- A reply with code 0 has the fields of its command in its data, as far as its content is written; any other reply has none.
+-- A reply with code 0 has the fields of its command in the data bytes that its content takes. Any other reply has no fields.
 abbrev pub reply_fields : ℕ → List ℕ → Reply → List Field
 reply_fields command payload reply =
     if reply.code == 0 then fields_of (reply_rows command) (take (length (content_bytes reply.content)) (drop 2 payload)) else []
 
--- The fields of a reply are shown from place 2 on, and its code and device status told; of what is no reply nothing is; the fault is 14.
+-- The fields of a reply are shown from place 2 on, and its code and device status told. Without a reply the fault is 14.
 abbrev pub ReplyShown : ℕ → List ℕ → Option Reply → List HartField → List HartField → HartReading → Type 0
 ReplyShown command payload (Some reply) before after reading =
     IsShown 2 (reply_fields command payload reply) (length (reply_payload reply)) reply.code reply.status.0 before after reading
@@ -82,7 +82,7 @@ ReplyShown command payload None before after reading =
 abbrev pub ReplyOutcome : ℕ → List ℕ → List HartField → List HartField → HartReading → Type 0
 ReplyOutcome command payload = ReplyShown command payload (reply_reading command payload)
 
--- A place that is shown is that of the field of its index, right after those before it: it has its name, its kind, its width and its bytes.
+-- The place shown at an index is that of the field with this index: it has its name, kind, width and bytes, and follows the others.
 pub record StandsAt (is_reply : Bool) (command first : ℕ) (fields : List Field) (bytes : List ℕ) (index : ℕ) (shown : HartField)
     : Type 0 where
   pub row : Row

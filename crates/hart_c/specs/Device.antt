@@ -1,4 +1,4 @@
--- The device that a caller in C keeps, and what the calls make of it (own profile).
+-- The device that a caller in C keeps, and how the calls change it (own profile).
 use Rattle.std.specs.Prelude.{◌≡◌, ◌≤◌, ◌+◌, ◌-◌, ◌%◌, ◌++◌, if◌then◌else◌, ℕ, Bool, List, [], ◌∷◌, Option, None, Some, length, map}
 use Rattle.std.specs.Prelude.{slice_index, slice_set, take}
 use Rattle.hart_frame.specs.{wire.FrameParts.FrameParts, wire.Message.IsMessage}
@@ -16,11 +16,11 @@ use Rattle.hart_c.specs.{Find.char_of, Find.heard_checks, Messages.HasNoRoom, Me
 use Rattle.hart_c.specs.declared.{device.HartDevice.HartDevice, find.HartChar.HartChar, process.HartProcess.HartProcess}
 use Rattle.hart_c.specs.declared.{fault.HartOutcome.HartOutcome, identity.HartIdentity.HartIdentity, registers.HartRegisters.HartRegisters}
 
--- The image is the first of the bytes, as many as are said.
+-- The image is the first `image_len` bytes.
 abbrev pub image_in : HartDevice → List ℕ
 image_in device = take device.image_len device.image
 
--- What is kept of a device with this identity stands for a state: its image is one of it, and its cold start bits are those of it.
+-- A kept device with this identity stands for a state if its image is an image of the state, and its cold start bits are the same.
 pub record IsKept (parts : IdentityParts) (device : HartDevice) (state : DeviceState) : Type 0 where
   pub is_identity : AreIdentityParts parts
   pub identity : state.identity ≡ parts
@@ -28,7 +28,7 @@ pub record IsKept (parts : IdentityParts) (device : HartDevice) (state : DeviceS
   pub image : IsImageOf state (image_in device)
   pub cold_start : state.cold_start ≡ record { primary = device.primary_cold_start; secondary = device.secondary_cold_start }
 
--- What is kept of a state: its image, of version 2, and its cold start bits.
+-- What is kept of a state: its image, in version 2, and its cold start bits.
 abbrev pub device_of : DeviceState → HartDevice
 device_of state = record {
   image = image_of state;
@@ -37,20 +37,20 @@ device_of state = record {
   secondary_cold_start = state.cold_start.secondary;
 }
 
--- The same device with write protection set or clear: bit 2 of the last byte of its image, its flags, whose upper bits are then clear.
+-- The same device with write protection set or clear: bit 2 of the flags, the last byte of the image. The bits above it are clear.
 abbrev pub with_protection : Bool → HartDevice → HartDevice
 with_protection protected device =
     let last = device.image_len - 1 in
     record device { image = slice_set device.image last (slice_index device.image last % 4 + (if protected then 4 else 0)) }
 
--- The device that is new with these registers, whoever it is, is kept; or one of them would not be valid, and what was kept stays.
+-- A new device with these registers and any identity is kept; or a register would not be valid, and what was kept stays.
 abbrev pub NewDeviceOutcome : HartRegisters → HartDevice → HartDevice → HartOutcome → Type 0
 NewDeviceOutcome given before after =
     Outcome (needs (AreValid (contents_of given)) (Device BadField) ∷ [])
     (λ len. (len ≡ 86) × (values : RegisterValues) × (values_of values ≡ contents_of given) × AreValid (contents_of given)
     × ((parts : IdentityParts) → after ≡ device_of (new_device parts values))) (after ≡ before) outcome_of
 
--- What a device hears: it is kept in a state, its process is handed in, and a delivery brings it something.
+-- What a device hears: it is kept in a state, its process is passed, and a delivery brings it something.
 pub record IsHearing (identity : HartIdentity) (process : HartProcess) (heard : List HartChar) (device : HartDevice) : Type 0 where
   pub state : DeviceState
   pub measured : Process
@@ -60,12 +60,12 @@ pub record IsHearing (identity : HartIdentity) (process : HartProcess) (heard : 
   pub delivery : AllPass (heard_checks heard)
   pub brings : Brings (parts_of identity) (map char_of heard) brought
 
--- What a device says is its reply as a message, or no byte at all.
+-- What a device says is its reply as a message, or no byte at all if it is silent.
 abbrev pub IsSaid : Option FrameParts → ℕ → List ℕ → Type 0
 IsSaid None preambles bytes = bytes ≡ []
 IsSaid (Some reply) preambles bytes = IsMessage reply preambles bytes
 
--- A device says its answer to what a delivery brings, and then stands in the state after that: after silence, the one before.
+-- A device says its answer to what a delivery brings, and is then in the state after that. Silence leaves the state as it was.
 pub record Hears (identity : HartIdentity) (process : HartProcess) (heard : List HartChar) (before after : HartDevice)
     (old new : List ℕ) (len : ℕ) : Type 0 where
   pub hearing : IsHearing identity process heard before
@@ -74,7 +74,7 @@ pub record Hears (identity : HartIdentity) (process : HartProcess) (heard : List
   pub kept : IsKept (parts_of identity) after (state_after_delivery hearing.state hearing.brought)
   pub silent : len ≡ 0 → state_after_delivery hearing.state hearing.brought ≡ hearing.state
 
--- Who the device is is checked first, then the length that is said of its image, and then that what is kept of it is some state of it.
+-- First the identity is checked, then that the image has at most 86 bytes, and then that what is kept stands for some state.
 abbrev pub state_checks : HartIdentity → HartDevice → List Check
 state_checks identity device =
     needs_or (AreIdentityParts (parts_of identity)) (IsIdentityFault (parts_of identity)) Device
@@ -88,7 +88,7 @@ hear_checks identity process heard device room =
     ∷ heard_checks heard ++ refused_if ((hearing : IsHearing identity process heard device)
     × HasNoRoom (IsSaid (answer_to hearing.state hearing.measured hearing.brought) identity.response_preambles) room) NoRoom ∷ []
 
--- The device has heard, and the length of its reply is told; or a fault is told, and what was kept and the output are as they were.
+-- The device has heard, and the length of its reply is told; or a fault is told, and the kept device and the output are unchanged.
 abbrev pub HearOutcome : HartIdentity → HartProcess → List HartChar → HartDevice → HartDevice → List ℕ → List ℕ → HartOutcome → Type 0
 HearOutcome identity process heard before after old new =
     Outcome (hear_checks identity process heard before (length old)) (Hears identity process heard before after old new)

@@ -23,30 +23,30 @@ number_of TooLong = 22
 number_of NoRequest = 23
 number_of WrongAddress = 24
 
--- How many bytes were written is told without a fault, and a fault by its number.
+-- Without a fault, the number of bytes that were written is told. A fault is told by its number.
 abbrev pub outcome_of : Result ℕ Fault → HartOutcome
 outcome_of (Ok len) = record { len = len; fault = 0 }
 outcome_of (Err fault) = record { len = 0; fault = number_of fault }
 
--- A check of a call: what passes it, and with which fault it refuses what does not.
+-- A check of a call: when the call passes it, and with which fault it refuses the call otherwise.
 pub record Check : Type 1 where
   pub passes : Type 0
   pub refuses : Fault → Type 0
 
--- Something has to hold, or this is the fault.
+-- A condition must hold, or else this is the fault.
 abbrev pub needs : Type 0 → Fault → Check
 needs good fault = record { passes = good; refuses = λ told. (good → ⊥) × (told ≡ fault) }
 
--- Something must not hold, or this is the fault.
+-- A condition must not hold, or else this is the fault.
 abbrev pub refused_if : Type 0 → Fault → Check
 refused_if bad fault = record { passes = bad → ⊥; refuses = λ told. bad × (told ≡ fault) }
 
--- Something has to hold, or one of the faults that a lower crate names is the fault.
+-- A condition must hold, or else the fault is one that a lower crate names.
 abbrev pub needs_or : {F : Type 0} → Type 0 → (F → Type 0) → (F → Fault) → Check
 needs_or {F} good refuses named =
     record { passes = good; refuses = λ told. (fault : F) × refuses fault × (told ≡ named fault) }
 
--- The fault of some checks is that of the first one that refuses: all before it are passed.
+-- The fault of a list of checks is the fault of the first check that refuses. All checks before it pass.
 abbrev pub IsFirstOf : List Check → Fault → Type 0
 IsFirstOf [] told = ⊥
 IsFirstOf (check ∷ checks) told = check.refuses told ⊎ (check.passes × IsFirstOf checks told)
@@ -56,7 +56,7 @@ abbrev pub AllPass : List Check → Type 0
 AllPass [] = Unit {0}
 AllPass (check ∷ checks) = check.passes × AllPass checks
 
--- A call has done something, and tells it; or it tells the first fault of its checks, and what it writes to stays.
+-- A call has done its work, and tells the result; or it tells the first fault of its checks, and its output stays.
 abbrev pub Outcome : {D T : Type 0} → List Check → (D → Type 0) → Type 0 → (Result D Fault → T) → T → Type 0
 Outcome {D} checks IsDone stays telling told =
     ((done : D) × IsDone done × (told ≡ telling (Ok done)))

@@ -1,4 +1,4 @@
--- What a caller in C hears as a master does (own profile).
+-- What a caller in C accepts as a reply, as a master does (own profile).
 use Rattle.std.specs.Prelude.{◌≡◌, ◌++◌, true, false, List, [], ◌∷◌, Option, None, Some, Result, Ok, Err, map}
 use Rattle.hart_values.specs.declared.{address.Address.Address, address.Address.TheVariants.Unique, master_id.MasterId.MasterId}
 use Rattle.hart_frame.specs.{heard.Character.Character, wire.FrameParts.FrameParts, wire.FrameParts.request_parts}
@@ -10,31 +10,31 @@ use Rattle.hart_c.specs.{Find.char_of, Messages.IsFrame, Numbers.IsTidy, Numbers
 use Rattle.hart_c.specs.{Find.heard_checks, Messages.frame_checks, declared.find.HartChar.HartChar, declared.frame.HartFrame.HartFrame}
 use Rattle.hart_c.specs.{declared.fault.Fault.Fault, declared.master.HartAcceptance.HartAcceptance, declared.master.HartUnique.HartUnique}
 
--- A master asks a request with a frame if that is one of a request, whose data are read as it.
+-- A master asks a request with a frame if the frame is a request frame, and its data are read as this request.
 pub record IsAsked (frame : FrameParts) (request : Request) : Type 0 where
   pub parts : frame ≡ request_parts frame.master frame.address frame.command frame.payload
   pub reading : request_reading frame.command frame.payload ≡ Ok request
 
--- A master has sent a request by these numbers if they are a frame with which it is asked, and it may be asked at their address.
+-- A master has sent a request with these numbers if their frame asks the request, and it may be asked at the address of the frame.
 pub record IsSent (numbers : HartFrame) (request : Request) : Type 0 where
   pub is_frame : IsFrame numbers
   pub asked : IsAsked (frame_in numbers) request
   pub paired : may_ask (frame_in numbers).address request ≡ true
 
--- A request is checked for being a frame, then for being one with which a master asks, and then for one that it may ask at its address.
+-- First the numbers are checked for being a frame, then the frame for asking a request, and then its address for that request.
 abbrev pub send_checks : HartFrame → List Check
 send_checks numbers =
     frame_checks numbers ++ needs ((request : Request) × IsAsked (frame_in numbers) request) NoRequest
     ∷ needs ((request : Request) × IsSent numbers request) WrongAddress ∷ []
 
--- What is heard is accepted as the reply to a request, and its frame is shown, or it is accepted as none, and what was shown stays.
+-- What is heard is accepted as the reply to a request, and its frame is shown; or it is no such reply, and what was shown stays.
 abbrev pub IsShownReply : MasterId → Address → Request → List Character → HartFrame → HartFrame → Option Reply → Type 0
 IsShownReply id address request chars before after None =
     ((reply : Reply) → IsAccepted id address request chars reply → ⊥) × (after ≡ before)
 IsShownReply id address request chars before after (Some reply) =
     (accepted : IsAccepted id address request chars reply) × (found_in after ≡ accepted.found) × IsTidy after
 
--- A reply, or none, is accepted to the request that was sent.
+-- A reply to the request that was sent is accepted, or no reply.
 pub record Accepts (numbers : HartFrame) (heard : List HartChar) (before after : HartFrame) (said : Option Reply) : Type 0 where
   pub request : Request
   pub sent : IsSent numbers request
@@ -45,23 +45,23 @@ pub record Accepts (numbers : HartFrame) (heard : List HartChar) (before after :
 abbrev pub accept_checks : HartFrame → List HartChar → List Check
 accept_checks numbers heard = send_checks numbers ++ heard_checks heard
 
--- Of a reply its response code and its device status are told, and of none nothing; a fault is told by its number.
+-- The response code and the device status of an accepted reply are told. Without a reply both are 0. A fault is told by its number.
 abbrev pub acceptance_of : Result (Option Reply) Fault → HartAcceptance
 acceptance_of (Ok (Some reply)) = record { is_accepted = true; code = reply.code; status = reply.status.0; fault = 0 }
 acceptance_of (Ok None) = record { is_accepted = false; code = 0; status = 0; fault = 0 }
 acceptance_of (Err fault) = record { is_accepted = false; code = 0; status = 0; fault = number_of fault }
 
--- It is told which reply, or that none, is accepted; or a fault is told, and what was shown stays.
+-- The call tells the accepted reply, or that there is none; or it tells a fault, and what was shown stays.
 abbrev pub AcceptOutcome : HartFrame → List HartChar → HartFrame → HartFrame → HartAcceptance → Type 0
 AcceptOutcome numbers heard before after =
     Outcome (accept_checks numbers heard) (Accepts numbers heard before after) (after ≡ before) acceptance_of
 
--- The numbers of the unique address that is given; a polling address gives none.
+-- The numbers of a unique address. For a polling address, or none, they say that no unique address is given.
 abbrev pub given_of : Option Address → HartUnique
 given_of (Some (Unique numbers)) = record { is_given = true; expanded_type = numbers.expanded_type; device_id = numbers.device_id }
 given_of _ = record { is_given = false; expanded_type = 0; device_id = 0 }
 
--- The numbers of the unique address that a reply gives, and no reply gives one.
+-- The numbers of the unique address in a reply. Without a reply no unique address is given.
 abbrev pub given_by : Option Reply → HartUnique
 given_by None = given_of None
 given_by (Some reply) = given_of (unique_in reply)

@@ -7,7 +7,7 @@ use Rattle.hart_c.specs.Faults.{AllPass, Check, Outcome, needs, needs_or, outcom
 use Rattle.hart_c.specs.declared.fault.Fault.TheVariants.{BadAddress, Frame, LongExpansion, NoRoom}
 use Rattle.hart_c.specs.{Numbers.IsTidy, Numbers.frame_in, declared.fault.HartOutcome.HartOutcome, declared.frame.HartFrame.HartFrame}
 
--- The frame whose body bytes begin with is shown from place 0 on, and its length told; or their fault is, and what was shown stays.
+-- The frame at the front of the bytes is shown at place 0, and its length told; or a fault is told, and what was shown stays.
 abbrev pub DecodeOutcome : List ℕ → HartFrame → HartFrame → HartOutcome → Type 0
 DecodeOutcome bytes before after =
     Outcome (needs_or ((frame : FrameParts) × (len : ℕ) × BeginsWithBody bytes frame len) (IsRefusedWith bytes) Frame ∷ [])
@@ -18,7 +18,7 @@ abbrev pub IsInRange : Bool → HartFrame → Type 0
 IsInRange true frame = (frame.expanded_type < 2 ^ 14) × (frame.device_id < 2 ^ 24)
 IsInRange false frame = frame.polling_address < 64
 
--- A frame is checked for an address in range, then three expansion bytes at most, and then the two status bytes of a reply.
+-- A frame is checked for an address in range, then for at most three expansion bytes, and then for the two status bytes of a reply.
 abbrev pub frame_checks : HartFrame → List Check
 frame_checks frame =
     needs (IsInRange frame.is_unique frame) BadAddress
@@ -29,15 +29,15 @@ frame_checks frame =
 abbrev pub IsFrame : HartFrame → Type 0
 IsFrame frame = AllPass (frame_checks frame)
 
--- Bytes that are to be written are more than there is room for.
+-- The bytes to be written are more than there is room for.
 abbrev pub HasNoRoom : (List ℕ → Type 0) → ℕ → Type 0
 HasNoRoom ToWrite room = (bytes : List ℕ) × ToWrite bytes × (room < length bytes)
 
--- Bytes that are to be written stand at the front of the output, what came after it there stays, and their number is told.
+-- The bytes to be written stand at the front of the output, the rest of the output stays, and their number is told.
 abbrev pub IsWritten : (List ℕ → Type 0) → List ℕ → List ℕ → ℕ → Type 0
 IsWritten ToWrite before after len = (bytes : List ℕ) × ToWrite bytes × (len ≡ length bytes) × (after ≡ bytes ++ drop len before)
 
--- What is written is checked for being a frame first, then for 5 to 20 preamble bytes, and then whether it fits.
+-- First the frame is checked, then that there are 5 to 20 preamble bytes, and then that the message fits.
 abbrev pub encode_checks : HartFrame → ℕ → ℕ → List Check
 encode_checks frame preambles room =
     frame_checks frame ++ needs (IsPreambleCount preambles) (Frame BadPreamble)

@@ -1,4 +1,4 @@
--- What the numbers for C say of a frame, and of who a device is, what it measures and what its registers hold (own profile).
+-- What the numbers for C mean: a frame, and the identity, the process and the registers of a device (own profile).
 use Rattle.std.specs.Prelude.{◌≡◌, ◌≤◌, if◌then◌else◌, ℕ, Bool, true, false, List, map, take, [], ◌∷◌}
 use Rattle.hart_values.specs.declared.address.Address.TheVariants.{Polling, Unique}
 use Rattle.hart_values.specs.declared.master_id.MasterId.TheVariants.{Primary, Secondary}
@@ -12,12 +12,12 @@ use Rattle.hart_c.specs.declared.frame.HartFrame.{HartFrame}
 use Rattle.hart_c.specs.declared.{identity.HartIdentity.HartIdentity, process.HartOutput.HartOutput, registers.HartRegisters.HartRegisters}
 use Rattle.hart_c.specs.declared.{process.HartProcess.HartProcess, process.HartSensor.HartSensor, process.HartVariable.HartVariable}
 
--- An address is the unique one of two numbers, or a polling address.
+-- An address is a unique address with two numbers, or a polling address.
 abbrev pub address_of : Bool → HartFrame → Address
 address_of true frame = Unique (record { expanded_type = frame.expanded_type; device_id = frame.device_id })
 address_of false frame = Polling frame.polling_address
 
--- The frame that the numbers say: a reply is an ACK, and any other frame an STX.
+-- The frame of the numbers: a reply is an ACK, and any other frame an STX.
 abbrev pub frame_in : HartFrame → FrameParts
 frame_in frame = record {
   kind = if frame.is_reply then Ack else Stx;
@@ -29,26 +29,26 @@ frame_in frame = record {
   payload = take frame.payload_len frame.payload;
 }
 
--- That frame, and where it stands.
+-- The frame of the numbers, and where it stands.
 abbrev pub found_in : HartFrame → Found
 found_in frame = record { start = frame.start; stop = frame.stop; frame = frame_in frame }
 
--- The frames that the first of some numbers say.
+-- The first `count` frames of a list, and where they stand.
 abbrev pub found_in_first : ℕ → List HartFrame → List Found
 found_in_first count frames = map found_in (take count frames)
 
--- The same numbers with another address. What is not of that address is 0.
+-- The same numbers with another address. The numbers of the other kind of address are 0.
 abbrev pub with_address : Address → HartFrame → HartFrame
 with_address (Polling number) frame = record frame { is_unique = false; polling_address = number; expanded_type = 0; device_id = 0 }
 with_address (Unique numbers) frame =
     record frame { is_unique = true; polling_address = 0; expanded_type = numbers.expanded_type; device_id = numbers.device_id }
 
--- Numbers that are shown have three expansion bytes at most, and 0 for what is not of the address.
+-- Numbers that are shown have at most three expansion bytes, and 0 for the other kind of address.
 pub record IsTidy (frame : HartFrame) : Type 0 where
   pub expansion : frame.expansion_len ≤ 3
   pub address : frame ≡ with_address (address_of frame.is_unique frame) frame
 
--- The parts of the identity that the numbers say.
+-- The parts of the identity of the numbers.
 abbrev pub parts_of : HartIdentity → IdentityParts
 parts_of identity = record {
   expanded_device_type = identity.expanded_device_type;
@@ -70,12 +70,12 @@ parts_of identity = record {
 abbrev pub float_of : List ℕ → Bits32
 float_of bytes = record { 0 = bytes }
 
--- The variable that the numbers say.
+-- The variable of the numbers.
 abbrev pub variable_of : HartVariable → ProcessVariable
 variable_of given =
     record { classification = given.classification; unit = given.unit; value = float_of given.value; status = given.status }
 
--- The sensor that the numbers say.
+-- The sensor of the numbers.
 abbrev pub sensor_of : HartSensor → SensorContent
 sensor_of given = record {
   serial_number = given.serial_number;
@@ -85,7 +85,7 @@ sensor_of given = record {
   minimum_span = float_of given.minimum_span;
 }
 
--- The loop current output that the numbers say.
+-- The loop current output of the numbers.
 abbrev pub output_of : HartOutput → OutputValues
 output_of given = record {
   alarm_code = given.alarm_code;
@@ -101,7 +101,7 @@ output_of given = record {
 abbrev pub HasVariables : HartProcess → Type 0
 HasVariables given = (1 ≤ given.variables_len) × (given.variables_len ≤ 4)
 
--- The numbers say a process if they have its dynamic variables, as many as it has, and each of its other parts.
+-- The numbers are those of a process if they have exactly its dynamic variables, and each of its other parts.
 pub record IsProcessOf (given : HartProcess) (process : Process) : Type 0 where
   pub loop_current : process.loop_current ≡ float_of given.loop_current
   pub percent_of_range : process.percent_of_range ≡ float_of given.percent_of_range
@@ -113,7 +113,7 @@ pub record IsProcessOf (given : HartProcess) (process : Process) : Type 0 where
   pub sensor : process.sensor ≡ sensor_of given.sensor
   pub output : process.output ≡ output_of given.output
 
--- Each register holds the bytes of its numbers; the polling address and the loop current mode have one each.
+-- Each register holds the bytes of its numbers; the polling address and the loop current mode have one byte each.
 abbrev pub contents_of : HartRegisters → Contents
 contents_of given = record {
   polling = given.polling_address ∷ [];

@@ -1,4 +1,4 @@
-//! What the data of a message mean, and where each of their fields stands.
+//! What the data of a message mean, and where each field stands.
 ghost use Rattle.std.specs.Prelude.{◌≡◌, ◌+◌, ◌≤◌, Some, length, map, slice_set};
 ghost use Rattle.hart_commands.specs.Fields.{fields_of, seen};
 ghost use Rattle.hart_commands.specs.ReplyData.{reply_reading};
@@ -8,7 +8,7 @@ use crate::fault::{HART_NO_REPLY, HART_OK};
 use hart_commands::{FieldKind, FieldRow, Reply, Request, reply_rows, request_rows};
 use hart_values::{Payload, ResponseCode};
 
-/// The bytes of the field stand for themselves; there is one at least.
+/// Plain bytes, at least one.
 pub const HART_BYTES: u8 = 0;
 
 /// A number or a code of one or two bytes, the most significant byte first.
@@ -32,7 +32,7 @@ pub const HART_LATIN_TEXT: u8 = 6;
 /// The code of a unit in one byte.
 pub const HART_UNIT_CODE: u8 = 7;
 
-/// Where a field stands in what was passed, and how its bytes are meant.
+/// Where a field stands in what was passed, and its kind.
 #[repr(C)]
 #[derive(Clone, Copy)]
 pub struct HartField {
@@ -40,30 +40,30 @@ pub struct HartField {
     pub start: u8,
     /// How many bytes it has.
     pub len: u8,
-    /// How they are meant, as one of [`HART_BYTES`] to [`HART_UNIT_CODE`].
+    /// Its kind, one of [`HART_BYTES`] to [`HART_UNIT_CODE`].
     pub kind: u8,
 }
 
-/// What was read of the data of a message.
+/// The result of reading the data of a message.
 #[repr(C)]
 #[derive(Clone, Copy)]
 pub struct HartReading {
-    /// How many fields there are; as many as there is room for are shown.
+    /// How many fields there are. Those that have room are shown.
     pub count: usize,
-    /// How many bytes are taken; what comes after them is ignored.
+    /// How many bytes are taken. Later bytes are ignored.
     pub taken: usize,
-    /// The response code: of a reply its own, of a request that which refuses it, or 0.
+    /// For a reply its response code; for a request the response code that refuses it, or 0.
     pub code: u8,
-    /// The device status of a reply; of a request 0.
+    /// For a reply its device status; for a request 0.
     pub status: u8,
-    /// 0, or why nothing is told.
+    /// 0, or why nothing was read.
     pub fault: u8,
 }
 
-/// Reads the data of a request of this command, and shows where their fields stand, as many as there is room for (HCF_SPEC-127).
+/// Reads the data of a request of this command, and shows where its fields stand, as far as there is room (HCF_SPEC-127).
 ///
-/// A request that is refused has no fields, and its code is the first of these that holds: 64 if the command is not known; 5 if there
-/// are too few bytes; 2 for an address above 63 of Command 6, and then 12 for a mode above 1; 9 for a bad date of Command 18.
+/// A refused request has no fields. Its code is the first of these that holds: 64 for an unknown command, 5 for too few bytes, 2
+/// for Command 6 with an address above 63, 12 for Command 6 with a mode above 1, 9 for Command 18 with a bad date.
 #[unsafe(no_mangle)]
 pub extern "C" fn hart_read_request(
     command: u8,
@@ -93,8 +93,8 @@ pub extern "C" fn hart_read_request(
     }
 }
 
-/// Reads the payload of a reply to this command, from its two status bytes on, and shows where the fields of its data stand, as many as
-/// there is room for (HCF_SPEC-127). With another code than 0 there are none.
+/// Reads the payload of a reply to this command, from its two status bytes on, and shows where the fields of its data stand, as far
+/// as there is room (HCF_SPEC-127). With another code than 0 there are no fields.
 ///
 /// # Errors
 ///
@@ -120,7 +120,7 @@ pub extern "C" fn hart_read_reply(
     }
 }
 
-/// Shows where the fields of a reply stand in the payload that it was read from.
+/// Shows where the fields of a reply stand in its payload.
 fn show_reply(command: u8, payload: &[u8], reply: &Reply, fields: &mut [HartField]) -> HartReading
     requires { reply_reading command payload.now ≡ Some reply.now }
     ensures { ReplyShown command payload.now (Some reply.now) fields.old fields.new result }
@@ -141,8 +141,8 @@ fn show_reply(command: u8, payload: &[u8], reply: &Reply, fields: &mut [HartFiel
     }
 }
 
-/// Shows where the fields of data stand by these rows, the first from a place on, as many as there is room for, and gives how many there
-/// are.
+/// Shows where the fields of these rows stand in the data, as far as there is room, and returns the number of fields. The first
+/// field stands at `start`.
 fn show_fields(rows: &[FieldRow], bytes: &[u8], start: u8, fields: &mut [HartField]) -> usize
     requires { start + length bytes.now ≤ 255 }
     ensures count { result ≡ length (fields_of (map seen rows.now) bytes.now) }
@@ -163,7 +163,7 @@ fn show_fields(rows: &[FieldRow], bytes: &[u8], start: u8, fields: &mut [HartFie
     count
 }
 
-/// Shows where a field stands, if there is room for so many before it.
+/// Shows at index `count` where a field stands, if there is room for it.
 fn show_field(kind: FieldKind, start: u8, len: u8, count: usize, fields: &mut [HartField])
     ensures { fields.new ≡ slice_set fields.old count (record { start = start; len = len; kind = kind_number kind }) }
 {
@@ -176,7 +176,7 @@ fn show_field(kind: FieldKind, start: u8, len: u8, count: usize, fields: &mut [H
     }
 }
 
-/// Returns the number of a way in which the bytes of a field are meant, for C.
+/// Returns the number of a kind of field for C.
 fn kind_number(kind: FieldKind) -> u8
     ensures { result ≡ kind_number kind }
 {

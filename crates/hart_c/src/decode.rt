@@ -1,12 +1,12 @@
-//! The frame that bytes begin with.
+//! Reading the frame at the front of some bytes.
 ghost use Rattle.hart_c.specs.Messages.{DecodeOutcome};
 
 use crate::fault::{HART_OK, HartOutcome, number_of_frame_fault};
 use crate::frame::{HartFrame, show_frame};
 use hart_frame::decode;
 
-/// Reads the frame whose body bytes begin with, from the delimiter on, and gives the length of that body. `frame` then shows it, from
-/// place 0 on.
+/// Reads the frame at the front of `bytes`, from its delimiter on, and returns the length of its body. `frame` then shows the
+/// frame, with place 0 as its start.
 ///
 /// # Errors
 ///

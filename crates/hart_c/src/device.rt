@@ -1,4 +1,4 @@
-//! A device that its caller keeps, as its image and its cold start bits.
+//! A device that the caller keeps as its image and its cold start bits.
 ghost use Rattle.std.specs.Prelude.{◌≡◌, true, IfErr, IfOk, OnErr, length};
 ghost use Rattle.hart_frame.specs.wire.Message.{IsPreambleCount};
 ghost use Rattle.hart_device.specs.Device.{DeviceState, restarted};
@@ -20,11 +20,11 @@ use hart_device::{Device, DeviceFault, Identity, ImageRegisters, bench};
 use hart_frame::{Frame, Message, encode};
 use hart_values::{EachMaster, MasterId};
 
-/// What is kept of a device: all that it holds, but not who it is.
+/// What is kept of a device: all that it holds except its identity.
 #[repr(C)]
 #[derive(Clone, Copy)]
 pub struct HartDevice {
-    /// Its image, of version 2 (86 bytes) or of version 1 (54); bytes after `image_len` of them mean nothing.
+    /// Its image, of version 2 (86 bytes) or of version 1 (54). Only the first `image_len` bytes count.
     pub image: [u8; 86],
     /// How many bytes the image has.
     pub image_len: u8,
@@ -34,8 +34,8 @@ pub struct HartDevice {
     pub secondary_cold_start: bool,
 }
 
-/// Makes a new device, whose registers hold these values: its counter is 0, and all its bits are clear. `device` is then what is kept
-/// of it, and the length of its image is told.
+/// Makes a new device with these register values, counter 0 and all bits clear. Writes what is kept of it to `device`, and returns
+/// the length of its image.
 ///
 /// # Errors
 ///
@@ -48,13 +48,13 @@ pub extern "C" fn hart_new_device(registers: &HartRegisters, device: &mut HartDe
     let Some(values) = values_of(registers) else {
         return outcome_of(Err(Fault::Device(DeviceFault::BadField)));
     };
-    // Who it is does not stand in what is kept, so that any identity serves.
+    // What is kept of a device does not include its identity, so any identity serves.
     let new = Device::<ImageRegisters>::new(bench::identity(), &values);
     keep(&new, device);
     outcome_of(Ok(usize::from(device.image_len)))
 }
 
-/// The device was without power: sets both masters' cold start bits. All else stays as it is.
+/// Records that the device was without power: sets both masters' cold start bits. All else stays as it is.
 #[unsafe(no_mangle)]
 pub extern "C" fn hart_restart(device: &mut HartDevice)
     ensures set { device.new ≡ record device.old { primary_cold_start = true; secondary_cold_start = true } }
@@ -65,8 +65,8 @@ pub extern "C" fn hart_restart(device: &mut HartDevice)
     device.secondary_cold_start = true;
 }
 
-/// Hands a device what it hears at once, and its process. It carries out what that asks, `device` is then what is kept of it, and its
-/// reply is written as a message at the front of `reply`, of which the length is told; of silence that is 0.
+/// Lets a device hear a delivery, all that it hears at once, with this process. Carries out what the delivery asks, and updates
+/// `device`. Writes the reply as a message to the front of `reply`, and returns its length, 0 for silence.
 ///
 /// # Errors
 ///
@@ -86,7 +86,7 @@ pub extern "C" fn hart_hear(
     outcome_of(said)
 }
 
-/// Hands a device what it hears, and gives how long its reply is.
+/// Lets a device hear a delivery, and returns the length of its reply.
 fn hear(
     identity: &HartIdentity,
     process: &HartProcess,
@@ -109,7 +109,7 @@ fn hear(
     Ok(len)
 }
 
-/// Returns the device in the state that is kept.
+/// Returns the device in its kept state.
 fn kept_state(identity: &HartIdentity, device: &HartDevice) -> Result<Device<ImageRegisters>, Fault>
     ensures kept { IfOk result (IsKept (parts_of identity.now) device.now) }
     ensures refused { IfErr result (IsFirstOf (state_checks identity.now device.now)) }
@@ -125,7 +125,7 @@ fn kept_state(identity: &HartIdentity, device: &HartDevice) -> Result<Device<Ima
     Ok(state)
 }
 
-/// Keeps the state of a device.
+/// Writes what is kept of a device to `device`.
 fn keep(state: &Device<ImageRegisters>, device: &mut HartDevice)
     ensures { device.new ≡ device_of state.now }
 {
@@ -136,7 +136,7 @@ fn keep(state: &Device<ImageRegisters>, device: &mut HartDevice)
     device.secondary_cold_start = state.cold_start(MasterId::Secondary);
 }
 
-/// Writes what a device says as a message at the front of `output`, and gives how many bytes that are; none of silence.
+/// Writes what a device says as a message to the front of `output`, and returns its length, 0 for silence.
 fn say(said: Option<Frame>, preambles: u8, output: &mut [u8]) -> Result<usize, Fault>
     requires { IsPreambleCount preambles }
     ensures said { IfOk result (IsWritten (IsSaid said preambles) output.old output.new) }

@@ -1,4 +1,4 @@
-//! A frame, written as a message.
+//! Writing a frame as a message.
 ghost use Rattle.std.specs.Prelude.{◌≡◌, ◌↔◌, length, if◌then◌else◌, IfOk, IfErr, IfSome, IsSome, OnErr};
 ghost use Rattle.hart_frame.specs.wire.Message.{IsMessage, IsPreambleCount};
 ghost use Rattle.hart_c.specs.Messages.{EncodeOutcome, IsFrame, IsInRange, IsWritten, encode_checks, frame_checks};
@@ -11,8 +11,8 @@ use crate::output::{outcome_of, put};
 use hart_frame::{Expansion, Frame, FrameKind, Message, Payload, encode};
 use hart_values::{Address, MasterId};
 
-/// Writes a frame as a message at the front of `output`: this number of preamble bytes and its body. 287 bytes are room for any. Where the
-/// frame stands is not looked at.
+/// Writes a frame as a message to the front of `output`: this number of preamble bytes and its body. 287 bytes are room for any
+/// message. `start` and `stop` of the frame are ignored.
 ///
 /// # Errors
 ///
@@ -25,7 +25,7 @@ pub extern "C" fn hart_encode(frame: &HartFrame, preambles: u8, output: &mut [u8
     outcome_of(write_message(frame, preambles, output))
 }
 
-/// Writes a frame as a message at the front of `output`, and gives how many bytes that are.
+/// Writes a frame as a message to the front of `output`, and returns the length of the message.
 fn write_message(frame: &HartFrame, preambles: u8, output: &mut [u8]) -> Result<usize, Fault>
     ensures frame { IfOk result (λ len. IsFrame frame.now × IsPreambleCount preambles) }
     ensures written { IfOk result (IsWritten (IsMessage (frame_in frame.now) preambles) output.old output.new) }

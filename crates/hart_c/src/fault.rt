@@ -9,7 +9,7 @@ use hart_frame::FrameFault;
 /// All is well.
 pub const HART_OK: u8 = 0;
 
-/// A reply with a payload below its two status bytes.
+/// A reply with a payload of fewer than two bytes, so without its two status bytes.
 pub const HART_TOO_SHORT_REPLY: u8 = 1;
 
 /// A number of preamble bytes outside 5 to 20.
@@ -21,7 +21,7 @@ pub const HART_BAD_DELIMITER: u8 = 3;
 /// The bytes end before the check byte.
 pub const HART_TRUNCATED: u8 = 4;
 
-/// The check byte does not give the body even parity.
+/// The exclusive or of the body with its check byte is not 0.
 pub const HART_BAD_CHECK: u8 = 5;
 
 /// The delimiter of a reply with a byte count below 2.
@@ -36,7 +36,7 @@ pub const HART_LONG_EXPANSION: u8 = 11;
 /// The output has no room for what is to be written.
 pub const HART_NO_ROOM: u8 = 12;
 
-/// A character has another bit than fault bits.
+/// A character has another bit set than the fault bits.
 pub const HART_BAD_FAULT_BITS: u8 = 13;
 
 /// A payload is no reply to the command.
@@ -51,10 +51,10 @@ pub const HART_OUT_OF_RANGE: u8 = 16;
 /// The unique address of an identity would be the broadcast address.
 pub const HART_BROADCAST_ADDRESS: u8 = 17;
 
-/// An image of a version that is not known.
+/// An image of an unknown version.
 pub const HART_BAD_VERSION: u8 = 18;
 
-/// An image of no bytes, or of another length than its version has.
+/// An image with no bytes or more than 86, or with the wrong length for its version.
 pub const HART_BAD_LENGTH: u8 = 19;
 
 /// A register would hold bytes that are not valid in it, or the flags of an image are above 7.
@@ -69,7 +69,7 @@ pub const HART_TOO_LONG: u8 = 22;
 /// A frame that is no request of a master.
 pub const HART_NO_REQUEST: u8 = 23;
 
-/// A request that is not asked at this address.
+/// A request that may not be asked at this address.
 pub const HART_WRONG_ADDRESS: u8 = 24;
 
 /// How many bytes were written or read, or why none were.
@@ -85,7 +85,7 @@ pub struct HartOutcome {
 /// Why a call wrote nothing.
 #[derive(Clone, Copy)]
 pub(crate) enum Fault {
-    /// The frame, the number of preamble bytes or the bytes are refused so.
+    /// The fault of a frame, of a number of preamble bytes, or of bytes that were to be read.
     Frame(FrameFault),
     /// A number of an address is out of range.
     BadAddress,
@@ -93,9 +93,9 @@ pub(crate) enum Fault {
     LongExpansion,
     /// The output has no room for what is to be written.
     NoRoom,
-    /// A character has another bit than fault bits.
+    /// A character has another bit set than the fault bits.
     BadFaultBits,
-    /// The identity, the image or the registers of a device are refused so.
+    /// The fault of an identity, an image or the registers of a device.
     Device(DeviceFault),
     /// A process has no dynamic variable, or more than four.
     BadVariables,
@@ -103,12 +103,12 @@ pub(crate) enum Fault {
     TooLong,
     /// The frame is no request of a master.
     NoRequest,
-    /// The request is not asked at this address.
+    /// The request may not be asked at this address.
     WrongAddress,
 }
 
 impl Fault {
-    /// Returns its number for C.
+    /// Returns the number of the fault for C.
     pub fn number(self) -> u8
         ensures { result ≡ number_of self }
     {

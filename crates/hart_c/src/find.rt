@@ -1,4 +1,4 @@
-//! The frames of what was heard, some at a time.
+//! Finding the frames in what was heard, some at a time.
 ghost use Rattle.std.specs.Prelude.{◌≡◌, ◌<◌, ◌≤◌, ℕ, false, true, List, IsTrue, All, drop, length, map, min, take};
 ghost use Rattle.hart_frame.specs.heard.Character.{AreFaultBits, Character, faultless};
 ghost use Rattle.hart_frame.specs.heard.Frames.{IsUndecided};
@@ -12,14 +12,14 @@ use crate::frame::{HartFrame, show_found};
 use crate::heard::have_fault_bits;
 use hart_frame::{Char, Scanner, next_in_bytes};
 
-/// The most characters that are handed to the scanner at once.
+/// The maximum number of characters passed to the scanner at once.
 const CHUNK: usize = 64;
 
-/// What a search came to.
+/// The result of a search.
 #[repr(C)]
 #[derive(Clone, Copy)]
 pub struct HartSearch {
-    /// How many of what was passed are used up: the rest is to be passed again, with what comes after it.
+    /// How many of the passed elements are used up. Pass the rest again, followed by what comes next.
     pub used: usize,
     /// How many frames were found.
     pub count: usize,
@@ -37,8 +37,8 @@ pub struct HartChar {
     pub faults: u8,
 }
 
-/// Finds the next frames of bytes that were heard without faults, as many as `frames` has room for, and says how many bytes they use
-/// up. `ended` says that no more is to come.
+/// Finds the next frames in bytes that were heard without faults, as many as `frames` has room for, and returns how many bytes are
+/// used up. `ended` says that nothing more comes.
 #[unsafe(no_mangle)]
 pub extern "C" fn hart_find_in_bytes(
     bytes: &[u8],
@@ -72,7 +72,7 @@ fn found_so_far(used: usize, count: usize) -> HartSearch
     }
 }
 
-/// Finds the next frames of characters that were heard, each with its fault bits, as [`hart_find_in_bytes`] does.
+/// Finds the next frames like [`hart_find_in_bytes`], but in characters with fault bits.
 ///
 /// # Errors
 ///
@@ -122,7 +122,7 @@ fn copy_front(heard: &[HartChar], chunk: &mut [Char]) -> usize
     count
 }
 
-/// Returns the character that was passed.
+/// Returns the character of these numbers.
 pub(crate) fn char_of(given: &HartChar) -> Char
     requires { AreFaultBits given.now.faults }
     ensures { result ≡ char_of given.now }
@@ -130,7 +130,7 @@ pub(crate) fn char_of(given: &HartChar) -> Char
     Char::new(given.byte, given.faults).unwrap()
 }
 
-/// Shows the frames that a scanner gives, after so many others, until it gives none or there is no more room.
+/// Shows the next frames of a scanner from index `count` on, until there are no more or no room. Returns the index after the last.
 #[inline(always)]
 fn fill(scanner: &mut Scanner, frames: &mut [HartFrame], count: usize) -> usize
     requires room { count ≤ length frames.old }
@@ -158,7 +158,7 @@ fn fill(scanner: &mut Scanner, frames: &mut [HartFrame], count: usize) -> usize
     count
 }
 
-/// Shows the next frame that a scanner gives, and whether there is one.
+/// Shows the next frame of a scanner and returns true, or returns false if there is none.
 #[inline(always)]
 fn give(scanner: &mut Scanner, frame: &mut HartFrame) -> bool
     ensures found { IsTrue result → Gives scanner.old scanner.new (found_in frame.new) }

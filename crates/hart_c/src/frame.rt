@@ -14,19 +14,19 @@ pub struct HartFrame {
     pub start: u64,
     /// The place after the check byte.
     pub stop: u64,
-    /// The device id of a unique address, at most 16,777,215; of a polling address 0.
+    /// The device id of a unique address, at most 16,777,215; 0 for a polling address.
     pub device_id: u32,
-    /// The expanded device type of a unique address, at most 16,383; of a polling address 0.
+    /// The expanded device type of a unique address, at most 16,383; 0 for a polling address.
     pub expanded_type: u16,
-    /// Whether it is a reply, an ACK, and not a request, an STX.
+    /// Whether the frame is a reply (ACK), not a request (STX).
     pub is_reply: bool,
     /// Whether its master is the primary one.
     pub is_primary: bool,
     /// The burst bit.
     pub is_burst: bool,
-    /// Whether its address is a unique address, of five bytes, and not a polling address. Both numbers 0 are broadcast.
+    /// Whether its address is a unique address of five bytes, not a polling address. Both numbers 0 mean broadcast.
     pub is_unique: bool,
-    /// The polling address, at most 63; of a unique address 0.
+    /// The polling address, at most 63; 0 for a unique address.
     pub polling_address: u8,
     /// The command number.
     pub command: u8,
@@ -36,11 +36,11 @@ pub struct HartFrame {
     pub payload_len: u8,
     /// The expansion bytes; the first `expansion_len` count.
     pub expansion: [u8; 3],
-    /// The payload, of a reply from its two status bytes on; the first `payload_len` bytes count.
+    /// The payload; that of a reply begins with its two status bytes. The first `payload_len` bytes count.
     pub payload: [u8; 255],
 }
 
-/// The parts of a frame, where they lie.
+/// The parts of a frame, borrowed where they are bytes.
 #[derive(Drop)]
 struct Parts<'a> {
     kind: FrameKind,
@@ -52,7 +52,7 @@ struct Parts<'a> {
     payload: &'a [u8],
 }
 
-/// Writes what a scanner found over `frame`.
+/// Writes to `frame` what a scanner found.
 #[inline(always)]
 pub(crate) fn show_found(found: &FoundView<'_>, frame: &mut HartFrame)
     ensures found { found_in frame.new ≡ found_of found.now }
@@ -73,7 +73,7 @@ pub(crate) fn show_found(found: &FoundView<'_>, frame: &mut HartFrame)
     frame.stop = found.stop;
 }
 
-/// Writes a frame that stands between two places over `frame`.
+/// Writes to `frame` a frame and the two places between which it stands.
 pub(crate) fn show_frame(shown: &Frame, start: u64, stop: u64, frame: &mut HartFrame)
     ensures found { found_in frame.new ≡ record { start = start; stop = stop; frame = shown.now } }
     ensures tidy { IsTidy frame.new }
@@ -92,7 +92,7 @@ pub(crate) fn show_frame(shown: &Frame, start: u64, stop: u64, frame: &mut HartF
     frame.stop = stop;
 }
 
-/// Writes the parts of a frame over those of `frame`.
+/// Replaces the parts of `frame` by these parts.
 #[inline(always)]
 fn show_parts(parts: &Parts<'_>, frame: &mut HartFrame)
     requires expansion { length parts.now.expansion.now ≤ 3 }
@@ -121,7 +121,7 @@ fn show_parts(parts: &Parts<'_>, frame: &mut HartFrame)
     frame.payload[..parts.payload.len()].copy_from_slice(parts.payload);
 }
 
-/// Writes an address over that of `frame`.
+/// Replaces the address of `frame` by this address.
 #[inline(always)]
 fn show_address(address: Address, frame: &mut HartFrame)
     ensures { frame.new ≡ with_address address frame.old }

@@ -1,4 +1,4 @@
-//! What is heard at once, as a caller in C passes it.
+//! A delivery, all that is heard at once, as a caller in C passes it.
 ghost use Rattle.std.specs.Prelude.{◌≡◌, ◌≤◌, ◌↔◌, IfErr, IfOk, IsTrue, map, take};
 ghost use Rattle.hart_c.specs.Find.{HaveFaultBits, char_of, heard_checks};
 ghost use Rattle.hart_c.specs.Faults.{AllPass, IsFirstOf};
@@ -7,10 +7,10 @@ use crate::fault::Fault;
 use crate::find::{HartChar, char_of};
 use hart_frame::Char;
 
-/// The most characters that are heard at once.
+/// The maximum number of characters in a delivery.
 const MOST_CHARACTERS: usize = 1024;
 
-/// A delivery, which is what is heard at once: the first `len` of these characters.
+/// A delivery: the first `len` of these characters.
 #[derive(Drop)]
 pub(crate) struct Delivery {
     chars: [Char; MOST_CHARACTERS],
@@ -49,7 +49,7 @@ pub(crate) fn delivery_of(heard: &[HartChar]) -> Result<Delivery, Fault>
     })
 }
 
-/// Returns true if no character has another bit than fault bits.
+/// Returns true if the `faults` of each character are fault bits only.
 pub(crate) fn have_fault_bits(heard: &[HartChar]) -> bool
     ensures { IsTrue result ↔ HaveFaultBits heard.now }
 {

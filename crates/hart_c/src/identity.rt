@@ -11,7 +11,7 @@ use hart_device::IdentityParts;
 pub struct HartIdentity {
     /// The device id, at most 16,777,215.
     pub device_id: u32,
-    /// The expanded device type, of which the lower 14 bits stand in the unique address.
+    /// The expanded device type. Its lower 14 bits are in the unique address.
     pub expanded_device_type: u16,
     /// The code of the manufacturer.
     pub manufacturer: u16,
@@ -37,7 +37,7 @@ pub struct HartIdentity {
     pub device_profile: u8,
 }
 
-/// Writes who the bench device is over `identity`.
+/// Writes the identity of the bench device to `identity`.
 #[unsafe(no_mangle)]
 pub extern "C" fn hart_bench_identity(identity: &mut HartIdentity)
     ensures { parts_of identity.new ≡ bench_identity }
@@ -59,7 +59,7 @@ pub extern "C" fn hart_bench_identity(identity: &mut HartIdentity)
     };
 }
 
-/// Returns the parts that these numbers say.
+/// Returns the parts of the identity of these numbers.
 pub(crate) fn parts_of(identity: &HartIdentity) -> IdentityParts
     ensures { result ≡ parts_of identity.now }
 {

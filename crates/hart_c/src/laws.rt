@@ -1,4 +1,4 @@
-//! What follows from the contracts for a caller.
+//! Laws for a caller, which follow from the contracts.
 ghost use Rattle.std.specs.Prelude.{◌≡◌, ◌≢◌, ◌<◌, ◌≤◌, ◌-◌, ◌/◌, [], ◌∷◌, List, Bool, ℕ, Ok, Option, Some, false, true, if◌then◌else◌};
 ghost use Rattle.std.specs.Prelude.{All, length, slice_get, slice_index, take};
 ghost use Rattle.hart_frame.specs.heard.Character.{Character};
@@ -34,9 +34,9 @@ use hart_commands::laws::{read_data_begin_as_written, written_payloads_are_read_
 use hart_device::laws::bytes_have_one_image_fault;
 use hart_frame::laws::{bytes_have_one_fault, messages_are_short};
 
-/// Whoever passes what is not used up again, with what comes after it, is given all frames of all that was heard, and no others, in
-/// whatever pieces it came: the frames of each search, moved by what was used up before, are the next ones; and once all is used up
-/// and it ended, they are all that there are.
+/// Repeated searches find exactly the frames of the whole input, in whatever pieces it came, if the caller passes the unused rest
+/// again, followed by what comes next. The frames of each search, moved by what was used up before, are the next frames. Once the
+/// input ended and all of it is used up, they are all its frames.
 pub fn searches_give_all_frames()
     ensures next { (heard : List Character) (ended : Bool) (given : List Found) (used : ℕ)
         → IsSearchedSoFar heard ended given used → AreNext heard ended 0 given used }
@@ -44,16 +44,16 @@ pub fn searches_give_all_frames()
         → IsSearchedSoFar heard true given (length heard) → AreFrames heard 0 given }
 {}
 
-/// What is kept of a device stands for its state, and for no other. So a device that goes on from it is in the state in which it was left.
+/// What is kept of a device stands for exactly one state. So a device that goes on from there is in the state in which it was left.
 pub fn devices_are_kept()
     ensures kept { (state : DeviceState) → IsDevice state → IsKept state.identity (device_of state) state }
     ensures one_state { (parts : IdentityParts) (device : HartDevice) (state other : DeviceState)
         → IsKept parts device state → IsKept parts device other → state ≡ other }
 {}
 
-/// Each place that is shown of data is that of the field of its index: the field whose name is told at that index stands there, right after
-/// the fields before it and within the data, is as long as it is said to be, and is meant as its row in the table of fields says. Its kind
-/// may have that length: a float 4 bytes, a date 3, a number 1 or 2, a packed text 6, 12 or 24, device variables 8 each.
+/// The place shown at an index is that of the field whose name is told at this index. It lies within the data, right after the
+/// fields before it. Its kind is that of the field's row in the table of fields, and its length is one that this kind may have: a
+/// float has 4 bytes, a date 3, a number 1 or 2, packed text 6, 12 or 24, and device variables 8 each.
 pub fn fields_stand_where_they_are_shown()
     ensures requests { (command index : ℕ) (bytes : List ℕ) (before after : List HartField) (reading : HartReading) (shown : HartField)
         → RequestOutcome command bytes before after reading → index < reading.count → slice_get after index ≡ Some shown
@@ -64,7 +64,7 @@ pub fn fields_stand_where_they_are_shown()
         → StandsAt true command 2 (reply_fields command payload reply) payload index shown }
 {}
 
-/// Room for 16 fields is room for those of any data, and room for 64 bytes is room for any name.
+/// 16 fields are room for any data, and 64 bytes are room for any name.
 pub fn sixteen_fields_and_names_of_64_bytes_have_room()
     ensures requests { (command : ℕ) (bytes : List ℕ) (before after : List HartField) (reading : HartReading)
         → RequestOutcome command bytes before after reading → reading.count ≤ 16 }
@@ -76,8 +76,8 @@ pub fn sixteen_fields_and_names_of_64_bytes_have_room()
         → NameOutcome (field_name is_reply command index) before after outcome → outcome.fault ≢ 12 }
 {}
 
-/// What is not taken is ignored: of the bytes that are taken alone, the same is read, told and shown. Of a reply two bytes at least are
-/// taken, its response code and its device status.
+/// Bytes that are not taken are ignored: from the taken bytes alone, the call reads, tells and shows the same. At least two bytes
+/// of a reply are taken, its response code and its device status.
 pub fn bytes_that_are_not_taken_are_ignored()
     ensures requests { (command : ℕ) (bytes : List ℕ) (request : Request) (before after : List HartField) (reading : HartReading)
         → All (λ byte. byte < 256) bytes → request_reading command bytes ≡ Ok request
@@ -92,8 +92,8 @@ pub fn bytes_that_are_not_taken_are_ignored()
     written_payloads_are_read_again();
 }
 
-/// A frame that a call shows can be written as it is: its address is in range, it has at most three expansion bytes, and a reply has its
-/// two status bytes.
+/// A frame that a call shows can be written as it is: its address is in range, it has at most three expansion bytes, and a reply
+/// has its two status bytes.
 pub fn shown_frames_can_be_written()
     ensures found { (chars : List Character) (ended : Bool) (before after : List HartFrame) (search : HartSearch)
         → Finds chars ended before after search → All IsFrame (take search.count after) }
@@ -103,16 +103,15 @@ pub fn shown_frames_can_be_written()
         → AcceptOutcome numbers heard before after acceptance → acceptance.is_accepted ≡ true → IsFrame after }
 {}
 
-/// A message depends on the frame alone: numbers that say one frame, with the same number of expansion bytes, are written alike. Its place,
-/// the numbers of the other kind of address, and the bytes after those that count are not looked at.
+/// A message depends only on the frame: numbers that stand for the same frame, with the same `expansion_len`, are written alike.
+/// Its place, the numbers of the other kind of address, and the bytes after those that count are ignored.
 pub fn numbers_of_one_frame_are_written_alike()
     ensures { (frame other : HartFrame) (preambles : ℕ) (before after : List ℕ) (outcome : HartOutcome)
         → frame_in other ≡ frame_in frame → other.expansion_len ≡ frame.expansion_len
         → EncodeOutcome frame preambles before after outcome → EncodeOutcome other preambles before after outcome }
 {}
 
-/// Room for 287 bytes is room for any message: with it neither a frame that is written nor a reply of a device is refused for want of
-/// room.
+/// 287 bytes are room for any message: with that room, neither `hart_encode` nor `hart_hear` has the fault of no room.
 pub fn messages_of_287_bytes_have_room()
     ensures encode { (frame : HartFrame) (preambles : ℕ) (before after : List ℕ) (outcome : HartOutcome) → 287 ≤ length before
         → EncodeOutcome frame preambles before after outcome → outcome.fault ≢ 12 }
@@ -123,8 +122,8 @@ pub fn messages_of_287_bytes_have_room()
     messages_are_short();
 }
 
-/// In an image that is kept, byte 1 is the polling address and byte 2 the loop current mode, and bit 2 of the last byte, its flags, is
-/// write protection. With that bit set or cleared, the device is kept in the same state, but for write protection.
+/// In a kept image, byte 1 is the polling address, byte 2 is the loop current mode, and bit 2 of the last byte, its flags, is write
+/// protection. Setting or clearing that bit changes the kept state only in its write protection.
 pub fn kept_bytes_are_what_they_say()
     ensures registers { (parts : IdentityParts) (device : HartDevice) (state : DeviceState) → length device.image ≡ 86
         → IsKept parts device state
@@ -136,9 +135,9 @@ pub fn kept_bytes_are_what_they_say()
         → IsKept parts device state → IsKept parts (with_protection on device) (record state { protected = on }) }
 {}
 
-/// What a call comes to that may be refused is one thing: with the same arguments its clauses allow one thing to be told, and one frame to
-/// be shown or one thing to be left behind, if what it writes to keeps its length, as a slice does. So it has one fault at most, and none
-/// besides a success. The searches for frames are not among these calls: how much one uses up is open where no frame depends on it.
+/// A call that can fail is deterministic: for the same arguments its contract allows one result and one shown frame or written
+/// output, if the output keeps its length, as a slice does. So a call has at most one fault, and none besides a success. The
+/// searches for frames are not among these calls: how much a search uses up is open where no frame depends on it.
 pub fn calls_have_one_outcome()
     ensures decode { (bytes : List ℕ) (before after other : HartFrame) (outcome another : HartOutcome)
         → DecodeOutcome bytes before after outcome → DecodeOutcome bytes before other another

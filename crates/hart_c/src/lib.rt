@@ -1,8 +1,8 @@
-//! HART messages for callers in C (HCF_SPEC-081, HCF_SPEC-127): frames found in what was heard, read and written; a field device whose
-//! caller keeps it; and what a master accepts.
+//! HART messages for callers in C (HCF_SPEC-081, HCF_SPEC-127). The calls find, read and write frames, run a field device that the
+//! caller keeps, and accept replies as a master does.
 //!
-//! `include/hart.h` declares what is exported, and says at each call what its caller has to uphold. No call keeps a pointer or holds a
-//! state of its own, and none takes memory: what lasts from call to call lies with the caller. Each call is a function of its arguments.
+//! `include/hart.h` declares what is exported, and states the duties of the caller. No call keeps a pointer or a state of its own,
+//! and none allocates: the caller keeps what lasts from call to call. The result of each call depends only on its arguments.
 #![tactic(auto)]
 
 mod check;

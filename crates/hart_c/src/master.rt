@@ -1,4 +1,4 @@
-//! What a master makes of what it hears.
+//! What a master accepts as a reply.
 ghost use Rattle.std.specs.Prelude.{◌≡◌, ◌<◌, ◌^◌, false, IfErr, IfOk, OnErr};
 ghost use Rattle.hart_commands.specs.ReplyData.{reply_reading};
 ghost use Rattle.hart_commands.specs.declared.request.Request.{Request};
@@ -32,27 +32,27 @@ pub struct HartAcceptance {
     pub fault: u8,
 }
 
-/// The unique address that a reply gives.
+/// The unique address in a reply.
 #[repr(C)]
 #[derive(Clone, Copy)]
 pub struct HartUnique {
-    /// Whether it gives one.
+    /// Whether there is one.
     pub is_given: bool,
-    /// The expanded device type, at most 16,383; 0 if none is given.
+    /// The expanded device type, at most 16,383; 0 if there is no unique address.
     pub expanded_type: u16,
-    /// The device id, at most 16,777,215; 0 if none is given.
+    /// The device id, at most 16,777,215; 0 if there is no unique address.
     pub device_id: u32,
 }
 
-/// The numbers if no unique address is given.
+/// The numbers if there is no unique address.
 const NO_ADDRESS: HartUnique = HartUnique {
     is_given: false,
     expanded_type: 0,
     device_id: 0,
 };
 
-/// Returns true if what was heard at once is the reply to a request that was sent, as a master accepts it. `reply` then shows its frame, and
-/// where that stands.
+/// Tells whether a delivery, all that was heard at once, is the reply to a request that was sent, as a master accepts it. If so,
+/// `reply` shows its frame and where the frame stands.
 ///
 /// # Errors
 ///
@@ -85,7 +85,7 @@ fn acceptance_of(accepted: Result<Option<Reply>, Fault>) -> HartAcceptance
     }
 }
 
-/// Nothing was accepted.
+/// Returns the numbers if nothing was accepted.
 fn not_accepted(fault: u8) -> HartAcceptance
     ensures { result ≡ record { is_accepted = false; code = 0; status = 0; fault = fault } }
 {
@@ -97,7 +97,7 @@ fn not_accepted(fault: u8) -> HartAcceptance
     }
 }
 
-/// Returns the reply to a request that was sent, if what was heard is that, and shows its frame.
+/// Returns the reply to the request that was sent and shows its frame, or returns `None` if what was heard is not this reply.
 fn accept(
     request: &HartFrame,
     heard: &[HartChar],
@@ -119,7 +119,7 @@ fn accept(
     Ok(Some(said))
 }
 
-/// Returns the master that sent a request, and awaits its reply.
+/// Returns a master that has sent this request and awaits its reply.
 fn sent(request: &HartFrame) -> Result<Master, Fault>
     ensures awaits { IfOk result (λ master. (asked : Request) × IsSent request.now asked × (master.id ≡ (frame_in request.now).master)
         × (master.hand ≡ Awaiting (record { address = (frame_in request.now).address; request = asked; sendings = 1 }) 0)) }
@@ -127,7 +127,7 @@ fn sent(request: &HartFrame) -> Result<Master, Fault>
 {
     let frame = frame_of(request)?;
     let asked = asked_by(&frame)?;
-    // How often and how long it waits is for its caller to say, who calls only when something was heard.
+    // Retries and reply limit do not matter: the caller decides how often and how long to wait, and calls only with a delivery.
     let mut master = Master::new(frame.master(), 0, 1).unwrap();
     if master.submit(frame.address(), asked).is_err() {
         return Err(Fault::WrongAddress);
@@ -136,7 +136,7 @@ fn sent(request: &HartFrame) -> Result<Master, Fault>
     Ok(master)
 }
 
-/// Returns the request that a master asks with a frame.
+/// Returns the request of a master in a frame.
 fn asked_by(frame: &Frame) -> Result<Request, Fault>
     ensures asked { IfOk result (IsAsked frame.now) }
     ensures refused { IfErr result (λ fault. (fault ≡ Fault.NoRequest) × ((request : Request) → IsAsked frame.now request → ⊥)) }
@@ -150,8 +150,8 @@ fn asked_by(frame: &Frame) -> Result<Request, Fault>
     }
 }
 
-/// Returns the unique address that the payload of a reply to a command gives: that of an identity with code 0, if it is not broadcast. Commands
-/// 0, 11 and 21 are replied to with an identity.
+/// Returns the unique address in the payload of a reply to this command. There is one if the reply has code 0 and an identity whose
+/// address is not broadcast. Replies to Commands 0, 11 and 21 have an identity.
 #[unsafe(no_mangle)]
 pub extern "C" fn hart_unique_of(command: u8, payload: &[u8]) -> HartUnique
     ensures given { result ≡ given_by (reply_reading command payload.now) }

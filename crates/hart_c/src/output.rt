@@ -1,10 +1,10 @@
-//! What is written for a caller in C.
+//! Output for a caller in C.
 ghost use Rattle.std.specs.Prelude.{◌≡◌, ◌<◌, ◌++◌, IfErr, IfOk, OnErr, drop, length};
 ghost use Rattle.hart_c.specs.Faults.{outcome_of};
 
 use crate::fault::{Fault, HART_OK, HartOutcome};
 
-/// Writes bytes over the front of `output`, and gives how many they are.
+/// Writes bytes to the front of `output`, and returns their number.
 pub(crate) fn put(bytes: &[u8], output: &mut [u8]) -> Result<usize, Fault>
     ensures written { IfOk result (λ len. (len ≡ length bytes.now) × (output.new ≡ bytes.now ++ drop len output.old)) }
     ensures refused { IfErr result (λ fault. (fault ≡ Fault.NoRoom) × (length output.old < length bytes.now)) }

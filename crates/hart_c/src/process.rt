@@ -21,7 +21,7 @@ pub struct HartVariable {
     pub status: u8,
 }
 
-/// What a device says of its sensor (HCF_SPEC-127, Command 14).
+/// The sensor of a device (HCF_SPEC-127, Command 14).
 #[repr(C)]
 #[derive(Clone, Copy)]
 pub struct HartSensor {
@@ -71,7 +71,7 @@ pub struct HartProcess {
     pub variables_len: u8,
     /// When the variables were measured.
     pub time_stamp: [u8; 4],
-    /// The bits of the device status that the process has: hex 80, 04, 02 and 01. Others are not looked at.
+    /// The bits of the device status that the process sets: hex 80, 04, 02 and 01. Other bits are ignored.
     pub status: u8,
     /// The additional status bytes; byte 6, counted from 0, is the extended device status.
     pub additional_status: [u8; 25],
@@ -81,7 +81,7 @@ pub struct HartProcess {
     pub output: HartOutput,
 }
 
-/// No variable.
+/// The numbers of an unused variable.
 const NO_VARIABLE: HartVariable = HartVariable {
     classification: 0,
     unit: 0,
@@ -89,7 +89,7 @@ const NO_VARIABLE: HartVariable = HartVariable {
     status: 0,
 };
 
-/// Writes the process of the bench device over `process`.
+/// Writes the process of the bench device to `process`.
 #[unsafe(no_mangle)]
 pub extern "C" fn hart_bench_process(process: &mut HartProcess)
     ensures { IsProcessOf process.new bench_process }
@@ -149,7 +149,7 @@ fn output_shown(output: &OutputValues) -> HartOutput
     }
 }
 
-/// Returns the process that these numbers say, or `None` if they have no variable or more than four.
+/// Returns the process of these numbers, or `None` if they have no variable or more than four.
 pub(crate) fn process_of(given: &HartProcess) -> Option<Process>
     ensures accepted { IsSome result ↔ HasVariables given.now }
     ensures same { IfSome result (IsProcessOf given.now) }
@@ -169,7 +169,7 @@ pub(crate) fn process_of(given: &HartProcess) -> Option<Process>
     })
 }
 
-/// Returns the variables that these numbers say.
+/// Returns the variables of these numbers.
 fn variables_of(given: &[HartVariable]) -> ShortList<ProcessVariable, 3>
     requires { length given.now ≤ 3 }
     ensures { result ≡ map variable_of given.now }
@@ -193,7 +193,7 @@ fn variable_of(given: &HartVariable) -> ProcessVariable
     }
 }
 
-/// Returns the sensor that these numbers say.
+/// Returns the sensor of these numbers.
 fn sensor_of(given: &HartSensor) -> SensorContent
     ensures { result ≡ sensor_of given.now }
 {
@@ -206,7 +206,7 @@ fn sensor_of(given: &HartSensor) -> SensorContent
     }
 }
 
-/// Returns the loop current output that these numbers say.
+/// Returns the loop current output of these numbers.
 fn output_of(given: &HartOutput) -> OutputValues
     ensures { result ≡ output_of given.now }
 {

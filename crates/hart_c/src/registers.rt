@@ -1,4 +1,4 @@
-//! What the registers of a device begin with, as numbers for C.
+//! The initial values of the registers of a device, as numbers for C.
 ghost use Rattle.std.specs.Prelude.{◌≡◌, ◌<◌, ◌↔◌, IsSome, IfSome};
 ghost use Rattle.hart_commands.specs.Registers.{AreValid};
 ghost use Rattle.hart_commands.specs.RequestData.{mode_byte};
@@ -9,7 +9,7 @@ ghost use Rattle.hart_c.specs.Numbers.{contents_of};
 use hart_device::{RegisterValues, bench};
 use hart_values::{HartDate, LoopMode, PackedText, PollingAddress};
 
-/// What the registers of a device begin with (HCF_SPEC-127).
+/// The initial values of the registers of a device (HCF_SPEC-127).
 #[repr(C)]
 #[derive(Clone, Copy)]
 pub struct HartRegisters {
@@ -31,7 +31,7 @@ pub struct HartRegisters {
     pub long_tag: [u8; 32],
 }
 
-/// Writes what the registers of the bench device begin with over `registers`.
+/// Writes the initial values of the registers of the bench device to `registers`.
 #[unsafe(no_mangle)]
 pub extern "C" fn hart_bench_registers(registers: &mut HartRegisters)
     ensures { contents_of «registers».new ≡ values_of bench_values }
@@ -49,7 +49,7 @@ pub extern "C" fn hart_bench_registers(registers: &mut HartRegisters)
     registers.long_tag = values.long_tag;
 }
 
-/// Returns the values that these numbers say, or `None` if a register would hold bytes that are not valid in it.
+/// Returns the register values of these numbers, or `None` if a register would hold invalid bytes.
 pub(crate) fn values_of(given: &HartRegisters) -> Option<RegisterValues>
     ensures accepted { IsSome result ↔ AreValid (contents_of given.now) }
     ensures same { IfSome result (λ values. values_of values ≡ contents_of given.now) }
