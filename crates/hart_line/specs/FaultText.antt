@@ -4,24 +4,24 @@ use Rattle.hart_line.specs.Types.{Leg, LineFault, Undetected, Memory, BadLine}
 use Rattle.hart_line.specs.declared.fault.Leg.TheVariants.{Up, Down, Noise}
 use Rattle.hart_line.specs.declared.fault_text.FaultText.{FaultText}
 
--- The word of a leg is `up` from a master to the device, `down` from the device to the masters, and `noise` at noise.
+-- The word that names a leg is `up` from a master to the device, `down` from the device to the masters, and `noise` at noise.
 abbrev pub leg_word : Leg → List ℕ
 leg_word Up = codes "up"
 leg_word Down = codes "down"
 leg_word Noise = codes "noise"
 
--- A fault of a script has this text; the numbers of an event, counted from 0, and of a line, counted from 1, are in decimal.
+-- The text of a fault. It has the number of an event, counted from 0, or of a line, counted from 1, in decimal.
 abbrev pub line_fault_text : LineFault → List ℕ
 line_fault_text (Undetected event leg) =
     codes "undetected damage at event " ++ decimal event ++ codes ", " ++ leg_word leg
 line_fault_text (Memory none) = codes "out of memory"
 line_fault_text (BadLine number) = codes "bad line " ++ decimal number
 
--- A number is written in decimal, and nothing is written where there is none.
+-- A number is written in decimal. If there is no number, nothing is written.
 abbrev pub number_text : Option ℕ → List ℕ
 number_text None = []
 number_text (Some number) = decimal number
 
--- The parts of a text are written in this order.
+-- A text is its parts in this order.
 abbrev pub joined : FaultText → List ℕ
 joined text = text.before.now ++ number_text text.number ++ text.comma.now ++ text.word.now

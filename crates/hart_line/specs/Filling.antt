@@ -1,14 +1,14 @@
--- Lists that are filled in room that was reserved for them (own profile).
+-- Lists for whose items room is reserved before they are filled (own profile).
 use Rattle.std.specs.Prelude.{ℕ, ◌≤◌, List}
 use denote.Memory.{lone}
 use denote.RattleType.{RattleType}
 use prog.Memory.{size}
 
--- A list that is being filled has items, and room for so many in all.
+-- A list that is being filled has its items so far, and room for `room` items in all.
 pub record Filled (T : Type 0) : Type 0 where
   pub items : List T
   pub room : ℕ
 
--- Items of a type are small if each takes 512 bytes at most.
+-- Items of a type are small if each takes at most 512 bytes.
 abbrev pub AreSmall : RattleType → Type 0
 AreSmall T = size (lone T.mir) ≤ 512

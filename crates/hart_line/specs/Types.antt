@@ -1,4 +1,4 @@
--- The types of the code that definitions speak of, of this crate and of those below.
+-- The types that the definitions use, from the code of this crate and of the crates below it.
 pub use Rattle.hart_commands.specs.Registers.{Overwrite}
 pub use Rattle.hart_commands.specs.declared.reply.Reply.{Reply}
 pub use Rattle.hart_commands.specs.declared.request.Request.{Request}

@@ -5,7 +5,7 @@ use hart_values::{Address, MasterId};
 /// What is heard in one leg of a turn.
 #[derive(Debug, Drop)]
 pub enum Heard {
-    /// What was sent in this leg, without faults, or nothing if nothing was sent.
+    /// What was sent in this leg, heard without faults; or nothing if nothing was sent.
     Clean,
     /// Nothing.
     Lost,
@@ -30,8 +30,8 @@ pub enum LineEvent {
     },
     /// The write protection of the device is switched on or off.
     Protect(bool),
-    /// The device and both masters hear these characters, and both masters hear without damage what the device answers to them.
+    /// The device and both masters hear these characters. Both masters also hear the device's answer, without damage.
     Noise(CharList),
-    /// The device was without power and is on again. The masters go on with what they have in hand.
+    /// The device lost power and is on again. The masters keep what they have in hand.
     Restart,
 }

@@ -13,12 +13,12 @@ pub enum Leg {
     Up,
     /// From the device to the masters, in a turn.
     Down,
-    /// What all hear at noise.
+    /// Noise, which the device and both masters hear.
     Noise,
 }
 
 impl Leg {
-    /// Returns the word of the leg.
+    /// Returns the word that names the leg.
     pub fn word(self) -> &'static str
         ensures word { result.now ≡ leg_word self }
         ensures short { length result.now ≤ 5 }
@@ -39,14 +39,14 @@ impl fmt::Display for Leg {
     }
 }
 
-/// Why a script was not read or not carried out.
+/// Why a script could not be read or carried out.
 #[derive(Clone, Copy, Debug, PartialEq, Eq, Error)]
 pub enum LineFault {
-    /// What was heard in this leg of the event with this number, counted from 0, has frames, and they are not just the one that was sent.
+    /// In this leg of this event, counted from 0, a frame was heard that was not the one sent, or several frames were heard.
     Undetected { event: usize, leg: Leg },
     /// Memory was refused.
     Memory(NoRoom),
-    /// The line of the text with this number, counted from 1, says no event.
+    /// The line with this number, counted from 1, is neither empty nor a comment, and says no event.
     BadLine { number: usize },
 }
 

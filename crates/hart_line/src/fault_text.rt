@@ -2,25 +2,25 @@ ghost use Rattle.std.specs.Prelude.{◌≡◌, ◌+◌, ◌≤◌, ◌++◌, dec
 
 use std::fmt;
 
-/// The text of a fault, in the parts that it is written of, so that it can be written without memory too.
+/// The text of a fault, kept in parts so that it can be written without allocating memory.
 #[derive(Clone, Copy, Debug, PartialEq, Eq)]
 pub struct FaultText {
-    /// The whole text, or what stands before its number.
+    /// The whole text, or the part before its number.
     pub before: &'static str,
-    /// The number, which is written in decimal.
+    /// The number, written in decimal.
     pub number: Option<usize>,
-    /// What stands between the number and the last word.
+    /// The text between the number and the last word.
     pub comma: &'static str,
     /// The last word.
     pub word: &'static str,
-    /// With a number, a text is 54 bytes long at most.
+    /// With its number, a text is at most 54 bytes long.
     pub ghost short: { length before.now + length comma.now + length word.now ≤ 34 },
 }
 
 impl FaultText {
     ghost use Rattle.hart_line.specs.FaultText.{joined};
 
-    /// Returns the text with no number in it.
+    /// Returns a text without a number.
     pub fn plain(text: &'static str) -> FaultText
         requires { length text.now ≤ 34 }
         ensures { joined result ≡ text.now }
@@ -33,7 +33,7 @@ impl FaultText {
         }
     }
 
-    /// Returns the text that ends in a number.
+    /// Returns a text that ends in a number.
     pub fn numbered(before: &'static str, number: usize) -> FaultText
         requires { length before.now ≤ 34 }
         ensures { joined result ≡ before.now ++ decimal number }

@@ -5,7 +5,7 @@ use crate::memory::{NoRoom, make_room, reserved};
 use std::alloc::Global;
 use std::marker::Model;
 
-/// A list that is filled in room that was made for it before, so that no item is refused.
+/// A list for whose items room is reserved beforehand, so that adding an item never fails.
 #[derive(Debug, Drop)]
 pub struct Filling<T> {
     items: Vec<T>,
@@ -24,7 +24,7 @@ impl<T> Model for Filling<T> {
 }
 
 impl<T> Filling<T> {
-    /// Returns a list of no items with room for `room` of them, each of which takes at most 512 bytes. Room for none is always there.
+    /// Returns an empty list with room for `room` items of at most 512 bytes each. Room for 0 items is never refused.
     ///
     /// # Errors
     ///
@@ -32,7 +32,7 @@ impl<T> Filling<T> {
     pub fn with_room(alloc: Global, room: usize) -> Result<Self, NoRoom>
         requires small { AreSmall T.row }
         ensures empty { IfOk result (λ list. list ≡ record { items = []; room = room }) }
-        // No list has as much room as that.
+        // No list has room for 2^63 items.
         ensures bound { OnOk result (room < 2 ^ 63) }
         ensures refused { IfErr result (λ none. none.items ≡ room) }
         ensures nothing { room ≡ 0 → IsOk result }
@@ -48,7 +48,7 @@ impl<T> Filling<T> {
         self.items.len()
     }
 
-    /// Returns the number of items for which there is room still.
+    /// Returns the number of items for which there is still room.
     pub fn spare(&self) -> usize
         ensures { result ≡ self.now.room - length self.now.items }
     {
@@ -62,7 +62,7 @@ impl<T> Filling<T> {
         self.items.as_slice()
     }
 
-    /// Adds an item, for which there is room.
+    /// Adds an item. There must be room for it.
     pub fn push(&mut self, item: T)
         requires { length self.old.items < self.old.room }
         ensures { self.new ≡ record self.old { items = self.old.items ++ item ∷ [] } }
@@ -70,7 +70,7 @@ impl<T> Filling<T> {
         self.items.push_reserved(item);
     }
 
-    /// Puts an item in the place of another; nothing changes if there is none.
+    /// Replaces the item at `place`. Does nothing if there is no item at this place.
     pub fn replace(&mut self, place: usize, item: T)
     where
         T: Drop,
@@ -81,7 +81,7 @@ impl<T> Filling<T> {
         }
     }
 
-    /// Makes room for `more` further items, each of which takes at most 512 bytes, if there is less. Room for none is always there.
+    /// Makes room for `more` further items of at most 512 bytes each, if there is less. Room for 0 items is never refused.
     ///
     /// # Errors
     ///
@@ -109,7 +109,7 @@ impl<T> Filling<T> {
         self.items.clear();
     }
 
-    /// Returns the list, which is filled no more.
+    /// Ends the filling and returns the items as a list.
     pub fn finish(self) -> Vec<T>
         ensures { result.items ≡ self.items }
     {
@@ -118,7 +118,7 @@ impl<T> Filling<T> {
 }
 
 impl<T: Copy> Filling<T> {
-    /// Adds items, for which there is room.
+    /// Adds items. There must be room for all of them.
     pub fn extend(&mut self, more: &[T])
         requires { length self.old.items + length more.now ≤ self.old.room }
         ensures { self.new ≡ record self.old { items = self.old.items ++ more.now } }

@@ -1,4 +1,4 @@
-//! Laws over the definitions alone, for the crates above.
+//! Laws about the definitions alone, for the crates that build on this one.
 ghost use Rattle.std.specs.Prelude.{◌≡◌, ◌⊎◌, ◌<◌, ◌≤◌, ◌^◌, [], List, ℕ, Some};
 ghost use Rattle.std.specs.List.{AllPass};
 ghost use Rattle.hart_line.specs.Types.{Address, MasterId, Character, Reply, LineEvent, Leg, LineFault, Memory, Undetected};
@@ -21,7 +21,7 @@ ghost use Rattle.hart_line.specs.declared.memory.NoRoom.{NoRoom};
 
 use crate::Log;
 
-/// A word is that of one master, of one address, of one command, of one list of data and of one list of characters at most.
+/// A word means at most one master, one address, one command, one list of data bytes and one list of characters.
 pub fn words_have_one_value()
     ensures who { (word : List ℕ) (m n : MasterId) → IsWho word m → IsWho word n → m ≡ n }
     ensures address { (word : List ℕ) (m n : Address) → IsAddressWord word m → IsAddressWord word n → m ≡ n }
@@ -30,13 +30,13 @@ pub fn words_have_one_value()
     ensures items { (word : List ℕ) (xs ys : List Character) → AreItems word xs → AreItems word ys → xs ≡ ys }
 {}
 
-/// Every text is a script, or it has a first bad line; by [`texts_have_one_script`] one script or one such line, and not both.
+/// Every text is a script or has a first bad line. By [`texts_have_one_script`] it is never both, and the script or line is unique.
 pub fn every_text_is_a_script_or_has_a_first_bad_line()
     ensures { (text : List ℕ)
         → ((events : List LineEvent) × IsScript text events) ⊎ ((number : ℕ) × HasFirstBadLine text number) }
 {}
 
-/// The lines of a text say one script at most, a text has one first bad line at most, and none if it is a script.
+/// A text is at most one script, and has at most one first bad line. A text that is a script has no first bad line.
 pub fn texts_have_one_script()
     ensures one_script { (text : List ℕ) (xs ys : List LineEvent) → IsScript text xs → IsScript text ys → xs ≡ ys }
     ensures one_bad_line { (text : List ℕ) (number other : ℕ)
@@ -45,8 +45,8 @@ pub fn texts_have_one_script()
         → IsScript text events → HasFirstBadLine text number → ⊥ }
 {}
 
-/// The events of a script lead to one last world at most, to one if all damage is detected, and to none if an event has
-/// undetected damage; and the first leg with undetected damage is one.
+/// The events of a script lead to at most one last world: to one if all damage is detected, and to none if an event has undetected
+/// damage. At most one leg is the first with undetected damage.
 pub fn scripts_have_one_last_world()
     ensures one_world { (start : Start) (events : List LineEvent) (a b : World)
         → IsLast start events a → IsLast start events b → a ≡ b }
@@ -59,7 +59,7 @@ pub fn scripts_have_one_last_world()
         → (number ≡ other) × (leg ≡ another) }
 {}
 
-/// Want of memory is no fault of a script without events, and none of a text whose lines are all skipped.
+/// A script without events never lacks memory, and neither does a text whose lines are all skipped.
 pub fn empty_scripts_need_no_room<L: Log>()
     ensures events { (start : Start) (none : NoRoom) → IsFault start [] (Memory none) → ⊥ }
     ensures noted { (old new : L) (start : Start) (none : NoRoom)
@@ -68,7 +68,7 @@ pub fn empty_scripts_need_no_room<L: Log>()
         → IsScriptFault text (Memory none) → ⊥ }
 {}
 
-/// The unique address that a master takes from a reply with code 0 and the identity of a device is the one at which this device is asked.
+/// A master that takes a unique address from a reply with code 0 and a device's identity gets this device's own unique address.
 #[tactic(auto, using(std::proofs::lemmas::Grind::common_steps, std::proofs::lemmas::Bool::Decides::nat_tests))]
 pub fn identities_give_their_address()
     ensures { (parts : IdentityParts) (counter extended_device_status : ℕ) (reply : Reply) → AreIdentityParts parts
@@ -76,16 +76,16 @@ pub fn identities_give_their_address()
         → unique_in reply ≡ Some (Unique (own_numbers parts)) }
 {}
 
-/// A turn in which the device refuses a command leaves the device as it was but for the cold start bit of the turn's master, which the
-/// reply shows and clears, wherever the turn stands in a script. One in which it does not answer leaves it as it was.
+/// Wherever a turn stands in a script: if the device refuses a command in it, only the cold start bit of the turn's master changes,
+/// which the reply shows and clears. If the device does not answer, nothing in the device changes.
 pub fn refused_turns_change_nothing()
     ensures { (start : Start) (events : List LineEvent) (before next : World)
         (refused : IsRefusedByDevice start events before next)
         → state_of start.device next ≡ after_refusal (state_of start.device before) refused.frame }
 {}
 
-/// What is promised of a script: of its first world, which the device stands for; of its last world, and of the device and the outcomes of
-/// that, if device, process and requests are well made, as each value of their types is; and of its fault.
+/// In the first world of a script the device is as it was given. The last world, with its device and outcomes, keeps the promises
+/// if device, process and requests are well made, as every value of their types is. A script's fault is never detectable damage.
 pub fn scripts_keep_their_promises()
     ensures first_world { (start : Start) → start.device.counter < 2 ^ 16 → state_of start.device (first_world start) ≡ start.device }
     ensures kept { (start : Start) (events : List LineEvent) (world : World)

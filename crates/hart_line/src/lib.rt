@@ -1,8 +1,8 @@
-//! The HART line between a field device and its two masters: what the events of a script are, how they are written, and what they lead to.
+//! The HART line between a field device and its two masters: the events of a script, how they are written, and what they lead to.
 //!
-//! Each line of a script has one event, unless it is empty or a comment: a request for a master, a turn with what is heard in its
-//! two legs, a switch of the write protection, noise, or a restart. [`read_script`] reads them, or names the first bad line; [`run`]
-//! carries them out and reports what was said, what became of each submission, and the device, or the first undetected damage.
+//! Each line of a script, unless empty or a comment, is one event: a request for a master, a turn with what is heard in its two
+//! legs, a switch of the write protection, noise, or a restart. [`read_script`] reads the events, or names the first bad line.
+//! [`run`] carries them out. It reports what was spoken, each submission's outcome and the device, or the first undetected damage.
 //!
 //! ```rust
 //! let events = read_script(rt.alloc(), b"submit P @0 0\nturn P ok lost\n")?;
@@ -21,8 +21,8 @@
 //! assert_eq!(rt; *outcome, Outcome::Unfinished { sendings: 1 });
 //! ```
 //!
-//! The rooms: `script`, texts of lines that say events; `line`, a device and two masters on one line; `world`, of definitions and
-//! lemmas alone, what has happened on the line, as a reader of the script knows it and no party on the line does.
+//! The modules: `script` has texts whose lines say events; `line`, a device and two masters on one line; `world`, which is only
+//! definitions and lemmas, what has happened on the line. A reader of the script knows that, but no party on the line does.
 #![tactic(auto)]
 
 mod event;

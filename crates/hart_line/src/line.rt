@@ -43,7 +43,7 @@ pub struct Line<S: RegisterStore> {
     spoken: EventFrames,
     /// The number of preamble bytes of the device's replies.
     response_preambles: u8,
-    /// The frames of an event are written here: each is some 300 bytes.
+    /// The frames of an event are written here, in place, as each takes some 300 bytes.
     request: Frame,
     reply: Frame,
 }
@@ -67,7 +67,7 @@ impl<S: RegisterStore> Model for Line<S> {
 }
 
 impl<S: RegisterStore> Line<S> {
-    /// Returns the HART line of this device and these masters, on which nothing has happened yet, with this room for outcomes.
+    /// Returns the HART line of this device and these masters, with this room for outcomes. Nothing has happened on it yet.
     pub fn new(
         outcomes: Filling<Outcome>,
         device: Device<S>,
@@ -108,7 +108,7 @@ impl<S: RegisterStore> Line<S> {
         }
     }
 
-    /// Notes in a log what the line keeps of what was spoken, up to the first frame that it has no room for, and keeps it no longer.
+    /// Notes in a log the spoken frames that the line keeps, up to the first that the log has no room for. Then keeps none.
     pub fn tell<L: Log>(&mut self, log: &mut L) -> Result<(), NoRoom>
         ensures line { OnOk result (self.new ≡ record self.old { spoken = [] }) }
         ensures noted { OnOk result (L.notes log.old self.old.spoken log.new) }
@@ -118,7 +118,7 @@ impl<S: RegisterStore> Line<S> {
         Ok(())
     }
 
-    /// Returns what the script has led to, but for what was spoken.
+    /// Returns what the script has led to, without what was spoken.
     pub fn into_ending(self) -> Ending<S>
         ensures device { result.device ≡ self.device }
         ensures outcomes { result.outcomes ≡ self.outcomes }
@@ -129,7 +129,7 @@ impl<S: RegisterStore> Line<S> {
         }
     }
 
-    /// Carries out one event, for which there is room, or gives the leg whose damage is undetected.
+    /// Carries out one event, or returns the leg whose damage is undetected. There must be room for the event.
     pub fn step(&mut self, event: &LineEvent, process: &Process) -> Result<(), Leg>
         requires room { HasRoomFor (event.now ∷ []) self.old }
         ensures stepped { OnOk result (StepsOn process.now event.now self.old self.new) }
@@ -151,7 +151,7 @@ impl<S: RegisterStore> Line<S> {
         Ok(())
     }
 
-    /// A submission of a master.
+    /// Submits a request to a master and adds its outcome so far.
     fn submit(&mut self, who: MasterId, address: Address, request: &Request)
         requires room { HasRoomFor (Submit who address request.now ∷ []) self.old }
         ensures stepped { (process : Process) → StepsOn process (Submit who address request.now) self.old self.new }
@@ -163,8 +163,8 @@ impl<S: RegisterStore> Line<S> {
         self.outcomes.push(outcome);
     }
 
-    /// Carries out a turn of a master: it sends the request in its hand, the device hears what goes up and answers, and both masters hear
-    /// what comes down.
+    /// Carries out a turn of a master: the master sends the request in its hand, the device hears what goes up and answers, and
+    /// both masters hear what comes down.
     fn turn(
         &mut self,
         who: MasterId,
@@ -193,7 +193,7 @@ impl<S: RegisterStore> Line<S> {
         Ok(())
     }
 
-    /// Noise, which the device and both masters hear; they hear the device's answer to it without damage.
+    /// Carries out noise: the device and both masters hear it, and both masters hear the device's answer to it without damage.
     fn hear_noise(&mut self, chars: &[Char], process: &Process) -> Result<(), Leg>
         requires room { HasRoomFor (Noise chars.now ∷ []) self.old }
         ensures stepped { OnOk result (StepsOn process.now (Noise chars.now) self.old self.new) }
@@ -222,14 +222,14 @@ fn party_of(id: MasterId) -> Party
     }
 }
 
-/// Returns the frame, if there is one.
+/// Returns the frame if `is_there`, and otherwise `None`.
 fn frame_if(is_there: bool, frame: &Frame) -> Option<&Frame>
     ensures { option_copied result ≡ frame_if is_there frame.now }
 {
     if is_there { Some(frame) } else { None }
 }
 
-/// Returns a frame to be written over.
+/// Returns some frame, which is to be overwritten.
 fn no_frame() -> Frame {
     let address = Address::polling(0).unwrap();
     Frame::request(MasterId::Primary, address, 0, Payload::new())

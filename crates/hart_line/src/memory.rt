@@ -1,17 +1,17 @@
-//! The one place where memory is asked for.
+//! The only place in this crate that allocates memory.
 ghost use Rattle.std.specs.Prelude.{◌≡◌, ◌+◌, ◌<◌, ◌≤◌, ◌^◌, [], IfErr, IfOk, IsOk, OnOk, length, vec_capacity};
 ghost use Rattle.hart_line.specs.Filling.{AreSmall};
 
 use std::alloc::Global;
 
-/// A growth that the allocator refused. [`reserved`] and [`make_room`] alone make one, and nothing changes its number.
+/// Memory that the allocator refused. Only [`reserved`] and [`make_room`] make this value, and nothing changes its number of items.
 #[derive(Clone, Copy, Debug, PartialEq, Eq)]
 pub struct NoRoom {
     items: usize,
 }
 
 impl NoRoom {
-    /// Returns the number of items that there is no room for.
+    /// Returns the number of items for which there was no room.
     pub fn items(self) -> usize
         ensures { result ≡ self.items }
     {
@@ -19,7 +19,7 @@ impl NoRoom {
     }
 }
 
-/// Returns an empty list with room for `room` items, each of which takes at most 512 bytes. Room for none is always there.
+/// Returns an empty list with room for `room` items of at most 512 bytes each. Room for 0 items is never refused.
 ///
 /// # Errors
 ///
@@ -28,7 +28,7 @@ pub fn reserved<T>(alloc: Global, room: usize) -> Result<Vec<T>, NoRoom>
     requires small { AreSmall T.row }
     ensures empty { IfOk result (λ list. list.items ≡ []) }
     ensures room { IfOk result (λ list. vec_capacity list ≡ room) }
-    // No list has as much room as that.
+    // No list has room for 2^63 items.
     ensures bound { OnOk result (room < 2 ^ 63) }
     ensures refused { IfErr result (λ none. none.items ≡ room) }
     ensures nothing { room ≡ 0 → IsOk result }
@@ -36,8 +36,8 @@ pub fn reserved<T>(alloc: Global, room: usize) -> Result<Vec<T>, NoRoom>
     Vec::with_capacity(alloc, room).map_err(|_refused| NoRoom { items: room })
 }
 
-/// Makes room for `more` further items of a list, each of which takes at most 512 bytes. Room for none is always there. If room is
-/// missing it makes more than that, so that a list that grows seldom moves.
+/// Makes room for `more` further items of a list, of at most 512 bytes each. Room for 0 items is never refused. If room is missing,
+/// more is reserved than is needed, so that a growing list seldom moves.
 ///
 /// # Errors
 ///

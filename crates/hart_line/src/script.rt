@@ -1,4 +1,4 @@
-//! Scripts: texts of lines that say events.
+//! Scripts: texts whose lines say events.
 ghost use Rattle.std.specs.Prelude.{IfOk, IfErr};
 ghost use Rattle.hart_line.specs.script.Rows.{IsScript, IsScriptFault};
 

@@ -1,11 +1,11 @@
--- What was sent in a leg, and what the device answers to what that brings it, for private calls alone (own profile).
+-- What was sent in a leg, and how the device answers it, for private calls alone (own profile).
 use Rattle.std.specs.Prelude.{◌≡◌, ℕ, ◌≤◌, List, Option, IfSome}
 use Rattle.hart_frame.specs.wire.Body.{IsBody}
 use Rattle.hart_line.specs.Types.{FrameParts, Brought, DeviceState, Process}
 use Rattle.hart_device.specs.answer.Delivery.{answer_to, state_after_delivery}
 use Rattle.hart_line.specs.world.Spoken.{SpokenFrame, frame_of}
 
--- The device gave this answer, and is in this state, after something that it was brought, of which this holds.
+-- The device was brought something for which `IsBrought` holds, gave this answer, and is now in the state `after`.
 pub record AnswersTo (IsBrought : Brought → Type 0) (device : DeviceState) (process : Process) (answer : Option FrameParts)
     (after : DeviceState) : Type 0 where
   pub brought : Brought
@@ -13,11 +13,11 @@ pub record AnswersTo (IsBrought : Brought → Type 0) (device : DeviceState) (pr
   pub answer_is : answer ≡ answer_to device process brought
   pub after_is : after ≡ state_after_delivery device brought
 
--- A frame that is spoken has two preamble bytes before it at least, and a body.
+-- A spoken frame has at least two preamble bytes before it, and a body.
 abbrev pub IsSpeakable : SpokenFrame → Type 0
 IsSpeakable said = (2 ≤ said.preambles) × (body : List ℕ) × IsBody said.frame body
 
--- The frame that was sent, if one was, is the one that was spoken, after two preamble bytes at least, and it has a body.
+-- The frame that was sent, if any, is the one that was spoken. It has at least two preamble bytes before it, and a body.
 pub record IsSent (sent : Option FrameParts) (said : Option SpokenFrame) : Type 0 where
   pub frame : frame_of said ≡ sent
   pub speakable : IfSome said IsSpeakable

@@ -1,4 +1,4 @@
--- The line as one value, as the world of a script has it, for private calls alone (own profile).
+-- The line as one value, and the world that it stands for, for private calls alone (own profile).
 use Rattle.std.specs.Prelude.{◌≡◌, ◌++◌, ℕ, List}
 use Rattle.hart_line.specs.Types.{DeviceState, Process, LineEvent, Leg, Outcome, Spoken}
 use Rattle.hart_line.specs.line.Masters.{AreHeld}
@@ -18,15 +18,15 @@ pub record LineState : Type 0 where
   pub outcomes_room : ℕ
   pub response_preambles : ℕ
 
--- A line stands for a world: its device, its masters and its outcomes are those of the world, and its device's replies have the number of
--- preamble bytes that the identity says.
+-- A line stands for a world if its device, its masters and its outcomes are those of the world, and its device's replies have as
+-- many preamble bytes as the device's identity says.
 pub record Stands (start : Start) (world : World) (line : LineState) : Type 0 where
   pub device_is : line.device ≡ state_of start.device world
   pub masters_are : AreHeld start.retries world.hands line.masters
   pub outcomes_are : line.outcomes ≡ world.outcomes
   pub preambles_are : line.response_preambles ≡ start.device.identity.response_preambles
 
--- An event leads from a world to a next one, the line stands for that, and has what was spoken in the event.
+-- An event leads from a world to a next one. The line stands for the next world, and has what was spoken in the event.
 pub record Stepped (start : Start) (world : World) (event : LineEvent) (line : LineState) : Type 0 where
   pub next : World
   pub step : Step start world event next
@@ -35,12 +35,12 @@ pub record Stepped (start : Start) (world : World) (event : LineEvent) (line : L
   pub said_is : next.spoken ≡ world.spoken ++ said
   pub spoken_are : AreSpoken said line.spoken
 
--- Whichever world a line stood for, an event in which the device is handed this process leads on from it, and the line stands for the next.
+-- Whichever world the old line stands for, the event leads from it to a next world, for which the new line stands.
 abbrev pub StepsOn : Process → LineEvent → LineState → LineState → Type 0
 StepsOn process event old new = (start : Start) (world : World) → start.process ≡ process → MarksWithin world → Stands start world old
     → Stepped start world event new
 
--- Whichever world a line stands for, this leg of the event has undetected damage in it.
+-- In whichever world the line stands for, this leg of the event has undetected damage.
 abbrev pub StopsAt : Process → LineEvent → LineState → Leg → Type 0
 StopsAt process event line leg = (start : Start) (world : World) → start.process ≡ process → Stands start world line
     → HasUndetected start world event leg

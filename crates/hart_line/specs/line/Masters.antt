@@ -1,4 +1,4 @@
--- The two masters of a line, as the world of a script has them, for private calls alone (own profile).
+-- The two masters of a line, and how they agree with the world of a script, for private calls alone (own profile).
 use Rattle.std.specs.Prelude.{◌≡◌, ℕ, ◌+◌, List, slice_set, Option, None, Some, IfSome, option_and_then, option_map}
 use Rattle.hart_line.specs.Types.{Address, MasterId, Primary, Secondary, FrameParts, EachMaster, Reply, Request, MasterFault, Outcome}
 use Rattle.hart_line.specs.Types.{Unfinished, Refused}
@@ -10,12 +10,12 @@ use Rattle.hart_line.specs.world.World.{InHand}
 use Rattle.hart_line.specs.declared.line.masters.Masters.{Masters}
 use Rattle.hart_line.specs.declared.line.masters.Submitter.{Submitter}
 
--- What a world has in a master's hand is a request that is to be sent, with its sendings so far; or the hand is empty.
+-- A master's hand between turns, by what the world has in it: a request to be sent, with its sendings so far, or nothing.
 abbrev pub hand_of : Option InHand → Hand
 hand_of None = Empty
 hand_of (Some held) = ToSend (record { address = held.address; request = held.request; sendings = held.sendings })
 
--- A submitter is this master, which sends again so many times at most, with this hand, and at the place of what it holds.
+-- A submitter has the master with this id, these retries and this hand. Its place is the number of the submission held, if any.
 pub record IsSubmitter (id : MasterId) (retries : ℕ) (hand : Hand) (held : Option InHand) (submitter : Submitter) : Type 0 where
   pub reply_limit : ℕ
   pub master_is : submitter.master ≡ record { id = id; retries = retries; reply_limit = reply_limit; hand = hand }
@@ -29,39 +29,39 @@ Holds id retries held submitter = IsSubmitter id retries (hand_of held) held sub
 abbrev pub Awaits : MasterId → ℕ → Option InHand → Submitter → Type 0
 Awaits id retries held submitter = IsSubmitter id retries (hand_sent (hand_of held)) held submitter
 
--- Both masters have in their hands what a world has.
+-- Both masters have in their hands what the world says.
 pub record AreHeld (retries : EachMaster ℕ) (hands : EachMaster (Option InHand)) (masters : Masters) : Type 0 where
   pub primary : Holds Primary retries.primary hands.primary masters.primary
   pub secondary : Holds Secondary retries.secondary hands.secondary masters.secondary
 
--- In its turn a master awaits the reply to what it had in its hand, and the other one has in hand what a world has.
+-- In its turn a master awaits the reply to what it had in its hand. The other master has in hand what the world says.
 abbrev pub AreInTurn : MasterId → EachMaster ℕ → EachMaster (Option InHand) → Masters → Type 0
 AreInTurn Primary retries hands masters =
     Awaits Primary retries.primary hands.primary masters.primary × Holds Secondary retries.secondary hands.secondary masters.secondary
 AreInTurn Secondary retries hands masters =
     Awaits Secondary retries.secondary hands.secondary masters.secondary × Holds Primary retries.primary hands.primary masters.primary
 
--- A submission that is not refused is in the master's hand, not sent yet, and unfinished; at a refused one the hand stays.
+-- A submission that is not refused is in the master's hand, not sent yet, and unfinished. A refused one leaves the hand as it is.
 abbrev pub Submits : Option InHand → ℕ → Address → Request → Option MasterFault → Outcome → (Option InHand → Type 0) → Type 0
 Submits held place address request None outcome Left = (outcome ≡ Unfinished 0)
     × Left (Some (record { submission = place; address = address; request = request; sendings = 0 }))
 Submits held place address request (Some fault) outcome Left = (outcome ≡ Refused fault) × Left held
 
--- The outcome of the request in a master's hand, if there is one, at the end of a turn in which this reply was accepted, if any was.
+-- The outcome of the request in a master's hand, if any, after a turn. `accepted` is the reply accepted in this turn, if any.
 abbrev pub outcome_in_turn : (retries : ℕ) → Option InHand → Option Reply → Option Outcome
 outcome_in_turn retries hand accepted = option_map (λ held. outcome_of retries (held.sendings + 1) accepted) hand
 
--- By that the request stays in hand or leaves it.
+-- By this outcome the request stays in the master's hand or leaves it.
 abbrev pub hand_after_turn : (retries : ℕ) → Option InHand → Option Reply → Option InHand
 hand_after_turn retries hand accepted = option_and_then (λ held. hand_left held (outcome_of retries (held.sendings + 1) accepted)) hand
 
--- It takes the place of the outcome that the submission had; with nothing in hand no outcome changes.
+-- This outcome replaces the one that the submission had. With nothing in hand no outcome changes.
 abbrev pub outcomes_after_turn : (retries : ℕ) → Option InHand → Option Reply → List Outcome → List Outcome
 outcomes_after_turn retries None accepted outcomes = outcomes
 outcomes_after_turn retries (Some held) accepted outcomes =
     slice_set outcomes held.submission (outcome_of retries (held.sendings + 1) accepted)
 
--- A turn of a master ends with the outcome of its request, if it had one in hand, by the reply that is accepted, if any.
+-- A master's turn ends: what came back is accepted as the reply, or not, and the request in hand, if any, gets its outcome.
 pub record Concludes (who : MasterId) (retries : ℕ) (hand : Option InHand) (returned : Option FrameParts)
     (outcomes outcomes' : List Outcome) (Left : Option InHand → Type 0) : Type 0 where
   pub accepted : Option Reply

@@ -1,21 +1,21 @@
--- The room on the line, and in the list that is the log of a script, for private calls alone (own profile).
+-- The room on the line, and in the list in which spoken frames are noted, for private calls alone (own profile).
 use Rattle.std.specs.Prelude.{◌≡◌, ◌≤◌, ◌+◌, List, [], ◌∷◌, ◌++◌, count_by, length}
 use Rattle.hart_line.specs.Filling.{Filled}
 use Rattle.hart_line.specs.line.Line.{LineState}
 use Rattle.hart_line.specs.world.Needs.{is_submission}
 use Rattle.hart_line.specs.Types.{LineEvent, Spoken}
 
--- A line that keeps nothing of what was spoken has room for the outcomes of these events.
+-- A line has room for the outcomes of these events, and keeps no spoken frames.
 pub record HasRoomFor (events : List LineEvent) (line : LineState) : Type 0 where
   pub outcomes : length line.outcomes + count_by is_submission events ≤ line.outcomes_room
   pub nothing_spoken : line.spoken ≡ []
 
--- An event takes no more room than is meant for it: for an outcome if it is a submission.
+-- A submission takes room for at most one outcome. Any other event takes none.
 pub record LeavesRoom (event : LineEvent) (old new : LineState) : Type 0 where
   pub outcomes : length new.outcomes ≤ length old.outcomes + count_by is_submission (event ∷ [])
   pub outcomes_room : new.outcomes_room ≡ old.outcomes_room
 
--- A list in which frames were noted has the same room, and has them after what it had if there was room for all of them.
+-- A list has the same room after frames were noted in it. If there was room for all of them, they follow its old items.
 pub record NotesWithin (old : Filled Spoken) (noted : List Spoken) (new : Filled Spoken) : Type 0 where
   pub room : new.room ≡ old.room
   pub items : length old.items + length noted ≤ old.room → new.items ≡ old.items ++ noted

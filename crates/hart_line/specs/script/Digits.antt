@@ -1,16 +1,16 @@
--- What a table of hex digits says (own profile).
+-- What a table of hex digits holds (own profile).
 use Rattle.std.specs.Prelude.{◌≡◌, ◌<◌, ℕ, List, get_or, if◌then◌else◌}
 use Rattle.hex.specs.Hex.{is_hex_digit}
 use Rattle.hart_line.specs.script.Items.{AreDigits, byte_of, hex_value}
 
--- The value of a byte as a digit is below 16 if it is a hex digit, and 255 otherwise.
+-- The value of a byte as a hex digit: below 16, or 255 if the byte is no hex digit.
 abbrev pub value_of_digit : ℕ → ℕ
 value_of_digit byte = if is_hex_digit byte then hex_value byte else 255
 
--- A table has the values as digits of so many bytes from 0 on.
+-- A table holds the value as a digit of each byte below `count`.
 abbrev pub AreDigitValues : ℕ → List ℕ → Type 0
 AreDigitValues count values = (byte : ℕ) → byte < count → get_or values byte 0 ≡ value_of_digit byte
 
--- Two bytes are digits that write a byte.
+-- Two bytes are hex digits and write this byte.
 abbrev pub AreDigitsOf : ℕ → ℕ → ℕ → Type 0
 AreDigitsOf byte high low = AreDigits high low × (byte ≡ byte_of high low)

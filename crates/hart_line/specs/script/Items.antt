@@ -5,7 +5,7 @@ use Rattle.hart_frame.specs.heard.Character.{AreFaultBits}
 use Rattle.hart_line.specs.Types.{Character}
 use Rattle.hex.specs.Hex.{hex_digit_value, is_hex_digit}
 
--- An item is a high and a low digit of its byte, alone or with the two digits of its fault bits.
+-- An item is the high and the low digit of its byte, alone or with the two digits of its fault bits.
 pub data Item : Type 0 where
   Plain : (high low : ℕ) → Item
   Faulty : (high low fault_high fault_low : ℕ) → Item
@@ -27,25 +27,25 @@ hex_value digit = unwrap_or (hex_digit_value digit) 0
 abbrev pub byte_of : ℕ → ℕ → ℕ
 byte_of high low = 16 * hex_value high + hex_value low
 
--- An item has hex digits, and its fault bits, if it gives them, are not 00 and none but those that there are.
+-- A valid item has hex digits. Its fault bits, if given, are not 00, and all of them are defined fault bits.
 abbrev pub IsValidItem : Item → Type 0
 IsValidItem (Plain high low) = AreDigits high low
 IsValidItem (Faulty high low fault_high fault_low) =
     AreDigits high low × AreDigits fault_high fault_low × (byte_of fault_high fault_low ≢ 0) × AreFaultBits (byte_of fault_high fault_low)
 
--- An item means the character of its byte and its fault bits.
+-- An item means the character with its byte and its fault bits.
 abbrev pub item_meaning : Item → Character
 item_meaning (Plain high low) = record { byte = byte_of high low; faults = 0 }
 item_meaning (Faulty high low fault_high fault_low) =
     record { byte = byte_of high low; faults = byte_of fault_high fault_low }
 
--- An item without fault bits does not end before a `!`, as that would belong to it.
+-- An item without fault bits never ends directly before a `!`, since the `!` would belong to it.
 abbrev pub EndsBefore : List ℕ → Item → Type 0
 EndsBefore tail (Faulty high low fault_high fault_low) = ⊤
 EndsBefore [] (Plain high low) = ⊤
 EndsBefore (next ∷ tail) (Plain high low) = next ≢ 33
 
--- A text begins with a valid item, which ends before the rest of the text.
+-- A text begins with a valid item, which may end before the rest of the text, `tail`.
 pub record BeginsWithItem (text : List ℕ) (item : Item) (tail : List ℕ) : Type 0 where
   pub valid : IsValidItem item
   pub spelled : text ≡ item_spelling item ++ tail
@@ -55,14 +55,14 @@ pub record BeginsWithItem (text : List ℕ) (item : Item) (tail : List ℕ) : Ty
 abbrev pub NoItemBegins : List ℕ → Type 0
 NoItemBegins text = (item : Item) (tail : List ℕ) → BeginsWithItem text item tail → ⊥
 
--- A word is items end to end: some valid items spell it, one after another, and these characters are what they mean.
+-- A word is valid items end to end, and these characters are what the items mean.
 pub record AreItems (word : List ℕ) (chars : List Character) : Type 0 where
   pub items : List Item
   pub valid : AllByRecursion IsValidItem items
   pub spelled : word ≡ flat_map item_spelling items
   pub means : chars ≡ map item_meaning items
 
--- A word gives these characters if it is not empty, and is items end to end that mean them.
+-- A word means these characters if it is not empty, and is items end to end with this meaning.
 abbrev pub IsItemsWord : List ℕ → List Character → Type 0
 IsItemsWord word chars = (word ≢ []) × AreItems word chars
 

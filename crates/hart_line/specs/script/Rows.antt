@@ -12,28 +12,28 @@ use Rattle.hart_line.specs.script.Words.{◌>>=◌, HasNoValue, IsAddressWord, I
 use Rattle.hart_line.specs.declared.script.rows.RowFault.{RowFault}
 use Rattle.hart_line.specs.declared.script.rows.RowFault.TheVariants as rows
 
--- The words after COMMAND are none, which write no bytes, or DATA alone.
+-- The data of the words after COMMAND: no word means no bytes, and one word is DATA.
 abbrev pub payload_of : List (List ℕ) → Option (List ℕ)
 payload_of [] = Some []
 payload_of (word ∷ []) = data_of word
 payload_of (word ∷ other ∷ more) = None
 
--- A word writes a command, and the words after it write data, which are read as a request of this command.
+-- The request that COMMAND and the words of its data write, if they write one.
 abbrev pub request_of : List ℕ → List (List ℕ) → Option Request
 request_of command payload = do
   number ← command_of command
   bytes ← payload_of payload
   result_ok (request_reading number bytes)
 
--- A leg is heard clean by `ok`, is lost by `lost`, and otherwise is heard as the characters of items end to end.
+-- The word of a leg is `ok` if it is clean, `lost` if it is lost, and otherwise items end to end for the characters heard.
 abbrev pub IsLegWord : List ℕ → Heard → Type 0
 IsLegWord word Clean = word ≡ codes "ok"
 IsLegWord word Lost = word ≡ codes "lost"
 IsLegWord word (Chars chars) = IsItemsWord word chars
 
--- The words of a line say an event, by a row for each kind of it: `submit`, WHO, ADDRESS, COMMAND and perhaps DATA; `turn`, WHO, and what
--- is heard in its two legs, UP and DOWN; `protect`, and `on` or `off`; `noise`, and the items of the characters that are heard; and
--- `restart` alone.
+-- The words of a line say an event. Each kind of event has its row: `submit`, WHO, ADDRESS, COMMAND and perhaps DATA; `turn`, WHO,
+-- and what is heard in its two legs, UP and DOWN; `protect`, and `on` or `off`; `noise`, and the items of the characters that are
+-- heard; and `restart` alone.
 abbrev pub Says : List (List ℕ) → LineEvent → Type 0
 Says words (Submit who address request) = (master to command : List ℕ) × (payload : List (List ℕ))
     × (words ≡ codes "submit" ∷ master ∷ to ∷ command ∷ payload)
@@ -54,11 +54,11 @@ is_skipped (word ∷ words) = starts_with nat_eq word (codes "#")
 abbrev pub IsBadLine : List (List ℕ) → Type 0
 IsBadLine words = (is_skipped words ≡ false) × HasNoValue (Says words)
 
--- The lines of a text, each given by its words.
+-- The lines of a text, each as the list of its words.
 abbrev pub lines_in_words : List ℕ → List (List (List ℕ))
 lines_in_words text = map words_of (lines_of text)
 
--- Lines say these events in order, one each but for those that are skipped.
+-- The lines that are not skipped say these events, one each, in order.
 abbrev pub AreEvents : List (List (List ℕ)) → List LineEvent → Type 0
 AreEvents lines events = AllZip Says (filter (λ words. not (is_skipped words)) lines) events
 
@@ -66,7 +66,7 @@ AreEvents lines events = AllZip Says (filter (λ words. not (is_skipped words)) 
 abbrev pub IsScript : List ℕ → List LineEvent → Type 0
 IsScript text events = AreEvents (lines_in_words text) events
 
--- A text has its first bad line at this number, counted from 1, if that line is bad and those before it say events.
+-- The first bad line of a text has this number, counted from 1. The lines before it say events or are skipped.
 pub record HasFirstBadLine (text : List ℕ) (number : ℕ) : Type 0 where
   pub before : ℕ
   pub words : List (List ℕ)
@@ -76,11 +76,11 @@ pub record HasFirstBadLine (text : List ℕ) (number : ℕ) : Type 0 where
   pub bad : IsBadLine words
   pub good : AreEvents (take before (lines_in_words text)) events
 
--- Characters need room for half as many of them as one of these words has bytes. Room for none is no need.
+-- Words need room for half as many characters as one of them has bytes, if that is at least 1.
 abbrev pub IsNeededByWords : List (List ℕ) → ℕ → Type 0
 IsNeededByWords words items = (0 < items) × Any (λ word. items ≡ length word / 2) words
 
--- A line that is not skipped needs room for the event that it says, and for the characters of one of its words.
+-- A line that is not skipped needs room for the one event that it says, or for the characters of one of its words.
 abbrev pub IsNeededByLine : List (List ℕ) → ℕ → Type 0
 IsNeededByLine words items =
     (is_skipped words ≡ false) × (((event : LineEvent) × Says words event × (items ≡ 1)) ⊎ IsNeededByWords words items)
@@ -89,28 +89,27 @@ IsNeededByLine words items =
 abbrev pub IsNeededByText : List ℕ → ℕ → Type 0
 IsNeededByText text items = Any (λ words. IsNeededByLine words items) (lines_in_words text)
 
--- Reading a text is refused with its first bad line, or because memory is refused for as many items as it needs room for, and never for
--- damage.
+-- Reading a text fails at its first bad line, or because room that it needs is refused; never because of damage.
 abbrev pub IsScriptFault : List ℕ → LineFault → Type 0
 IsScriptFault text (BadLine number) = HasFirstBadLine text number
 IsScriptFault text (Memory room) = IsNeededByText text room.items
 IsScriptFault text (Undetected number leg) = ⊥
 
--- For private calls alone: what reading one line answers.
+-- For private calls alone: the result of reading one line.
 
--- What is read of some words is a value that they say; at a bad line they say none; and no more room is asked for than they need.
+-- The result of reading words: a value that they say; or a bad line, if they say none; or room that they need and that is refused.
 abbrev pub ReadsWords : {T : Type 0} → List (List ℕ) → (T → Type 0) → Result T RowFault → Type 0
 ReadsWords {T} words IsSaid (Ok value) = IsSaid value
 ReadsWords {T} words IsSaid (Err rows.Bad) = HasNoValue IsSaid
 ReadsWords {T} words IsSaid (Err (rows.Memory room)) = IsNeededByWords words room.items
 
--- The fault of a script whose line with this number is not read.
+-- The fault of a script in which the line with this number could not be read.
 abbrev pub fault_at_line : ℕ → RowFault → LineFault
 fault_at_line number rows.Bad = BadLine number
 fault_at_line number (rows.Memory room) = Memory room
 
--- The words of the line with this number, which is not skipped, say the event that is read; if none is read the line is skipped, and
--- a fault that names the line says that it is bad.
+-- The result of reading the line with this number. If it has no event, the line is skipped. If it has an event, the words of the
+-- line say it. A fault names this line if it is bad, or the room that its words need.
 abbrev pub SaysLine : ℕ → List (List ℕ) → Result (Option LineEvent) LineFault → Type 0
 SaysLine number words (Ok None) = IsTrue (is_skipped words)
 SaysLine number words (Ok (Some event)) = (is_skipped words ≡ false) × Says words event

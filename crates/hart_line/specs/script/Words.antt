@@ -1,4 +1,4 @@
--- The words of messages to send, in scripts and on the command line (own profile).
+-- The words that describe a message to send, in scripts and on the command line (own profile).
 use Rattle.std.specs.Prelude.{◌≡◌, ℕ, ◌+◌, ◌*◌, ◌%◌, ◌&&◌, ◌==◌, nat_le, if◌then◌else◌, List, [], ◌∷◌, length, slice_index, codes, Option}
 use Rattle.std.specs.Prelude.{None, Some, option_and_then, option_map}
 use Rattle.std.specs.Map.{lookup}
@@ -12,12 +12,12 @@ use Rattle.hart_values.specs.address.DeviceNumbers.{DeviceNumbers}
 use Rattle.hart_line.specs.Types.{Address, MasterId, Primary, Secondary}
 use Rattle.hart_values.specs.declared.address.Address.TheVariants.{Polling, Unique}
 
--- One reading goes on with the next, and gives nothing if one of them does.
+-- One reading goes on with the next. The result is `None` if either of them finds nothing.
 infixl 10 ◌>>=◌
 abbrev pub ◌>>=◌ : {A B : Type 0} → Option A → (A → Option B) → Option B
 read >>= next = option_and_then next read
 
--- A word stands for what is beside it in a table of words, and for nothing if it is not there.
+-- A word means the value beside it in a table of words, or nothing if the word is not in the table.
 abbrev pub named_in : {T : Type 0} → List (List ℕ × T) → List ℕ → Option T
 named_in {T} table word = lookup (λ name. bytes_eq word name) table
 
@@ -25,29 +25,29 @@ named_in {T} table word = lookup (λ name. bytes_eq word name) table
 abbrev pub who_of : List ℕ → Option MasterId
 who_of word = named_in ((codes "P", Primary) ∷ (codes "S", Secondary) ∷ []) word
 
--- A number is written in decimal, up to a greatest one, in one digit at least and so many at most.
+-- A number up to `greatest` is written in decimal, in at least one and at most `most_digits` digits.
 abbrev pub decimal_of : (most_digits greatest : ℕ) → List ℕ → Option ℕ
 decimal_of most_digits greatest word =
     if all_ascii_digits word && nat_le 1 (length word) && nat_le (length word) most_digits && nat_le (digits_value 10 word) greatest
     then Some (digits_value 10 word) else None
 
--- A polling address is written `@`, which is the byte 64, and one or two digits, up to 63.
+-- A polling address, up to 63, is written as `@`, which is the byte 64, and one or two digits.
 abbrev pub polling_of : List ℕ → Option ℕ
 polling_of [] = None
 polling_of (at ∷ digits) = if at == 64 then decimal_of 2 63 digits else None
 
--- Five bytes have the numbers of a device: two its type, of which the lower 14 bits count, and three its id.
+-- The numbers of a device in five bytes: two bytes for its type, of which the lower 14 bits count, and three for its id.
 abbrev pub numbers_of : List ℕ → DeviceNumbers
 numbers_of bytes = record {
   expanded_type = (256 * slice_index bytes 0 + slice_index bytes 1) % 16384;
   device_id = 65536 * slice_index bytes 2 + 256 * slice_index bytes 3 + slice_index bytes 4;
 }
 
--- A device is written in ten hex digits of either case, those of its five bytes.
+-- A device is written as its five bytes, in ten hex digits of either case.
 abbrev pub device_of : List ℕ → Option DeviceNumbers
 device_of word = option_map numbers_of (result_ok (decode_sized word 5))
 
--- A polling address and a device have words of their own, and the broadcast address is also written `all`.
+-- An address is written as a polling address or as a device; the broadcast address may also be written `all`.
 abbrev pub address_of : List ℕ → Option Address
 address_of word =
     if bytes_eq word (codes "all") then Some broadcast
@@ -77,11 +77,11 @@ IsCommandWord word command = command_of word ≡ Some command
 abbrev pub IsDataWord : List ℕ → List ℕ → Type 0
 IsDataWord word bytes = data_of word ≡ Some bytes
 
--- There is no value of which this holds.
+-- This holds for no value.
 abbrev pub HasNoValue : {T : Type 0} → (T → Type 0) → Type 0
 HasNoValue {T} IsValue = (value : T) → IsValue value → ⊥
 
--- What is found is a value of which this holds, and if nothing is found there is none.
+-- If a value is found, this holds for it. If nothing is found, this holds for no value.
 abbrev pub Finds : {T : Type 0} → (T → Type 0) → Option T → Type 0
 Finds {T} IsValue None = HasNoValue IsValue
 Finds {T} IsValue (Some value) = IsValue value

@@ -1,4 +1,4 @@
--- What arrives of a message that was sent in a leg of the line (HCF_SPEC-081; which damage is detected is of the own profile).
+-- What arrives of a message that was sent in a leg of the line (HCF_SPEC-081; the own profile says which damage is detected).
 use Rattle.std.specs.Prelude.{◌≡◌, ◌⊎◌, ℕ, List, [], ◌∷◌, Option, None, Some}
 use Rattle.hart_line.specs.Types.{Character, FrameParts, Brought, Heard, Clean, Lost, Chars}
 use Rattle.hart_frame.specs.heard.Character.{faultless}
@@ -10,8 +10,8 @@ use Rattle.hart_device.specs.answer.Delivery.{BringsBy}
 use Rattle.hart_device.specs.declared.identity_parts.IdentityParts.{IdentityParts}
 use Rattle.hart_line.specs.world.Spoken.{SpokenFrame, frame_of}
 
--- In a clean leg the message of what was sent is heard without faults, or nothing if nothing was sent; in a lost leg nothing is
--- heard; in any other, the characters that are given.
+-- In a clean leg the message that was sent is heard without faults, or nothing if nothing was sent. In a lost leg nothing is heard.
+-- In any other leg the given characters are heard.
 abbrev pub AreHeard : Heard → Option SpokenFrame → List Character → Type 0
 AreHeard Clean None chars = chars ≡ []
 AreHeard Clean (Some said) chars =
@@ -19,27 +19,27 @@ AreHeard Clean (Some said) chars =
 AreHeard Lost sent chars = chars ≡ []
 AreHeard (Chars given) sent chars = chars ≡ given
 
--- The damage of what was heard is detected if that has no frame, and then nothing arrives; or if it has one frame alone, the one
--- that was sent, which then arrives. If nothing was sent it has to have none.
+-- The damage of what was heard is detected in two cases. If no frame was heard, nothing arrives. If the sent frame was heard and no
+-- other, it arrives. So if nothing was sent, no frame may be heard.
 abbrev pub IsDetected : Option FrameParts → List Found → Option FrameParts → Type 0
 IsDetected sent [] arrived = arrived ≡ None
 IsDetected sent (found ∷ []) arrived = (sent ≡ Some found.frame) × (arrived ≡ sent)
 IsDetected sent (found ∷ other ∷ more) arrived = ⊥
 
--- What arrives among characters whose damage is detected, if this was sent: a frame or nothing.
+-- What arrives, a frame or nothing, if this was sent, these characters were heard, and their damage is detected.
 pub record ArrivesAmong (chars : List Character) (sent arrived : Option FrameParts) : Type 0 where
   pub frames : List Found
   pub are_frames : AreFrames chars 0 frames
   pub detected : IsDetected sent frames arrived
 
--- What characters whose damage is detected bring the device, if this was sent. A frame that is brought is the one that was sent.
+-- What the device is brought if this was sent and these characters were heard, with detected damage. A brought frame was sent.
 pub record ReachesAmong (identity : IdentityParts) (chars : List Character) (sent : Option FrameParts) (brought : Brought) : Type 0 where
   pub frame : Option FrameParts
   pub arrives : ArrivesAmong chars sent frame
   pub brings : BringsBy identity chars arrives.frames brought
 
--- The damage of characters is undetected if it is not detected: some frame was heard that is not the one sent, or more than one
--- frame was heard.
+-- The damage of characters is undetected if it is not detected: a frame was heard that is not the one sent, or more than one frame
+-- was heard.
 pub record IsUndetectedAmong (chars : List Character) (sent : Option FrameParts) : Type 0 where
   pub frames : List Found
   pub are_frames : AreFrames chars 0 frames
@@ -51,20 +51,20 @@ pub record Arrives (heard : Heard) (sent : Option SpokenFrame) (arrived : Option
   pub are_heard : AreHeard heard sent chars
   pub among : ArrivesAmong chars (frame_of sent) arrived
 
--- What a leg brings the device is what those characters bring it.
+-- What a leg brings the device is what the characters that are heard in it bring.
 pub record Reaches (identity : IdentityParts) (heard : Heard) (sent : Option SpokenFrame) (brought : Brought) : Type 0 where
   pub chars : List Character
   pub are_heard : AreHeard heard sent chars
   pub among : ReachesAmong identity chars (frame_of sent) brought
 
--- The damage of a leg is undetected if that of those characters is.
+-- The damage of a leg is undetected if the damage of the characters that are heard in it is.
 pub record IsUndetected (heard : Heard) (sent : Option SpokenFrame) : Type 0 where
   pub chars : List Character
   pub are_heard : AreHeard heard sent chars
   pub among : IsUndetectedAmong chars (frame_of sent)
 
--- A clean or lost leg is detectable; so are given characters, if a message was sent and they are marked or check damage of it.
--- If nothing was sent, nothing is said of given characters.
+-- A clean or lost leg is detectable. Given characters are detectable if a message was sent and they are marked or check damage of
+-- it. If nothing was sent, given characters do not count as detectable.
 abbrev pub IsDetectable : Heard → Option SpokenFrame → Type 0
 IsDetectable Clean sent = Unit {0}
 IsDetectable Lost sent = Unit {0}

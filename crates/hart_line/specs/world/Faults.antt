@@ -9,8 +9,8 @@ use Rattle.hart_line.specs.world.Step.{IsLast, LeadsTo, sent_back, sent_by}
 use Rattle.hart_line.specs.world.World.{Start, World}
 use Rattle.hart_line.specs.declared.fault.Leg.TheVariants as legs
 
--- What is heard in a leg of an event, and what was sent in it. Up, in a turn, the master sends the request in its hand. Down, the device
--- sends back its answer to what the leg up brought it. At noise nothing is sent. No other event has a leg.
+-- What is heard in a leg of an event, and what was sent in it. In the leg up of a turn, a master sends the request in its hand. In
+-- the leg down, the device answers what the leg up brought it. At noise nothing is sent. No other event has a leg.
 abbrev pub HeardIn : Start → World → LineEvent → Leg → Heard → Option SpokenFrame → Type 0
 HeardIn start world (Turn who up down) legs.Up heard sent = (heard ≡ up) × (sent ≡ sent_by who (of_master who world.hands))
 HeardIn start world (Turn who up down) legs.Down heard sent = (heard ≡ down) × (brought : Brought)
@@ -27,8 +27,8 @@ HasDamage IsDamage start world event leg =
 abbrev pub HasUndetected : Start → World → LineEvent → Leg → Type 0
 HasUndetected = HasDamage IsUndetected
 
--- The fault of a script is undetected damage in a leg of an event, the events being numbered from 0, if no event before it has
--- any; or refused memory for as many items as the events need room for. A bad line is a fault of a text, never of events.
+-- The fault of a script is undetected damage in a leg of the event with this number, counted from 0, if no earlier event has any;
+-- or it is refused memory that the events need. A bad line is a fault of a text, never of events.
 abbrev pub IsFault : Start → List LineEvent → LineFault → Type 0
 IsFault start events (Undetected number leg) = (world : World) × (event : LineEvent)
     × IsLast start (take number events) world × (slice_get events number ≡ Some event) × HasUndetected start world event leg
@@ -39,18 +39,18 @@ IsFault start events (BadLine line) = ⊥
 abbrev pub HasDetectable : Start → World → LineEvent → Leg → Type 0
 HasDetectable = HasDamage IsDetectable
 
--- Undetected damage is in no leg in which what is heard is detectable.
+-- The fault is never undetected damage in a leg in which what is heard is detectable.
 abbrev pub IsNotDetectable : Start → List LineEvent → LineFault → Type 0
 IsNotDetectable start events (Undetected number leg) = (world : World) (event : LineEvent)
     → IsLast start (take number events) world → slice_get events number ≡ Some event → HasDetectable start world event leg → ⊥
 IsNotDetectable start events fault = Unit {0}
 
--- The damage of each leg of an event is detected: whatever the leg up brings the device, that of the leg down too.
+-- The damage of each leg of an event is detected. In the leg down it is detected whatever the leg up brings the device.
 abbrev pub LegsAreDetected : Start → World → LineEvent → Type 0
 LegsAreDetected start world event = (leg : Leg) (heard : Heard) (sent : Option SpokenFrame)
     → HeardIn start world event leg heard sent → (arrived : Option FrameParts) × Arrives heard sent arrived
 
--- The damage of each leg of each of these events is detected, in each world that the events before it lead to from this one.
+-- In each of these events the damage of each leg is detected, in every world to which the earlier events lead from this one.
 abbrev pub AreAllDetected : Start → World → List LineEvent → Type 0
 AreAllDetected start from events = (prefix suffix : List LineEvent) (event : LineEvent) (world : World)
     → events ≡ prefix ++ event ∷ suffix → LeadsTo start from prefix world → LegsAreDetected start world event

@@ -1,4 +1,4 @@
--- What is promised of a script, beside `Led`: of its worlds, and of the device and the outcomes that are given back (own profile).
+-- What is promised of a script besides `Led`: of its worlds, and of the device and the outcomes that are returned (own profile).
 use Rattle.std.specs.Prelude.{◌≡◌, ◌≤◌, ◌+◌, ◌%◌, ◌^◌, List, [], ℕ, Option, Some, IfSome, IsTrue, false, length, slice_get}
 use Rattle.hart_values.specs.EachMaster.{of_master}
 use Rattle.hart_line.specs.Types.{MasterId, Reply, Request, DeviceState, Heard, LineEvent, Turn, Outcome, Answered}
@@ -12,11 +12,11 @@ use Rattle.hart_line.specs.world.Promises.{IsRefusedByDevice, IsStepOf, IsUnrefu
 use Rattle.hart_line.specs.world.Step.{IsLast}
 use Rattle.hart_line.specs.world.World.{Start, World, first_world, overwrites_of, state_of}
 
--- What is promised if a script was carried out, and this device and these outcomes are given back.
+-- What is promised if a script was carried out and this device and these outcomes are returned.
 pub record KeepsPromises (start : Start) (events : List LineEvent) (device : DeviceState) (outcomes : List Outcome) : Type 0 where
   -- Each request is well made, since it is a value of its type.
   pub well_made : AreWellMade events
-  -- Each accepted reply is the device's answer in the turn of its request's last sending.
+  -- Each accepted reply is the device's answer in the turn in which its request was last sent.
   pub accepted_reply_answers_last_sending : (number : ℕ) (reply : Reply) (sendings : ℕ)
       → slice_get outcomes number ≡ Some (Answered reply sendings) → AnswersLastSending start events number reply sendings
   -- The registers are the initial ones overwritten by the last execution of each submission, in their order.
@@ -25,15 +25,15 @@ pub record KeepsPromises (start : Start) (events : List LineEvent) (device : Dev
   -- The counter has grown by the number of executed writes.
   pub counter_counts_executions : (world : World) → IsLast start events world
       → device.counter ≡ (start.device.counter + length world.executions) % 2 ^ 16
-  -- A command that is not answered changes nothing, and one that is refused changes only its master's cold start bit, which the
-  -- reply shows and clears. That holds at the end of a script, and in every turn of it.
+  -- A command that is not answered changes nothing. A refused command changes only its master's cold start bit, which the reply
+  -- shows and clears. Both hold at the end of a script, and in every turn of it.
   pub refused_commands_change_nothing : (before next : World) (refused : IsRefusedByDevice start events before next)
       → refused.turn.suffix ≡ [] → device ≡ after_refusal (state_of start.device before) refused.frame
   pub refused_turns_change_nothing : (before next : World) (refused : IsRefusedByDevice start events before next)
       → state_of start.device next ≡ after_refusal (state_of start.device before) refused.frame
-  -- In each turn in which a write arrives that the device answers with code 0 the request in hand is executed, heard or not, and
-  -- nothing else is ever executed. So a write whose accepted reply has code 0 was executed in the turn of that reply; and a
-  -- submission was executed at most as often as it was sent, a refused one never.
+  -- If a write arrives in a turn and the device answers it with code 0, the request in hand is executed, even if the answer is not
+  -- heard. Nothing else is ever executed. So a write whose accepted reply has code 0 was executed in the turn of that reply; and a
+  -- submission was executed at most as often as it was sent, and never if it was refused.
   pub unrefused_writes_are_executed : (before next : World) (who : MasterId) (up down : Heard)
       (turn : IsStepOf start (first_world start) events before (Turn who up down) next)
       → IsUnrefusedWrite (state_of start.device before) turn.step.brought → IsExecutedFromHand start events who before next
@@ -47,8 +47,8 @@ pub record KeepsPromises (start : Start) (events : List LineEvent) (device : Dev
       → IsExecutedInItsTurn start events number request reply sendings
   pub at_most_once_a_sending : (world : World) → IsLast start events world → (number : ℕ)
       → times_executed number world.executions ≤ sendings_in (slice_get outcomes number)
-  -- If a master's configuration-changed bit is clear after the script, nothing was written since its last Command 38 with code 0:
-  -- the counter is still the one that it named, if it named one, and the registers are those of that turn.
+  -- If a master's configuration-changed bit is clear after the script, nothing was written since this master's last Command 38 with
+  -- code 0: counter and registers are those of that turn, and the counter is the one that this command named, if any.
   pub no_change_unseen : (who : MasterId) (before : World) (given : Option ℕ) → IsLastReset start events who before given
       → of_master who device.changed ≡ false → IfSome given (λ counter. device.counter ≡ counter)
       × (device.counter ≡ (state_of start.device before).counter) × (device.contents ≡ (state_of start.device before).contents)

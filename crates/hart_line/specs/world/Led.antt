@@ -1,11 +1,11 @@
--- What a script leads to, as it is given back (own profile).
+-- What a script leads to, as it is returned (own profile).
 use Rattle.std.specs.Prelude.{◌≡◌, List}
 use Rattle.hart_line.specs.Types.{DeviceState, LineEvent, Outcome, Spoken}
 use Rattle.hart_line.specs.world.Spoken.{AreSpoken}
 use Rattle.hart_line.specs.world.Step.{IsLast}
 use Rattle.hart_line.specs.world.World.{Start, World, state_of}
 
--- A script has led to a device, to outcomes and to what was spoken if it has a last world and they are those of it.
+-- A script has led to this device, these outcomes and these spoken frames if it has a last world and they are those of that world.
 pub record Led (start : Start) (events : List LineEvent) (device : DeviceState) (outcomes : List Outcome) (spoken : List Spoken)
     : Type 0 where
   pub world : World

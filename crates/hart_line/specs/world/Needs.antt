@@ -17,14 +17,14 @@ abbrev pub is_noise : LineEvent → Bool
 is_noise (Noise chars) = true
 is_noise event = false
 
--- The most frames that are spoken in events: two in each turn, and one in each noise.
+-- How many frames are spoken in events at most: two in each turn, and one at each noise.
 abbrev pub most_spoken : List LineEvent → ℕ
 most_spoken events = 2 * count_by is_turn events + count_by is_noise events
 
--- Events need room for an outcome of each submission. Room for none is no need.
+-- Events need room for an outcome of each submission, if there is any submission.
 abbrev pub IsNeededForOutcomes : List LineEvent → ℕ → Type 0
 IsNeededForOutcomes events items = (0 < items) × (items ≡ count_by is_submission events)
 
--- If what is spoken in events is kept, they need room for their outcomes, and for the most frames that are spoken in them.
+-- If spoken frames are kept, events need room for their outcomes, and room for as many frames as are spoken in them at most.
 abbrev pub IsNeededBy : List LineEvent → ℕ → Type 0
 IsNeededBy events items = IsNeededForOutcomes events items ⊎ (0 < items) × (items ≡ most_spoken events)

@@ -7,8 +7,8 @@ use Rattle.hart_line.specs.world.Step.{IsLast}
 use Rattle.hart_line.specs.world.World.{Start, World}
 use Rattle.hart_line.specs.Types.{LineEvent, LineFault, BadLine, Memory, Undetected, Spoken}
 
--- Some first events of a script lead to a world, and noting a frame that was spoken in them needs room for this number of items, 1 at
--- least.
+-- The first events of a script, up to some event, lead to a world. Noting one of the frames that were spoken in them needs room for
+-- this number of items, at least 1.
 pub record IsNeededByNoting (Needs : Spoken → ℕ → Type 0) (start : Start) (events : List LineEvent) (items : ℕ) : Type 0 where
   pub number : ℕ
   pub world : World
@@ -18,15 +18,15 @@ pub record IsNeededByNoting (Needs : Spoken → ℕ → Type 0) (start : Start) 
   pub needed : Any (λ frame. Needs frame items) spoken
   pub some : 0 < items
 
--- The fault of events that are carried out with a log: undetected damage, as without a log, and all that was spoken before its event has
--- been noted; or refused memory, which noting one of the spoken frames needs.
+-- The fault of events that are carried out with a log. It is undetected damage, as without a log, and all that was spoken before
+-- its event has been noted; or it is refused memory that is needed to note one of the spoken frames.
 abbrev pub IsNotingFault : (Needs : Spoken → ℕ → Type 0) → (AreNoted : List Spoken → Type 0) → Start → List LineEvent → LineFault → Type 0
 IsNotingFault Needs AreNoted start events (Undetected number leg) = (undetected : IsFault start events (Undetected number leg))
     × (spoken : List Spoken) × AreSpoken undetected.0.spoken spoken × AreNoted spoken
 IsNotingFault Needs AreNoted start events (Memory room) = IsNeededByNoting Needs start events room.items
 IsNotingFault Needs AreNoted start events (BadLine line) = ⊥
 
--- The fault of a script with a log: one of its events; or refused memory, which its outcomes need, and nothing has been noted.
+-- The fault of a script with a log: a fault of its events; or refused memory that its outcomes need, and nothing has been noted.
 abbrev pub IsLoggedFault : (Needs : Spoken → ℕ → Type 0) → (AreNoted : List Spoken → Type 0) → Start → List LineEvent → LineFault → Type 0
 IsLoggedFault Needs AreNoted start events (Memory room) =
     IsNeededForOutcomes events room.items × AreNoted [] ⊎ IsNotingFault Needs AreNoted start events (Memory room)

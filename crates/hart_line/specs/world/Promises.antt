@@ -15,7 +15,7 @@ use Rattle.hart_master.specs.Master.{MasterState}
 use Rattle.hart_line.specs.world.Step.{LeadsTo, Step, effect_on, executions_after, spoken_request}
 use Rattle.hart_line.specs.world.World.{InHand, Start, World, first_world, state_of}
 
--- A script starts with a device, the process values that it is handed, and how often each master sends again at most.
+-- A script starts with a device, the process values that the device is handed, and how often each master retries at most.
 abbrev pub start_from : DeviceState → Process → MasterState → MasterState → Start
 start_from device process primary secondary = record {
   device = device;
@@ -29,7 +29,7 @@ pub record Submission : Type 0 where
   pub address : Address
   pub request : Request
 
--- The submissions of a script, in order, refused ones too.
+-- The submissions of a script, in order, including refused ones.
 abbrev pub submissions_of : List LineEvent → List Submission
 submissions_of [] = []
 submissions_of (Submit who address request ∷ events) =
@@ -54,10 +54,10 @@ pub record IsWellMadeStart (start : Start) : Type 0 where
   pub device : IsDevice start.device
   pub process : IsProcess start.process
 
--- An accepted reply is the device's answer in the turn of its request's last sending: the request in hand, which with its address is the
--- one that was submitted under this number to that turn's master, was sent for the last time, and arrived; the device's answer to it came
--- back, and was accepted as this reply; what the request did entered the executions; and the request left the hand. The reply says what
--- the device replied, with its code, its status and its data.
+-- An accepted reply is the device's answer in the turn in which its request was last sent. The request in hand, with its address,
+-- is the one that was submitted to this turn's master under this number. It was sent for the last time, and arrived. The device's
+-- answer came back and was accepted as this reply, with the device's code, status and data. What the request did entered the
+-- executions, and the request left the hand.
 pub record AnswersLastSending (start : Start) (events : List LineEvent) (number : ℕ) (reply : Reply) (sendings : ℕ) : Type 0 where
   pub before : World
   pub next : World
@@ -81,7 +81,7 @@ pub record AnswersLastSending (start : Start) (events : List LineEvent) (number 
   pub reached : slice_get next.outcomes number ≡ Some (Answered reply sendings)
   pub left : of_master who next.hands ≡ None
 
--- The requests that are submitted, in order, refused ones too.
+-- The requests that are submitted, in order, including refused ones.
 abbrev pub requests_of : List LineEvent → List Request
 requests_of events = map (λ submission. submission.request) (submissions_of events)
 
@@ -89,7 +89,7 @@ requests_of events = map (λ submission. submission.request) (submissions_of eve
 abbrev pub AreWellMade : List LineEvent → Type 0
 AreWellMade events = All IsRequest (requests_of events)
 
--- How often a submission was sent, as its outcome says; a refused one, or one that is not there, never was.
+-- How often a submission was sent, as its outcome says. A refused one was never sent, and neither was one that does not exist.
 abbrev pub sendings_in : Option Outcome → ℕ
 sendings_in (Some (Answered reply sendings)) = sendings
 sendings_in (Some (NoReply sendings)) = sendings
@@ -97,7 +97,7 @@ sendings_in (Some (Unfinished sendings)) = sendings
 sendings_in (Some (Refused fault)) = 0
 sendings_in None = 0
 
--- In the turn in which a submission was answered one execution was added, of this submission with the overwrite of its request.
+-- In the turn in which a submission was answered, one execution was added: of this submission, with the overwrite of its request.
 pub record IsExecutedInItsTurn (start : Start) (events : List LineEvent) (number : ℕ) (request : Request) (reply : Reply) (sendings : ℕ)
     : Type 0 where
   pub answered : AnswersLastSending start events number reply sendings
@@ -105,20 +105,20 @@ pub record IsExecutedInItsTurn (start : Start) (events : List LineEvent) (number
   pub overwrites : overwrite_of request ≡ Some overwrite
   pub executed : answered.next.executions ≡ answered.before.executions ++ record { submission = number; overwrite = overwrite } ∷ []
 
--- What an event brought the device: a turn what its leg up brought. Every other event is taken to bring no message, as none of them can
--- bring a frame: noise may bring a garbled request, which has no effect.
+-- What an event brought the device. A turn brought what its leg up brought. Every other event counts as bringing no message, since
+-- it cannot bring a frame: noise may bring a garbled request, but that has no effect.
 abbrev pub brought_in_step : (start : Start) (before : World) (event : LineEvent) (next : World) → Step start before event next → Brought
 brought_in_step start before (Turn who up down) next step = step.brought
 brought_in_step start before event next step = NoMessage
 
--- What was brought is a write that is not refused: a frame of a configuration write that the device answers with code 0.
+-- What was brought is an unrefused write: the frame of a configuration write, and the device answers it with code 0.
 abbrev pub IsUnrefusedWrite : DeviceState → Brought → Type 0
 IsUnrefusedWrite state (OneFrame frame) =
     IsTrue (is_write frame.command) × (is_answered state frame ≡ true) × (code_of state frame ≡ 0)
 IsUnrefusedWrite state brought = ⊥
 
--- In a turn of this master one execution is added: that of the submission whose request is in its hand, with the overwrite of this
--- request, which is the one that was submitted under that number to this master, with its address.
+-- In a turn of this master one execution is added, with the overwrite of the request in the master's hand and the number of its
+-- submission. The request and its address are those that were submitted to this master under this number.
 pub record IsExecutedFromHand (start : Start) (events : List LineEvent) (who : MasterId) (before next : World) : Type 0 where
   pub held : InHand
   pub in_hand : of_master who before.hands ≡ Some held
@@ -127,7 +127,7 @@ pub record IsExecutedFromHand (start : Start) (events : List LineEvent) (who : M
   pub overwrites : overwrite_of held.request ≡ Some overwrite
   pub executed : next.executions ≡ before.executions ++ record { submission = held.submission; overwrite = overwrite } ∷ []
 
--- A turn in which a frame arrived at the device that it answered with another code than 0, or not at all.
+-- A turn in which a frame arrived at the device, and the device answered it with a nonzero code or not at all.
 pub record IsRefusedByDevice (start : Start) (events : List LineEvent) (before next : World) : Type 0 where
   pub who : MasterId
   pub up : Heard
@@ -137,7 +137,7 @@ pub record IsRefusedByDevice (start : Start) (events : List LineEvent) (before n
   pub brought : turn.step.brought ≡ OneFrame frame
   pub refused : (code_of (state_of start.device before) frame ≢ 0) ⊎ (is_answered (state_of start.device before) frame ≡ false)
 
--- No turn of a master in these events resets its configuration-changed bit.
+-- In these events no turn of this master resets the master's configuration-changed bit.
 abbrev pub HasNoReset : Start → World → List LineEvent → MasterId → Type 0
 HasNoReset start from events who = (before next : World) (up down : Heard)
     (turn : IsStepOf start from events before (Turn who up down) next) → effect_on (state_of start.device before) turn.step.brought ≢ Resets

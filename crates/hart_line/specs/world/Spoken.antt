@@ -6,18 +6,18 @@ use Rattle.hart_frame.specs.wire.Body.{IsBody}
 use Rattle.hart_line.specs.declared.line.report.Party.{Party}
 use Rattle.hart_line.specs.declared.line.report.Party.TheVariants as parties
 
--- A frame is spoken by a party, after so many preamble bytes.
+-- A spoken frame, with the party that spoke it and the number of preamble bytes before it.
 pub record SpokenFrame : Type 0 where
   pub party : Party
   pub preambles : ℕ
   pub frame : FrameParts
 
--- A party speaks a frame, if there is one, after so many preamble bytes.
+-- A party speaks a frame, if there is one, after this number of preamble bytes.
 abbrev pub spoken_by : Party → ℕ → Option FrameParts → Option SpokenFrame
 spoken_by party preambles None = None
 spoken_by party preambles (Some frame) = Some (record { party = party; preambles = preambles; frame = frame })
 
--- A call says whether there is a frame, and which one it has written.
+-- The frame that a call has written, if the call says that there is one.
 abbrev pub frame_if : Bool → FrameParts → Option FrameParts
 frame_if true frame = Some frame
 frame_if false frame = None
@@ -36,7 +36,7 @@ party_of Secondary = parties.Secondary
 abbrev pub master_preambles : ℕ
 master_preambles = 20
 
--- A spoken frame is put down as its party, the number of its preamble bytes, and the bytes of a body of it.
+-- A spoken frame is kept as its party, its number of preamble bytes, and the bytes of its body.
 pub record IsSpoken (said : SpokenFrame) (spoken : Spoken) : Type 0 where
   pub party : spoken.party ≡ said.party
   pub preambles : spoken.preambles ≡ said.preambles
@@ -47,6 +47,6 @@ abbrev pub Speaks : Option SpokenFrame → List Spoken → List Spoken → Type 
 Speaks None old new = new ≡ old
 Speaks (Some said) old new = (spoken : Spoken) × IsSpoken said spoken × (new ≡ old ++ spoken ∷ [])
 
--- Spoken frames are put down one by one, in order.
+-- Spoken frames are kept one by one, in order.
 abbrev pub AreSpoken : List SpokenFrame → List Spoken → Type 0
 AreSpoken = AllZip IsSpoken

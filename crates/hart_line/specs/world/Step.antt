@@ -19,14 +19,14 @@ use Rattle.hart_line.specs.world.Spoken.{SpokenFrame, master_preambles, spoken_b
 use Rattle.hart_line.specs.world.World.{Execution, InHand, Start, World, first_world, state_of}
 use Rattle.hart_line.specs.declared.line.report.Party.TheVariants.{Device}
 
--- A submission is refused if a request is in the master's hand, whatever the address, and otherwise if the request may not
--- be sent to the address.
+-- A submission is refused as pending if a request is in the master's hand already. Otherwise it is refused as wrongly addressed if
+-- the request may not be sent to the address.
 abbrev pub submission_fault : Option InHand → Address → Request → Option MasterFault
 submission_fault (Some held) address request = Some Pending
 submission_fault None address request = if may_ask address request then None else Some WrongAddress
 
--- A submission that is not refused puts its request into the master's hand, not sent yet, and is unfinished; a refused one adds
--- its outcome, and leaves the hand as it is.
+-- A submission that is not refused puts its request into the master's hand, not sent yet, and is unfinished. A refused one only
+-- adds its outcome, and leaves the hand as it is.
 abbrev pub submitted : World → MasterId → Address → Request → Option MasterFault → World
 submitted world who address request None = record world {
   hands = with_master who
@@ -35,7 +35,7 @@ submitted world who address request None = record world {
 }
 submitted world who address request (Some fault) = record world { outcomes = world.outcomes ++ Refused fault ∷ [] }
 
--- In its turn a master sends the request in its hand: after the preamble bytes of a master an STX with the written data of the request.
+-- In its turn a master sends the request in its hand: a master's preamble bytes, and then an STX with the data of the request.
 abbrev pub spoken_request : MasterId → InHand → SpokenFrame
 spoken_request who held = record {
   party = party_of who;
@@ -48,17 +48,17 @@ abbrev pub sent_by : MasterId → Option InHand → Option SpokenFrame
 sent_by who None = None
 sent_by who (Some held) = Some (spoken_request who held)
 
--- What the device sends back is its answer to what it was brought, after as many preamble bytes as its identity says.
+-- The device sends back its answer to what it was brought, after as many preamble bytes as its identity says.
 abbrev pub sent_back : Start → World → Brought → Option SpokenFrame
 sent_back start world brought = spoken_by Device start.device.identity.response_preambles
     (answer_to (state_of start.device world) start.process brought)
 
--- A frame that arrives has its effect on the device. A garbled request has no effect, and without a message there is none.
+-- A frame that arrives has its effect on the device. A garbled request has no effect. Without a message there is none either.
 abbrev pub effect_on : DeviceState → Brought → Effect
 effect_on state (OneFrame frame) = effect_of state frame
 effect_on state brought = Nothing
 
--- An execution enters the executions, with the number of its submission.
+-- An executed write is added to the executions, with the number of its submission.
 abbrev pub executions_after : Effect → ℕ → List Execution → List Execution
 executions_after (Executes overwrite) number executions = executions ++ record { submission = number; overwrite = overwrite } ∷ []
 executions_after effect number executions = executions
@@ -68,38 +68,38 @@ abbrev pub marks_after : Effect → MasterId → ℕ → EachMaster (Option ℕ)
 marks_after Resets who count marks = with_master who (Some count) marks
 marks_after effect who count marks = marks
 
--- If a frame is answered in a master's turn, the reply shows this master's cold start bit and clears it, whatever its response code. A
--- frame that is not answered, a garbled request and no message leave both masters' bits as they are.
+-- If a frame is answered in a master's turn, the reply shows this master's cold start bit and clears it, whatever its response
+-- code. Anything else leaves both masters' bits as they are: a frame that is not answered, a garbled request, or no message.
 abbrev pub cold_start_after : DeviceState → MasterId → Brought → EachMaster Bool
 cold_start_after state who (OneFrame frame) = if is_answered state frame then with_master who false state.cold_start else state.cold_start
 cold_start_after state who brought = state.cold_start
 
--- A master accepts what comes back as the reply that it is to the request in hand; it accepts nothing if it is no such reply,
--- if nothing comes back, or if nothing is in hand.
+-- A master accepts a frame that comes back if it is a reply to the request in hand. It accepts nothing if the frame is no such
+-- reply, if nothing comes back, or if nothing is in hand.
 abbrev pub Accepts : MasterId → Option InHand → Option FrameParts → Option Reply → Type 0
 Accepts who None returned accepted = accepted ≡ None
 Accepts who (Some held) None accepted = accepted ≡ None
 Accepts who (Some held) (Some frame) None = (reply : Reply) → IsReplyTo who held.address held.request frame reply → ⊥
 Accepts who (Some held) (Some frame) (Some reply) = IsReplyTo who held.address held.request frame reply
 
--- A request is answered by the reply that is accepted; without one it is unfinished while it was sent no more often than there
--- are retries, and otherwise has no reply.
+-- A request is answered by the reply that is accepted. Without one it is unfinished if it was sent at most `retries` times, and
+-- otherwise has no reply.
 abbrev pub outcome_of : (retries sendings : ℕ) → Option Reply → Outcome
 outcome_of retries sendings (Some reply) = Answered reply sendings
 outcome_of retries sendings None = if nat_le sendings retries then Unfinished sendings else NoReply sendings
 
--- An unfinished request stays in hand, with its sendings, and every other leaves it.
+-- An unfinished request stays in hand, with its sendings. Any other leaves the hand.
 abbrev pub hand_left : InHand → Outcome → Option InHand
 hand_left held (Unfinished sendings) = Some (record held { sendings = sendings })
 hand_left held outcome = None
 
--- The device's answer to what it was brought, if any, is spoken, and nothing else changes.
+-- The device's answer, if any, to what it was brought is spoken, and nothing else changes.
 abbrev pub replied : Start → World → Brought → World
 replied start world brought = record world { spoken = world.spoken ++ option_to_list (sent_back start world brought) }
 
--- A turn of a master, which brought the device this and in which this reply was accepted: with nothing in hand the device's answer
--- to what it was brought is spoken alone, if any; otherwise the request is spoken, then that answer; the effect enters the executions
--- under the number of the submission, or sets the master's mark; if the frame is answered, the master's cold start bit is cleared; and
+-- A turn of a master in which the device was brought this and this reply was accepted. With nothing in hand, only the device's
+-- answer, if any, is spoken. Otherwise the request is spoken, and then the answer, if any; the effect enters the executions under
+-- the number of the submission, or sets the master's mark; if the frame is answered, the master's cold start bit is cleared; and
 -- the submission gets its outcome, by which the request stays in hand or leaves it.
 abbrev pub turned : Start → World → MasterId → Option InHand → Brought → Option Reply → World
 turned start world who None brought accepted = replied start world brought
@@ -116,7 +116,7 @@ turned start world who (Some held) brought accepted =
       spoken = world.spoken ++ spoken_request who held ∷ option_to_list (sent_back start world brought);
     }
 
--- A turn leads to the next world by what it brings the device, what comes back of the answer to that, and the reply that is accepted then.
+-- A turn leads to the next world by what it brings the device, what comes back of the device's answer, and the reply accepted then.
 pub record IsTurn (start : Start) (world : World) (who : MasterId) (up down : Heard) (next : World) : Type 0 where
   pub brought : Brought
   pub arrives : Reaches start.device.identity up (sent_by who (of_master who world.hands)) brought
@@ -126,16 +126,16 @@ pub record IsTurn (start : Start) (world : World) (who : MasterId) (up down : He
   pub accepts : Accepts who (of_master who world.hands) returned accepted
   pub next_is : next ≡ turned start world who (of_master who world.hands) brought accepted
 
--- Noise, in which nothing was sent, leads to the next world by what it brings the device, whose answer is spoken, if any. Both
--- masters hear that without damage; as neither awaits a reply, neither accepts it.
+-- Noise, in which nothing was sent, leads to the next world by what it brings the device. The device's answer, if any, is spoken.
+-- Both masters hear it without damage. As neither awaits a reply, neither accepts it.
 pub record IsNoise (start : Start) (world : World) (chars : List Character) (next : World) : Type 0 where
   pub brought : Brought
   pub arrives : Reaches start.device.identity (Chars chars) None brought
   pub next_is : next ≡ replied start world brought
 
--- An event leads from a world to the next: a submission by the fault that refuses it, if any; a turn; the switch of protection,
--- which changes nothing else; noise; and a restart of the device, which sets both masters' cold start bits and changes nothing else,
--- so that what the masters have in hand stays. If damage is not detected there is no next world.
+-- An event leads from a world to the next. A submission does so with the fault that refuses it, if any. A switch of protection
+-- changes nothing else. A restart of the device sets both masters' cold start bits and nothing else, so what the masters have in
+-- hand stays. A turn or noise with undetected damage leads to no next world.
 abbrev pub Step : Start → World → LineEvent → World → Type 0
 Step start world (Submit who address request) next =
     next ≡ submitted world who address request (submission_fault (of_master who world.hands) address request)

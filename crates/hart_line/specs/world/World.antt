@@ -1,5 +1,5 @@
--- The world of a script (own profile): what has happened on the line, by executions and the numbers of submissions, which a
--- device and its masters do not know.
+-- The world of a script (own profile): what has happened on the line, with its executions and the numbers of its submissions. The
+-- device and its masters do not know these.
 use Rattle.std.specs.Prelude.{◌≡◌, ℕ, ◌≤◌, ◌+◌, ◌%◌, ◌^◌, ◌||◌, nat_lt, Bool, List, [], length, map, Option, None, Some}
 use Rattle.hart_line.specs.Types.{Address, EachMaster, MasterId, Overwrite, Request, DeviceState, Process, Outcome}
 use Rattle.hart_values.specs.EachMaster.{of_master}
@@ -18,9 +18,9 @@ pub record InHand : Type 0 where
   pub request : Request
   pub sendings : ℕ
 
--- A world is what was executed, oldest first; for each master its mark, which is how many executions there were when its last
--- Command 38 was executed, if any was; whether the device is protected; for each master its cold start bit; what each master has in
--- hand; what became of each submission so far; and what was spoken.
+-- A world is what was executed, oldest first; for each master its mark, if any: how many executions there were when its last
+-- Command 38 was executed; whether the device is protected; for each master its cold start bit; what each master has in hand; what
+-- became of each submission so far; and what was spoken.
 pub record World : Type 0 where
   pub executions : List Execution
   pub marks : EachMaster (Option ℕ)
@@ -30,7 +30,7 @@ pub record World : Type 0 where
   pub outcomes : List Outcome
   pub spoken : List SpokenFrame
 
--- A script starts with a device, with the process values that it is handed, and with how often each master sends again at most.
+-- A script starts with a device, the process values that the device is handed, and how often each master retries at most.
 pub record Start : Type 0 where
   pub device : DeviceState
   pub process : Process
@@ -52,15 +52,15 @@ first_world start = record {
 abbrev pub overwrites_of : List Execution → List Overwrite
 overwrites_of executions = map (λ execution. execution.overwrite) executions
 
--- A master's configuration-changed bit is set if its mark is less than the number of executions or, without a mark, if it
--- was set initially or there are executions.
+-- With a mark, a master's configuration-changed bit is set if the mark is less than the number of executions. Without a mark, the
+-- bit is set if it was set initially or if there are executions.
 abbrev pub is_changed : Bool → Option ℕ → ℕ → Bool
 is_changed initially None count = initially || nat_lt 0 count
 is_changed initially (Some mark) count = nat_lt mark count
 
 -- The device in a world: each register holds the bytes of the newest execution that names it, otherwise its initial bytes; the
--- counter has grown by the number of executions, 65535 being followed by 0; each configuration-changed bit is as its master's
--- mark says; protection and the cold start bits are those of the world; the identity stays.
+-- counter has grown by the number of executions, with 0 after 65535; each configuration-changed bit is as its master's mark says;
+-- protection and the cold start bits are those of the world; the identity stays.
 abbrev pub state_of : DeviceState → World → DeviceState
 state_of initial world = record initial {
   contents = registers_of (overwrites_of world.executions) initial.contents;

@@ -8,9 +8,9 @@ use crate::{NoRoom, Party, Spoken};
 use hart_frame::{Body, Frame};
 use std::marker::Model;
 
-/// The frames that are spoken in one event: at most two, a request and a reply. They lie in the value itself, so that they take no memory.
+/// The frames that are spoken in one event: at most two, a request and a reply. They lie in the value itself: nothing is allocated.
 ///
-/// Contracts see the list of them.
+/// Contracts see the list of these frames.
 #[derive(Drop)]
 pub struct EventFrames {
     first: Spoken,
@@ -30,7 +30,7 @@ impl Model for EventFrames {
 }
 
 impl EventFrames {
-    /// Returns the frames of an event in which nothing was spoken yet.
+    /// Returns no frames, for an event in which nothing was spoken yet.
     pub fn new() -> Self
         ensures { result ≡ [] }
     {
@@ -41,7 +41,7 @@ impl EventFrames {
         }
     }
 
-    /// Adds a frame that this party speaks after this number of preamble bytes, if there is one.
+    /// Adds the frame, if there is one, as spoken by this party after this number of preamble bytes.
     pub fn speak(&mut self, party: Party, preambles: u8, frame: Option<&Frame>)
         requires { length self.old ≤ 1 }
         ensures speaks { Speaks (spoken_by party preambles (option_copied frame.entry)) self.old self.new }
@@ -59,7 +59,7 @@ impl EventFrames {
         }
     }
 
-    /// Notes these frames in a log, in order, up to the first one that it has no room for, and keeps none of them.
+    /// Notes these frames in a log, in order, up to the first one that the log has no room for. Keeps none of them.
     pub fn note_in<L: Log>(&mut self, log: &mut L) -> Result<(), NoRoom>
         ensures noted { OnOk result (L.notes log.old self.old log.new) }
         ensures refused { IfErr result (λ none. (0 < none.items) × Any (λ said. L.needs said none.items) self.old) }
@@ -79,7 +79,7 @@ impl EventFrames {
     }
 }
 
-/// Puts a frame down that was spoken, in the place of what is there.
+/// Overwrites `spoken` with this frame, its party and its number of preamble bytes.
 fn put_down(spoken: &mut Spoken, party: Party, preambles: u8, frame: &Frame)
     ensures { IsSpoken (record { party = party; preambles = preambles; frame = frame.now }) spoken.new }
 {
@@ -88,7 +88,7 @@ fn put_down(spoken: &mut Spoken, party: Party, preambles: u8, frame: &Frame)
     frame.write_body(&mut spoken.bytes);
 }
 
-/// Returns what stands where no frame was put down yet.
+/// Returns a filler for a place where no frame was put yet.
 fn no_spoken() -> Spoken {
     Spoken {
         party: Party::Device,

@@ -9,13 +9,13 @@ use crate::Heard;
 use hart_device::{Device, Process, RegisterStore};
 use hart_frame::{Char, Frame, LoneFrame, lone_frame};
 
-/// The damage of what was heard is undetected.
+/// What was heard has undetected damage.
 #[derive(Clone, Copy)]
 pub struct Undetected;
 
-/// Returns the frame that arrives in a leg, if any does: the one that was sent.
+/// Returns the frame that arrives in a leg, if any. It is always the one that was sent.
 ///
-/// What is heard clean is not looked for in its characters: a message has its frame alone.
+/// A clean leg is not searched for frames: a message has its own frame and no other.
 #[tactic(auto, using(crate::proofs::lemmas::line::Leg::message_arrives, crate::proofs::lemmas::line::Leg::nothing_arrives))]
 pub fn arrived_in<'a>(
     heard: &Heard,
@@ -33,7 +33,7 @@ pub fn arrived_in<'a>(
     }
 }
 
-/// Returns the frame that arrives among characters, if any does: the one that was sent.
+/// Returns the frame that arrives among characters, if any. It is always the one that was sent.
 pub fn arrived_among<'a>(
     chars: &[Char],
     sent: Option<&'a Frame>,
@@ -48,7 +48,7 @@ pub fn arrived_among<'a>(
     }
 }
 
-/// Returns true if the device, which hears what goes up, answers what that brings it; the answer is then in `reply`.
+/// Lets the device hear what goes up. Returns true if the device answers; the answer is then in `reply`.
 #[tactic(auto, using(crate::proofs::lemmas::line::Leg::nothing_reaches))]
 pub fn answer_in<S: RegisterStore>(
     device: &mut Device<S>,
@@ -72,7 +72,7 @@ pub fn answer_in<S: RegisterStore>(
     }
 }
 
-/// Returns true if the device, which hears these characters, answers what they bring it; the answer is then in `reply`.
+/// Lets the device hear these characters. Returns true if the device answers; the answer is then in `reply`.
 #[tactic(auto, using(crate::proofs::lemmas::line::Leg::answered_among))]
 pub fn answer_among<S: RegisterStore>(
     device: &mut Device<S>,

@@ -1,12 +1,12 @@
-//! What is spoken on a line is noted while it is spoken.
+//! Logs, in which the frames spoken on a line are noted while a script is carried out.
 ghost use Rattle.std.specs.Prelude.{◌<◌, [], ◌∷◌, ◌++◌, ℕ, IfErr, List, OnOk};
 ghost use Rattle.hart_line.specs.Types.{Spoken};
 
 use crate::{Filling, NoRoom, Spoken};
 
-/// Who notes what is spoken on a line, however it is kept.
+/// Notes the frames that are spoken on a line, in whatever form.
 pub trait Log {
-    // The one log becomes the other if these frames are noted in it, in this order.
+    // The first log becomes the second if these frames are noted in it, in this order.
     ghost notes: { Self → List Spoken → Self → Type 0 };
 
     // Noting this frame may need room for this number of items.
@@ -21,13 +21,13 @@ pub trait Log {
         ensures noted { OnOk result (notes self.old (spoken.now ∷ []) self.new) }
         ensures refused { IfErr result (λ none. (0 < none.items) × needs spoken.now none.items) };
 
-    // A log becomes itself if nothing is noted. Frames may be noted after others.
+    // A log stays the same if nothing is noted. To note some frames and then others is to note all of them in this order.
     ghost none: { (log : Self) → notes log [] log };
 
     ghost more: { (a b c : Self) (xs ys : List Spoken) → notes a xs b → notes b ys c → notes a (xs ++ ys) c };
 }
 
-/// The log of a script whose spoken frames are kept: a list with room for all of them, so that it asks for none.
+/// The log of a script whose spoken frames are all kept: a list with room for all of them, so that noting needs no memory.
 #[derive(Drop)]
 pub(crate) struct KeptFrames {
     pub frames: Filling<Spoken>,

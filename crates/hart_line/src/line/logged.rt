@@ -19,7 +19,7 @@ use hart_device::{Device, Process, RegisterStore};
 use hart_master::Master;
 use std::alloc::Global;
 
-/// Carries out a script as [`run`](crate::run) does, and notes what is spoken after each event, so that none of it is kept.
+/// Carries out a script as [`run`](crate::run) does. After each event, notes in the log what was spoken in it, without keeping it.
 ///
 /// # Errors
 ///
@@ -40,21 +40,21 @@ pub fn run_logged<S: RegisterStore + Drop, L: Log>(
     // The script has a last world; device, outcomes and what was noted are that world's.
     ensures led { let start = start_from device process.now primary secondary in IfOk result (λ ending.
         (spoken : List Spoken) × Led start events.now ending.device ending.outcomes spoken × L.notes log.old spoken log.new) }
-    // What is promised of a script holds of this one, and of what is given back.
+    // The script and what is returned keep the promises that are made of every script.
     ensures promises { IfOk result (λ ending.
         KeepsPromises (start_from device process.now primary secondary) events.now ending.device ending.outcomes) }
-    // A fault names the first leg whose damage is undetected, and what was spoken before that event has been noted; or the outcomes that
-    // there is no room for, and nothing has been noted; or the room that noting a spoken frame needs.
+    // A fault names the first leg with undetected damage, and what was spoken before its event has been noted; or the number of
+    // outcomes for which there is no room, and nothing has been noted; or the room that is missing to note a spoken frame.
     ensures fault { let start = start_from device process.now primary secondary in
         IfErr result (IsLoggedFault L.needs (λ spoken. L.notes log.old spoken log.new) start events.now) }
-    // No leg that is clean, lost, or marked or check damage of the message that was sent in it stops a script.
+    // No leg stops a script if it is clean or lost, or if what is heard is marked or check damage of the message sent in it.
     ensures detectable_damage_is_detected { IfErr result (IsNotDetectable (start_from device process.now primary secondary) events.now) }
 {
     let outcomes = room_for_outcomes(alloc, events)?;
     carry_out(outcomes, device, primary, secondary, events, process, log)
 }
 
-/// Carries out a script in room that was reserved for its outcomes, as [`run_logged`] does. Memory is refused by the log alone.
+/// Carries out a script as [`run_logged`] does, in room already reserved for its outcomes. Only the log can run out of memory.
 pub fn carry_out<S: RegisterStore + Drop, L: Log>(
     outcomes: Filling<Outcome>,
     device: Device<S>,

@@ -1,4 +1,4 @@
-//! The two masters of a line, each with the place of its request in hand among the outcomes.
+//! The two masters of a line. Each has the index, in the list of outcomes, of its request in hand.
 ghost use Rattle.std.specs.Prelude.{◌≡◌, ℕ, Option, None, Some, MatchOption, length};
 ghost use Rattle.std.specs.Option.{option_copied};
 ghost use Rattle.hart_line.specs.Types.{Reply, MasterId, EachMaster};
@@ -15,10 +15,10 @@ use hart_frame::{Char, Frame};
 use hart_master::{Master, MasterEvent};
 use hart_values::{Address, MasterId};
 
-/// The character times that pass at the end of a turn, which end every wait.
+/// How many character times pass at the end of a turn: enough to end every wait.
 const TURN_TIME: u8 = 255;
 
-/// A master, and the place of its request in hand among the outcomes.
+/// A master, and the index of its request in hand in the list of outcomes.
 #[derive(Drop)]
 pub struct Submitter {
     pub master: Master,
@@ -26,7 +26,7 @@ pub struct Submitter {
 }
 
 impl Submitter {
-    /// Submits a request, whose outcome will have this place, and gives its outcome so far.
+    /// Submits a request, whose outcome will have this index, and returns its outcome so far.
     fn submit(&mut self, place: usize, address: Address, request: &Request) -> Outcome
         ensures submits { (id : MasterId) (retries : ℕ) (held : Option InHand) → Holds id retries held self.old
             → Submits held place address request.now (submission_fault held address request.now) result
@@ -42,7 +42,7 @@ impl Submitter {
         }
     }
 
-    /// Sends the request in hand, if there is one, whose reply is then awaited, and writes its frame over `frame`.
+    /// Sends the request in hand, if there is one, and awaits the reply. Writes the request's frame over `frame`.
     fn send(&mut self, frame: &mut Frame) -> bool
         ensures { (id : MasterId) (retries : ℕ) (held : Option InHand) → Holds id retries held self.old
             → (frame_if result frame.new ≡ frame_of (sent_by id held)) × Awaits id retries held self.new }
@@ -50,7 +50,7 @@ impl Submitter {
         self.master.send_into(frame)
     }
 
-    /// Hears what comes back, and gives the outcome of its request if that is answered by it.
+    /// Hears the frame that comes back, if any. Returns the outcome of the request in hand if the frame answers it.
     fn hear(&mut self, returned: Option<&Frame>) -> Option<Outcome>
         ensures awaited { (id : MasterId) (retries : ℕ) (held : Option InHand) → Awaits id retries held self.old
             → MatchOption result (Accepts id held (option_copied returned.entry) None × Awaits id retries held self.new)
@@ -65,7 +65,7 @@ impl Submitter {
         }
     }
 
-    /// Waits no longer for the reply to its request, whose outcome it gives, if it awaits one.
+    /// Stops waiting for a reply. Returns the outcome of the request, or `None` if no reply was awaited.
     fn stop_waiting(&mut self) -> Option<Outcome>
         ensures { (id : MasterId) (retries : ℕ) (held : Option InHand) → Awaits id retries held self.old
             → (result ≡ outcome_in_turn retries held None) × Holds id retries (hand_after_turn retries held None) self.new }
@@ -79,7 +79,7 @@ impl Submitter {
         }
     }
 
-    /// Ends the turn of this master: its request, if it has sent one, gets its outcome, by what comes back.
+    /// Ends the turn of this master. What comes back decides the outcome of the request that the master has sent, if any.
     fn conclude(&mut self, returned: Option<&Frame>, outcomes: &mut Filling<Outcome>)
         ensures concludes { (id : MasterId) (retries : ℕ) (held : Option InHand) → Awaits id retries held self.old
             → Concludes id retries held (option_copied returned.entry) outcomes.old.items outcomes.new.items
@@ -104,7 +104,7 @@ pub struct Masters {
 }
 
 impl Masters {
-    /// Submits a request to a master. Its outcome will have this place. Returns its outcome so far.
+    /// Submits a request to a master. The outcome will have this index. Returns the outcome so far.
     pub fn submit(
         &mut self,
         who: MasterId,
@@ -124,7 +124,7 @@ impl Masters {
         }
     }
 
-    /// Lets a master send the request in its hand, if there is one, and await the reply. Writes the frame over `frame`.
+    /// Lets a master send the request in its hand, if there is one, and await the reply. Writes the request's frame over `frame`.
     pub fn send(&mut self, who: MasterId, frame: &mut Frame) -> bool
         ensures { (retries : EachMaster ℕ) (hands : EachMaster (Option InHand)) → AreHeld retries hands self.old
             → (frame_if result frame.new ≡ frame_of (sent_by who (of_master who hands))) × AreInTurn who retries hands self.new }
@@ -135,7 +135,7 @@ impl Masters {
         }
     }
 
-    /// Both masters hear what comes back, and the turn of this one ends.
+    /// Lets both masters hear what comes back, and ends the turn of this one.
     pub fn end_turn(
         &mut self,
         who: MasterId,
@@ -160,7 +160,7 @@ impl Masters {
         }
     }
 
-    /// Both masters hear noise, between two turns, and what the device answers to it.
+    /// Lets both masters hear noise between two turns, and the device's answer to it, if any.
     pub fn hear_noise(&mut self, chars: &[Char], answer: Option<&Frame>)
         ensures { (retries : EachMaster ℕ) (hands : EachMaster (Option InHand)) → AreHeld retries hands self.old
             → AreHeld retries hands self.new }

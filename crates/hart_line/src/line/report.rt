@@ -17,7 +17,7 @@ pub enum Party {
     Device,
 }
 
-/// A frame that was spoken, as the party, its preamble bytes and its body.
+/// A frame that was spoken: its party, its number of preamble bytes and its body.
 #[derive(Debug, Drop, PartialEq, Eq)]
 pub struct Spoken {
     /// Who spoke it.
@@ -29,7 +29,7 @@ pub struct Spoken {
 }
 
 impl Spoken {
-    /// Returns the same frame once more.
+    /// Returns a copy.
     pub(crate) fn copied(&self) -> Self
         ensures { result ≡ self.now }
     {
@@ -48,15 +48,15 @@ impl Spoken {
 pub enum Outcome {
     /// A reply was accepted, after this number of sendings.
     Answered { reply: Reply, sendings: u8 },
-    /// No reply was accepted after the last of this number of sendings, and the request was given up.
+    /// The request was sent this number of times, no reply was accepted, and the request was given up.
     NoReply { sendings: u8 },
-    /// It was sent this number of times, and neither of these has come about.
+    /// The request was sent this number of times, and is neither answered nor given up.
     Unfinished { sendings: u8 },
-    /// The master refused it.
+    /// The master refused the submission.
     Refused(MasterFault),
 }
 
-/// What became of each submission, in their order.
+/// What became of each submission, in order.
 pub type Outcomes = PlainList<Outcome>;
 
 /// What was spoken, in order.
@@ -65,7 +65,7 @@ pub type SpokenList = PlainList<Spoken>;
 /// What a script leads to.
 #[derive(Debug, Drop)]
 pub struct Report<S: RegisterStore> {
-    /// The device, as it is then.
+    /// The device as it is at the end.
     pub device: Device<S>,
     /// What became of each submission.
     pub outcomes: Outcomes,
@@ -73,10 +73,10 @@ pub struct Report<S: RegisterStore> {
     pub spoken: SpokenList,
 }
 
-/// What a script leads to, but for what was spoken.
+/// What a script leads to, without what was spoken.
 #[derive(Debug, Drop)]
 pub struct Ending<S: RegisterStore> {
-    /// The device, as it is then.
+    /// The device as it is at the end.
     pub device: Device<S>,
     /// What became of each submission.
     pub outcomes: Outcomes,

@@ -5,7 +5,7 @@ ghost use Rattle.hart_line.specs.world.Needs.{IsNeededBy, IsNeededForOutcomes, i
 use crate::{Filling, LineEvent, NoRoom, Outcome, Spoken};
 use std::alloc::Global;
 
-/// Reserves room for an outcome of each submission among these events, or gives their number.
+/// Reserves room for an outcome of each submission in these events. If refused, the error has the number of submissions.
 pub fn room_for_outcomes(alloc: Global, events: &[LineEvent]) -> Result<Filling<Outcome>, NoRoom>
     ensures empty { IfOk result (λ outcomes. outcomes ≡ record { items = []; room = count_by is_submission events.now }) }
     ensures refused { IfErr result (λ none. IsNeededForOutcomes events.now none.items) }
@@ -13,7 +13,7 @@ pub fn room_for_outcomes(alloc: Global, events: &[LineEvent]) -> Result<Filling<
     Filling::with_room(alloc, submissions(events))
 }
 
-/// Reserves room for the most frames that are spoken in all these events, or gives their number.
+/// Reserves room for as many frames as are spoken in these events at most. If refused, the error has this number of frames.
 pub fn room_for_all_spoken(alloc: Global, events: &[LineEvent]) -> Result<Filling<Spoken>, NoRoom>
     ensures empty { IfOk result (λ spoken. spoken ≡ record { items = []; room = most_spoken events.now }) }
     ensures refused { IfErr result (λ none. IsNeededBy events.now none.items) }
@@ -32,7 +32,7 @@ fn submissions(events: &[LineEvent]) -> usize
         .count()
 }
 
-/// Returns the most frames that are spoken in these events: two in each turn, and one in each noise.
+/// Returns how many frames are spoken in these events at most: two in each turn, and one at each noise.
 fn most_spoken(events: &[LineEvent]) -> usize
     ensures { result ≡ most_spoken events.now }
 {
@@ -50,7 +50,7 @@ fn turns(events: &[LineEvent]) -> usize
         .count()
 }
 
-/// Returns how often there is noise among these events.
+/// Returns the number of noise events among these.
 fn noises(events: &[LineEvent]) -> usize
     ensures count { result ≡ count_by is_noise events.now }
     ensures bound { result ≤ length events.now }

@@ -1,4 +1,4 @@
-//! Scripts are carried out.
+//! Carries out scripts.
 ghost use Rattle.std.specs.Prelude.{◌≡◌, IfErr, IfOk};
 ghost use Rattle.hart_line.specs.Types.{Primary, Secondary};
 ghost use Rattle.hart_master.specs.declared.hand.Hand.TheVariants.{Empty};
@@ -17,11 +17,11 @@ use std::alloc::Global;
 
 /// Carries out a script: what the masters ask, and what each side hears.
 ///
-/// At a turn the master sends the request in its hand, if there is one; the device hears what goes up, and answers; both
-/// masters hear what comes down; and a master that still awaits its reply waits no longer. Noise is heard by all three, and both
-/// masters hear without damage what the device answers to it. At a restart both cold start bits of the device are set.
+/// In a turn the master sends the request in its hand, if there is one. The device hears what goes up, and answers. Both masters
+/// hear what comes down; a master that still awaits its reply then stops waiting. All three hear noise, and both masters hear the
+/// device's answer to it without damage. A restart sets both cold start bits of the device.
 ///
-/// The masters are the primary and the secondary one, with no request in hand. The process values are those that the device is handed.
+/// The masters are the primary and the secondary one, with no request in hand. The device is handed the values of `process`.
 ///
 /// # Errors
 ///
@@ -41,12 +41,12 @@ pub fn run<S: RegisterStore + Drop>(
     // The script has a last world; device, outcomes and what was spoken are that world's.
     ensures led { IfOk result (λ report.
         Led (start_from device process.now primary secondary) events.now report.device report.outcomes report.spoken) }
-    // What is promised of a script holds of this one, and of what is given back.
+    // The script and what is returned keep the promises that are made of every script.
     ensures promises { IfOk result (λ report.
         KeepsPromises (start_from device process.now primary secondary) events.now report.device report.outcomes) }
-    // A fault names the first leg whose damage is undetected, or the outcomes or spoken frames that there is no room for.
+    // A fault names the first leg with undetected damage, or the number of outcomes or spoken frames for which there is no room.
     ensures fault { IfErr result (IsFault (start_from device process.now primary secondary) events.now) }
-    // No leg that is clean, lost, or marked or check damage of the message that was sent in it stops a script.
+    // No leg stops a script if it is clean or lost, or if what is heard is marked or check damage of the message sent in it.
     ensures detectable_damage_is_detected { IfErr result (IsNotDetectable (start_from device process.now primary secondary) events.now) }
 {
     let outcomes = room_for_outcomes(alloc, events)?;

@@ -1,4 +1,4 @@
-//! What hex digits mean, as the library says, kept in a table.
+//! A table of the values of hex digits, as the `hex` library has them.
 ghost use Rattle.std.specs.Prelude.{◌≡◌, MatchOption};
 ghost use Rattle.hart_line.specs.script.Digits.{AreDigitsOf, value_of_digit};
 ghost use Rattle.hart_line.specs.script.Items.{AreDigits};
@@ -6,10 +6,10 @@ ghost use Rattle.hart_line.specs.script.Items.{AreDigits};
 use crate::leading_item;
 use std::marker::Model;
 
-/// In the place of a value: the byte is no digit.
+/// Stands in the table for a byte that is no hex digit.
 const NO_DIGIT: u8 = 255;
 
-/// The value of each digit, for which the library is asked once.
+/// The value of each hex digit. The library is asked for it only once.
 #[derive(Drop)]
 pub struct Digits {
     values: [u8; 256],
@@ -27,7 +27,7 @@ impl Model for Digits {
 }
 
 impl Digits {
-    /// Asks for the value of each byte.
+    /// Builds the table by asking the library for the value of each byte.
     pub fn new() -> Digits {
         let mut values = [NO_DIGIT; 256];
         for place in 0..256 {
@@ -50,7 +50,7 @@ impl Digits {
     }
 }
 
-/// Returns the value of a digit, or 255 if the byte is none.
+/// Returns the value of a hex digit, or 255 if the byte is no hex digit.
 fn digit_value(byte: u8) -> u8
     ensures { result ≡ value_of_digit byte }
 {

@@ -1,4 +1,4 @@
-//! Hex items, each of which gives a received character.
+//! Hex items. Each means one received character.
 ghost use Rattle.std.specs.Prelude.{◌≡◌, ◌↔◌, [], ◌∷◌, IsTrue, MatchOption, slice_index};
 ghost use Rattle.hart_line.specs.script.Items.{AreDigits, BeginsAsItem, byte_of, IsItemsWord, NoItemBegins};
 ghost use Rattle.hart_line.specs.script.Rows.{ReadsWords};
@@ -10,18 +10,18 @@ use hart_frame::Char;
 use hex::FromHex;
 use std::alloc::Global;
 
-/// The item that begins a text: the character that it means, and its length in bytes.
+/// The item at the beginning of a text: its character and its length in bytes.
 #[derive(Clone, Copy, Debug, Drop, PartialEq, Eq)]
 pub struct LeadingItem {
     /// The character.
     pub char: Char,
-    /// The number of bytes that spell it.
+    /// The number of bytes that spell the character.
     pub len: usize,
 }
 
-/// Returns the item that begins a text, or `None` if none does.
+/// Returns the item at the beginning of a text, or `None` if there is none.
 ///
-/// A `!` directly after two digits belongs to them, so that no item begins if no fault bits follow it.
+/// A `!` directly after two digits belongs to their item. If no fault bits follow the `!`, there is no item.
 #[tactic(auto, using(crate::proofs::lemmas::script::Items::begins_as_plain, crate::proofs::lemmas::script::Items::begins_as_faulty))]
 pub fn leading_item(text: &[u8]) -> Option<LeadingItem>
     ensures { MatchOption result (NoItemBegins text.now) (λ lead. BeginsAsItem text.now lead.char lead.len) }
@@ -45,7 +45,7 @@ pub fn leading_item(text: &[u8]) -> Option<LeadingItem>
     Some(LeadingItem { char, len: 5 })
 }
 
-/// Returns the item that begins a text, as [`leading_item`] gives it: without fault bits by what is kept of the digits.
+/// Returns the same item as [`leading_item`], but looks up the digits of an item without fault bits in the table.
 #[inline(always)]
 #[tactic(auto, using(crate::proofs::lemmas::script::Items::begins_as_plain))]
 fn next_item(digits: &Digits, text: &[u8]) -> Option<LeadingItem>
@@ -61,14 +61,14 @@ fn next_item(digits: &Digits, text: &[u8]) -> Option<LeadingItem>
     Some(LeadingItem { char, len: 2 })
 }
 
-/// Returns true if a `!` stands after two bytes.
+/// Returns true if a `!` follows the first two bytes.
 fn gives_faults(text: &[u8]) -> bool
     ensures { IsTrue result ↔ (slice_index text.now 2 ≡ 33) }
 {
     text.len() > 2 && text[2] == b'!'
 }
 
-/// Returns the characters of a word that is not empty and items end to end; memory may be refused for half as many as the word has bytes.
+/// Returns the characters of a nonempty word of items end to end. Reserves room for half as many characters as the word has bytes.
 pub(crate) fn read_items(alloc: Global, digits: &Digits, word: &[u8]) -> Result<CharList, RowFault>
     ensures { ReadsWords (word.now ∷ []) (IsItemsWord word.now) result }
 {

@@ -4,7 +4,7 @@ ghost use Rattle.std.specs.List.{position_or_len};
 ghost use Rattle.std.specs.Str.Lines.{strip_carriage_return};
 ghost use Rattle.hart_line.specs.script.Lines.{is_blank, words_of};
 
-/// Returns the part without one carriage return at its end.
+/// Returns the part, without its last byte if that is a carriage return.
 pub fn without_return(part: &[u8]) -> &[u8]
     ensures { result.now ≡ strip_carriage_return part.now }
 {
@@ -14,7 +14,7 @@ pub fn without_return(part: &[u8]) -> &[u8]
     }
 }
 
-/// Returns the first word of a line, and what follows it, or `None` if it has no word.
+/// Returns the first word of a line and the rest after it, or `None` if the line has no word.
 pub fn next_word(line: &[u8]) -> Option<(&[u8], &[u8])>
     ensures { MatchOption result (words_of line.now ≡ [])
         (λ taken. words_of line.now ≡ (taken.0).now ∷ words_of (taken.1).now) }
@@ -29,7 +29,7 @@ pub fn next_word(line: &[u8]) -> Option<(&[u8], &[u8])>
     None
 }
 
-/// Returns the word of a line that has no other, or `None` if it has none or several.
+/// Returns the only word of a line, or `None` if the line has no word or several.
 pub fn only_word(line: &[u8]) -> Option<&[u8]>
     ensures { MatchOption result (length (words_of line.now) ≢ 1) (λ word. words_of line.now ≡ word.now ∷ []) }
 {

@@ -1,4 +1,4 @@
-//! The rows of the table of events, and the line that says none.
+//! The rows of the table of events, and lines that say no event.
 ghost use Rattle.std.specs.Prelude.{◌≡◌, ◌≢◌, [], ◌∷◌, codes, length, MatchOption};
 ghost use Rattle.hart_line.specs.script.Lines.{words_of};
 ghost use Rattle.hart_line.specs.script.Rows.{IsLegWord, ReadsWords, Says, SaysLine, fault_at_line, payload_of, request_of};
@@ -13,17 +13,17 @@ use hart_commands::Request;
 use hart_frame::Payload;
 use std::alloc::Global;
 
-/// Why a line says no event.
+/// Why no event was read from a line.
 #[derive(Clone, Copy)]
 pub enum RowFault {
-    /// Its words are those of no row.
+    /// The words of the line fit no row.
     Bad,
     /// Memory was refused, for this number of items.
     Memory(NoRoom),
 }
 
 impl RowFault {
-    /// Returns the fault of a script whose line with this number is not read.
+    /// Returns the fault of a script in which the line with this number could not be read.
     pub fn at(self, number: usize) -> LineFault
         ensures { result ≡ fault_at_line number self }
     {
@@ -44,8 +44,8 @@ impl From<NoRoom> for RowFault {
     }
 }
 
-/// Returns the event that the line with this number says, or `None` if it is empty or a comment. It is bad if it says no event and is no such
-/// line; and memory may be refused for half as many characters as one of its words has bytes.
+/// Returns the event of the line with this number, or `None` if the line is empty or a comment. Any other line that says no event
+/// is bad. Memory may be refused for half as many characters as one of the words has bytes.
 pub fn read_line(
     alloc: Global,
     digits: &Digits,
@@ -66,7 +66,7 @@ pub fn read_line(
     }
 }
 
-/// Returns the event that a first word and the words after it say.
+/// Reads the event that the first word of a line and the words after it say.
 fn read_event(
     alloc: Global,
     digits: &Digits,
@@ -85,7 +85,7 @@ fn read_event(
     }
 }
 
-/// Returns the submission that the words after `submit` say, or `None` if they say none.
+/// Reads the words after `submit`: WHO, ADDRESS, COMMAND and perhaps DATA. Returns `None` for anything else.
 fn read_submit(rest: &[u8]) -> Option<LineEvent>
     ensures { Finds (Says (codes "submit" ∷ words_of rest.now)) result }
 {
@@ -99,7 +99,7 @@ fn read_submit(rest: &[u8]) -> Option<LineEvent>
     })
 }
 
-/// Returns the request that the word of a command and the words of its data write, or `None` if they write none.
+/// Reads COMMAND and the words after it as a request, or returns `None` if they are not one.
 fn read_request(command: &[u8], rest: &[u8]) -> Option<Request>
     ensures { result ≡ request_of command.now (words_of rest.now) }
 {
@@ -108,8 +108,7 @@ fn read_request(command: &[u8], rest: &[u8]) -> Option<Request>
     Request::read(number, payload.as_slice()).ok()
 }
 
-/// Returns the data that the words after COMMAND write, no bytes if there is no word and those of DATA if it is alone, or `None`
-/// if they write none.
+/// Reads the words after COMMAND: no word means no bytes, and one word is DATA. Returns `None` for anything else.
 fn read_payload(rest: &[u8]) -> Option<Payload>
     ensures { result ≡ payload_of (words_of rest.now) }
 {
@@ -119,7 +118,7 @@ fn read_payload(rest: &[u8]) -> Option<Payload>
     read_data(only_word(rest)?)
 }
 
-/// Returns the turn that the words after `turn` say.
+/// Reads the three words after `turn`: WHO, UP and DOWN.
 fn read_turn(alloc: Global, digits: &Digits, rest: &[u8]) -> Result<LineEvent, RowFault>
     ensures { ReadsWords (codes "turn" ∷ words_of rest.now) (Says (codes "turn" ∷ words_of rest.now)) result }
 {
@@ -133,7 +132,7 @@ fn read_turn(alloc: Global, digits: &Digits, rest: &[u8]) -> Result<LineEvent, R
     })
 }
 
-/// Returns the words of a line that has three, or `None` if it has fewer or more.
+/// Returns the three words of a line, or `None` if the line has fewer or more.
 fn three_words(line: &[u8]) -> Option<(&[u8], &[u8], &[u8])>
     ensures { MatchOption result (length (words_of line.now) ≢ 3)
         (λ words. words_of line.now ≡ (words.0).now ∷ (words.1).now ∷ (words.2).now ∷ []) }
@@ -143,7 +142,7 @@ fn three_words(line: &[u8]) -> Option<(&[u8], &[u8], &[u8])>
     Some((first, second, only_word(rest)?))
 }
 
-/// Returns what the word of a leg says that is heard.
+/// Reads the word of a leg: `ok`, `lost`, or the items of the characters that are heard.
 fn read_leg(alloc: Global, digits: &Digits, word: &[u8]) -> Result<Heard, RowFault>
     ensures { ReadsWords (word.now ∷ []) (IsLegWord word.now) result }
 {
@@ -165,7 +164,7 @@ fn read_protect(rest: &[u8]) -> Option<LineEvent>
     }
 }
 
-/// Returns the noise that the words after `noise` say.
+/// Reads the one word after `noise`: the items of the characters that are heard.
 fn read_noise(alloc: Global, digits: &Digits, rest: &[u8]) -> Result<LineEvent, RowFault>
     ensures { ReadsWords (codes "noise" ∷ words_of rest.now) (Says (codes "noise" ∷ words_of rest.now)) result }
 {
@@ -175,7 +174,7 @@ fn read_noise(alloc: Global, digits: &Digits, rest: &[u8]) -> Result<LineEvent, 
     Ok(LineEvent::Noise(read_items(alloc, digits, items)?))
 }
 
-/// Returns the restart that `restart` says, or `None` if a word is after it.
+/// Returns a restart, or `None` if a word follows `restart`.
 fn read_restart(rest: &[u8]) -> Option<LineEvent>
     ensures { Finds (Says (codes "restart" ∷ words_of rest.now)) result }
 {

@@ -1,4 +1,4 @@
-//! The words of messages to send.
+//! The words that describe a message to send.
 
 ghost use Rattle.std.specs.Prelude.{◌≡◌};
 ghost use Rattle.hart_line.specs.script.Words.{decimal_of, device_of, polling_of, Finds, IsAddressWord, IsCommandWord, IsDataWord, IsWho};
@@ -8,7 +8,7 @@ use hart_values::{Address, MasterId, PollingAddress, UniqueAddress};
 use hex::FromHex;
 use std::str;
 
-/// Returns the master that WHO names, `P` the primary and `S` the secondary, or `None` if it names none.
+/// Reads WHO: `P` for the primary master, or `S` for the secondary. Returns `None` for anything else.
 pub fn read_who(word: &[u8]) -> Option<MasterId>
     ensures { Finds (IsWho word.now) result }
 {
@@ -19,8 +19,8 @@ pub fn read_who(word: &[u8]) -> Option<MasterId>
     }
 }
 
-/// Returns the address that ADDRESS writes, as `@` and a polling address, as the ten hex digits of a device, or as `all`; or `None`
-/// if it writes none.
+/// Reads ADDRESS: `@` and a polling address, the ten hex digits of a device, or `all` for the broadcast address. Returns `None` for
+/// anything else.
 pub fn read_address(word: &[u8]) -> Option<Address>
     ensures { Finds (IsAddressWord word.now) result }
 {
@@ -33,7 +33,7 @@ pub fn read_address(word: &[u8]) -> Option<Address>
     Some(Address::Unique(read_device(word)?))
 }
 
-/// Returns the polling address that is written `@` and one or two digits.
+/// Reads a polling address, written as `@` and one or two digits.
 fn read_polling_address(word: &[u8]) -> Option<PollingAddress>
     ensures { result ≡ polling_of word.now }
 {
@@ -43,7 +43,7 @@ fn read_polling_address(word: &[u8]) -> Option<PollingAddress>
     PollingAddress::new(read_decimal(digits, 2)?).ok()
 }
 
-/// Returns the device that is written in ten hex digits.
+/// Reads the unique address of a device, written in ten hex digits.
 fn read_device(word: &[u8]) -> Option<UniqueAddress>
     ensures { result ≡ device_of word.now }
 {
@@ -54,14 +54,14 @@ fn read_device(word: &[u8]) -> Option<UniqueAddress>
     UniqueAddress::new(expanded_type, device_id).ok()
 }
 
-/// Returns the command that COMMAND writes, in one to three digits, or `None` if it writes none.
+/// Reads COMMAND, a number up to 255 in one to three digits. Returns `None` for anything else.
 pub fn read_command(word: &[u8]) -> Option<u8>
     ensures { Finds (IsCommandWord word.now) result }
 {
     read_decimal(word, 3)
 }
 
-/// Returns the number up to 255 that a word writes in decimal, in at most `most_digits` digits.
+/// Reads a decimal number up to 255 in at most `most_digits` digits.
 fn read_decimal(word: &[u8], most_digits: usize) -> Option<u8>
     ensures { result ≡ decimal_of most_digits 255 word.now }
 {
@@ -75,7 +75,7 @@ fn read_decimal(word: &[u8], most_digits: usize) -> Option<u8>
     }
 }
 
-/// Returns the bytes that DATA writes in plain hex, at most 255, or `None` if it writes none.
+/// Reads DATA: at most 255 bytes in plain hex. Returns `None` for anything else.
 pub fn read_data(word: &[u8]) -> Option<Payload>
     ensures { Finds (IsDataWord word.now) result }
 {
