@@ -11,12 +11,12 @@ use Rattle.hart_cli.specs.text.Items.{ReadsAs}
 use Rattle.hart_cli.specs.text.MessageLine.{IsMessageLine}
 use Rattle.hart_cli.specs.input.WholeInput.{WholeOutcome}
 
--- The text of a device's answer is the line of its message, with as many preamble bytes as the identity says; silence has no text.
+-- The text of a device's answer is the line of its message, with the number of preamble bytes of the identity. Silence has no text.
 abbrev pub IsAnswerText : DeviceState → Option FrameParts → List ℕ → Type 0
 IsAnswerText device None text = text ≡ []
 IsAnswerText device (Some reply) text = IsMessageLine reply device.identity.response_preambles text
 
--- The text for a delivery is that of what the device answers to what the delivery brings it; it hears all of its characters at once.
+-- The text for a delivery is the text of the device's answer to what the delivery brings. The device hears all characters at once.
 pub record IsTextFor (device : DeviceState) (delivery : List Character) (text : List ℕ) : Type 0 where
   pub brought : Brought
   pub brings : Brings device.identity delivery brought
@@ -28,8 +28,8 @@ pub record IsAnswer (device : DeviceState) (input text : List ℕ) : Type 0 wher
   pub reads : ReadsAs input delivery
   pub text_for : IsTextFor device delivery text
 
--- A call of `answer` gave the reason why it has no device, if it has none. Otherwise it wrote what its device answers to its whole
--- input at `Ok`, a prefix of it if a write failed, and nothing if it gave the input's fault or if memory for the input or its
--- characters was refused.
+-- A call of `answer` without a device returned why it has none. Otherwise, at `Ok` it wrote what its device answers to the whole
+-- input, and if a write failed, a prefix of that. It wrote nothing if it returned the input's fault, or if memory for the input or
+-- its characters was refused.
 abbrev pub AnswerOutcome : Option (List ℕ) → OutcomeRelation
 AnswerOutcome = OutcomeWith (λ device. WholeOutcome (IsAnswer device) IsWholeTextFault)

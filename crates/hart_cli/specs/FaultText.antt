@@ -8,7 +8,7 @@ use Rattle.hart_cli.specs.declared.fault.CliFault.{CliFault}
 use Rattle.hart_cli.specs.declared.fault.CliFault.TheVariants.{Read, Write, TooLong, BadHex, Line, Image, Memory, BadWord, BadField}
 use Rattle.hart_cli.specs.request.FaultText.{reason_text}
 
--- A fault has this text, before the reason why the word of a field is bad; the place of bad hex and the number of a bad word are in
+-- The text of a fault, without the reason why the word of a field is bad. The place of bad hex and the number of a bad word are in
 -- decimal.
 abbrev pub text_before_reason : CliFault → List ℕ
 text_before_reason Read = codes "read fault"
@@ -21,12 +21,12 @@ text_before_reason (Memory none) = codes "out of memory"
 text_before_reason (BadWord number) = codes "bad word " ++ decimal number
 text_before_reason (BadField bad) = codes "bad word " ++ decimal bad.number ++ codes ": "
 
--- The word of a field is bad for a reason; no other fault has one.
+-- The text of the reason why the word of a field is bad. No other fault has a reason.
 abbrev pub reason_of : CliFault → List ℕ
 reason_of (BadField bad) = reason_text bad.fault
 reason_of _ = []
 
--- A fault has this text.
+-- The whole text of a fault, with the reason if there is one.
 abbrev pub fault_text : CliFault → List ℕ
 fault_text fault = text_before_reason fault ++ reason_of fault
 

@@ -1,4 +1,4 @@
--- The device that a call has, and the word of the image that it goes on from (own profile).
+-- The device of a call, and the word of the image from which it starts (own profile).
 use Rattle.std.specs.Prelude.{◌≡◌, ℕ, ◌%◌, ◌/◌, ◌<◌, ◌⊎◌, false, List, length, take, slice_index, Option, None, Some, Result, Ok, Err}
 use Rattle.std.specs.List.{AllPass}
 use Rattle.hex.specs.Hex.{decode_of, is_hex_digit}
@@ -9,48 +9,48 @@ use Rattle.hart_cli.specs.declared.fault.CliFault.{CliFault}
 use Rattle.hart_cli.specs.declared.fault.CliFault.TheVariants.{BadHex, Image, Memory}
 use Rattle.hart_cli.specs.stream.Stream.{Stream}
 
--- The bench device, as it is new.
+-- The new bench device.
 abbrev pub bench_device : DeviceState
 bench_device = new_device bench_identity bench_values
 
--- The word of an image is its bytes in two hex digits of either case for each.
+-- The word of an image has two hex digits of either case for each byte of the image.
 abbrev pub IsImageWord : List ℕ → List ℕ → Type 0
 IsImageWord word image = decode_of word ≡ Ok image
 
--- The device of a call without an image is the bench device, as it is new; that of a call with an image is the bench device in the
--- state that the image is of, with no cold start bit set.
+-- Without an image, the device of a call is the new bench device. With an image, it is the bench device in the state of that image,
+-- with no cold start bit set.
 abbrev pub IsDeviceOf : Option (List ℕ) → DeviceState → Type 0
 IsDeviceOf None device = device ≡ bench_device
 IsDeviceOf (Some word) device =
     (device.identity ≡ bench_identity) × (device.cold_start ≡ for_both false)
     × (image : List ℕ) × IsImageWord word image × IsImageOf device image
 
--- A word is bad hex at its length if it has an odd number of bytes, and otherwise at its first byte that is no digit.
+-- A word with an odd number of bytes is bad hex at its length. Any other word is bad hex at its first byte that is no hex digit.
 pub data IsBadHexWord (word : List ℕ) : ℕ → Type 0 where
   odd : length word % 2 ≡ 1 → IsBadHexWord word (length word)
   no_digit : (place : ℕ) → length word % 2 ≡ 0 → place < length word → is_hex_digit (slice_index word place) ≡ false
       → AllPass is_hex_digit (take place word) → IsBadHexWord word place
 
--- The fault of an image is that its word is bad hex or, if it is not, the fault of the bytes that it writes.
+-- The fault of an image is bad hex in its word or, if the word is good hex, the fault of the bytes that the word writes.
 abbrev pub HasImageFault : Option (List ℕ) → CliFault → Type 0
 HasImageFault (Some word) (BadHex place) = IsBadHexWord word place
 HasImageFault (Some word) (Image fault) = (image : List ℕ) × IsImageWord word image × IsImageFault image fault
 HasImageFault _ _ = ⊥
 
--- Room was refused for the bytes of an image, which are half as many as those of its word. This is no fault of the image.
+-- Room for the bytes of an image was refused: half as many bytes as its word has. This is no fault of the image.
 abbrev pub LacksImageRoom : Option (List ℕ) → CliFault → Type 0
 LacksImageRoom (Some word) (Memory none) = none.items ≡ length word / 2
 LacksImageRoom _ _ = ⊥
 
--- A call has no device, as its image has this fault, or as there is no room for the image.
+-- A call has no device because its image has this fault, or because room for the image was refused.
 abbrev pub HasNoDevice : Option (List ℕ) → CliFault → Type 0
 HasNoDevice image fault = HasImageFault image fault ⊎ LacksImageRoom image fault
 
--- What a call may do with a reader and a writer, and answer.
+-- What a call may do with a reader and a writer, and what it may return.
 abbrev pub OutcomeRelation : Type 1
 OutcomeRelation = Stream → Stream → Stream → Stream → Result (Unit {0}) CliFault → Type 0
 
--- A call gave the reason why it has no device, and left the reader and the writer as they were.
+-- A call returned why it has no device, and left the reader and the writer as they were.
 pub record GivesNoDevice (image : Option (List ℕ)) (reader reader_after writer writer_after : Stream)
     (result : Result (Unit {0}) CliFault) : Type 0 where
   pub fault : CliFault
@@ -59,14 +59,14 @@ pub record GivesNoDevice (image : Option (List ℕ)) (reader reader_after writer
   pub unread : reader_after ≡ reader
   pub unwritten : writer_after ≡ writer
 
--- A call had a device, and did what one with this device may do.
+-- A call had a device, and did what a call with this device may do.
 pub record WentOn (image : Option (List ℕ)) (Did : DeviceState → Type 0) : Type 0 where
   pub device : DeviceState
   pub is_device : IsDeviceOf image device
   pub did : Did device
 
--- A call gave the reason why it has no device and touched neither the reader nor the writer; otherwise it had an outcome that is one
--- of its device.
+-- A call without a device returned why it has none, and touched neither the reader nor the writer. A call with a device had one of
+-- the outcomes for that device.
 abbrev pub OutcomeWith : (DeviceState → OutcomeRelation) → Option (List ℕ) → OutcomeRelation
 OutcomeWith Outcome image reader reader_after writer writer_after result =
     GivesNoDevice image reader reader_after writer writer_after result

@@ -24,14 +24,14 @@ pub enum CliFault {
     Read,
     /// The writer failed.
     Write,
-    /// The input has more bytes than [`INPUT_LIMIT`](crate::INPUT_LIMIT); that of `explain` or `serve`, than 2^64 - 1.
+    /// The input is longer than [`INPUT_LIMIT`](crate::INPUT_LIMIT), or than 2^64 - 1 for `explain` and `serve` (2^64 - 2 if raw).
     TooLong,
-    /// At this byte of the input, counted from 0, begins the first thing that is neither a separator nor an item. Of the word of an image
-    /// it is the first byte that is no hex digit, or its length if this is odd.
+    /// The first thing in the input that is neither a separator nor an item begins at this byte, counted from 0. For the word of an
+    /// image, this is the word's length if that is odd, and otherwise its first byte that is no hex digit.
     BadHex { place: usize },
-    /// The input is no script, or one that is not carried out.
+    /// The input is no script, or a script that is not carried out.
     Line(LineFault),
-    /// The image is none that a device goes on from.
+    /// No device goes on from this image.
     Image(DeviceFault),
     /// Memory was refused, for this number of items.
     Memory(NoRoom),
@@ -61,8 +61,8 @@ impl CliFault {
         }
     }
 
-    /// Returns the text of the fault and a line feed, made without memory, so that refused memory can be reported. It is pushed part by
-    /// part: no contract of `write!` says that it succeeds.
+    /// Returns the text of the fault and a line feed, made without memory, so that refused memory can be reported. The text is
+    /// pushed part by part, since no contract of `write!` says that it succeeds.
     pub fn text_line(self) -> ArrayString<LONGEST_LINE>
         ensures { result.bytes ≡ fault_line self }
     {
@@ -73,7 +73,7 @@ impl CliFault {
         line
     }
 
-    /// Returns the text of the fault, before the reason why the word of a field is bad.
+    /// Returns the text of the fault, without the reason why the word of a field is bad.
     fn text(self) -> FaultText
         ensures { joined result ≡ text_before_reason self }
     {
@@ -145,7 +145,7 @@ impl fmt::Display for CliFault {
 impl From<Failed> for CliFault {
     ghost from_gives = { λ _ e. e ≡ Write };
 
-    /// Makes a failure a write fault. A reader's failure is an end of the input instead.
+    /// Reports a failure as a write fault. A reader's failure counts as an end of the input instead.
     fn from(_failed: Failed) -> CliFault {
         CliFault::Write
     }
@@ -170,7 +170,7 @@ impl From<NoRoom> for CliFault {
 impl From<DeviceFault> for CliFault {
     ghost from_gives = { λ fault e. e ≡ Image fault };
 
-    /// Makes a fault of a device one of its image: the program makes no device of other parts.
+    /// Reports a device's fault as one of its image: the program makes no device from other parts.
     fn from(fault: DeviceFault) -> CliFault {
         CliFault::Image(fault)
     }
@@ -181,7 +181,7 @@ impl From<LineFault> for CliFault {
 
     ghost from_gives = { λ fault e. e ≡ call_fault fault };
 
-    /// Refused memory is reported as such, whatever it was refused to.
+    /// Reports refused memory as such, whatever part asked for it.
     fn from(fault: LineFault) -> CliFault {
         match fault {
             LineFault::Memory(none) => CliFault::Memory(none),

@@ -1,4 +1,4 @@
-//! The device that a call has, and the word of the image that it goes on from.
+//! The device of a call, and the word of the image that the device goes on from.
 ghost use Rattle.std.specs.Prelude.{◌≡◌, ℕ, List, Option, Some, IfErr, IfOk, replicate};
 ghost use Rattle.std.specs.Option.{option_map};
 ghost use Rattle.hart_device.specs.Device.{DeviceState};
@@ -29,7 +29,7 @@ impl<'a> Model for ImageWord<'a> {
     ghost view = { λ image. option_map (λ word. word.now) image.word };
 }
 
-/// Returns the bench device, new or, with an image, in the state of the image. Its cold start bits are clear.
+/// Returns the bench device: a new one or, with an image, one in the state of the image. Its cold start bits are clear.
 ///
 /// # Errors
 ///
@@ -83,7 +83,7 @@ fn zeros(alloc: Global, count: usize) -> Result<Vec<u8>, NoRoom>
     Ok(bytes)
 }
 
-/// A call has one device, or its image has one fault, and never both.
+/// A call has at most one device, and its image at most one fault, and never both.
 pub fn one_device()
     ensures one { (image : Option (List ℕ)) (device other : DeviceState)
         → IsDeviceOf image device → IsDeviceOf image other → device ≡ other }
@@ -92,7 +92,7 @@ pub fn one_device()
     ensures no_fault { (image : Option (List ℕ)) (device : DeviceState) (fault : CliFault)
         → IsDeviceOf image device → HasImageFault image fault → ⊥ }
 {
-    // No-ops: their contracts are used below.
+    // No-ops, called for their contracts.
     images_have_one_state();
     bytes_have_one_image_fault();
 }

@@ -10,13 +10,13 @@ use std::alloc::Global;
 
 pub mod ahead;
 
-/// The most bytes that an input may have.
+/// How many bytes an input may have at most, except for `explain` and `serve`.
 pub const INPUT_LIMIT: usize = 1_048_576;
 
-/// An input has room for all bytes that it may have, and for one that makes its last item whole.
+/// The room for an input: all bytes that it may have, and one that makes its last item whole.
 const INPUT_ROOM: usize = INPUT_LIMIT + 1;
 
-/// The most bytes that one read may give.
+/// How many bytes one read may give at most.
 pub const PORTION_LEN: usize = 16_384;
 
 /// How an input came to its end.
@@ -26,12 +26,12 @@ pub enum InputEnd {
     Ended,
     /// A read failed.
     ReadFailed,
-    /// A further byte was there after the last one within the limit, which is [`INPUT_LIMIT`] but for `explain` and `serve`.
+    /// A further byte came after the last one within the limit, which is [`INPUT_LIMIT`] except for `explain` and `serve`.
     TooLong,
 }
 
 impl InputEnd {
-    /// Returns the fault of an input that came to this end, if it is one whatever the input holds.
+    /// Returns the fault that this end makes whatever the input holds, if it makes one.
     pub fn fault(self) -> Option<CliFault>
         ensures { result ≡ fault_of_end self }
     {
@@ -43,12 +43,12 @@ impl InputEnd {
     }
 }
 
-/// What one read gave: bytes at the beginning of its buffer, and how the input came to its end with them, if it did.
+/// What one read gave: bytes at the beginning of its buffer, and how the input ended with them, if it did.
 #[derive(Clone, Copy)]
 pub struct Portion {
     /// The number of bytes that are still within the limit.
     pub len: usize,
-    /// Why there are no more of them, or `None` if there may be.
+    /// Why no more bytes follow, or `None` if more may follow.
     pub end: Option<InputEnd>,
 }
 
@@ -91,7 +91,7 @@ fn read_into<R: Source>(reader: &mut R, text: &mut Filling<u8>) -> InputEnd
     }
 }
 
-/// Reads once, at most one byte more than the room that is left of an input's limit, and says how much of that is within it.
+/// Reads once, at most one byte more than the `room` left within an input's limit, and says how many bytes are within the limit.
 pub fn read_portion<R: Source>(reader: &mut R, buffer: &mut [u8], room: usize) -> Portion
     requires some { 0 < length buffer.old }
     requires fits { length buffer.old ≤ most_at_once }

@@ -6,10 +6,10 @@ use crate::output::write_all;
 use crate::stream::{Failed, Sink};
 use hart_values::ByteList;
 
-/// The most bytes of text that are kept.
+/// How many bytes of text are kept at most.
 const KEPT_LEN: usize = 32_768;
 
-/// The most bytes of a piece of text.
+/// How many bytes a piece of text has at most.
 const PIECE_LEN: usize = 8_192;
 
 /// Text that is not yet written.

@@ -1,10 +1,10 @@
 //! The calls of the command line `hart`, over any reader and any writer.
 //!
-//! Each subcommand is a call. [`dump`] lists the messages in what was heard, [`explain`] says in words what they mean, [`answer`]
-//! gives the reply of the bench device to one delivery, [`serve`] gives those to many, a line for each line, [`simulate`] carries out
-//! a script, [`encode_text`] writes a message to send, and [`request`] one by the names of its fields. [`program`] makes the call that
-//! the words after the program's name ask for, and gives the exit status. Each call reads from a [`Source`] and writes to a [`Sink`];
-//! [`Plain`] makes them of the readers and writers of the standard library. A call that cannot do all of its work gives a [`CliFault`].
+//! Each subcommand is a call. [`dump`] lists the messages in what was heard, and [`explain`] says in words what they mean.
+//! [`answer`] gives the bench device's reply to one delivery, [`serve`] its replies to many, a line for each line. [`simulate`]
+//! carries out a script. [`encode_text`] writes a message to send; [`request`] does so by the names of its fields. [`program`]
+//! makes the call that its words name, and returns the exit status. Calls read from a [`Source`] and write to a [`Sink`]; [`Plain`]
+//! makes them from readers and writers of the standard library. A call that cannot do all of its work returns a [`CliFault`].
 //!
 //! ```rust
 //! let mut reader = Plain::new(b"FF FF 02 80 00 00 82".as_slice());
@@ -18,8 +18,8 @@
 //!
 //! The crate `hart` has `main` alone, which calls [`program`] with the arguments and the standard streams.
 //!
-//! At the root stand faults, the device that a call goes on from (`image_word`), reading an input, and text that is kept until it is
-//! written, whole or piece by piece. The rooms:
+//! The root holds the faults, the device that a call goes on from (`image_word`), the reading of an input, and the writing of text,
+//! whole or kept and written piece by piece. The other modules:
 //!
 //! - `stream`: readers and writers as the calls see them.
 //! - `text`: hex items, and lines of words and bytes.

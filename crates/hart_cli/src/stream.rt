@@ -16,8 +16,7 @@ pub trait Source {
     // The bytes that are left, if they are known, and how often a read has failed.
     ghost stream: { Self → Stream };
 
-    /// Puts the next bytes at the beginning of the buffer, and gives their number; none at a buffer
-    /// with room is the end.
+    /// Puts the next bytes at the beginning of the buffer, and returns their number. If the buffer has room, 0 means the end.
     ///
     /// # Errors
     ///
@@ -34,7 +33,7 @@ pub trait Sink {
     // The bytes that were written, if they are known, and how often a write has failed.
     ghost stream: { Self → Stream };
 
-    /// Writes a prefix of the bytes, and gives its length: at least one byte, if there is one.
+    /// Writes a prefix of the bytes, and returns its length: at least 1, unless there are no bytes.
     ///
     /// # Errors
     ///

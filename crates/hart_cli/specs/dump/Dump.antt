@@ -10,18 +10,18 @@ use Rattle.hart_cli.specs.input.Decoding.{item_decoding}
 use Rattle.hart_cli.specs.input.Input.{Ending, input_limit}
 use Rattle.hart_cli.specs.input.LiveInput.{HasText, LiveOutcome}
 
--- The lines of some characters are those of the frames in them.
+-- The lines of some characters are the lines of the frames in them.
 pub record AreFrameLines (chars : List Character) (lines : List ℕ) : Type 0 where
   pub frames : List Found
   pub are_frames : AreFrames chars 0 frames
   pub text : lines ≡ dump_text frames
 
--- An input that was read so far has this fault, if any, and these lines: those of its characters before the fault.
+-- The input read so far has this fault, if any, and these lines: the lines of its characters before the fault.
 abbrev pub IsDump : List ℕ → Ending → Option CliFault → List ℕ → Type 0
 IsDump = HasText item_decoding AreFrameLines
 
--- These frames of some characters are decided: whatever is heard next, they come first, and in the characters after them nothing is
--- decided.
+-- These frames of some characters are decided: whatever is heard next, they come first, and no frame is decided in the characters
+-- after them.
 pub record AreDecided (chars : List Character) (frames : List Found) : Type 0 where
   pub passed : List Character
   pub rest : List Character
@@ -30,7 +30,7 @@ pub record AreDecided (chars : List Character) (frames : List Found) : Type 0 wh
       → AreFrames (chars ++ more) 0 (frames ++ later)
   pub undecided : IsUndecided rest
 
--- These lines of some characters are decided: those of the frames that are.
+-- These lines of some characters are decided: they are the lines of the decided frames.
 pub record AreDecidedLines (chars : List Character) (lines : List ℕ) : Type 0 where
   pub frames : List Found
   pub decided : AreDecided chars frames

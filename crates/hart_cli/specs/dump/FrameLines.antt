@@ -1,4 +1,4 @@
--- For private calls alone: what is given and kept while characters are scanned (own profile).
+-- For private calls alone: the frames found and the lines kept while characters are scanned (own profile).
 use Rattle.std.specs.Prelude.{◌≡◌, ◌+◌, ◌*◌, ◌≤◌, ℕ, List, [], ◌++◌, false, IsTrue, length, Option, Result, Ok, Err}
 use Rattle.hart_frame.specs.heard.Character.{Character}
 use Rattle.hart_frame.specs.heard.Frames.{IsUndecided}
@@ -16,40 +16,40 @@ use Rattle.hart_cli.specs.input.LiveInput.{IsDecidedText, StopsWriting, WroteInT
 use Rattle.hart_cli.specs.stream.Stream.{Stream, WritesAll}
 use Rattle.hart_cli.specs.text.Items.{ReadsUpTo}
 
--- A scanner waits for more if it is drained and not finished, and nothing is decided in what it holds, at most 269 characters.
+-- A scanner waits for more if it is drained but not finished, and holds at most 269 characters in which no frame is decided.
 pub record IsWaiting (scan : Scan) : Type 0 where
   pub going : scan.finished ≡ false
   pub drained : IsTrue scan.drained
   pub undecided : IsUndecided scan.held
   pub few : length scan.held ≤ 269
 
--- There is room for the lines of what is held and of so many characters more, at twelve bytes for each character.
+-- There is room for the kept lines, and for those of the held characters and `count` more, at twelve bytes for each character.
 abbrev pub HasRoomFor : ℕ → FrameLines → Type 0
 HasRoomFor count frames = length frames.lines + 12 * (length frames.scanner.held + count) ≤ 101562
 
--- A scanner moved past some frames, and their lines were added to those that are kept, which took at most twelve bytes for each
--- character that it let go.
+-- A scanner moved past some frames, and their lines were added to the kept ones. The added lines take at most twelve bytes for each
+-- character that the scanner let go.
 pub record KeepsLines (old new : Scan) (before after : List ℕ) : Type 0 where
   pub given : List Found
   pub moves : MovesPast old new given
   pub lines : after ≡ before ++ dump_text given
   pub few : length after + 12 * length new.held ≤ length before + 12 * length old.held
 
--- The lines of all frames that are decided were added, until the scanner gave none.
+-- The lines of all decided frames were added, until the scanner returned no further frame.
 pub record GivesAll (old new : Scan) (before after : List ℕ) : Type 0 where
   pub last : Scan
   pub keeps : KeepsLines old last before after
   pub same_finish : last.finished ≡ old.finished
   pub nothing : GivesNothing last new
 
--- The characters of a text were scanned up to a rest of it.
+-- The characters of a text were scanned up to its rest.
 pub record ScansText (old new : FrameLines) (text rest : List ℕ) : Type 0 where
   pub chars : List Character
   pub reads : ReadsUpTo text chars rest
   pub scans : KeepsLines (hearing old.scanner chars) new.scanner old.lines new.lines
 
--- An input was read and scanned to its end or up to its first fault. A text was written of all lines of the frames that its characters
--- decide so far, in which are those that were due before the last read.
+-- An input was read and scanned to its end or up to its first fault. The lines of all frames that its characters decide were
+-- written, among them those that were due before the last read.
 pub record ScansAll (reader reader_after writer writer_after : Stream) (frames : FrameLines) (fault : Option CliFault) : Type 0 where
   pub input : List ℕ
   pub chars : List Character

@@ -41,7 +41,7 @@ dump_line found = line_of (
     ∷ decimal found.frame.command ∷ bytes_word found.frame.payload ∷ []
     )
 
--- The line of a frame has at most so many bytes if its places are numbers of 64 bits.
+-- How many bytes the line of a frame has at most, if its places are numbers of 64 bits.
 abbrev pub line_room : Found → ℕ
 line_room found = 69 + 2 * (length found.frame.expansion + length found.frame.payload)
 

@@ -11,7 +11,7 @@ use Rattle.hart_cli.specs.encode.MessageWords.{MessageWords}
 use Rattle.hart_cli.specs.stream.Stream.{FailsToWrite, Stream, WritesAll, WritesNothing}
 use Rattle.hart_line.specs.script.Words.{IsAddressWord, IsCommandWord, IsDataWord, HasNoValue, IsWho}
 
--- The request of four words has what each of them writes, and is an STX with burst bit 0 and no expansion bytes.
+-- The request of four words is an STX that has the values of the words, burst bit 0 and no expansion bytes.
 pub record IsRequestOf (words : MessageWords) (frame : FrameParts) : Type 0 where
   pub master : IsWho words.who frame.master
   pub address : IsAddressWord words.address frame.address
@@ -21,13 +21,13 @@ pub record IsRequestOf (words : MessageWords) (frame : FrameParts) : Type 0 wher
   pub burst : frame.burst ≡ false
   pub expansion : frame.expansion ≡ []
 
--- The text of the words is the line of their request's message, with their number of preamble bytes.
+-- The text of the words is the line of the message of their request, with the number of preamble bytes given with them.
 pub record IsEncoding (words : MessageWords) (text : List ℕ) : Type 0 where
   pub frame : FrameParts
   pub request : IsRequestOf words frame
   pub line : IsMessageLine frame words.preambles text
 
--- The first bad word, which writes no value, has this number: 1 is WHO, 2 ADDRESS, 3 COMMAND and 4 DATA.
+-- The first word that writes no value has this number: 1 for WHO, 2 for ADDRESS, 3 for COMMAND and 4 for DATA.
 pub data IsFirstBad (words : MessageWords) : ℕ → Type 0 where
   bad_who : HasNoValue (IsWho words.who) → IsFirstBad words 1
   bad_address : (master : MasterId) → IsWho words.who master → HasNoValue (IsAddressWord words.address) → IsFirstBad words 2
@@ -37,8 +37,8 @@ pub data IsFirstBad (words : MessageWords) : ℕ → Type 0 where
       → IsAddressWord words.address address → IsCommandWord words.command command → HasNoValue (IsDataWord words.payload)
       → IsFirstBad words 4
 
--- A call of `encode_text` wrote the text of its words at `Ok`, a prefix of it if a write failed, and nothing if it gave
--- the first bad word.
+-- At `Ok`, a call of `encode_text` wrote the text of its words. If a write failed, it wrote a prefix of that text. If it returned
+-- the number of the first bad word, it wrote nothing.
 abbrev pub EncodeOutcome : MessageWords → Stream → Stream → Result (Unit {0}) CliFault → Type 0
 EncodeOutcome words writer writer_after (Ok done) =
     (text : List ℕ) × IsEncoding words text × WritesAll writer writer_after text
@@ -48,9 +48,9 @@ EncodeOutcome words writer writer_after (Err (BadWord number)) =
     IsFirstBad words number × WritesNothing writer writer_after
 EncodeOutcome words writer writer_after (Err _) = ⊥
 
--- For private calls alone: what reading the words answers.
+-- For private calls alone: what reading the words returns.
 
--- Reading the words gives the frame that they ask for, or says which is the first bad one.
+-- Reading the words returns the frame that they ask for, or the number of the first bad word.
 abbrev pub RequestOutcome : MessageWords → Result FrameParts CliFault → Type 0
 RequestOutcome words (Ok frame) = IsRequestOf words frame
 RequestOutcome words (Err (BadWord number)) = IsFirstBad words number

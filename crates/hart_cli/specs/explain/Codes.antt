@@ -1,9 +1,9 @@
--- The response codes that have a name in `hart explain` (HCF_SPEC-099; of 9 and 12 own profile).
+-- The response codes that have a name in `hart explain` (HCF_SPEC-099; own profile for 9 and 12).
 use Rattle.std.specs.Prelude.{◌==◌, ◌&&◌, if◌then◌else◌, ℕ, List, Option, None, Some, codes}
 use Rattle.hart_cli.specs.explain.Words.{named_number}
 
--- A response code has this name, whether a reply to the command gives it or the data of a request are refused by it. A code
--- whose meaning depends on the command has a name only for the commands where this profile defines it.
+-- The name of a response code, in a reply to a command or for refused data of a request. A code whose meaning depends on the
+-- command has a name only for the commands where this profile defines it.
 abbrev pub code_name : (command code : ℕ) → Option (List ℕ)
 code_name command code =
     if code == 0 then Some (codes "success")
@@ -18,6 +18,6 @@ code_name command code =
     else if code == 64 then Some (codes "command not implemented")
     else None
 
--- A response code is said by its number and, if it has one, its name.
+-- The words of a response code are its number and, if it has one, its name.
 abbrev pub code_words : (command code : ℕ) → List ℕ
 code_words command code = named_number code (code_name command code)

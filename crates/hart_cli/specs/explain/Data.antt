@@ -12,70 +12,70 @@ use Rattle.hart_cli.specs.explain.Codes.{code_words}
 use Rattle.hart_cli.specs.explain.Fields.{field_lines, taken_lines}
 use Rattle.hart_cli.specs.explain.Words.{bytes_line, hex_value, said_line}
 
--- Data of a command that is not known are shown in hex, if there are any.
+-- Data of an unknown command are shown in hex, if there are any.
 abbrev pub data_line : List ℕ → List ℕ
 data_line bytes = bytes_line (codes "data") bytes
 
--- Bytes that are not taken are said to be ignored, if there are any.
+-- Bytes that are not taken are shown as ignored, if there are any.
 abbrev pub ignored_line : List ℕ → List ℕ
 ignored_line bytes = bytes_line (codes "ignored") bytes
 
--- What follows another response code than 0 is not read, since codes may be warnings with data. Such data are shown with the
--- code, if there are any.
+-- Data after a response code other than 0 are not read, since the code may be a warning with data. They are shown with the code, if
+-- there are any.
 abbrev pub not_read_line : ℕ → List ℕ → List ℕ
 not_read_line code bytes = bytes_line (codes "not read (code " ++ decimal code ++ codes ")") bytes
 
--- Too few data are shown in hex, if there are any, and then it is said how many they are, and how many are needed.
+-- Too few data are shown in hex, if there are any. Then a line says how many there are, and how many are needed.
 abbrev pub too_few_lines : ℕ → List ℕ → List ℕ
 too_few_lines needed bytes =
     data_line bytes ++ said_line (codes "too few data") (decimal (length bytes) ++ codes " of " ++ decimal needed)
 
--- Data that are refused by a code are shown as the fields that the command has in them, then the code, and then what comes after the
--- fields, which is ignored.
+-- For data that are refused with a code, the text shows the fields that the command finds in them, then the code, and then the
+-- bytes after the fields, as ignored.
 abbrev pub refused_lines : ℕ → ℕ → List ℕ → List ℕ
 refused_lines command code bytes =
     let fields = fields_of (request_rows command) bytes in
     field_lines fields ++ said_line (codes "refused") (code_words command code) ++ ignored_line (drop (length (bytes_of fields)) bytes)
 
--- Code 64 refuses data of a command that is not known, and code 5 too few data.
+-- Code 64 refuses data of an unknown command, and code 5 refuses too few data.
 abbrev pub no_request_lines : ℕ → ℕ → List ℕ → List ℕ
 no_request_lines command code bytes =
     if code == 64 then data_line bytes
     else if code == 5 then too_few_lines (needed_data command) bytes
     else refused_lines command code bytes
 
--- Data that are read as a request are taken as far as it is written.
+-- Data that read as a request are taken up to the length of that request.
 abbrev pub read_lines : ℕ → List ℕ → Reading → List ℕ
 read_lines command bytes (Ok request) = taken_lines (request_rows command) (length (request_data request)) bytes
 read_lines command bytes (Err code) = no_request_lines command code bytes
 
--- The data of a request are read as those of its command.
+-- The data of a request are read as data of its command.
 unfoldable pub request_lines : ℕ → List ℕ → List ℕ
 request_lines command bytes = read_lines command bytes (request_reading command bytes)
 
--- The words of bytes are the bytes, or `none`.
+-- The words of bytes are the bytes in hex, or `none` if there are none.
 abbrev pub bytes_or_none : List ℕ → List ℕ
 bytes_or_none [] = codes "none"
 bytes_or_none (byte ∷ bytes) = hex_value (byte ∷ bytes)
 
--- The line of data that are no reply to a known command shows them in hex.
+-- The line of data that are no reply to a known command shows the data in hex.
 abbrev pub other_data_line : ℕ → List ℕ → List ℕ
 other_data_line command bytes =
     said_line (codes "data that are no reply to Command " ++ decimal command) (bytes_or_none bytes)
 
--- Data that are no reply have that line if the command is known, and are otherwise shown in hex, if there are any.
+-- Data that are no reply have that line if the command is known. Otherwise they are shown in hex, if there are any.
 abbrev pub no_reply_line : ℕ → List ℕ → List ℕ
 no_reply_line command bytes = if is_some (command_name command) then other_data_line command bytes else data_line bytes
 
--- A reply with response code 0 takes as many bytes of the data as its content is written as; with another code none is read.
+-- A reply with response code 0 takes as many bytes of the data as its content has. With another code, no data are read.
 abbrev pub replied_lines : ℕ → List ℕ → Option Reply → List ℕ
 replied_lines command bytes None = no_reply_line command bytes
 replied_lines command bytes (Some reply) =
     if reply.code == 0 then taken_lines (reply_rows command) (length (content_bytes reply.content)) bytes
     else not_read_line reply.code bytes
 
--- With communication faults in its first status byte a reply says nothing by its data, which are ignored; otherwise its payload is read
--- as a reply to its command.
+-- If the first status byte of a reply has communication faults, its data mean nothing and are ignored. Otherwise its payload is
+-- read as a reply to its command.
 unfoldable pub reply_lines : ℕ → List ℕ → List ℕ
 reply_lines command (first ∷ second ∷ bytes) =
     if nat_lt 127 first then ignored_line bytes

@@ -10,9 +10,8 @@ use Rattle.hart_cli.specs.input.Input.{Ending}
 use Rattle.hart_cli.specs.text.InputChars.{HasChars}
 use Rattle.hart_cli.specs.declared.fault.CliFault.{CliFault}
 
--- Lines of `hart dump` and an explanation are of the same messages if the characters of an input, which was read so far and has this
--- fault, if any, have frames of which these are the lines, and this is the explanation: each frame has its line in the one and its
--- paragraph in the other, with the same places, in the same order.
+-- Lines of `hart dump` and an explanation are of the same messages: the frames in the characters of an input, before its fault, if
+-- any. Each frame has a line in the one and a paragraph in the other, with the same places and in the same order.
 pub record AreOfOneHearing (input : List ℕ) (ending : Ending) (fault : Option CliFault) (lines text : List ℕ) : Type 0 where
   pub chars : List Character
   pub has_chars : HasChars input ending chars fault

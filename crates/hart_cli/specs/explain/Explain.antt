@@ -7,7 +7,7 @@ use Rattle.hart_cli.specs.input.Decoding.{heard_decoding, raw_decoding, raw_limi
 use Rattle.hart_cli.specs.input.Input.{Ending, stream_limit}
 use Rattle.hart_cli.specs.input.LiveInput.{HasText, LiveOutcome}
 
--- An input that was read so far has this fault, if any, and this text: the explanation of what was heard before the fault.
+-- The input read so far has this fault, if any, and this text: the explanation of what was heard before the fault.
 abbrev pub IsExplanation : List ℕ → Ending → Option CliFault → List ℕ → Type 0
 IsExplanation = HasText heard_decoding IsExplanationOf
 
@@ -15,7 +15,7 @@ IsExplanation = HasText heard_decoding IsExplanationOf
 abbrev pub ExplainOutcome : OutcomeRelation
 ExplainOutcome = LiveOutcome heard_decoding stream_limit IsExplanationOf IsDecidedExplanation
 
--- A raw input that was read so far has this fault, if any, and this text: the explanation of its bytes.
+-- The raw input read so far has this fault, if any, and this text: the explanation of its bytes.
 abbrev pub IsRawExplanation : List ℕ → Ending → Option CliFault → List ℕ → Type 0
 IsRawExplanation = HasText raw_decoding IsExplanationOf
 

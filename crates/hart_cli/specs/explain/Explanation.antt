@@ -7,16 +7,16 @@ use Rattle.hart_cli.specs.explain.Message.{paragraph}
 use Rattle.hart_cli.specs.explain.Misses.{miss_line}
 use Rattle.hart_cli.specs.text.Heard.{Heard, stretches}
 
--- What is said of a sighting is the paragraph of a message, or the line of a place that has none.
+-- The text of a sighting is the paragraph of a message, or the line of a place that has no message.
 abbrev pub seen_text : Seen → List ℕ
 seen_text (Message found) = paragraph found
 seen_text (Missed place miss) = miss_line place miss
 
--- What is said of sightings is what is said of each, in their order.
+-- The text of sightings is the text of each, in their order.
 abbrev pub explanation : List Seen → List ℕ
 explanation seen = flat_map seen_text seen
 
--- The sightings of stretches are those of each by itself, with their places counted on from a first place.
+-- The sightings of stretches are those of each stretch by itself, with places counted from `first` on through all stretches.
 abbrev pub AreSightingsFrom : ℕ → List (List Character) → List Seen → Type 0
 AreSightingsFrom first [] seen = seen ≡ []
 AreSightingsFrom first (chars ∷ later) seen =
@@ -27,19 +27,19 @@ AreSightingsFrom first (chars ∷ later) seen =
 abbrev pub AreSightingsOf : List Heard → List Seen → Type 0
 AreSightingsOf heard seen = AreSightingsFrom 0 (stretches heard) seen
 
--- The explanation of what was heard is what is said of the sightings in it.
+-- The explanation of what was heard is the text of the sightings in it.
 pub record IsExplanationOf (heard : List Heard) (text : List ℕ) : Type 0 where
   pub seen : List Seen
   pub are_sightings : AreSightingsOf heard seen
   pub text_is : text ≡ explanation seen
 
--- Sightings come first in what was heard, whatever is heard next.
+-- These sightings come first in what was heard, whatever is heard next.
 abbrev pub ComeFirst : List Heard → List Seen → Type 0
 ComeFirst heard seen =
     (more : List Heard) (all : List Seen) → AreSightingsOf (heard ++ more) all → (later : List Seen) × (all ≡ seen ++ later)
 
--- This explanation of what was heard is decided: whatever is heard next, the sightings that it is of come first, and no further sighting
--- is sure to come after them.
+-- This explanation of what was heard is decided: whatever is heard next, its sightings come first, and no further sighting is sure
+-- to follow them.
 pub record IsDecidedExplanation (heard : List Heard) (text : List ℕ) : Type 0 where
   pub seen : List Seen
   pub first : ComeFirst heard seen

@@ -17,15 +17,15 @@ field_line field = said_line field.name (value_words field.kind field.bytes)
 abbrev pub field_lines : List Field → List ℕ
 field_lines fields = flat_map field_line fields
 
--- What is said of data of which so many bytes are taken is a line for each field of those, and one for what comes after them, which is
--- ignored.
+-- Of some data the first `count` bytes are taken. Each field in these has a line, and one more line shows the bytes after them, if
+-- any, as ignored.
 abbrev pub taken_lines : List Row → ℕ → List ℕ → List ℕ
 taken_lines rows count bytes =
     field_lines (fields_of rows (take count bytes)) ++ bytes_line (codes "ignored") (drop count bytes)
 
 -- For private calls alone:
 
--- A field of a size can be shown as its kind if each number of bytes that it may have suits the kind.
+-- A field can be shown as its kind if every number of bytes that its size allows suits the kind.
 abbrev pub suits_size : FieldKind → FieldSize → Bool
 suits_size kind (Exactly size) = suits kind size
 suits_size Bytes (AllBut after) = true
@@ -33,10 +33,10 @@ suits_size Float (AllBut after) = true
 suits_size Variables (AllBut after) = true
 suits_size _ (AllBut after) = false
 
--- A row can be shown if its name has 40 characters at most, and its size suits its kind.
+-- A row can be shown if its name has at most 40 characters, and its size suits its kind.
 abbrev pub is_shown : Row → Bool
 is_shown row = nat_le (length row.name) 40 && suits_size row.kind row.size
 
--- Rows can be shown if they are 16 at most, and each of them can be.
+-- Rows can be shown if there are at most 16 of them, and each can be shown.
 abbrev pub are_shown : List Row → Bool
 are_shown rows = nat_le (length rows) 16 && list_all is_shown rows

@@ -1,11 +1,11 @@
--- The places that no message holds, and the lines of those at which one seems to start (own profile).
+-- The places outside all messages, and the lines of those at which a message seems to start (own profile).
 use Rattle.std.specs.Prelude.{◌≡◌, ◌≢◌, ◌⊎◌, ◌++◌, [], ◌∷◌, ℕ, All, List, length}
 use Rattle.hart_frame.specs.heard.Character.{Character}
 use Rattle.hart_frame.specs.heard.Sighting.{Message, Missed, Seen}
 use Rattle.hart_frame.specs.declared.heard.found.Found.{Found}
 
--- A gap of characters that have these frames from a place on goes from there to the start of the first frame, or from the stop of a frame
--- to the start of the next, or from the stop of the last one to the end of the characters.
+-- A gap goes from a place to the start of the first frame after it, from the stop of a frame to the start of the next, or from the
+-- stop of the last frame to the end of the characters. If there is no frame, it goes from the place to the end.
 abbrev pub IsGap : List Character → ℕ → List Found → (from stop : ℕ) → Type 0
 IsGap chars place [] from stop = (from ≡ place) × (stop ≡ length chars)
 IsGap chars place (found ∷ later) from stop = ((from ≡ place) × (stop ≡ found.start)) ⊎ IsGap chars found.stop later from stop
@@ -15,7 +15,7 @@ abbrev pub seen_place : Seen → ℕ
 seen_place (Message found) = found.start
 seen_place (Missed place miss) = place
 
--- A text is one line if it ends with a line feed and has none before.
+-- A text is one line if it ends with a line feed and has no other.
 pub record IsOneLine (text : List ℕ) : Type 0 where
   pub words : List ℕ
   pub ended : text ≡ words ++ 10 ∷ []

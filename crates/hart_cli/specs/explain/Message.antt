@@ -12,8 +12,8 @@ use Rattle.hart_cli.specs.explain.Words.{bytes_line, named_number, said_line, wh
 abbrev pub command_words : ℕ → List ℕ
 command_words command = codes "Command " ++ named_number command (command_name command)
 
--- The line of a message has the places of its delimiter and after its check byte in decimal, who speaks to whom, the command,
--- and a line feed.
+-- The line of a message has the place of its delimiter and the place after its check byte, in decimal, who speaks to whom, the
+-- command, and a line feed.
 abbrev pub message_line : Found → List ℕ
 message_line found =
     decimal found.start ++ codes "-" ++ decimal found.stop ++ codes ": "
@@ -24,7 +24,7 @@ abbrev pub burst_line : Bool → List ℕ
 burst_line false = []
 burst_line true = said_line (codes "burst bit") (codes "set")
 
--- The payload of an STX is its data; that of an ACK has its two status bytes, and then its data.
+-- The payload of an STX is its data. The payload of an ACK is two status bytes and then its data.
 abbrev pub payload_lines : FrameKind → ℕ → List ℕ → List ℕ
 payload_lines Stx command payload = request_lines command payload
 payload_lines Ack command (first ∷ second ∷ bytes) =

@@ -9,7 +9,7 @@ use Rattle.hart_cli.specs.explain.Words.{hex_value}
 abbrev pub byte_value : ℕ → List ℕ
 byte_value byte = hex_value (byte ∷ [])
 
--- The characters that are missing are said by their number, and the last of them is the check byte.
+-- The words for missing characters say how many there are, and that the last of them is the check byte.
 abbrev pub missing_words : ℕ → List ℕ
 missing_words count =
     if count == 1 then codes "it lacks 1 character, its check byte"

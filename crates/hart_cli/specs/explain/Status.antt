@@ -37,7 +37,7 @@ device_states =
     ∷ bit 0x01 (codes "primary variable out of limits")
     ∷ []
 
--- A bit is set in a byte if the two have it in common.
+-- A bit is set in a byte if the byte and the value of the bit have a bit in common.
 abbrev pub is_set : ℕ → NamedBit → Bool
 is_set byte bit = not (bit_and byte bit.value == 0)
 
@@ -54,8 +54,8 @@ abbrev pub names_words : List (List ℕ) → List ℕ
 names_words [] = codes "none"
 names_words (name ∷ others) = name ++ flat_map further others
 
--- If bit 7 of the first status byte is clear it is the response code to the command, and the second is the device status. If it is set
--- the first has communication faults, and of the second nothing is said.
+-- If bit 7 of the first status byte is clear, that byte is the response code to the command, and the second is the device status.
+-- If bit 7 is set, the first byte has communication faults, and nothing is said of the second.
 abbrev pub status_lines : (command first second : ℕ) → List ℕ
 status_lines command first second =
     if nat_lt first 128
@@ -65,11 +65,11 @@ status_lines command first second =
 
 -- For private calls alone:
 
--- What the definitions see of a bit in the code.
+-- How the definitions see a named bit of the code.
 abbrev pub seen : code.NamedBit → NamedBit
 seen named = bit named.value named.name.now
 
--- The names of bits have 40 characters at most.
+-- The names of bits have at most 40 characters.
 abbrev pub are_short : List code.NamedBit → Bool
 are_short bits = list_all (λ named. nat_le (length named.name.now) 40) bits
 

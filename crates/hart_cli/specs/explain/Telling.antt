@@ -22,13 +22,13 @@ use Rattle.hart_cli.specs.stream.Stream.{FailsToWrite, Stream, WritesAll}
 use Rattle.hart_cli.specs.text.Heard.{Heard, ReadsHeard, Silence, heard_chars}
 use Rattle.hart_cli.specs.text.Items.{ReadsUpTo}
 
--- The places of a sighting, and those that its miss names, are numbers of 64 bits when they are counted from a first place on.
+-- The places of a sighting, and those that its miss names, are numbers of 64 bits when counted from a first place on.
 abbrev pub FitsFrom : ℕ → Sighting → Type 0
 FitsFrom first (given.Message view) = (first + view.start < 2 ^ 64) × (first + view.stop < 2 ^ 64)
 FitsFrom first (given.Missed place miss) = (first + place < 2 ^ 64) × NamesPlacesBelow (2 ^ 64 - first) miss
 
--- The next sighting in bytes, with what comes after them, is what is seen of them from a place on, up to another place, which is
--- further on if there is a sighting. Without one all is used that decides nothing any more.
+-- The next sighting in bytes, and in what comes after them, is what is seen of them between two places, `from` and `used`. If there
+-- is a sighting, `used` is beyond `from`. If there is none, all bytes are used that no longer decide anything.
 pub record IsNextSighting (held : List ℕ) (after : After) (from : ℕ) (next : NextSighting) : Type 0 where
   pub sees : SeesOn (heard_with held after) (is_end after) from (sightings_of next.sighting) next.used
   pub within : next.used ≤ length (heard_with held after)
@@ -38,22 +38,22 @@ pub record IsNextSighting (held : List ℕ) (after : After) (from : ℕ) (next :
   pub all : next.sighting ≡ None → (after ≡ More → ⊥) → next.used ≡ length (heard_with held after)
   pub undecided : next.sighting ≡ None → after ≡ More → IsUndecidedSighting (faultless (drop next.used held))
 
--- The character that is known to come after others, if one is.
+-- The character after others, if it is known.
 abbrev pub chars_after : After → List Character
 chars_after More = []
 chars_after (Damaged character) = character ∷ []
 chars_after End = []
 
--- What is said of sightings whose places are counted from a first place on.
+-- The text of sightings whose places are counted from a first place on.
 abbrev pub text_from : ℕ → List Seen → List ℕ
 text_from first seen = explanation (map (moved_seen first) seen)
 
--- What is held waits for more if no sighting in it is decided. It is at most 268 characters.
+-- The held characters wait for more if no sighting in them is decided. There are at most 268 of them.
 pub record IsWaiting (telling : Telling) : Type 0 where
   pub undecided : IsUndecidedSighting (faultless telling.held)
   pub few : length telling.held ≤ 268
 
--- All sightings were told that are decided of bytes, with what comes after them, up to a place.
+-- All decided sightings in bytes, and in what comes after them, were told, up to a place.
 pub record TellsDecided (first : ℕ) (held : List ℕ) (after : After) (used : ℕ) (kept kept_after : List ℕ) (writer writer_after : Stream)
     : Type 0 where
   pub seen : List Seen
@@ -64,15 +64,15 @@ pub record TellsDecided (first : ℕ) (held : List ℕ) (after : After) (used : 
   pub all : (after ≡ More → ⊥) → used ≡ length (heard_with held after)
   pub undecided : after ≡ More → IsUndecidedSighting (faultless (drop used held))
 
--- A write failed in what is said of the first sightings of characters.
+-- A write failed after a prefix of the kept text and of the text of the first sightings of characters.
 pub record FailsToTell (first : ℕ) (chars : List Character) (ended : Bool) (kept : List ℕ) (writer writer_after : Stream) : Type 0 where
   pub seen : List Seen
   pub used : ℕ
   pub sees : SeesOn chars ended 0 seen used
   pub fails : FailsToWrite writer writer_after (kept ++ text_from first seen)
 
--- Characters were heard after those that were held. Sightings of them all were told, up to a place, and the rest is held. If they
--- ended, nothing comes after them.
+-- Characters were heard after the held ones. The sightings in all of these were told up to a place, and the rest is held. If
+-- `ended` is true, nothing comes after these characters.
 pub record Hears (old new : Telling) (chars : List Character) (ended : Bool) (writer writer_after : Stream) : Type 0 where
   pub seen : List Seen
   pub used : ℕ
@@ -82,7 +82,7 @@ pub record Hears (old new : Telling) (chars : List Character) (ended : Bool) (wr
   pub held : faultless new.held ≡ drop used (faultless old.held ++ chars)
   pub adds : AddsText writer writer_after old.kept new.kept (text_from old.first seen)
 
--- A write failed in what is said of the characters that were held and of more.
+-- A write failed within the text of the held characters and of further ones.
 abbrev pub FailsToHear : Telling → List Character → Bool → Stream → Stream → Type 0
 FailsToHear old chars ended writer writer_after =
     FailsToTell old.first (faultless old.held ++ chars) ended old.kept writer writer_after
@@ -101,14 +101,14 @@ pub record HearsText (old new : Telling) (text : List ℕ) (place : ℕ) (writer
   pub reads : ReadsUpTo text chars (drop place text)
   pub hears : Hears old new chars false writer writer_after
 
--- A write failed in what is said of the first characters of a text.
+-- A write failed within what is said of the first characters of a text.
 pub record FailsInText (old : Telling) (text : List ℕ) (writer writer_after : Stream) : Type 0 where
   pub chars : List Character
   pub rest : List ℕ
   pub reads : ReadsUpTo text chars rest
   pub fails : FailsToHear old chars false writer writer_after
 
--- The characters of a text were heard up to the place that is given, or a write failed.
+-- The characters of a text were heard up to the returned place, or a write failed.
 abbrev pub HearsTextOrFails : Telling → Telling → List ℕ → Stream → Stream → Result ℕ Failed → Type 0
 HearsTextOrFails old new text writer writer_after result =
     MatchResult result
@@ -121,7 +121,7 @@ pub record IsNew (telling : Telling) : Type 0 where
   pub held : telling.held ≡ []
   pub quiet : telling.kept ≡ []
 
--- What was heard after other things, part by part: characters, or a silence, at which all that is held is told.
+-- What was heard next, part by part: characters, or a silence. At a silence, everything held is told.
 pub data HearsAll (old : Telling) : Telling → List Heard → Stream → Stream → Type 0 where
   nothing : (writer : Stream) → HearsAll old old [] writer writer
   chars : (now new : Telling) (heard : List Heard) (chars : List Character) (w w1 w2 : Stream) → HearsAll old now heard w w1
@@ -129,7 +129,7 @@ pub data HearsAll (old : Telling) : Telling → List Heard → Stream → Stream
   silence : (now new : Telling) (heard : List Heard) (w w1 w2 : Stream) → HearsAll old now heard w w1 → Hears now new [] true w1 w2
       → new.held ≡ [] → HearsAll old new (heard ++ Silence ∷ []) w w2
 
--- After some of what was heard a write failed, in what is said of characters, which may have come before a silence.
+-- After some parts of what was heard, a write failed in what is said of the next characters, which a silence may have ended.
 pub record FailsInAll (old : Telling) (heard : List Heard) (writer writer_after : Stream) : Type 0 where
   pub now : Telling
   pub passed : List Heard
@@ -140,28 +140,28 @@ pub record FailsInAll (old : Telling) (heard : List Heard) (writer writer_after 
   pub fails : FailsToHear now chars ended between writer_after
   pub heard_is : heard ≡ passed ++ heard_chars chars
 
--- What a text reads as was heard, up to a place in it.
+-- The characters and silences of a text were heard, up to a place in it.
 pub record HearsStretches (old new : Telling) (text : List ℕ) (place : ℕ) (writer writer_after : Stream) : Type 0 where
   pub within : place ≤ length text
   pub heard : List Heard
   pub reads : ReadsHeard text heard (drop place text)
   pub hears : HearsAll old new heard writer writer_after
 
--- A write failed in what is said of the first part of a text.
+-- A write failed within what is said of the first part of a text.
 pub record FailsInStretches (old : Telling) (text : List ℕ) (writer writer_after : Stream) : Type 0 where
   pub heard : List Heard
   pub rest : List ℕ
   pub reads : ReadsHeard text heard rest
   pub fails : FailsInAll old heard writer writer_after
 
--- What a text reads as was heard up to the place that is given, or a write failed.
+-- The characters and silences of a text were heard up to the returned place, or a write failed.
 abbrev pub HearsStretchesOrFails : Telling → Telling → List ℕ → Stream → Stream → Result ℕ Failed → Type 0
 HearsStretchesOrFails old new text writer writer_after result =
     MatchResult result
     (λ place. HearsStretches old new text place writer writer_after)
     (λ _. FailsInStretches old text writer writer_after)
 
--- An input with a limit, decoded in one way, was read and told of up to its end or its first fault.
+-- With this decoding, an input with a limit was read and told up to its end or its first fault.
 pub record TellsAll (decoding : Decoding (List Heard)) (limit : ℕ) (reader reader_after writer writer_after : Stream)
     (old new : Telling) (fault : Option CliFault) : Type 0 where
   pub input : List ℕ
@@ -173,7 +173,7 @@ pub record TellsAll (decoding : Decoding (List Heard)) (limit : ℕ) (reader rea
   pub quiet : new.kept ≡ []
   pub in_time : WroteInTime (IsDecidedText decoding IsDecidedExplanation) input writer writer_after
 
--- An input was read and told of, or a write failed.
+-- An input was read and told, or a write failed.
 abbrev pub TellsInput : Decoding (List Heard) → ℕ → Stream → Stream → Stream → Stream → Telling → Telling
     → Result (Option CliFault) Failed → Type 0
 TellsInput decoding limit reader reader_after writer writer_after old new (Ok fault) =

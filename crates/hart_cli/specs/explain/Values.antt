@@ -1,4 +1,4 @@
--- The words of the value of a field, by how its bytes are meant (own profile).
+-- The words of the value of a field, by the kind of the field (own profile).
 use Rattle.std.specs.Prelude.{◌+◌, ◌*◌, ◌/◌, ◌%◌, ◌==◌, ◌&&◌, ◌||◌, nat_le, nat_lt, if◌then◌else◌, ◌++◌, [], ◌∷◌, ℕ, Bool, true, List, Option, None, Some}
 use Rattle.std.specs.Prelude.{codes, decimal, encode_utf8_all, length, slice_index, slice_range}
 use Rattle.std.specs.List.{fold, join_by, list_all}
@@ -9,20 +9,20 @@ use Rattle.hart_commands.specs.declared.fields.FieldKind.TheVariants.{Bytes, Num
 use Rattle.hart_commands.specs.Units.{unit_name}
 use Rattle.hart_cli.specs.explain.Words.{hex_value}
 
--- Bytes are one number, of which the first is the most significant byte.
+-- Bytes make one number, with the most significant byte first.
 abbrev pub number_in : List ℕ → ℕ
 number_in bytes = fold (λ number byte. 256 * number + byte) 0 bytes
 
--- The character of six bits is the one with a code from hex 20 to 5F that ends in them.
+-- Six bits stand for the character whose code ends in these bits and lies between hex 20 and 5F.
 abbrev pub character : ℕ → ℕ
 character bits = if nat_lt bits 32 then bits + 64 else bits
 
--- The four characters of three bytes have six bits each, the highest first.
+-- Three bytes hold four characters of six bits each, the highest first.
 abbrev pub characters_of : (a b c : ℕ) → List ℕ
 characters_of a b c =
     character (a / 4) ∷ character (16 * (a % 4) + b / 16) ∷ character (4 * (b % 16) + c / 64) ∷ character (c % 64) ∷ []
 
--- The text of packed bytes is the characters of each three of them.
+-- The text of packed bytes has the four characters of every three bytes.
 abbrev pub unpacked : List ℕ → List ℕ
 unpacked (a ∷ b ∷ c ∷ rest) = characters_of a b c ++ unpacked rest
 unpacked _ = []
@@ -31,8 +31,8 @@ unpacked _ = []
 abbrev pub is_printable : ℕ → Bool
 is_printable code = (nat_le 32 code && nat_le code 126) || nat_le 160 code
 
--- The text of bytes in ISO Latin-1, whose codes are those of the characters, is written in UTF-8, in double quotes. Bytes of which not all
--- can be printed are shown in hex.
+-- Bytes are the codes of characters of ISO Latin-1, and their text is shown in UTF-8, in double quotes. Bytes are shown in hex if
+-- not all of their characters can be printed.
 unfoldable pub latin_words : List ℕ → List ℕ
 latin_words bytes =
     if list_all is_printable bytes then codes "\"" ++ encode_utf8_all bytes ++ codes "\"" else hex_value bytes
@@ -41,7 +41,7 @@ latin_words bytes =
 abbrev pub two_digits : ℕ → List ℕ
 two_digits number = decimal (number / 10) ++ decimal (number % 10)
 
--- A day of the calendar is its year, its month and its day, with a hyphen between two of them.
+-- A day of the calendar is written as its year, month and day, with hyphens between them.
 abbrev pub day_words : (day month year : ℕ) → List ℕ
 day_words day month year = decimal (1900 + year) ++ codes "-" ++ two_digits month ++ codes "-" ++ two_digits day
 
@@ -49,7 +49,7 @@ day_words day month year = decimal (1900 + year) ++ codes "-" ++ two_digits mont
 abbrev pub no_date_words : List ℕ → List ℕ
 no_date_words bytes = hex_value bytes ++ codes ", no date"
 
--- A date of three zero bytes is not set; any other is a day of the calendar, or none.
+-- Three zero bytes are a date that is not set. Any other bytes are a day of the calendar, or no date.
 abbrev pub date_words : List ℕ → List ℕ
 date_words (day ∷ month ∷ year ∷ []) =
     if (day == 0) && (month == 0) && (year == 0) then codes "not set"
@@ -57,7 +57,7 @@ date_words (day ∷ month ∷ year ∷ []) =
     else no_date_words (day ∷ month ∷ year ∷ [])
 date_words bytes = no_date_words bytes
 
--- A name stands in parentheses after a space; without a name nothing does.
+-- A name stands in parentheses after a space. Without a name, nothing is written.
 abbrev pub in_parentheses : Option (List ℕ) → List ℕ
 in_parentheses None = []
 in_parentheses (Some name) = codes " (" ++ name ++ codes ")"
@@ -66,7 +66,7 @@ in_parentheses (Some name) = codes " (" ++ name ++ codes ")"
 unfoldable pub unit_words : ℕ → List ℕ
 unit_words code = decimal code ++ in_parentheses (unit_name code)
 
--- The words of eight bytes of a device variable: its code and classification in decimal, its unit, its value and its status in hex.
+-- The words of the eight bytes of a device variable: code and classification in decimal, the unit, and value and status in hex.
 unfoldable pub variable_words : List ℕ → List ℕ
 variable_words bytes =
     codes "code " ++ decimal (slice_index bytes 0)
@@ -75,12 +75,12 @@ variable_words bytes =
     ++ codes ", value " ++ hex_value (slice_range bytes 3 7)
     ++ codes ", status " ++ hex_value (slice_index bytes 7 ∷ [])
 
--- Device variables have eight bytes each, and a semicolon and a space between two of them.
+-- Device variables have eight bytes each. Between two of them stand a semicolon and a space.
 abbrev pub variables_words : List ℕ → List ℕ
 variables_words bytes = join_by variable_words (codes "; ") (first_chunks 8 (length bytes / 8) bytes)
 
--- Bytes and a float are shown in hex, a number in decimal, a unit with its name, a text in double quotes, a date as a day, and device
--- variables one by one.
+-- Bytes and a float are shown in hex, a number in decimal, a unit with its name, a text in double quotes, a date as a day, and
+-- device variables one by one.
 abbrev pub value_words : FieldKind → List ℕ → List ℕ
 value_words Bytes bytes = hex_value bytes
 value_words Float bytes = hex_value bytes
@@ -93,8 +93,8 @@ value_words Variables bytes = variables_words bytes
 
 -- For private calls alone:
 
--- So many bytes suit a kind: one or two a number, one the code of a unit, 6, 12 or 24 a packed text, three a date, and any number every
--- other kind.
+-- This number of bytes suits a kind: 1 or 2 suit a number, 1 the code of a unit, 6, 12 or 24 a packed text, and 3 a date. Any
+-- number suits every other kind.
 abbrev pub suits : FieldKind → ℕ → Bool
 suits Number size = (size == 1) || (size == 2)
 suits UnitCode size = size == 1

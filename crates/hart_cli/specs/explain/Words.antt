@@ -17,12 +17,12 @@ said_line name value = codes "    " ++ name ++ codes ": " ++ value ++ 10 ∷ []
 unfoldable pub hex_value : List ℕ → List ℕ
 hex_value bytes = codes "0x" ++ encode_upper bytes
 
--- Bytes have a line under their name, if there are any.
+-- Bytes have a line with their name, if there are any.
 abbrev pub bytes_line : List ℕ → List ℕ → List ℕ
 bytes_line name [] = []
 bytes_line name (byte ∷ bytes) = said_line name (hex_value (byte ∷ bytes))
 
--- A name follows a comma and a space; without a name nothing does.
+-- A name follows a comma and a space. Without a name, nothing is written.
 abbrev pub name_words : Option (List ℕ) → List ℕ
 name_words None = []
 name_words (Some name) = codes ", " ++ name
@@ -36,15 +36,15 @@ abbrev pub master_words : MasterId → List ℕ
 master_words Primary = codes "the primary master"
 master_words Secondary = codes "the secondary master"
 
--- The words of an address are the device at a polling address in decimal, a device by its ten digits, or, at broadcast, those that are
--- given for it.
+-- The words of an address name the device at a polling address in decimal, or a device by its ten digits. Broadcast has the words
+-- that are given for it.
 abbrev pub device_words : List ℕ → Address → List ℕ
 device_words broadcast (Polling number) = codes "the device at polling address " ++ decimal number
 device_words broadcast (Unique numbers) =
     if numbers.expanded_type == 0 && numbers.device_id == 0 then broadcast else codes "device " ++ device_digits numbers
 
--- An STX is a request of its master to the device of its address, or to all devices; an ACK is a reply of the device of its address,
--- or of one of all devices, to its master.
+-- An STX is a request of its master to the device at its address, or to all devices. An ACK is a reply to its master from the
+-- device at its address, or from one of all devices.
 abbrev pub who_words : FrameKind → MasterId → Address → List ℕ
 who_words Stx master address = codes "request of " ++ master_words master ++ codes " to " ++ device_words (codes "all devices") address
 who_words Ack master address = codes "reply of " ++ device_words (codes "one of all devices") address ++ codes " to " ++ master_words master

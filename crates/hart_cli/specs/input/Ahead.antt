@@ -13,7 +13,7 @@ use Rattle.hart_cli.specs.input.LiveInput.{StopsSoon}
 use Rattle.hart_cli.specs.stream.Stream.{Stream}
 use Rattle.hart_cli.specs.text.Items.{MayBegin}
 
--- One read gave bytes that were added to those ahead, with a space after them if the input ended there.
+-- One read returned bytes, which were added to those read ahead, with a space after them if the input ended.
 pub record ReadsAhead (old new : Stream) (before after : List ℕ) (room : ℕ) (portion : Portion) : Type 0 where
   pub bytes : List ℕ
   pub reads : ReadsPortion old new bytes room portion.end
@@ -21,14 +21,14 @@ pub record ReadsAhead (old new : Stream) (before after : List ℕ) (room : ℕ) 
   pub few : length bytes ≤ most_at_once
   pub added : after ≡ before ++ ended_text bytes (ending_of portion.end)
 
--- The number of bytes of an input with the space that its end stands for, if it came to its end.
+-- The number of bytes of an input, plus one for the space that its end stands for, if it ended.
 abbrev pub ended_length : Option InputEnd → ℕ → ℕ
 ended_length (Some ends.Ended) read = read + 1
 ended_length end read = read
 
--- The next step depends on what is left of an input after its pieces. If the input ended, it has no fault if nothing is left, and
--- otherwise bad hex. If it may go on, or went past the limit, there is bad hex unless a piece may begin in what is left; and if one may,
--- the input is read on, or the limit is its fault. A failed read is its fault whatever is left.
+-- The next step depends on the rest of an input after its pieces. If the input ended, an empty rest means no fault, and any other
+-- rest is bad hex. If the input may go on, or went past the limit, the rest is bad hex unless a piece may begin in it; if one may,
+-- the call reads on, or the limit is the fault. A failed read is the fault whatever the rest is.
 abbrev pub IsNextStep : Option InputEnd → List ℕ → ℕ → NextStep → Type 0
 IsNextStep None rest place ReadOn = MayBegin rest
 IsNextStep None rest place (Stop fault) = (MayBegin rest → ⊥) × (fault ≡ Some (faults.BadHex place))

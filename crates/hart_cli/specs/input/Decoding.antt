@@ -9,33 +9,31 @@ use Rattle.hart_cli.specs.text.Heard.{Heard, NothingBegins, ReadsHeard, heard_ch
 use Rattle.hart_cli.specs.text.InputChars.{HasHeardBy}
 use Rattle.hart_cli.specs.text.Items.{NoPieceBegins, ReadsSoFarBy, ReadsUpTo, closed}
 
--- A decoding says what was heard in an input up to its first fault, and which fault that is, if any; what can have been decoded of it
--- when a write fails; what was heard so far in an input that may go on; and how many bytes at most are read and not yet decoded.
+-- A decoding says what was heard in an input up to its first fault, if any, and that fault; what can have been decoded when a write
+-- fails; what was heard so far in an input that may go on; and how many bytes at most are read but not yet decoded.
 pub record Decoding (Heard : Type 0) : Type 1 where
   pub Has : List ℕ → Ending → Heard → Option CliFault → Type 0
   pub Decoded : List ℕ → Ending → Heard → Type 0
   pub SoFar : List ℕ → Heard → Type 0
   pub most_ahead : ℕ
 
--- At most so many bytes of items are read and not yet decoded: the beginning of an item, which is five bytes at most, and what one read
--- gives.
+-- How many bytes of items at most are read but not yet decoded: five for the beginning of an item, and the bytes of one read.
 abbrev pub most_ahead : ℕ
 most_ahead = 5 + most_at_once
 
--- The text of an input that came to its end has a space after it, which makes its last item whole.
+-- The text of an input that ended has a space after it, which makes its last item whole.
 abbrev pub ended_text : List ℕ → Ending → List ℕ
 ended_text input (CameTo Ended) = closed input
 ended_text input _ = input
 
--- By a way to read texts, what can have been decoded of an input is what it reads as up to a rest that is no longer than what may be read
--- ahead.
+-- What can have been decoded of an input, by a way to read texts, is what it reads as up to a rest of at most `most_ahead` bytes.
 pub record AreDecodedBy {Heard : Type 0} (Reads : List ℕ → List Heard → List ℕ → Type 0) (input : List ℕ) (ending : Ending)
     (heard : List Heard) : Type 0 where
   pub rest : List ℕ
   pub reads : Reads (ended_text input ending) heard rest
   pub few : length rest ≤ most_ahead
 
--- An input is decoded by a way to read texts.
+-- The decoding of an input by a way to read texts.
 abbrev pub decoding_by : {Heard : Type 0} → (List ℕ → List Heard → List ℕ → Type 0) → (List ℕ → Type 0) → Decoding (List Heard)
 decoding_by Reads Stops = record {
   Has = HasHeardBy Reads Stops;
@@ -56,13 +54,13 @@ heard_decoding = decoding_by ReadsHeard NothingBegins
 abbrev pub AreRaw : List ℕ → List Heard → Type 0
 AreRaw input heard = heard ≡ heard_chars (faultless input)
 
--- A raw input has its bytes as characters however it came to its end, and no fault but a failed read or the limit.
+-- A raw input has its bytes as characters, however it ended. Only a failed read and the limit are faults of it.
 pub data HasRaw (input : List ℕ) : Ending → List Heard → Option CliFault → Type 0 where
   all : (heard : List Heard) → AreRaw input heard → HasRaw input (CameTo Ended) heard None
   failure : (heard : List Heard) → AreRaw input heard → HasRaw input (CameTo ReadFailed) heard (Some faults.Read)
   limit : (heard : List Heard) → AreRaw input heard → HasRaw input (CameTo TooLong) heard (Some faults.TooLong)
 
--- A raw input is decoded as its bytes as soon as they are read.
+-- The bytes of a raw input are decoded as soon as they are read.
 abbrev pub raw_decoding : Decoding (List Heard)
 raw_decoding = record { Has = HasRaw; Decoded = λ input ending heard. AreRaw input heard; SoFar = AreRaw; most_ahead = 0 }
 

@@ -12,11 +12,11 @@ use Rattle.hart_cli.specs.declared.input.InputEnd.TheVariants.{Ended, ReadFailed
 abbrev pub input_limit : ℕ
 input_limit = 1048576
 
--- An input of which no more is kept than a portion has at most 2^64 - 1 bytes.
+-- An input that is kept only one portion at a time has at most 2^64 - 1 bytes.
 abbrev pub stream_limit : ℕ
 stream_limit = 2 ^ 64 - 1
 
--- One read gives at most so many bytes.
+-- How many bytes one read returns at most.
 abbrev pub most_at_once : ℕ
 most_at_once = 16384
 
@@ -33,7 +33,7 @@ pub record ReadsBeyond (old new : Stream) (bytes : List ℕ) : Type 0 where
   pub beyond : ℕ
   pub read : ReadsWell old new (bytes ++ beyond ∷ [])
 
--- One byte more than a limit was taken: the text is those within it.
+-- One byte more than a limit was taken. The text is the bytes within the limit.
 abbrev pub ReadsPast : ℕ → Stream → Stream → List ℕ → Type 0
 ReadsPast limit old new text = ReadsBeyond old new text × (length text ≡ limit)
 
@@ -47,18 +47,18 @@ ReadsWithin limit old new text TooLong = ReadsPast limit old new text
 abbrev pub Reads : Stream → Stream → List ℕ → InputEnd → Type 0
 Reads old new text end = ReadsWithin input_limit old new text end
 
--- A call reads an input to its end, or leaves it before.
+-- A call reads an input to its end, or leaves it before that.
 pub data Ending : Type 0 where
   Left : Ending
   CameTo : (end : InputEnd) → Ending
 
--- An input with a limit gave this text before it came to its end or was left. If it was left it may have had more to read, and perhaps
--- one byte past the limit was read with the last of the text.
+-- An input with a limit gave this text before it came to its end or was left. If it was left, more of it may be unread, and one
+-- byte past the limit may have been read with the last bytes of the text.
 abbrev pub ReadsToWithin : ℕ → Stream → Stream → List ℕ → Ending → Type 0
 ReadsToWithin limit old new text Left = (ReadsWell old new text × (length text ≤ limit)) ⊎ ReadsPast limit old new text
 ReadsToWithin limit old new text (CameTo end) = ReadsWithin limit old new text end
 
--- An input has room for as many bytes as it may have, and for one that makes its last item whole.
+-- Room for an input: as many bytes as it may have, and one more that makes its last item whole.
 abbrev pub input_room : ℕ
 input_room = input_limit + 1
 
@@ -66,16 +66,16 @@ input_room = input_limit + 1
 abbrev pub LacksInputRoom : Stream → Stream → NoRoom → Type 0
 LacksInputRoom old new none = (none.items ≡ input_room) × (new ≡ old)
 
--- Reading a whole input comes to this fault: a read failed, there were more bytes than the limit, or room for it was refused.
+-- Reading a whole input ends with this fault: a read failed, there were more bytes than the limit, or room for it was refused.
 abbrev pub IsReadingFault : Stream → Stream → CliFault → Type 0
 IsReadingFault old new faults.Read = (text : List ℕ) × Reads old new text ReadFailed
 IsReadingFault old new faults.TooLong = (text : List ℕ) × Reads old new text TooLong
 IsReadingFault old new (faults.Memory none) = LacksInputRoom old new none
 IsReadingFault old new _ = ⊥
 
--- For private calls alone: what one read gives of an input.
+-- For private calls alone: what one read of an input returns.
 
--- A failed read and the limit are faults of an input whatever it holds.
+-- A failed read and an exceeded limit are faults of an input, whatever it holds.
 abbrev pub fault_of_end : InputEnd → Option CliFault
 fault_of_end Ended = None
 fault_of_end ReadFailed = Some faults.Read
@@ -86,7 +86,7 @@ abbrev pub ending_of : Option InputEnd → Ending
 ending_of None = Left
 ending_of (Some end) = CameTo end
 
--- With so much room left within the limit, one read gave these bytes of it, and the input came to its end with them, or may go on.
+-- With `room` bytes left within the limit, one read returned these bytes. The input came to its end with them, or may go on.
 abbrev pub ReadsPortion : Stream → Stream → List ℕ → ℕ → Option InputEnd → Type 0
 ReadsPortion old new bytes room None = ReadsWell old new bytes × (bytes ≢ []) × (length bytes ≤ room)
 ReadsPortion old new bytes room (Some Ended) = ReadsWell old new bytes × IsAtEnd new.bytes × (bytes ≡ [])

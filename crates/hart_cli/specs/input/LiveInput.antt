@@ -1,4 +1,4 @@
--- What a call writes that does not wait for the end of its input (own profile): what is decided of a portion is written before more is
+-- What a call writes if it does not wait for the end of its input (own profile): what a portion decides is written before more is
 -- read.
 use Rattle.std.specs.Prelude.{◌≡◌, ◌≤◌, ℕ, ◌+◌, List, ◌++◌, length, Option, Some, None, Ok, Err, ⊤}
 use Rattle.std.specs.Io.KnownBytes.{Appends}
@@ -9,7 +9,7 @@ use Rattle.hart_cli.specs.input.Decoding.{Decoding}
 use Rattle.hart_cli.specs.input.Input.{Ending, ReadsToWithin, most_at_once}
 use Rattle.hart_cli.specs.stream.Stream.{FailsToWrite, Stream, WritesAll}
 
--- Which texts what was heard has.
+-- Which texts belong to what was heard.
 abbrev pub TextRelation : Type 0 → Type 1
 TextRelation Heard = Heard → List ℕ → Type 0
 
@@ -20,7 +20,7 @@ pub record HasText {Heard : Type 0} (decoding : Decoding Heard) (IsText : TextRe
   pub has : decoding.Has input ending heard fault
   pub is_text : IsText heard text
 
--- At bad hex no more of the input was read, from its place on, than may be read ahead.
+-- An input with bad hex was read at most `most_ahead` bytes beyond the place of the bad hex.
 abbrev pub StopsSoon : ℕ → List ℕ → Option CliFault → Type 0
 StopsSoon most_ahead input (Some (BadHex place)) = length input ≤ place + most_ahead
 StopsSoon most_ahead input _ = ⊤
@@ -34,14 +34,14 @@ pub record ReadsText {Heard : Type 0} (decoding : Decoding Heard) (limit : ℕ) 
   pub has_text : HasText decoding IsText input ending fault text
   pub soon : StopsSoon decoding.most_ahead input fault
 
--- A text is decided of an input that may go on if it is of what was heard by then.
+-- An input that may go on decides a text if what was heard so far decides it.
 pub record IsDecidedText {Heard : Type 0} (decoding : Decoding Heard) (IsDecided : TextRelation Heard) (input text : List ℕ)
     : Type 0 where
   pub heard : Heard
   pub reads : decoding.SoFar input heard
   pub decided : IsDecided heard text
 
--- The text was written that was decided before the last bytes of an input, of which there are no more than one read gives.
+-- What an input decides before its last bytes was written. One read can return all of these last bytes.
 pub record WroteInTime (IsDecided : List ℕ → List ℕ → Type 0) (input : List ℕ) (writer writer_after : Stream) : Type 0 where
   pub before : List ℕ
   pub last : List ℕ
@@ -52,7 +52,7 @@ pub record WroteInTime (IsDecided : List ℕ → List ℕ → Type 0) (input : L
   pub more : List ℕ
   pub written : Appends writer.bytes writer_after.bytes (text ++ more)
 
--- A write failed after a prefix of the text of what was heard and decoded by then, short of its end. Nothing was late: what was decided
+-- A write failed after a prefix, short of its end, of the text of what had been decoded by then. Nothing was late: what was decided
 -- before the last bytes had been written.
 pub record StopsWriting {Heard : Type 0} (decoding : Decoding Heard) (limit : ℕ) (IsText IsDecided : TextRelation Heard)
     (reader reader_after writer writer_after : Stream) : Type 0 where
@@ -66,8 +66,8 @@ pub record StopsWriting {Heard : Type 0} (decoding : Decoding Heard) (limit : �
   pub fails : FailsToWrite writer writer_after text
   pub in_time : WroteInTime (IsDecidedText decoding IsDecided) input writer writer_after
 
--- At `Ok` the text of the whole input was written, after a failed write a prefix of the text of what was decoded by then, and at a fault
--- of the input that of what was heard before the fault. Refused memory is no such fault.
+-- At `Ok`, the text of the whole input was written. If a write failed, a prefix of the text of what was decoded by then was
+-- written, and at a fault of the input, the text of what was heard before that. Refused memory is no such fault.
 abbrev pub LiveOutcome : {Heard : Type 0} → Decoding Heard → ℕ → TextRelation Heard → TextRelation Heard → OutcomeRelation
 LiveOutcome decoding limit IsText IsDecided reader reader_after writer writer_after (Ok done) =
     (text : List ℕ) × ReadsText decoding limit IsText reader reader_after None text × WritesAll writer writer_after text

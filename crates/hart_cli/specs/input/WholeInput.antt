@@ -1,4 +1,4 @@
--- What a call writes that reads its whole input first (own profile).
+-- What a call writes if it reads its whole input first (own profile).
 use Rattle.std.specs.Prelude.{◌⊎◌, ℕ, List, Result, Ok, Err}
 use Rattle.hart_cli.specs.declared.fault.CliFault.{CliFault}
 use Rattle.hart_cli.specs.declared.fault.CliFault.TheVariants.{Write}
@@ -6,14 +6,14 @@ use Rattle.hart_cli.specs.declared.input.InputEnd.TheVariants.{Ended}
 use Rattle.hart_cli.specs.input.Input.{IsReadingFault, Reads}
 use Rattle.hart_cli.specs.stream.Stream.{FailsToWrite, Stream, WritesAll, WritesNothing}
 
--- One input was read to its end, and this holds of it.
+-- An input was read to its end, and this holds of it.
 pub record WholeInput (reader reader_after : Stream) (Holds : List ℕ → Type 0) : Type 0 where
   pub input : List ℕ
   pub whole : Reads reader reader_after input Ended
   pub holds : Holds input
 
--- A call has this fault before it writes: a read failed, the input was too long, or room for it was refused; or the input was read to its
--- end, and has the fault.
+-- A call has this fault before it writes. Either a read failed, the input was too long, or room for it was refused; or the input
+-- was read to its end and itself has the fault.
 abbrev pub HasWholeFault : (List ℕ → CliFault → Type 0) → Stream → Stream → CliFault → Type 0
 HasWholeFault HasFault reader reader_after fault =
     IsReadingFault reader reader_after fault ⊎ WholeInput reader reader_after (λ input. HasFault input fault)

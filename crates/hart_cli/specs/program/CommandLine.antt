@@ -12,11 +12,11 @@ use Rattle.hart_cli.specs.request.RequestWords.{RequestWords}
 use Rattle.hart_cli.specs.declared.calls.program.command_line.Call.{Call}
 use Rattle.hart_cli.specs.declared.calls.program.command_line.Call.TheVariants.{Answer, Dump, Encode, Explain, ExplainRaw, Request, Serve, Sim}
 
--- The rule of a word of this name, which must be given.
+-- The rule of a required word with this name.
 abbrev pub required_rule : Text → Rule
 required_rule id = record (new_rule id) { required = true }
 
--- The number of preamble bytes is given by `--preambles`, lies between 5 and 20, and is 5 if it is not given.
+-- The option `--preambles` gives the number of preamble bytes, from 5 to 20. Without it the number is 5.
 abbrev pub preambles_rule : Rule
 preambles_rule = record (new_rule (codes "preambles")) {
   long = Some (codes "preambles");
@@ -25,15 +25,15 @@ preambles_rule = record (new_rule (codes "preambles")) {
   parser = Some (Signed (pos 5) (pos 20));
 }
 
--- The image is given by `--image`.
+-- The option `--image` gives the image.
 abbrev pub image_rule : Rule
 image_rule = record (new_rule (codes "image")) { long = Some (codes "image"); value_names = 1 }
 
--- That an input is raw is said by the flag `--raw`.
+-- The flag `--raw` says that the input is raw.
 abbrev pub raw_rule : Rule
 raw_rule = record (new_rule (codes "raw")) { long = Some (codes "raw"); action = Some SetTrue }
 
--- The command `explain` takes that flag, and no words.
+-- The command `explain` takes the flag `--raw`, and no words.
 abbrev pub explain_app : App
 explain_app = with_rule (new_app (codes "explain")) raw_rule
 
@@ -41,29 +41,29 @@ explain_app = with_rule (new_app (codes "explain")) raw_rule
 abbrev pub image_app : Text → App
 image_app name = with_rule (new_app name) image_rule
 
--- The commands `encode` and `request`, before they have what may be left out, take three words that have to be there.
+-- The three required words of the commands `encode` and `request`, before anything optional is added.
 abbrev pub app_with_required_words : Text → App
 app_with_required_words name =
     let who = with_rule (new_app name) (required_rule (codes "WHO")) in
     let address = with_rule who (required_rule (codes "ADDRESS")) in
     with_rule address (required_rule (codes "COMMAND"))
 
--- The command `encode` takes the three required words, a fourth if it is given, and the number of preamble bytes.
+-- The command `encode` takes the three required words, an optional fourth word, and the number of preamble bytes.
 abbrev pub encode_app : App
 encode_app =
     let payload = with_rule (app_with_required_words (codes "encode")) (new_rule (codes "DATA")) in
     with_rule payload preambles_rule
 
--- Any number of words give fields.
+-- Any number of words may give fields.
 abbrev pub fields_rule : Rule
 fields_rule = record (new_rule (codes "FIELD")) { action = Some Append }
 
--- The command `request` takes the three required words, those of fields, and the number of preamble bytes.
+-- The command `request` takes the three required words, the words of fields, and the number of preamble bytes.
 abbrev pub request_app : App
 request_app = with_rule (with_rule (app_with_required_words (codes "request")) fields_rule) preambles_rule
 
--- The command `hart`, before it has subcommands, takes words without the program's name, has a version, wants a subcommand named,
--- and shows its help if there is no word at all.
+-- The command `hart`, before it has subcommands. Its words do not include the program's name. It has a version, requires a
+-- subcommand, and shows its help if there is no word at all.
 abbrev pub hart_alone : App
 hart_alone =
     let plain = new_app (codes "hart") in
@@ -75,20 +75,20 @@ hart_alone =
     } in
     record plain { top = top }
 
--- Its subcommands that read what was heard are `answer`, `dump` and `explain`; `dump` takes no words.
+-- The command `hart` with the subcommands that read what was heard: `answer`, `dump` and `explain`. `dump` takes no words.
 abbrev pub hearing_app : App
 hearing_app =
     let answer = with_subcommand hart_alone (image_app (codes "answer")).top in
     let dump = with_subcommand answer (new_app (codes "dump")).top in
     with_subcommand dump explain_app.top
 
--- Those that read an input are these three, `serve` and `sim`.
+-- The command `hart` with all subcommands that read an input: these three, `serve` and `sim`.
 abbrev pub reading_app : App
 reading_app =
     let serve = with_subcommand hearing_app (image_app (codes "serve")).top in
     with_subcommand serve (image_app (codes "sim")).top
 
--- The subcommands without `encode` are these five and `request`.
+-- The command `hart` with all subcommands but `encode`: these five, and `request`.
 abbrev pub asking_app : App
 asking_app = with_subcommand reading_app request_app.top
 
@@ -96,46 +96,46 @@ asking_app = with_subcommand reading_app request_app.top
 abbrev pub hart_app : App
 hart_app = with_subcommand asking_app encode_app.top
 
--- A number of preamble bytes is written in decimal digits, after a plus sign at most, and lies between 5 and 20.
+-- A number of preamble bytes is written in decimal digits, perhaps after a plus sign, and lies between 5 and 20.
 abbrev pub preambles_of : Text → Option ℕ
 preambles_of word =
     let digits = without_leading_plus word in
     let count = digits_value 10 digits in
     if all_ascii_digits digits && nat_lt 0 (length digits) && nat_le 5 count && nat_le count 20 then Some count else None
 
--- A number of preamble bytes and three words with the data are what `encode` is given, if none of the first four is missing.
+-- What `encode` is given: the number of preamble bytes, three words and the data; or `None` if one of the first four is missing.
 abbrev pub message_words : Option ℕ → Option Text → Option Text → Option Text → Text → Option MessageWords
 message_words (Some preambles) (Some who) (Some address) (Some command) payload =
     Some (record { who = who; address = address; command = command; payload = payload; preambles = preambles })
 message_words _ _ _ _ payload = None
 
--- The matches of `encode` give these words, an absent DATA being empty.
+-- The words that the matches of `encode` give. An absent DATA is empty.
 abbrev pub words_of : List Row → Option MessageWords
 words_of rows = message_words
     (option_and_then preambles_of (first_of (codes "preambles") rows))
     (first_of (codes "WHO") rows) (first_of (codes "ADDRESS") rows) (first_of (codes "COMMAND") rows)
     (unwrap_or (first_of (codes "DATA") rows) [])
 
--- The call of `explain` is of a raw input if its flag is set.
+-- The call of `explain` is for a raw input if the flag `--raw` is set.
 abbrev pub explain_call : Option Text → Call
 explain_call (Some word) = if bytes_eq word (codes "true") then ExplainRaw else Explain
 explain_call None = Explain
 
--- A number of preamble bytes and three words with those of the fields are what `request` is given, if none of the first four is missing.
+-- What `request` is given: the number of preamble bytes, three words and the fields; or `None` if one of the first four is missing.
 abbrev pub request_words : Option ℕ → Option Text → Option Text → Option Text → List Text → Option RequestWords
 request_words (Some preambles) (Some who) (Some address) (Some command) fields =
     Some (record { who = who; address = address; command = command; fields = fields; preambles = preambles })
 request_words _ _ _ _ fields = None
 
--- The matches of `request` give these words.
+-- The words that the matches of `request` give.
 abbrev pub request_words_of : List Row → Option RequestWords
 request_words_of rows = request_words
     (option_and_then preambles_of (first_of (codes "preambles") rows))
     (first_of (codes "WHO") rows) (first_of (codes "ADDRESS") rows) (first_of (codes "COMMAND") rows)
     (unwrap_or (all_of (codes "FIELD") rows) [])
 
--- The call of a subcommand by its name: `answer`, `serve` and `sim` with the word of the image, or none; `dump`; `explain`; `encode` and
--- `request` with their words, if the matches give them. No other name has one.
+-- The call of the subcommand with this name. `answer`, `serve` and `sim` have the word of the image, if it is given. `encode` and
+-- `request` have a call if the matches give their words, and `dump` and `explain` always have one. No other name has a call.
 abbrev pub call_named : Text → List Row → Option Call
 call_named name rows =
     if bytes_eq name (codes "answer") then Some (Answer (first_of (codes "image") rows))
@@ -147,11 +147,11 @@ call_named name rows =
     else if bytes_eq name (codes "request") then option_map (λ words. Request words) (request_words_of rows)
     else None
 
--- A subcommand that was met, with its matches, gives the call of its name; if none was met there is no call.
+-- The call of the subcommand that was found, by its name and its matches. If none was found, there is no call.
 abbrev pub call_of : Option (Text × List Row) → Option Call
 call_of met = option_and_then (λ (found : Text × List Row). call_named found.0 found.1) met
 
--- The words make a call if clap finds no fault in them, and the subcommand that they name gives it.
+-- The words make this call if clap finds no fault in them, and the subcommand that they name has this call.
 pub record Calls (call : Call) (words : List Text) : Type 0 where
   pub no_fault : fault_of hart_app words ≡ []
   pub gives : call_of (subcommand_of hart_app words) ≡ Some call

@@ -16,8 +16,8 @@ use Rattle.hart_cli.specs.declared.fault.CliFault.{CliFault}
 use Rattle.hart_cli.specs.declared.calls.program.command_line.Call.{Call}
 use Rattle.hart_cli.specs.declared.calls.program.command_line.Call.TheVariants.{Answer, Dump, Encode, Explain, ExplainRaw, Request, Serve, Sim}
 
--- A call with this result had the outcome of its own kind on the reader and the writer; those of `encode` and `request`
--- leave the reader.
+-- A call with this result had an outcome of its own kind on the reader and the writer. Calls of `encode` and `request` leave the
+-- reader as it was.
 abbrev pub CallOutcome : Call → Stream → Stream → Stream → Stream → Result (Unit {0}) CliFault → Type 0
 CallOutcome (Answer image) reader reader_after writer writer_after result =
     AnswerOutcome image reader reader_after writer writer_after result
@@ -41,7 +41,7 @@ abbrev pub status_of : Result (Unit {0}) CliFault → ℕ
 status_of (Ok done) = 0
 status_of (Err fault) = 1
 
--- The program made the call that the words make, ended with the status of its result, and reported its fault, if any.
+-- The program made the call that the words ask for, ended with the status of its result, and reported its fault, if any.
 pub record Ran (words : List Text) (reader reader_after writer writer_after errors errors_after : Stream) (status : ℕ) : Type 0 where
   pub call : Call
   pub calls : Calls call words
@@ -52,7 +52,7 @@ pub record Ran (words : List Text) (reader reader_after writer writer_after erro
 
 -- For private calls alone:
 
--- The call that a subcommand with its matches gives was made, and its fault reported, as by `Ran`.
+-- The program made the call of a subcommand with its matches. It ended, and reported a fault, as in `Ran`.
 pub record Made (met : Option (Text × List Row)) (reader reader_after writer writer_after errors errors_after : Stream)
     (status : ℕ) : Type 0 where
   pub call : Call
@@ -62,7 +62,7 @@ pub record Made (met : Option (Text × List Row)) (reader reader_after writer wr
   pub ends : status ≡ status_of result
   pub reports : IfErr result (λ fault. WritesUnlessFailed errors errors_after (fault_line fault))
 
--- If the call is one of `encode` or `request`, its number of preamble bytes is one that a sender puts; nothing is asked of any other.
+-- A call of `encode` or `request` has 5 to 20 preamble bytes, as a sender puts them. Any other call has none to check.
 abbrev pub HasPreambleCount : Call → Type 0
 HasPreambleCount (Encode words) = IsPreambleCount words.preambles
 HasPreambleCount (Request words) = IsPreambleCount words.preambles

@@ -22,7 +22,7 @@ use Rattle.hart_cli.specs.request.Values.{value_of}
 abbrev pub equals_place : List ℕ → ℕ
 equals_place word = position_or_len (λ code. code == 61) word
 
--- A word gives a name and a value if it has a `=`: what stands before the first, and what stands after it.
+-- A word with a `=` gives a name, which stands before the first `=`, and a value, which stands after it.
 abbrev pub named : List ℕ → Option (List ℕ × List ℕ)
 named word =
     if nat_lt (equals_place word) (length word) then Some (take (equals_place word) word, drop (equals_place word + 1) word) else None
@@ -31,26 +31,26 @@ named word =
 abbrev pub has_name : List ℕ → List ℕ → Bool
 has_name name word = option_map_or (λ parts. bytes_eq parts.0 name) (named word) false
 
--- In a word the name of a field has `_`, which is the byte 95, for each space.
+-- In a word, the name of a field has `_` (the byte 95) for each space.
 abbrev pub in_word : ℕ → ℕ
 in_word code = if code == 32 then 95 else code
 
--- So a name is a word.
+-- The name of a field as a word has it.
 abbrev pub name_word : List ℕ → List ℕ
 name_word name = map in_word name
 
--- A word gives the field of a row a value.
+-- A word gives a value to the field of a row.
 abbrev pub is_for : Row → List ℕ → Bool
 is_for row word = has_name (name_word row.name) word
 
--- What is wrong with a name, given after other words: no field has it, or one of those words has it.
+-- What is wrong with a name after earlier words: no field has this name, or one of those words already has it.
 abbrev pub fault_of_name : List Row → List (List ℕ) → List ℕ → Option FieldFault
 fault_of_name rows earlier name =
     if not (list_any (λ row. bytes_eq name (name_word row.name)) rows) then Some UnknownField
     else if list_any (has_name name) earlier then Some GivenTwice
     else None
 
--- What is wrong with the name that a word gives: it gives none, or there is a fault of it.
+-- What is wrong with the name in a word: the word gives no name, or the name has a fault.
 abbrev pub name_fault : List Row → List (List ℕ) → List ℕ → Option FieldFault
 name_fault rows earlier word = option_map_or (λ parts. fault_of_name rows earlier parts.0) (named word) (Some NotNamed)
 
@@ -58,13 +58,13 @@ name_fault rows earlier word = option_map_or (λ parts. fault_of_name rows earli
 abbrev pub bad_at : ℕ → FieldFault → BadField
 bad_at place fault = record { number = 4 + place; fault = fault }
 
--- The first of some words, after earlier ones, that has a bad name.
+-- The first word with a bad name among words that stand after earlier ones.
 abbrev pub first_bad_name : List Row → (earlier words : List (List ℕ)) → Option BadField
 first_bad_name rows earlier [] = None
 first_bad_name rows earlier (word ∷ words) =
     option_or (option_map (bad_at (length earlier)) (name_fault rows earlier word)) (first_bad_name rows (earlier ++ word ∷ []) words)
 
--- The place of the first word that gives the field of a row a value, or the number of words.
+-- The place of the first word that gives a value to the field of a row, or the number of words.
 abbrev pub place_for : List (List ℕ) → Row → ℕ
 place_for words row = position_or_len (is_for row) words
 
@@ -72,51 +72,51 @@ place_for words row = position_or_len (is_for row) words
 abbrev pub value_in : List ℕ → List ℕ
 value_in word = option_map_or (λ parts. parts.1) (named word) []
 
--- Bytes of a field that the word at a place gives.
+-- The bytes of a field from the word at a place, or the fault of that word.
 abbrev pub given_at : ℕ → Result (List ℕ) FieldFault → Result (List ℕ) BadField
 given_at place (Ok bytes) = Ok bytes
 given_at place (Err fault) = Err (bad_at place fault)
 
--- The bytes that words give the field of a command at a place, which has this row: those that the value of its word writes. If no word
--- gives it one, the place after the last word is bad.
+-- The bytes of a field with this row and this place in its command: those that the value in its word writes. If no word gives the
+-- field a value, the place after the last word is bad.
 abbrev pub field_value : (command field : ℕ) → List (List ℕ) → Row → Result (List ℕ) BadField
 field_value command field words row =
     if nat_lt (place_for words row) (length words)
     then given_at (place_for words row) (value_of row.kind row.size (value_in (get_or words (place_for words row) [])))
     else Err (bad_at (length words) (Missing command field))
 
--- Bytes before others, if those are given.
+-- Bytes followed by later bytes, unless the later ones have a fault.
 abbrev pub after_bytes : List ℕ → Result (List ℕ) BadField → Result (List ℕ) BadField
 after_bytes bytes (Ok rest) = Ok (bytes ++ rest)
 after_bytes bytes (Err bad) = Err bad
 
--- A field before others.
+-- The bytes of a field followed by those of later fields, or the first fault among them.
 abbrev pub joined : Result (List ℕ) BadField → Result (List ℕ) BadField → Result (List ℕ) BadField
 joined (Ok bytes) rest = after_bytes bytes rest
 joined (Err bad) rest = Err bad
 
--- The data that words give a command are the bytes of each field, in the order of the rows, of which the first is at a place.
+-- The data that words give a command are the bytes of its fields, in the order of the rows. The first row has the place `field`.
 abbrev pub data_of_fields : (command field : ℕ) → List (List ℕ) → List Row → Result (List ℕ) BadField
 data_of_fields command field words [] = Ok []
 data_of_fields command field words (row ∷ rows) =
     joined (field_value command field words row) (data_of_fields command (field + 1) words rows)
 
--- A command takes data that are read as a request of it. That it refuses them is a fault of the word COMMAND, the third.
+-- A command takes data that read as a request of it. If it refuses them, that is a fault of the third word, COMMAND.
 abbrev pub taken : List ℕ → Reading → Result (List ℕ) BadField
 taken bytes (Ok request) = Ok bytes
 taken bytes (Err code) = Err (record { number = 3; fault = Refused code })
 
--- Data that were given are taken or refused by their command.
+-- The command takes or refuses the data that were given.
 abbrev pub taken_by : ℕ → Result (List ℕ) BadField → Result (List ℕ) BadField
 taken_by command (Ok bytes) = taken bytes (request_reading command bytes)
 taken_by command (Err bad) = Err bad
 
--- A bad name comes before all faults of values.
+-- A bad name is reported before any fault of a value.
 abbrev pub unless_bad : Option BadField → Result (List ℕ) BadField → Result (List ℕ) BadField
 unless_bad (Some bad) given = Err bad
 unless_bad None given = given
 
--- The data of a request of a command that words give, if the command is known.
+-- The data that words give for a request of a command, if the command is known.
 abbrev pub payload_of : ℕ → List (List ℕ) → Result (List ℕ) BadField
 payload_of command words =
     let rows = request_rows command in
@@ -126,7 +126,7 @@ payload_of command words =
 
 -- For private calls alone:
 
--- Values are written for fields of a size that suits their kind.
+-- A value can be written for a field if its size suits its kind.
 abbrev pub is_writable : FieldKind → FieldSize → Bool
 is_writable kind (AllBut after) = true
 is_writable Number (Exactly size) = (size == 1) || (size == 2)
@@ -136,6 +136,6 @@ is_writable LatinText (Exactly size) = size == 32
 is_writable Date (Exactly size) = size == 3
 is_writable kind (Exactly size) = nat_le size 32
 
--- Values are written for each of at most seven fields.
+-- There are at most seven fields, and a value can be written for each of them.
 abbrev pub are_writable : List Row → Bool
 are_writable rows = nat_le (length rows) 7 && list_all (λ row. is_writable row.kind row.size) rows

@@ -4,14 +4,14 @@ use Rattle.hart_commands.specs.Fields.{Field, Row}
 use Rattle.hart_cli.specs.request.Fields.{place_for, value_in}
 use Rattle.hart_cli.specs.request.Values.{value_of}
 
--- A field has the name and the kind of its row, and the bytes that the value of the word that gives it writes.
+-- A field has the name and the kind of its row. Its bytes are those that the value in its word writes.
 pub record IsGiven (words : List (List ℕ)) (row : Row) (field : Field) : Type 0 where
   pub named : field.name ≡ row.name
   pub meant : field.kind ≡ row.kind
   pub given : place_for words row < length words
   pub value : value_of row.kind row.size (value_in (get_or words (place_for words row) [])) ≡ Ok field.bytes
 
--- Each row has a field, in their order, and each field is given.
+-- Each row has a field, in the order of the rows, and words give each of these fields.
 abbrev pub AreGiven : List (List ℕ) → List Row → List Field → Type 0
 AreGiven words [] [] = Unit {0}
 AreGiven words (row ∷ rows) (field ∷ fields) = IsGiven words row field × AreGiven words rows fields

@@ -13,8 +13,8 @@ use Rattle.hart_cli.specs.text.MessageLine.{IsMessageLine}
 use Rattle.hart_cli.specs.stream.Stream.{FailsToWrite, Stream, WritesAll, WritesNothing}
 use Rattle.hart_line.specs.script.Words.{HasNoValue, IsAddressWord, IsCommandWord, IsWho}
 
--- The request of the words has what the first three write, and the data that the others give its command. It is an STX with burst bit 0
--- and no expansion bytes.
+-- The request of the words has the values that the first three write, and the data that the others give for its command. It is an
+-- STX with burst bit 0 and no expansion bytes.
 pub record IsRequestByNames (words : RequestWords) (frame : FrameParts) : Type 0 where
   pub master : IsWho words.who frame.master
   pub address : IsAddressWord words.address frame.address
@@ -24,20 +24,20 @@ pub record IsRequestByNames (words : RequestWords) (frame : FrameParts) : Type 0
   pub burst : frame.burst ≡ false
   pub expansion : frame.expansion ≡ []
 
--- The text of the words is the line of their request's message, with their number of preamble bytes.
+-- The text of the words is the line of the message of their request, with the number of preamble bytes given with them.
 pub record IsRequestText (words : RequestWords) (text : List ℕ) : Type 0 where
   pub frame : FrameParts
   pub request : IsRequestByNames words frame
   pub line : IsMessageLine frame words.preambles text
 
--- One of the first three words writes no value: the first of them has this number, 1 for WHO, 2 for ADDRESS, 3 for COMMAND.
+-- One of the first three words writes no value. The first such word has this number: 1 for WHO, 2 for ADDRESS, 3 for COMMAND.
 pub data IsFirstBadWord (words : RequestWords) : ℕ → Type 0 where
   bad_who : HasNoValue (IsWho words.who) → IsFirstBadWord words 1
   bad_address : (master : MasterId) → IsWho words.who master → HasNoValue (IsAddressWord words.address) → IsFirstBadWord words 2
   bad_command : (master : MasterId) (address : Address) → IsWho words.who master → IsAddressWord words.address address
       → HasNoValue (IsCommandWord words.command) → IsFirstBadWord words 3
 
--- The first three words write values, and the others do not give the data of the command.
+-- The first three words write values, but the words of the fields do not give the data of the command.
 pub record HasBadField (words : RequestWords) (bad : BadField) : Type 0 where
   pub master : MasterId
   pub address : Address
@@ -57,9 +57,9 @@ RequestOutcome words writer writer_after (Err (BadWord number)) = IsFirstBadWord
 RequestOutcome words writer writer_after (Err (FaultOfField bad)) = HasBadField words bad × WritesNothing writer writer_after
 RequestOutcome words writer writer_after (Err _) = ⊥
 
--- For private calls alone: what reading the words answers.
+-- For private calls alone: what reading the words returns.
 
--- Reading the words gives the frame that they ask for, or says which is bad.
+-- Reading the words returns the frame that they ask for, or says which word is bad.
 abbrev pub ReadOutcome : RequestWords → Result FrameParts CliFault → Type 0
 ReadOutcome words (Ok frame) = IsRequestByNames words frame
 ReadOutcome words (Err (BadWord number)) = IsFirstBadWord words number

@@ -1,4 +1,4 @@
--- The bytes that the value of a field writes, by how they are meant (own profile).
+-- The bytes that the value of a field writes, by the kind of the field (own profile).
 use Rattle.std.specs.Prelude.{ℕ, ℤ, ◌+◌, ◌-◌, ◌*◌, ◌/◌, ◌%◌, ◌==◌, ◌&&◌, nat_le, nat_lt, if◌then◌else◌, Bool, List, [], ◌∷◌, ◌++◌, pos}
 use Rattle.std.specs.Prelude.{codes, is_some, length, replicate, take, Result, Ok, Err, Option, None, Some}
 use Rattle.std.specs.List.{prefix_len}
@@ -17,7 +17,7 @@ use Rattle.hart_cli.specs.declared.calls.request.fault.FieldFault.{FieldFault}
 use Rattle.hart_cli.specs.declared.calls.request.fault.FieldFault.TheVariants.{BadCharacter, NoBytes, NoCodes, NoDate, NoNumber, TooLong}
 use Rattle.hart_cli.specs.explain.Values.{is_printable}
 
--- A number is written in decimal digits, after a plus sign at most, and is one from 0 to the greatest.
+-- A number is written in decimal digits, perhaps after a plus sign, and lies between 0 and the greatest number.
 abbrev pub number_up_to : ℕ → List ℕ → Option ℕ
 number_up_to greatest word =
     let digits = without_leading_plus word in
@@ -37,26 +37,26 @@ abbrev pub number_or_fault : ℕ → Option ℕ → Result (List ℕ) FieldFault
 number_or_fault size None = Err (NoNumber (greatest_of size))
 number_or_fault size (Some number) = Ok (number_bytes size number)
 
--- A word writes the bytes of the number that it writes.
+-- The bytes of a number field are those of the number that its word writes.
 abbrev pub number_value : ℕ → List ℕ → Result (List ℕ) FieldFault
 number_value size word = number_or_fault size (number_up_to (greatest_of size) word)
 
--- Bytes are written `0x`, which are the bytes 48 and 120, and then as DATA is.
+-- Bytes are written as `0x` (the bytes 48 and 120), and then like DATA.
 abbrev pub hex_of : List ℕ → Option (List ℕ)
 hex_of (first ∷ second ∷ digits) = if (first == 48) && (second == 120) then data_of digits else None
 hex_of _ = None
 
--- Bytes that were read are at least and at most so many.
+-- The bytes that were read, if there are at least `least` and at most `most` of them.
 abbrev pub sized : FieldFault → (least most : ℕ) → Option (List ℕ) → Result (List ℕ) FieldFault
 sized fault least most None = Err fault
 sized fault least most (Some bytes) =
     if nat_le least (length bytes) && nat_le (length bytes) most then Ok bytes else Err fault
 
--- The bytes of a field whose bytes are written one by one.
+-- The bytes of a field whose value is written in hex, byte by byte.
 abbrev pub bytes_value : ℕ → List ℕ → Result (List ℕ) FieldFault
 bytes_value size word = sized (NoBytes size) size size (hex_of word)
 
--- The bytes of a field that has all bytes that are left: one to eight, as the codes of Command 9.
+-- The bytes of a field that takes all bytes that are left: one to eight, like the codes of Command 9.
 abbrev pub codes_value : List ℕ → Result (List ℕ) FieldFault
 codes_value word = sized NoCodes 1 8 (hex_of word)
 
@@ -64,8 +64,8 @@ codes_value word = sized NoCodes 1 8 (hex_of word)
 abbrev pub padded : ℕ → List ℕ → List ℕ
 padded count text = text ++ replicate (count - length text) 32
 
--- The characters of a text that a field of this number of characters has room for are `take most text`. The first of them that does not
--- pass a test is bad; otherwise a longer text is too long; otherwise the text is padded.
+-- A text for a field of at most `most` characters. The first of these characters that fails the test is bad; otherwise a longer
+-- text is too long; otherwise the text is padded.
 abbrev pub text_value : (ℕ → Bool) → ℕ → List ℕ → Result (List ℕ) FieldFault
 text_value passes most text =
     let place = prefix_len passes (take most text) in
@@ -78,45 +78,45 @@ abbrev pub can_have : FieldKind → ℕ → Bool
 can_have PackedText code = nat_le 32 code && nat_lt code 96
 can_have _ code = is_printable code && nat_lt code 256
 
--- Four characters make a number of 24 bits, six for each character, the first on top.
+-- Four characters make a number of 24 bits, six for each character, with the first in the highest bits.
 abbrev pub group_number : (w x y z : ℕ) → ℕ
 group_number w x y z = 262144 * (w % 64) + 4096 * (x % 64) + 64 * (y % 64) + z % 64
 
--- They are packed into the three bytes of that number.
+-- Four characters are packed into the three bytes of that number.
 abbrev pub packed_group : (w x y z : ℕ) → List ℕ
 packed_group w x y z =
     (group_number w x y z / 65536) ∷ (group_number w x y z / 256 % 256) ∷ (group_number w x y z % 256) ∷ []
 
--- A text is packed by each four of its characters.
+-- A text is packed four characters at a time.
 abbrev pub packed : List ℕ → List ℕ
 packed (w ∷ x ∷ y ∷ z ∷ text) = packed_group w x y z ++ packed text
 packed _ = []
 
--- A text in packed form, if it is one.
+-- A text in packed form, unless it has a fault.
 abbrev pub pack : Result (List ℕ) FieldFault → Result (List ℕ) FieldFault
 pack (Ok text) = Ok (packed text)
 pack (Err fault) = Err fault
 
--- The bytes of a packed text, four characters for each three of them.
+-- The bytes of a packed text: three for every four characters.
 abbrev pub packed_value : ℕ → List ℕ → Result (List ℕ) FieldFault
 packed_value size word = pack (text_value (can_have PackedText) (4 * size / 3) (chars word))
 
--- The bytes of a text in ISO Latin-1 are written `0x`, or else as the characters whose codes they are.
+-- The bytes of a text in ISO Latin-1 are written in hex after `0x`, or else as the characters with these codes.
 abbrev pub latin_value : ℕ → List ℕ → Result (List ℕ) FieldFault
 latin_value size word =
     if is_some (hex_of word) then bytes_value size word else text_value (can_have LatinText) size (chars word)
 
--- A year from 1900 to 2155 is written as a byte.
+-- The byte for a year, from 1900 to 2155.
 abbrev pub year_byte : ℤ → Option ℕ
 year_byte (pos year) = if nat_le 1900 year && nat_le year 2155 then Some (year - 1900) else None
 year_byte _ = None
 
--- The bytes of a date with this year.
+-- The bytes of a date with this year, if the year has a byte.
 abbrev pub dated : (day month : ℕ) → Option ℕ → Result (List ℕ) FieldFault
 dated day month None = Err NoDate
 dated day month (Some year) = Ok (day ∷ month ∷ year ∷ [])
 
--- The bytes of a date are those of a day, as jiff reads it, or of `not set`.
+-- The bytes of a date are those of a day, written as jiff reads it, or of `not set`.
 abbrev pub date_value : List ℕ → Result (List ℕ) FieldFault
 date_value word =
     if bytes_eq word (codes "not set") then Ok not_set

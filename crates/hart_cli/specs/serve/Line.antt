@@ -16,7 +16,7 @@ use Rattle.hart_cli.specs.text.Items.{IsBadHexAt, ReadsAs}
 use Rattle.hart_cli.specs.text.MessageLine.{IsMessageLine}
 use Rattle.hart_cli.specs.text.Words.{line_of}
 
--- The lines that are no hex have these words, each as it is printed here.
+-- The words that a line may be instead of hex, spelled exactly like this.
 abbrev pub line_words : List (List ℕ × LineWord)
 line_words =
     (codes "restart", Restart)
@@ -33,18 +33,18 @@ after_word (Protect protected) device = record device { protected = protected }
 after_word Image device = device
 after_word Counter device = device
 
--- `image` and `counter` give the lines that end the text of `hart sim`, and the other words `ok`.
+-- `image` and `counter` are answered with the lines for them at the end of the text of `hart sim`, and the other words with `ok`.
 abbrev pub word_said : LineWord → DeviceState → List ℕ
 word_said Image device = image_line device
 word_said Counter device = counter_line device
 word_said _ device = line_of (codes "ok" ∷ [])
 
--- The line of a device's answer is that of its message, with the identity's number of response preambles; silence is `-`.
+-- The line of a device's answer is the line of its message, with the identity's number of response preambles. Silence is `-`.
 abbrev pub IsReplyLine : DeviceState → Option FrameParts → List ℕ → Type 0
 IsReplyLine device None said = said ≡ line_of (codes "-" ∷ [])
 IsReplyLine device (Some reply) said = IsMessageLine reply device.identity.response_preambles said
 
--- A device hears a delivery at once, answers what it brings with a line, and is then in this state.
+-- A device hears a whole delivery at once, answers what it brings with this line, and is then in this state.
 pub record Hears (device : DeviceState) (delivery : List Character) (after : DeviceState) (said : List ℕ) : Type 0 where
   pub brought : Brought
   pub brings : Brings device.identity delivery brought
@@ -55,8 +55,8 @@ pub record Hears (device : DeviceState) (delivery : List Character) (after : Dev
 abbrev pub bad_line : List ℕ → List ℕ
 bad_line reason = codes "bad line: " ++ reason ++ 10 ∷ []
 
--- What a device says to one line, and its state afterwards. A line of more than 1,048,576 bytes is too long, and changes nothing. Any
--- other is one of the words, or the device hears the characters that it reads as, or it has bad hex at a place, which changes nothing.
+-- What a device says to one line, and its state afterwards. A line of more than 1,048,576 bytes is too long and changes nothing.
+-- Any other line is one of the words, or hex for characters that the device hears, or bad hex, which changes nothing.
 pub data ServesLine (device : DeviceState) (line : List ℕ) : DeviceState → List ℕ → Type 0 where
   too_long : input_limit < length line → ServesLine device line device (bad_line (codes "too long"))
   word : (word : LineWord) → length line ≤ input_limit → named_in line_words line ≡ Some word

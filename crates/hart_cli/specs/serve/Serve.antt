@@ -11,13 +11,13 @@ use Rattle.hart_cli.specs.input.LiveInput.{WroteInTime}
 use Rattle.hart_cli.specs.serve.Line.{ServesLine}
 use Rattle.hart_cli.specs.stream.Stream.{FailsToWrite, Stream, WritesAll}
 
--- A device serves lines one after another, each in the state that the lines before left.
+-- A device serves lines one after another, each in the state that the earlier lines led to.
 pub data Serves : DeviceState → List (List ℕ) → DeviceState → List ℕ → Type 0 where
   nothing : (device : DeviceState) → Serves device [] device []
   first : (device next after : DeviceState) (line : List ℕ) (lines : List (List ℕ)) (said text : List ℕ)
       → ServesLine device line next said → Serves next lines after text → Serves device (line ∷ lines) after (said ++ text)
 
--- The last line of a text, which no line feed follows, is served if the input ended and the line is not empty.
+-- The last line of a text, which has no line feed after it, is served if the input ended and the line is not empty.
 abbrev pub last_lines : Ending → List ℕ → List (List ℕ)
 last_lines (CameTo Ended) (byte ∷ more) = (byte ∷ more) ∷ []
 last_lines ending last = []
@@ -48,7 +48,7 @@ pub record ServesTo (device : DeviceState) (ending : Ending) (reader reader_afte
 abbrev pub IsServedSoFar : DeviceState → List ℕ → List ℕ → Type 0
 IsServedSoFar device input text = IsServed device input Left text
 
--- A write failed after a prefix of what the device says to the first lines of what was read by then, short of its end. No line was
+-- A write failed after a prefix, short of its end, of what the device says to the first lines that were read by then. No line was
 -- late: those that were due before the last bytes had been written.
 pub record StopsSaying (device : DeviceState) (reader reader_after writer writer_after : Stream) : Type 0 where
   pub input : List ℕ
@@ -63,8 +63,8 @@ pub record StopsSaying (device : DeviceState) (reader reader_after writer writer
   pub fails : FailsToWrite writer writer_after text
   pub in_time : WroteInTime (IsServedSoFar device) input writer writer_after
 
--- Room for a line: the most bytes that it may have, one more that shows that it is longer, a carriage return, and the byte after which
--- its last item is whole.
+-- Room for a line: as many bytes as it may have, one more to show that it is too long, one for a carriage return, and one for the
+-- byte that makes its last item whole.
 abbrev pub line_room : ℕ
 line_room = input_limit + 3
 
@@ -78,8 +78,8 @@ pub record LacksLineRoom (none : NoRoom) (reader reader_after writer writer_afte
   pub unread : reader_after ≡ reader
   pub unwritten : writer_after ≡ writer
 
--- With a device, a call served its whole input at `Ok`. If a read failed, or at an input of more bytes than the limit, it served the whole
--- lines before that; if a write failed, a prefix of what is said to them was written; and if room for a line was refused, nothing was.
+-- At `Ok`, a call served its whole input. If a read failed, or the input was longer than the limit, it served the whole lines
+-- before that. If a write failed, it wrote a prefix of what is said to them, and if room for a line was refused, nothing.
 abbrev pub ServedOutcome : DeviceState → OutcomeRelation
 ServedOutcome device reader reader_after writer writer_after (Ok done) =
     ServesTo device (CameTo Ended) reader reader_after writer writer_after
@@ -93,6 +93,6 @@ ServedOutcome device reader reader_after writer writer_after (Err (faults.Memory
     LacksLineRoom none reader reader_after writer writer_after
 ServedOutcome device reader reader_after writer writer_after (Err fault) = ⊥
 
--- A call of `serve` gave the reason why it has no device, if it has none. Otherwise its device served what it read.
+-- A call of `serve` without a device returned why it has none. Otherwise its device served the lines that the call read.
 abbrev pub ServeOutcome : Option (List ℕ) → OutcomeRelation
 ServeOutcome = OutcomeWith ServedOutcome

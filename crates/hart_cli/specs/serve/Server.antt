@@ -32,7 +32,7 @@ pub record BeginsWithPart (text part rest : List ℕ) : Type 0 where
   pub free : HasNoFeed part
   pub feed : text ≡ part ++ 10 ∷ rest
 
--- At most this number of bytes of a part are kept. A part that has this number or more is a line that is too long.
+-- How many bytes of a part are kept at most. A part that has this number or more is a line that is too long.
 abbrev pub most_kept : ℕ
 most_kept = input_limit + 2
 
@@ -43,13 +43,13 @@ HearsText device text after said =
     ⊎ ((chars : List Character) × (place : ℕ) × HasBadHex text chars place × (after ≡ device)
     × (said ≡ bad_line (fault_text (BadHex place))))
 
--- A server has its room, and keeps the first bytes of a part.
+-- A server has room for a line and its characters, and keeps the first bytes of a part.
 pub record Keeps (server : Server) (part : List ℕ) : Type 0 where
   pub bytes : server.part.items ≡ take most_kept part
   pub room : server.part.room ≡ line_room
   pub chars : server.chars.room ≡ chars_room
 
--- A server served the line of the part that it kept, and keeps the line for it after those that it kept before.
+-- A server served the line of the part that it kept, and added the answer to the lines that it keeps.
 pub record ServesPart (old new : Server) : Type 0 where
   pub said : List ℕ
   pub serves : ServesLine old.device (strip_carriage_return old.part.items) new.device said
@@ -60,7 +60,7 @@ pub record ServesPart (old new : Server) : Type 0 where
 abbrev pub ServesParts : DeviceState → List (List ℕ) → DeviceState → List ℕ → Type 0
 ServesParts device parts after text = Serves device (map strip_carriage_return parts) after text
 
--- More of a text came after a part that a server kept. It served the lines that are whole by then, and keeps the rest.
+-- Of the part that it kept and what was read after it, a server served the whole lines, and keeps the rest.
 pub record ServesWhole (old new : Server) (text : List ℕ) (writer writer_after : Stream) : Type 0 where
   pub parts : List (List ℕ)
   pub rest : List ℕ
@@ -81,14 +81,14 @@ pub record FailsInParts (device : DeviceState) (before text : List ℕ) (writer 
   pub serves : ServesParts device parts after said
   pub fails : FailsToWrite writer writer_after (before ++ said)
 
--- The lines that are whole were served, or a write failed.
+-- The whole lines of a text were served, or a write failed.
 abbrev pub ServesText : {T : Type 0} → Server → Server → List ℕ → Stream → Stream → Result T Failed → Type 0
 ServesText old new text writer writer_after result =
     MatchResult result
     (λ _. ServesWhole old new text writer writer_after)
     (λ _. FailsInParts old.device old.kept text writer writer_after)
 
--- A device served the last line of an input that ended, if it counts.
+-- A device served the last line of an input that ended, if that line counts.
 pub record ServesLast {T : Type 0} (device : DeviceState) (line : List ℕ) (writer writer_after : Stream) (result : Result T Failed)
     : Type 0 where
   pub after : DeviceState

@@ -19,8 +19,8 @@ use Rattle.hart_cli.specs.ImageWord.{OutcomeWith, OutcomeRelation}
 use Rattle.hart_cli.specs.sim.Text.{IsNeededByDevice, IsNeededByFrame, IsNeededByOutcomes, sim_text}
 use Rattle.hart_cli.specs.input.WholeInput.{WholeOutcome}
 
--- A script starts with a device, the process values of the bench device, and two masters that have nothing in hand and send a
--- request again three times at most.
+-- A script starts with a device, the process values of the bench device, and two masters. A master has nothing in hand, and sends a
+-- request again at most three times.
 abbrev pub start_with : DeviceState → Start
 start_with device = record {
   device = device;
@@ -28,8 +28,8 @@ start_with device = record {
   retries = record { primary = 3; secondary = 3 };
 }
 
--- The text for an input gives the frames that were spoken in the last world of its script, what became of each submission, and the
--- counter and the image of the device as it is then.
+-- The text for an input has the frames that were spoken by the end of its script, the outcome of each submission, and the counter
+-- and the image of the device at that end.
 pub record IsSimulation (device : DeviceState) (input text : List ℕ) : Type 0 where
   pub events : List LineEvent
   pub script : IsScript input events
@@ -45,15 +45,15 @@ pub record IsScriptWithFault (device : DeviceState) (input : List ℕ) (fault : 
   pub script : IsScript input events
   pub is_fault : IsFault (start_with device) events fault
 
--- The fault of an input is its first bad line or, if no line is bad, the first leg whose damage is undetected; refused memory is
--- no fault of an input.
+-- The fault of an input is its first bad line or, if no line is bad, the first leg with undetected damage. Refused memory is no
+-- fault of an input.
 abbrev pub HasLineFault : DeviceState → List ℕ → LineFault → Type 0
 HasLineFault device input (line_faults.BadLine number) = HasFirstBadLine input number
 HasLineFault device input (line_faults.Undetected number leg) = IsScriptWithFault device input (line_faults.Undetected number leg)
 HasLineFault device input (line_faults.Memory none) = ⊥
 
--- A script leads to a last world, and the line of one of its submissions, or the last two lines, need room for this number of bytes,
--- which is 1 at least.
+-- At the end of a script, the line of one of its submissions, or its last two lines, need room for this number of bytes, at least
+-- 1.
 pub record IsNeededByLastLines (start : Start) (events : List LineEvent) (items : ℕ) : Type 0 where
   pub after : DeviceState
   pub outcomes : List Outcome
@@ -62,8 +62,8 @@ pub record IsNeededByLastLines (start : Start) (events : List LineEvent) (items 
   pub needed : IsNeededByOutcomes outcomes items ⊎ IsNeededByDevice after items
   pub some : 0 < items
 
--- An input needs room for this number of items: to be read as a script, to have its events carried out, or for a line of its text, which
--- is that of a spoken frame or comes after all of those.
+-- An input needs room for this number of items: to be read as a script, to have its events carried out, for the line of a spoken
+-- frame, or for a line after the lines of all frames.
 abbrev pub IsNeededForSimulation : DeviceState → List ℕ → ℕ → Type 0
 IsNeededForSimulation device input items =
     IsNeededByText input items
@@ -72,15 +72,15 @@ IsNeededForSimulation device input items =
     ⊎ IsNeededByNoting IsNeededByFrame (start_with device) events items
     ⊎ IsNeededByLastLines (start_with device) events items))
 
--- An input that is not carried out has this fault, of its lines or its events; or memory is refused for as many items as it needs
--- room for, which is no fault of an input.
+-- An input that is not carried out has this fault in its lines or its events. Or memory was refused for a number of items that the
+-- input needs room for, which is no fault of the input.
 abbrev pub IsSimulationFault : DeviceState → List ℕ → CliFault → Type 0
 IsSimulationFault device input (Line fault) = HasLineFault device input fault
 IsSimulationFault device input (Memory none) = IsNeededForSimulation device input none.items
 IsSimulationFault device input _ = ⊥
 
--- A call of `simulate` gave the reason why it has no device, if it has none. Otherwise it wrote the text for its whole input at
--- `Ok`, a prefix of it if a write failed, and nothing if a read failed, if the input was too long or had a fault of its lines or
--- events, or if memory was refused; it gives no other fault.
+-- A call of `simulate` without a device returned why it has none. Otherwise, at `Ok` it wrote the text for its whole input, and if
+-- a write failed, a prefix of that. It wrote nothing if a read failed, if the input was too long or had a fault in its lines or
+-- events, or if memory was refused. It returns no other fault.
 abbrev pub SimOutcome : Option (List ℕ) → OutcomeRelation
 SimOutcome = OutcomeWith (λ device. WholeOutcome (IsSimulation device) (IsSimulationFault device))

@@ -19,13 +19,13 @@ party_word Primary = codes "P"
 party_word Secondary = codes "S"
 party_word Device = codes "D"
 
--- The line of a spoken frame has the word of its party, the number of its preamble bytes in decimal, and its body in upper case hex.
+-- The line of a spoken frame has the word of its party, the decimal number of its preamble bytes, and its body in upper case hex.
 abbrev pub spoken_line : Spoken → List ℕ
 spoken_line spoken =
     line_of (party_word spoken.party ∷ decimal spoken.preambles ∷ encode_upper spoken.bytes ∷ [])
 
--- A submission that was answered has the word `answered`, the number of its sendings, and the response code, the device status and
--- the data of the reply in upper case hex. One without a reply has `noreply`, and an unfinished one `unfinished`, with the number of
+-- An answered submission has the word `answered`, the number of its sendings, and the response code, the device status and the data
+-- of the reply in upper case hex. One without a reply has `noreply`, and an unfinished one `unfinished`, each with the number of
 -- its sendings. A refused one has `refused` and the number of the fault. Numbers are in decimal.
 abbrev pub outcome_words : Outcome → List (List ℕ)
 outcome_words (Answered reply sendings) =
@@ -35,7 +35,7 @@ outcome_words (NoReply sendings) = codes "noreply" ∷ decimal sendings ∷ []
 outcome_words (Unfinished sendings) = codes "unfinished" ∷ decimal sendings ∷ []
 outcome_words (Refused fault) = codes "refused" ∷ decimal (master_fault_number fault) ∷ []
 
--- The line of a submission has its number in decimal and the words of what became of it.
+-- The line of a submission has its number in decimal and the words of its outcome.
 abbrev pub outcome_line : ℕ × Outcome → List ℕ
 outcome_line numbered = line_of (decimal numbered.0 ∷ outcome_words numbered.1)
 
@@ -47,8 +47,8 @@ counter_line device = line_of (codes "counter" ∷ decimal device.counter ∷ []
 abbrev pub image_line : DeviceState → List ℕ
 image_line device = line_of (codes "image" ∷ encode_upper (image_of device) ∷ [])
 
--- The text is a line for each spoken frame, in order, then one for each submission, numbered from 1, then that of the counter and
--- that of the image.
+-- The text has a line for each spoken frame, in order, then one for each submission, numbered from 1, then the line of the counter
+-- and the line of the image.
 abbrev pub sim_text : List Spoken → List Outcome → DeviceState → List ℕ
 sim_text spoken outcomes device =
     flat_map spoken_line spoken ++ flat_map outcome_line (enumerate_from 1 outcomes) ++ counter_line device ++ image_line device

@@ -3,13 +3,13 @@ use Rattle.std.specs.Prelude.{◌≡◌, ◌++◌, List, ℕ, MatchResult, Resul
 use Rattle.hart_cli.specs.declared.stream.Failed.{Failed}
 use Rattle.hart_cli.specs.stream.Stream.{FailsToWrite, Stream, WritesAll}
 
--- A text was added to what was kept before: some of it all was written, and the rest is kept.
+-- A text was added to what was kept before. A first part of both together was written, and the rest is kept.
 pub record AddsText (old new : Stream) (before after text : List ℕ) : Type 0 where
   pub written : List ℕ
   pub wrote : WritesAll old new written
   pub whole : written ++ after ≡ before ++ text
 
--- A text was added to what was kept before, unless a write failed: then a prefix of it all was written.
+-- A text was added to what was kept before, or a write failed after a prefix of both together.
 abbrev pub Tells : {T : Type 0} → Stream → Stream → List ℕ → List ℕ → List ℕ → Result T Failed → Type 0
 Tells old new before after text result =
     MatchResult result (λ _. AddsText old new before after text) (λ _. FailsToWrite old new (before ++ text))

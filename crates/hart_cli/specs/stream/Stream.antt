@@ -3,17 +3,17 @@ use Rattle.std.specs.Prelude.{◌≡◌, ◌≢◌, ◌⊎◌, ℕ, ◌+◌, ◌
 use Rattle.std.specs.Io.KnownBytes.{Appends, Keeps}
 use Rattle.hart_cli.specs.declared.stream.Failed.{Failed}
 
--- A failure more is counted, but never above the last number of 64 bits.
+-- One more failure is counted, but the count stays at the greatest number of 64 bits once it is there.
 abbrev pub count_after_failure : ℕ → ℕ
 count_after_failure count = min (count + 1) (2 ^ 64 - 1)
 
--- A reader or a writer is, to contracts, the bytes left to read or written so far, if they are known, and how often it
--- has failed.
+-- What contracts see of a reader or a writer: the bytes left to read or written so far, if they are known, and how often it has
+-- failed.
 pub record Stream : Type 0 where
   pub bytes : Option (List ℕ)
   pub failures : ℕ
 
--- A failure raises the count by one, and a success leaves it.
+-- A failure is counted, and a success leaves the count as it was.
 abbrev pub CountsFailure : {T : Type 0} → Stream → Stream → Result T Failed → Type 0
 CountsFailure old new result =
     MatchResult result (λ _. new.failures ≡ old.failures) (λ _. new.failures ≡ count_after_failure old.failures)
@@ -30,7 +30,7 @@ pub record WritesPrefix (old new : Option (List ℕ)) (text : List ℕ) : Type 0
 abbrev pub WritesAll : Stream → Stream → List ℕ → Type 0
 WritesAll old new text = Appends old.bytes new.bytes text × (new.failures ≡ old.failures)
 
--- A write failed, and a prefix of the text, short of its end, was written before.
+-- A write failed after a prefix of the text, short of its end, was written.
 abbrev pub FailsToWrite : Stream → Stream → List ℕ → Type 0
 FailsToWrite old new text = WritesPrefix old.bytes new.bytes text × (new.failures ≡ count_after_failure old.failures)
 

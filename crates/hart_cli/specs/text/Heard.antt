@@ -1,4 +1,4 @@
--- Texts of hex items in which the line may fall silent (own profile): a `/` stands where it did.
+-- Texts of hex items with silences of the line (own profile): a `/` stands for each silence.
 use Rattle.std.specs.Prelude.{◌≡◌, ℕ, List, [], ◌∷◌, ◌++◌, map, Option}
 use Rattle.hart_frame.specs.heard.Character.{Character}
 use Rattle.hart_cli.specs.declared.fault.CliFault.{CliFault}
@@ -11,23 +11,23 @@ pub data Heard : Type 0 where
   HeardChar : (character : Character) → Heard
   Silence : Heard
 
--- Characters are heard one after another.
+-- Characters that are heard one after another.
 abbrev pub heard_chars : List Character → List Heard
 heard_chars chars = map HeardChar chars
 
--- What comes after characters goes on from them: they stand before its first stretch.
+-- Characters join the first of the stretches after them. If there is none, they are the only stretch.
 abbrev pub after_chars : List Character → List (List Character) → List (List Character)
 after_chars chars [] = chars ∷ []
 after_chars chars (first ∷ later) = (chars ++ first) ∷ later
 
--- What is heard falls into stretches, of which each but the last ends where the line falls silent.
+-- What is heard falls into stretches. Each stretch but the last ends where the line falls silent.
 abbrev pub stretches : List Heard → List (List Character)
 stretches [] = [] ∷ []
 stretches (HeardChar character ∷ heard) = after_chars (character ∷ []) (stretches heard)
 stretches (Silence ∷ heard) = [] ∷ stretches heard
 
--- A text reads as what was heard up to a rest of it, if texts of items stand end to end before that rest, with a `/`, which is 47, between
--- two of them.
+-- A text reads as what was heard, up to a rest, if texts of items stand end to end before that rest, with a `/` (the byte 47)
+-- between two of them.
 pub data ReadsHeard : List ℕ → List Heard → List ℕ → Type 0 where
   items : (text : List ℕ) (chars : List Character) (rest : List ℕ) → ReadsUpTo text chars rest → ReadsHeard text (heard_chars chars) rest
   silence : (text : List ℕ) (chars : List Character) (rest : List ℕ) (heard : List Heard) (last : List ℕ)

@@ -1,4 +1,4 @@
--- What characters an input has (own profile): those up to its first fault, and that fault. The fault bits of a character are no
+-- Which characters an input has (own profile): those up to its first fault, and that fault. The fault bits of a character are no
 -- fault of the input.
 use Rattle.std.specs.Prelude.{◌≡◌, ℕ, ◌/◌, List, [], ◌++◌, length, Option, Some, None}
 use Rattle.hart_frame.specs.heard.Character.{Character}
@@ -8,9 +8,9 @@ use Rattle.hart_cli.specs.declared.fault.CliFault.{CliFault}
 use Rattle.hart_cli.specs.declared.fault.CliFault.TheVariants as faults
 use Rattle.hart_cli.specs.declared.input.InputEnd.TheVariants as ends
 
--- By a way to read texts, what was heard in an input is what stands before its fault. One that ended reads as that, or has bad hex after
--- it. One that the call left has bad hex after it, decided by what was read. One in which a read failed, or that went past the limit,
--- reads as what is whole so far.
+-- What was heard in an input, by a way to read texts, stands before its fault. An input that ended reads as what was heard, or has
+-- bad hex after it. An input that the call left has bad hex after it, decided by what was read. An input with a failed read, or
+-- past the limit, reads as what is whole so far.
 pub data HasHeardBy {Heard : Type 0} (Reads : List ℕ → List Heard → List ℕ → Type 0) (Stops : List ℕ → Type 0) (text : List ℕ)
     : Ending → List Heard → Option CliFault → Type 0 where
   all : (heard : List Heard) → Reads (closed text) heard [] → HasHeardBy Reads Stops text (CameTo ends.Ended) heard None
@@ -27,8 +27,8 @@ pub data HasHeardBy {Heard : Type 0} (Reads : List ℕ → List Heard → List �
 abbrev pub HasChars : List ℕ → Ending → List Character → Option CliFault → Type 0
 HasChars = HasHeardBy ReadsUpTo NoPieceBegins
 
--- The only fault of an input that was read to its end is bad hex, at its place, or refused memory for half as many characters as it
--- has bytes.
+-- The only faults of an input that was read to its end are bad hex at a place, and refused memory for half as many characters as
+-- the input has bytes.
 abbrev pub IsWholeTextFault : List ℕ → CliFault → Type 0
 IsWholeTextFault text (faults.BadHex place) = (chars : List Character) × IsBadHexAt text chars place
 IsWholeTextFault text (faults.Memory none) = none.items ≡ length text / 2

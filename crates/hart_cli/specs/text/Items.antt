@@ -10,7 +10,7 @@ pub data Piece : Type 0 where
   Separator : (byte : ℕ) → Piece
   Item : (item : items.Item) → Piece
 
--- A piece is spelled by these bytes.
+-- The bytes that spell a piece.
 abbrev pub spelling : Piece → List ℕ
 spelling (Separator byte) = byte ∷ []
 spelling (Item item) = item_spelling item
@@ -19,17 +19,17 @@ spelling (Item item) = item_spelling item
 abbrev pub IsSeparator : ℕ → Type 0
 IsSeparator byte = (byte ≡ 32) ⊎ (byte ≡ 9) ⊎ (byte ≡ 13) ⊎ (byte ≡ 10)
 
--- A separator is one of the four, and an item has its digits and its fault bits.
+-- A separator is valid if it is one of the four bytes, and an item if its digits and its fault bits are valid.
 abbrev pub IsValid : Piece → Type 0
 IsValid (Separator byte) = IsSeparator byte
 IsValid (Item item) = IsValidItem item
 
--- A separator means no character, and an item its own.
+-- A separator means no character, and an item means its own.
 abbrev pub meaning : Piece → List Character
 meaning (Separator byte) = []
 meaning (Item item) = item_meaning item ∷ []
 
--- A separator is whole whatever follows it, and an item if a further byte follows it and the item ends before it.
+-- A separator is whole whatever follows it. An item is whole if a byte follows it and the item ends before that byte.
 abbrev pub IsWholeBefore : List ℕ → Piece → Type 0
 IsWholeBefore tail (Separator byte) = ⊤
 IsWholeBefore tail (Item item) = (tail ≢ []) × EndsBefore tail item
@@ -40,7 +40,7 @@ pub record BeginsWith (text : List ℕ) (piece : Piece) (tail : List ℕ) : Type
   pub spelled : text ≡ spelling piece ++ tail
   pub whole : IsWholeBefore tail piece
 
--- A text reads as characters up to a rest of it, if pieces stand end to end before that rest.
+-- A text reads as these characters, up to a rest, if pieces stand end to end before that rest.
 pub data ReadsUpTo : List ℕ → List Character → List ℕ → Type 0 where
   nothing : (rest : List ℕ) → ReadsUpTo rest [] rest
   piece : (text : List ℕ) (first : Piece) (tail : List ℕ) (chars : List Character) (rest : List ℕ)
@@ -50,15 +50,15 @@ pub data ReadsUpTo : List ℕ → List Character → List ℕ → Type 0 where
 abbrev pub NoPieceBegins : List ℕ → Type 0
 NoPieceBegins text = (piece : Piece) (tail : List ℕ) → BeginsWith text piece tail → ⊥
 
--- A piece begins a text once the right bytes follow it.
+-- A piece begins a text once the right bytes are added to the text.
 pub record MayBegin (text : List ℕ) : Type 0 where
   pub more : List ℕ
   pub piece : Piece
   pub tail : List ℕ
   pub begins : BeginsWith (text ++ more) piece tail
 
--- A way to read texts says what a text reads as up to a rest, and at which rests it stops.
--- By such a way a text has bad hex at a place, after what was heard, if it reads as that up to there, and reading stops before its end.
+-- A way to read texts says what a text reads as up to a rest, and at which rests it stops. By such a way, a text has bad hex at a
+-- place if it reads as what was heard up to there, and reading stops there, before the end of the text.
 pub record HasBadHexBy {Heard : Type 0} (Reads : List ℕ → List Heard → List ℕ → Type 0) (Stops : List ℕ → Type 0) (text : List ℕ)
     (heard : List Heard) (place : ℕ) : Type 0 where
   pub rest : List ℕ
@@ -67,8 +67,7 @@ pub record HasBadHexBy {Heard : Type 0} (Reads : List ℕ → List Heard → Lis
   pub more : rest ≢ []
   pub no_piece : Stops rest
 
--- A text has bad hex at a place, after these characters, if it reads as them up to there, and what begins there is
--- neither its end nor a piece.
+-- A text has bad hex at a place if it reads as these characters up to there, and neither its end nor a piece is there.
 abbrev pub HasBadHex : List ℕ → List Character → ℕ → Type 0
 HasBadHex = HasBadHexBy ReadsUpTo NoPieceBegins
 
@@ -88,8 +87,8 @@ IsBadHexAt text chars place = HasBadHex (closed text) chars place
 abbrev pub IsDecidedBadHexAt : List ℕ → List Character → ℕ → Type 0
 IsDecidedBadHexAt text chars place = (more : List ℕ) → HasBadHex (text ++ more) chars place
 
--- While an input may go on, it reads so far as the characters up to a rest, perhaps empty, at whose beginning no whole piece
--- stands yet, though one would if the right bytes followed.
+-- For now, an input that may go on reads as what was heard up to a rest, perhaps empty. No whole piece begins that rest yet, but
+-- one would if the right bytes followed.
 pub record ReadsSoFarBy {Heard : Type 0} (Reads : List ℕ → List Heard → List ℕ → Type 0) (Stops : List ℕ → Type 0) (text : List ℕ)
     (heard : List Heard) : Type 0 where
   pub rest : List ℕ
@@ -97,11 +96,11 @@ pub record ReadsSoFarBy {Heard : Type 0} (Reads : List ℕ → List Heard → Li
   pub no_piece : Stops rest
   pub open_end : MayBegin rest
 
--- So it is for items.
+-- For now, an input of hex items that may go on reads as these characters.
 abbrev pub ReadsSoFarAs : List ℕ → List Character → Type 0
 ReadsSoFarAs = ReadsSoFarBy ReadsUpTo NoPieceBegins
 
--- For private calls alone: what reading one piece answers.
+-- For private calls alone: what reading one piece returns.
 
 -- A text begins with a piece of this length, which means this character or none.
 pub record BeginsAs (text : List ℕ) (char : Option Character) (len : ℕ) : Type 0 where

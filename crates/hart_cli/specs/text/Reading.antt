@@ -1,16 +1,16 @@
--- For private calls alone: what reading the first pieces of a text answers (own profile).
+-- For private calls alone: what reading the first pieces of a text returns (own profile).
 use Rattle.std.specs.Prelude.{◌≡◌, ◌<◌, ◌≤◌, ℕ, List, ◌++◌, drop, length}
 use Rattle.hart_frame.specs.heard.Character.{Character}
 use Rattle.hart_line.specs.Filling.{Filled}
 use Rattle.hart_cli.specs.text.Items.{ReadsUpTo}
 
--- The first bytes of a text, so many of them and one at least, read as these characters.
+-- The first `len` bytes of a text, at least one, read as these characters.
 pub record ReadsFirst (text : List ℕ) (chars : List Character) (len : ℕ) : Type 0 where
   pub some : 0 < len
   pub within : len ≤ length text
   pub reads : ReadsUpTo text chars (drop len text)
 
--- The first bytes of a text, so many of them and one at least, read as characters, which were added to a list.
+-- The first `len` bytes of a text, at least one, read as characters, which were added to a list.
 pub record ReadsChars (text : List ℕ) (old new : Filled Character) (len : ℕ) : Type 0 where
   pub chars : List Character
   pub pieces : ReadsFirst text chars len

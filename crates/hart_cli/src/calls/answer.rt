@@ -19,8 +19,8 @@ use hart_frame::Char;
 use hart_line::Filling;
 use std::alloc::Global;
 
-/// Reads a delivery as hex items, and writes what the bench device answers to it as one line of hex, or nothing if it is
-/// silent. With an image, a word of hex, it is the device that goes on from that.
+/// Reads a delivery as hex items, and writes the bench device's answer as one line of hex, or nothing if the device is silent. With
+/// an image, a word of hex, the device goes on from that image.
 ///
 /// # Errors
 ///
@@ -43,7 +43,7 @@ pub fn answer<R: Source, W: Sink>(
     answer_of(alloc, device, reader, writer)
 }
 
-/// An input has one answer of a device at most, so that what `answer` writes is determined by its image and by what it reads.
+/// A device has at most one answer to an input, so what `answer` writes is determined by its image and by what it reads.
 pub fn one_answer()
     ensures { (device : DeviceState) (input xs ys : List ℕ)
         → IsAnswer device input xs → IsAnswer device input ys → xs ≡ ys }
@@ -67,7 +67,7 @@ fn answer_of<R: Source, W: Sink>(
     Ok(())
 }
 
-/// Returns the line of what a device answers to an input, or no text if it is silent.
+/// Returns the line with a device's answer to an input, or no text if the device is silent.
 ///
 /// # Errors
 ///
@@ -85,7 +85,7 @@ fn answer_text(
     Ok(answer_line(&mut device, delivery.as_slice()))
 }
 
-/// Returns the line of what a device answers to a delivery, or no text if it is silent.
+/// Returns the line with a device's answer to a delivery, or no text if the device is silent.
 fn answer_line(device: &mut Device<ImageRegisters>, delivery: &[Char]) -> HexLine
     ensures { IsTextFor device.old delivery.now result }
 {

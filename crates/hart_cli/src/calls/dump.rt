@@ -18,10 +18,10 @@ use std::alloc::Global;
 mod frame_lines;
 mod text;
 
-/// Reads what was heard on a line as hex items, and writes a line for each frame in it, as soon as it is decided.
+/// Reads what was heard on a line as hex items, and writes a line for each frame in it, as soon as the frame is decided.
 ///
-/// It reads a portion at a time, and before each read all lines are written of the frames that are decided by then, so that a
-/// live line is dumped while it is heard, as far as an input may go. It takes no memory.
+/// It reads a portion at a time. Before each read it has written the lines of all frames decided by then, so a live line is dumped
+/// while it is heard, up to the limit of an input. It takes no memory.
 ///
 /// # Errors
 ///
@@ -48,8 +48,8 @@ pub fn dump<R: Source, W: Sink>(
     }
 }
 
-/// An input that was read so far has no two faults and no two lists of lines: unless a write fails, what `dump` writes is determined
-/// by what it reads.
+/// What was read of an input has at most one fault and one list of lines: unless a write fails, what `dump` writes is determined by
+/// what it reads.
 pub fn one_dump()
     ensures { (input : List ℕ) (ending : Ending) (f g : Option CliFault) (xs ys : List ℕ)
         → IsDump input ending f xs → IsDump input ending g ys → (f ≡ g) × (xs ≡ ys) }

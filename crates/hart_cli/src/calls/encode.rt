@@ -42,7 +42,7 @@ impl<'a> Model for EncodeWords<'a> {
     } };
 }
 
-/// Writes the request that four words write, with this number of preamble bytes, as one line of hex.
+/// Writes the request that four words describe, with this number of preamble bytes, as one line of hex.
 ///
 /// The request is an STX with burst bit 0 and no expansion bytes. An absent DATA is the empty word.
 ///
@@ -84,12 +84,12 @@ pub fn encode_text<W: Sink>(
     Ok(())
 }
 
-/// Words have one text at most, so that what `encode_text` writes is determined by them.
+/// Words have at most one text, so they determine what `encode_text` writes.
 pub fn one_encoding()
     ensures { (words : MessageWords) (xs ys : List ℕ) → IsEncoding words xs → IsEncoding words ys → xs ≡ ys }
 {}
 
-/// Returns the request that the words write.
+/// Returns the request that the words describe.
 ///
 /// # Errors
 ///

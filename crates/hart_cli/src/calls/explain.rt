@@ -26,16 +26,16 @@ mod telling;
 mod values;
 mod words;
 
-/// The most bytes that a raw input may have, so that each place is a number of 64 bits.
+/// How many bytes a raw input may have at most, so that each place fits in 64 bits.
 const RAW_LIMIT: usize = usize::MAX - 1;
 
-/// Reads what was heard on a line as hex items, and writes in words what each message in it says, and why no message stands where
-/// one seems to start, as soon as it is decided.
+/// Reads what was heard on a line as hex items, and writes in words what each message says. Where a message only seems to start, it
+/// writes why none stands there. It writes all this as soon as it is decided.
 ///
 /// An item `/` says that the line fell silent: what was heard before it is explained as ended, and no message crosses it.
 ///
-/// It reads a portion at a time, and before each read all is written that is decided by then, so that a live line is explained while it
-/// is heard. At most 268 characters that decide nothing yet are kept of it. It takes no memory.
+/// It reads a portion at a time. Before each read it has written all that is decided by then, so a live line is explained while it
+/// is heard. It keeps at most 268 characters, those that decide nothing yet. It takes no memory.
 ///
 /// # Errors
 ///
@@ -61,9 +61,9 @@ pub fn explain<R: Source, W: Sink>(
     }
 }
 
-/// Reads what was heard on a line as the bytes themselves, and writes in words what [`explain`] writes of them.
+/// Reads what was heard on a line as raw bytes, and explains them in the words of [`explain`].
 ///
-/// It reads a portion at a time, and before each read all is written that is decided by then. It takes no memory.
+/// It reads a portion at a time. Before each read it has written all that is decided by then. It takes no memory.
 ///
 /// # Errors
 ///
@@ -88,7 +88,7 @@ pub fn explain_raw<R: Source, W: Sink>(
     }
 }
 
-/// An input that was read so far, of items or raw, has no two faults and no two texts: unless a write fails, what `explain` writes is
+/// What was read of an input, of items or raw, has at most one fault and one text: unless a write fails, what `explain` writes is
 /// determined by what it reads.
 pub fn one_explanation()
     ensures raw { (input : List ℕ) (ending : Ending) (f g : Option CliFault) (xs ys : List ℕ)
@@ -97,7 +97,7 @@ pub fn one_explanation()
         → IsExplanation input ending f xs → IsExplanation input ending g ys → (f ≡ g) × (xs ≡ ys) }
 {}
 
-/// Reads an input up to its first fault, and tells of its characters what is decided.
+/// Reads an input up to its first fault, and tells what its characters decide.
 ///
 /// # Errors
 ///
@@ -133,7 +133,7 @@ fn tell_input<R: Source, W: Sink>(
     }
 }
 
-/// Reads a raw input to its end or its first fault, and tells of its bytes what is decided.
+/// Reads a raw input to its end or its first fault, and tells what its bytes decide.
 ///
 /// # Errors
 ///

@@ -1,4 +1,4 @@
-//! The program: which call the words make, and with which number it ends.
+//! The program: which call its words make, and with which status it ends.
 
 ghost use Rattle.std.specs.Prelude.{◌≡◌, ◌≢◌, IfErr, map, string_bytes};
 ghost use Rattle.clap.specs.Words.{subcommand_rows_of};
@@ -34,13 +34,13 @@ pub const FAULT: u8 = 1;
 /// The status if the words name no call, ask for help, or were not read because memory was refused.
 pub const NO_CALL: u8 = 2;
 
-/// Makes the call that the words after the program's name ask for, and gives the program's status.
+/// Makes the call that the words after the program's name ask for, and returns the program's status.
 ///
-/// `answer`, `dump`, `explain`, `serve` and `sim` read from `reader` and write to `writer`; `encode` and `request` read
-/// their words alone. At status 0
-/// nothing goes to `errors`; at status 1 the line of the call's fault does, or a beginning of it if `errors` failed. Status 2 says that
-/// clap found no matches for the words: reader and writer are not touched, and clap's own text, help among it, goes to `errors`. No
-/// clause says which. A failed write to `errors` ends the text there, and the status stays what it was.
+/// `answer`, `dump`, `explain`, `serve` and `sim` read from `reader` and write to `writer`; `encode` and `request` read their words
+/// alone. At status 0 nothing goes to `errors`; at status 1 the line of the call's fault does, or a beginning of it if `errors`
+/// failed. Status 2 says that clap found no matches for the words: reader and writer are not touched, and clap's own text goes to
+/// `errors`, even if it is help. No clause says which text that is. A failed write to `errors` ends the text there, and the status
+/// stays what it was.
 pub fn program<R: Source, W: Sink, E: Sink>(
     alloc: Global,
     words: &[String],
@@ -66,7 +66,7 @@ pub fn program<R: Source, W: Sink, E: Sink>(
     }
 }
 
-/// Makes the call that the matches give, and gives the program's status.
+/// Makes the call that the matches name, and returns the program's status.
 fn make_matched_call<R: Source, W: Sink, E: Sink>(
     alloc: Global,
     matches: &ArgMatches<'_>,
@@ -90,7 +90,7 @@ fn make_matched_call<R: Source, W: Sink, E: Sink>(
     }
 }
 
-/// Makes the call on the reader and the writer, and gives its result.
+/// Makes the call on the reader and the writer, and returns its result.
 fn make_call<R: Source, W: Sink>(
     alloc: Global,
     call: Call<'_, '_>,
@@ -124,7 +124,7 @@ fn make_call<R: Source, W: Sink>(
     }
 }
 
-/// Writes the line of a fault to `errors`, and gives the status of what the call answered.
+/// Writes the line of the call's fault, if it has one, to `errors`, and returns the status for the call's result.
 fn finish<E: Sink>(outcome: Result<(), CliFault>, errors: &mut E) -> u8
     ensures status { result ≡ status_of outcome }
     ensures fault { IfErr outcome (λ fault. WritesUnlessFailed

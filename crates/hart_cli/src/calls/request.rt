@@ -54,10 +54,10 @@ impl<'w, 'a: 'w> Model for RequestWords<'w, 'a> {
     } };
 }
 
-/// Writes the request of a command whose fields have the values that words give, with this number of preamble bytes, as one line of hex.
+/// Writes a command's request as one line of hex. `words` has the values of its fields and the number of preamble bytes.
 ///
-/// Each field of the command is given once, in any order, as NAME=VALUE; the name is the one that [`explain`](crate::explain) shows, with
-/// `_` for each space. The request is an STX with burst bit 0 and no expansion bytes.
+/// Each field of the command is given once, in any order, as NAME=VALUE; NAME is the name that [`explain`](crate::explain) shows,
+/// with `_` for each space. The request is an STX with burst bit 0 and no expansion bytes.
 ///
 /// # Errors
 ///
@@ -76,12 +76,12 @@ pub fn request<W: Sink>(
     Ok(())
 }
 
-/// Words have one text at most, so that what `request` writes is determined by them.
+/// Words have at most one text, so they determine what `request` writes.
 pub fn one_request()
     ensures { (words : Given) (xs ys : List ℕ) → IsRequestText words xs → IsRequestText words ys → xs ≡ ys }
 {}
 
-/// Returns the request that the words write.
+/// Returns the request that the words describe.
 ///
 /// # Errors
 ///
@@ -102,7 +102,7 @@ fn read_request(words: &RequestWords<'_, '_>) -> Result<Frame, CliFault>
     Ok(Frame::request(master, address, command, payload))
 }
 
-/// Returns the data of a request of this command whose fields the words give, if there are any.
+/// Returns the data of this command's request, from the words for its fields, if there are any.
 fn payload_of_any(command: u8, fields: Option<&[&str]>) -> Result<Payload, BadField>
     ensures { result ≡ payload_of command (option_map_or (λ words. map (λ word. word.now) words.now) fields.entry []) }
 {

@@ -1,4 +1,4 @@
-//! `hart serve`: a device over many deliveries, a line for each line.
+//! `hart serve`: a device that answers many deliveries, a line for each line.
 ghost use Rattle.std.specs.Prelude.{◌≡◌, [], ℕ, List};
 ghost use Rattle.std.specs.Option.{option_map};
 ghost use Rattle.hart_device.specs.Device.{DeviceState};
@@ -19,10 +19,10 @@ mod server;
 
 /// Reads lines until the input ends, and writes a line for each of them, before it reads on.
 ///
-/// The bench device hears a line of hex items at once; the line for it is the reply in hex, or `-` for silence. `restart`, `protect on`
-/// and `protect off` give `ok`, `image` gives the image of the device, and `counter` its counter. Any other line, and one of more than
-/// 1,048,576 bytes, gives `bad line:` and why, and changes nothing. With an image, a word of hex, the device goes on from that. All
-/// memory is taken before the first line is read.
+/// The bench device hears a line of hex items at once; the line for it is the reply in hex, or `-` for silence. `restart`,
+/// `protect on` and `protect off` give `ok`, `image` gives the image of the device, and `counter` its counter. Any other line, or
+/// one of more than 1,048,576 bytes, gives `bad line:` and why, and changes nothing. With an image, a word of hex, the device goes
+/// on from that image. All memory is taken before the first line is read.
 ///
 /// # Errors
 ///
@@ -45,7 +45,7 @@ pub fn serve<R: Source, W: Sink>(
     serve_with(alloc, device, reader, writer)
 }
 
-/// A device says one text to the lines of an input, so that what `serve` writes is determined by its image and by what it reads.
+/// A device answers the lines of an input with one text, so what `serve` writes is determined by its image and by what it reads.
 pub fn one_service()
     ensures { (device : DeviceState) (input : List ℕ) (ending : Ending) (xs ys : List ℕ)
         → IsServed device input ending xs → IsServed device input ending ys → xs ≡ ys }

@@ -20,7 +20,7 @@ use std::alloc::Global;
 
 mod text;
 
-/// How often a master sends a request again at most.
+/// How often a master retries a request at most.
 const RETRIES: u8 = 3;
 
 /// For how many character times the primary master awaits a reply.
@@ -30,7 +30,7 @@ const PRIMARY_REPLY_LIMIT: u8 = 33;
 const SECONDARY_REPLY_LIMIT: u8 = 41;
 
 /// Reads a script, carries it out with the bench device and two masters, and writes what was spoken, what became of each
-/// submission, and what the device holds then. With an image, a word of hex, the device goes on from that.
+/// submission, and what the device holds at the end. With an image, a word of hex, the device goes on from that image.
 ///
 /// # Errors
 ///
@@ -53,8 +53,8 @@ pub fn simulate<R: Source, W: Sink>(
     simulate_with(alloc, device, reader, writer)
 }
 
-/// With a device an input has one text at most and one fault at most, and never both, so that the text that `simulate` writes, or
-/// the fault of the script that it gives, is determined by its image and by what it reads.
+/// With a given device, an input has at most one text and at most one fault, never both. So the text that `simulate` writes, or the
+/// script's fault that it returns, is determined by its image and by what it reads.
 pub fn one_simulation()
     ensures one_text { (device : DeviceState) (input xs ys : List ℕ)
         → IsSimulation device input xs → IsSimulation device input ys → xs ≡ ys }

@@ -12,27 +12,27 @@ use crate::stream::Source;
 use crate::text::items::may_begin;
 use hart_values::ByteList;
 
-/// The beginning of an item, after which no piece begins yet: at most five bytes.
+/// The beginning of an item that is not yet whole: at most five bytes.
 pub type Open = ByteList<OPEN_LEN>;
 
 const OPEN_LEN: usize = 5;
 
-/// What is read and not yet decoded: the beginning of an item, and then what one read gives, or the space that an end stands for.
+/// What is read and not yet decoded: the beginning of an item, and then what one read gives, or a space for the end.
 pub type Ahead = ByteList<AHEAD_LEN>;
 
 const AHEAD_LEN: usize = OPEN_LEN + PORTION_LEN;
 
-/// What is done after what was read is decoded.
+/// The next step, once what was read is decoded.
 #[derive(Clone, Copy)]
 pub enum NextStep {
     /// More is read.
     ReadOn,
-    /// No more is read, because the input came to its end, or to this fault.
+    /// No more is read, because the input ended, or has this fault.
     Stop(Option<CliFault>),
 }
 
-/// Reads once, and adds to what is read ahead what is within the room that is left of the input's limit. Returns how much that is, and
-/// how the input came to its end with it, if it did.
+/// Reads once, and adds the bytes that are within the `room` left of the input's limit to `ahead`. Returns how many these are, and
+/// how the input ended with them, if it did.
 pub fn read_ahead<R: Source>(
     reader: &mut R,
     buffer: &mut [u8],
@@ -57,8 +57,7 @@ pub fn read_ahead<R: Source>(
     portion
 }
 
-/// Returns the next step after `read` bytes of an input, of which this rest is left after its pieces, and which is at this end, if it
-/// came to one.
+/// Returns the next step after `read` bytes of an input. Its pieces leave `rest`, and `end` says how the input ended, if it did.
 pub fn next_step(end: Option<InputEnd>, rest: &[u8], read: usize) -> NextStep
     requires stops { NoPieceBegins rest.now }
     requires within { length rest.now ≤ ended_length end read }
@@ -71,7 +70,7 @@ pub fn next_step(end: Option<InputEnd>, rest: &[u8], read: usize) -> NextStep
         Some(InputEnd::Ended) if rest.is_empty() => NextStep::Stop(None),
         // The last byte of the rest is the space that the end stands for.
         Some(InputEnd::Ended) => bad_hex(read - (rest.len() - 1)),
-        // Nothing was read, so that a piece may begin as it might before.
+        // Nothing was read, so a piece may still begin as it might before.
         Some(InputEnd::ReadFailed) => NextStep::Stop(Some(CliFault::Read)),
         Some(InputEnd::TooLong) if may_begin(rest) => NextStep::Stop(Some(CliFault::TooLong)),
         Some(InputEnd::TooLong) => bad_hex(read - rest.len()),

@@ -8,7 +8,7 @@ use std::io::{Read, Write};
 
 /// A reader or writer of the standard library, with a count of its failures.
 ///
-/// Each error is a failure, an interruption too, and so is a write that takes no byte. Nothing is tried again.
+/// Each error is a failure, even an interruption, and so is a write that takes no byte. Nothing is retried.
 #[derive(Drop)]
 pub struct Plain<T> {
     inner: T,

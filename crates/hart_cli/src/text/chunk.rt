@@ -9,13 +9,13 @@ use crate::text::plain_items::{ITEMS_AT_ONCE, dense_items, spaced_items};
 use hart_line::Digits;
 use hart_values::ByteList;
 
-/// The most faultless characters that are looked at at once.
+/// How many faultless characters are looked at together at most.
 pub const CHUNK_LEN: usize = 8192;
 
 /// The bytes of faultless characters.
 pub type Chunk = ByteList<CHUNK_LEN>;
 
-/// Reads pieces without fault bits that a text begins with into an empty chunk, and gives the place after them.
+/// Reads the leading pieces of a text that have no fault bits into an empty chunk, and returns the place after them.
 pub fn read_chunk(digits: &Digits, text: &[u8], chunk: &mut Chunk) -> usize
     requires { chunk.old ≡ [] }
     ensures within { result ≤ length text.now }
@@ -29,8 +29,8 @@ pub fn read_chunk(digits: &Digits, text: &[u8], chunk: &mut Chunk) -> usize
     place
 }
 
-/// Reads the piece that a text begins with, or several items if they stand as they mostly do, and gives the number of their bytes.
-/// There is none if no piece without fault bits begins the text, or if the chunk has no room for more.
+/// Reads the first piece of a text, or several items at once if they stand in a usual way. Returns how many bytes it read, or
+/// `None` if no piece without fault bits begins the text, or if the chunk has no room for more.
 fn read_some(digits: &Digits, text: &[u8], chunk: &mut Chunk) -> Option<usize>
     ensures { MatchOption result (chunk.new ≡ chunk.old) (ReadsMore text.now chunk.old chunk.new) }
 {

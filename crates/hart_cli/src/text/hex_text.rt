@@ -7,7 +7,7 @@ ghost use Rattle.hart_cli.specs.text.HexText.{hex_items, hex_line};
 use crate::text::pairs::Pairs;
 use hart_values::ByteList;
 
-/// The line of a message, which has at most 287 bytes: two digits for each, and a space or the line feed after them.
+/// The line of a message of at most 287 bytes: two digits for each byte, and then a space or the line feed.
 pub type HexLine = ByteList<861>;
 
 /// Adds the bytes in upper case hex, two digits for each.
@@ -21,7 +21,7 @@ pub fn push_hex<const N: usize>(line: &mut ByteList<N>, pairs: &Pairs, bytes: &[
     }
 }
 
-/// Adds the bytes in upper case hex, two digits for each, with one space between two of them.
+/// Adds the bytes in upper case hex, two digits for each, separated by single spaces.
 pub fn push_hex_items<const N: usize>(line: &mut ByteList<N>, pairs: &Pairs, bytes: &[u8])
     requires { length line.old + 3 * length bytes.now ≤ N }
     ensures items { line.new ≡ line.old ++ hex_items bytes.now }

@@ -15,7 +15,7 @@ use hart_frame::Char;
 use hart_line::{Digits, Filling};
 use std::alloc::Global;
 
-/// An input that was read so far has no two lists of characters before its fault, and no two faults.
+/// What was read of an input, and how it ended, determines the characters before its fault, and the fault itself.
 pub fn inputs_are_unambiguous()
     ensures { (text : List ℕ) (ending : Ending) (xs ys : List Character) (f g : Option CliFault)
         → HasChars text ending xs f → HasChars text ending ys g → (xs ≡ ys) × (f ≡ g) }
@@ -43,8 +43,8 @@ pub fn read_chars(alloc: Global, mut text: Filling<u8>) -> Result<Vec<Char>, Cli
     Ok(chars.finish())
 }
 
-/// Reads a text up to the place where no piece begins, and gives that place. The last byte is no item's, so that there is room
-/// for half as many characters as there are bytes before it.
+/// Reads a text up to the place where no piece begins, and returns that place. The last byte belongs to no item, so room for one
+/// character per two bytes before it is enough.
 pub fn read_pieces(digits: &Digits, text: &[u8], chars: &mut Filling<Char>) -> usize
     requires empty { chars.old.items ≡ [] }
     requires room { length text.now ≤ 2 * chars.old.room + 2 }
@@ -60,8 +60,8 @@ pub fn read_pieces(digits: &Digits, text: &[u8], chars: &mut Filling<Char>) -> u
     place
 }
 
-/// Reads the piece that a text begins with, or several items if they stand as they mostly do, and gives the number of their bytes.
-/// There is none if no piece begins the text.
+/// Reads the first piece of a text, or several items at once if they stand in a usual way. Returns how many bytes it read, or
+/// `None` if no piece begins the text.
 fn read_more(digits: &Digits, text: &[u8], chars: &mut Filling<Char>) -> Option<usize>
     requires room { length text.now + 2 * length chars.old.items ≤ 2 * chars.old.room + 2 }
     ensures { MatchOption result

@@ -14,7 +14,7 @@ pub struct LeadingPiece {
     pub len: usize,
 }
 
-/// Returns the piece that begins a text, as [`leading_piece`] gives it, by a table of digits if it is an item without fault bits.
+/// Returns the first piece of a text, like [`leading_piece`], but reads an item without fault bits by a table of digits.
 pub fn next_piece(digits: &Digits, text: &[u8]) -> Option<LeadingPiece>
     ensures { MatchOption result (NoPieceBegins text.now) (λ lead. BeginsAs text.now lead.char lead.len) }
 {
@@ -27,7 +27,7 @@ pub fn next_piece(digits: &Digits, text: &[u8]) -> Option<LeadingPiece>
     leading_piece(text)
 }
 
-/// Returns the character of the item that begins a text, if no fault bits follow it and a byte does.
+/// Returns the character of the item that begins a text, if a byte other than `!` follows its two digits.
 fn plain_char(digits: &Digits, text: &[u8]) -> Option<Char>
     ensures { IfSome result (λ char. BeginsAs text.now (Some char) 2) }
 {
@@ -51,7 +51,7 @@ fn leading_piece(text: &[u8]) -> Option<LeadingPiece>
     }
     let item = leading_item(text)?;
     if item.len == text.len() {
-        // What follows an item makes it whole.
+        // An item is whole only when a byte follows it.
         return None;
     }
     Some(LeadingPiece {
@@ -67,13 +67,13 @@ pub fn is_separator(byte: u8) -> bool
     matches!(byte, b' ' | b'\t' | b'\r' | b'\n')
 }
 
-/// Returns true if a piece begins a text once the right bytes follow it, if none does as it stands. Such a text is short.
+/// Returns true if the right bytes after a text would make a piece begin it, although none begins it yet. Such a text is short.
 pub fn may_begin(text: &[u8]) -> bool
     requires { NoPieceBegins text.now }
     ensures may { IsTrue result ↔ MayBegin text.now }
     ensures short { IsTrue result → length text.now ≤ 5 }
 {
-    // Each beginning of an item becomes one if it is filled up from these bytes.
+    // Any beginning of an item becomes a whole item if it is filled up from these bytes.
     let mut item = *b"00!02 ";
     if text.len() > item.len() {
         return false;

@@ -5,7 +5,7 @@ ghost use Rattle.hex.specs.Hex.{encode_upper};
 use crate::text::hex_text::digits_of;
 use std::marker::Model;
 
-/// The two digits of each byte in upper case hex, for which the library is asked once.
+/// The two digits of each byte in upper case hex. The library is asked for them only once.
 #[derive(Drop)]
 pub struct Pairs {
     pairs: [[u8; 2]; 256],
@@ -23,7 +23,7 @@ impl Model for Pairs {
 }
 
 impl Pairs {
-    /// Asks for the digits of each byte.
+    /// Asks the library for the digits of each byte.
     pub fn new() -> Pairs {
         let mut pairs = [[0; 2]; 256];
         for place in 0..256 {

@@ -47,7 +47,7 @@ pub fn dense_items(digits: &Digits, text: &[u8]) -> Option<[u8; ITEMS_AT_ONCE]>
     Some([first, second, third, fourth])
 }
 
-/// Returns true if all of four bytes are separators.
+/// Returns true if all four bytes are separators.
 fn are_separators(bytes: [u8; 4]) -> bool
     ensures { IsTrue result → AreSeparators bytes }
 {

@@ -6,8 +6,8 @@ use crate::text::hex_text::push_hex;
 use crate::text::pairs::Pairs;
 use hart_values::ByteList;
 
-/// The most bytes of a line, which the longest line of a frame has: two places of 20 digits, the three words of kind, master and
-/// burst bit, 10 digits of an address, 6 of the expansion bytes, 3 of the command and 510 of the payload, eight spaces and a
+/// How many bytes a line has at most. The longest line is that of a frame: two places of 20 digits, the three words of kind, master
+/// and burst bit, 10 digits of an address, 6 of the expansion bytes, 3 of the command and 510 of the payload, eight spaces and a
 /// line feed.
 pub const TEXT_LINE_LEN: usize = 583;
 
@@ -33,7 +33,7 @@ pub fn push_word<const N: usize>(line: &mut ByteList<N>, word: &str)
     line.push(b' ');
 }
 
-/// Adds the word of some bytes.
+/// Adds bytes as a word: in hex, or `-` if there are none.
 pub fn push_hex_word<const N: usize>(line: &mut ByteList<N>, pairs: &Pairs, bytes: &[u8])
     requires { length line.old + 2 * length bytes.now < N }
     ensures word { line.new ≡ line.old ++ bytes_word bytes.now }

@@ -15,26 +15,26 @@ use hart_frame::{Char, Scanner};
 use hart_line::Digits;
 use hart_values::ByteList;
 
-/// The most bytes of lines that are kept: a line has at most twelve for each character that its frame takes up, of which the scanner
-/// holds 269 at most, and what is read ahead has one for each two of its 16,389 bytes.
+/// How many bytes of lines are kept at most: 12 for each character that a frame takes up. The scanner holds at most 269 characters,
+/// and what is read ahead has at most one for every two of its 16,389 bytes.
 const TEXT_LINES_LEN: usize = 101_562;
 
 /// Lines that are not yet written.
 type TextLines = ByteList<TEXT_LINES_LEN>;
 
-/// A scanner, and lines of the frames that it gave.
+/// A scanner, and lines of the frames that it found.
 #[derive(Drop)]
 pub struct FrameLines {
     /// It finds the frames.
     pub scanner: Scanner,
     /// The lines that are not yet written.
     pub lines: TextLines,
-    /// The digits of what they say in hex.
+    /// The table of hex digits for the lines.
     pub pairs: Pairs,
 }
 
 impl FrameLines {
-    /// Nothing was heard, and no line is kept.
+    /// Returns the state in which nothing was heard and no line is kept.
     pub fn new() -> FrameLines
         ensures scanner { result.scanner ≡ new_scan }
         ensures lines { result.lines ≡ [] }
@@ -46,8 +46,8 @@ impl FrameLines {
         }
     }
 
-    /// Scans the items that a text begins with, keeps a line for each frame that they decide, and gives the rest of the text, at whose
-    /// beginning no piece stands.
+    /// Scans the leading items of a text, and keeps a line for each frame that they decide. Returns the rest of the text, which no
+    /// piece begins.
     pub fn scan_text<'a>(&mut self, digits: &Digits, text: &'a [u8]) -> &'a [u8]
         requires waiting { IsWaiting self.old.scanner }
         requires none_kept { self.old.lines ≡ [] }
@@ -103,7 +103,7 @@ impl FrameLines {
         self.take_frames();
     }
 
-    /// Says that nothing more is heard, and keeps a line for each frame that this decides.
+    /// Tells the scanner that nothing more is heard, and keeps a line for each frame that this decides.
     pub fn finish(&mut self)
         requires waiting { IsWaiting self.old.scanner }
         requires none_kept { self.old.lines ≡ [] }

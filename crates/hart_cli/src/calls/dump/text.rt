@@ -10,7 +10,7 @@ use hart_frame::{FoundView, FrameKind};
 use hart_values::{Address, ByteList, MasterId};
 use itoa::Buffer;
 
-/// Adds the line of a frame: its two places, then its parts, one space between two of them, and a line feed.
+/// Adds the line of a frame: its two places and its parts, separated by single spaces, and a line feed.
 pub fn push_frame_line<const N: usize>(
     lines: &mut ByteList<N>,
     pairs: &Pairs,

@@ -1,4 +1,4 @@
-//! Response codes, and the names that they have.
+//! Response codes and their names.
 ghost use Rattle.std.specs.Prelude.{◌≡◌, ◌++◌, ◌+◌, ◌≤◌, IfSome, length};
 ghost use Rattle.std.specs.Option.{option_map};
 ghost use Rattle.hart_cli.specs.explain.Codes.{code_name, code_words};
@@ -6,7 +6,7 @@ ghost use Rattle.hart_cli.specs.explain.Codes.{code_name, code_words};
 use crate::calls::explain::words::push_named_number;
 use crate::kept::Kept;
 
-/// Appends a response code of a command by its number and, if it has one, its name.
+/// Appends the number of a command's response code and, if it has one, its name.
 pub fn push_code(text: &mut Kept, command: u8, code: u8)
     requires { length text.old + 69 ≤ 32768 }
     ensures words { text.new ≡ text.old ++ code_words command code }

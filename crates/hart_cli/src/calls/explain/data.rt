@@ -31,7 +31,7 @@ pub fn push_request_data(text: &mut Kept, pairs: &Pairs, command: u8, bytes: &[u
     }
 }
 
-/// Adds what is said of data that are no request, by the code that refuses them.
+/// Adds what is said of data that this code refuses as a request.
 fn push_no_request(text: &mut Kept, pairs: &Pairs, command: u8, code: ResponseCode, bytes: &[u8])
     requires room { length text.old + 6300 ≤ 32768 }
     requires few { length bytes.now ≤ 255 }
@@ -60,7 +60,7 @@ fn push_too_few(text: &mut Kept, pairs: &Pairs, needed: usize, bytes: &[u8])
     text.push(b'\n');
 }
 
-/// Adds what is said of data that are refused by a code.
+/// Adds what is said of data that are read as fields, but refused with this code.
 fn push_refused(text: &mut Kept, pairs: &Pairs, command: u8, code: ResponseCode, bytes: &[u8])
     requires room { length text.old + 6300 ≤ 32768 }
     requires few { length bytes.now ≤ 255 }
@@ -105,7 +105,7 @@ fn push_replied(text: &mut Kept, pairs: &Pairs, command: u8, reply: &Reply, byte
     }
 }
 
-/// Appends the line of data that follow another response code than 0, if there are any.
+/// Appends the line of the data after a response code other than 0, if there are any data.
 fn push_not_read(text: &mut Kept, pairs: &Pairs, code: ResponseCode, bytes: &[u8])
     requires room { length text.old + 900 ≤ 32768 }
     requires few { length bytes.now ≤ 255 }

@@ -10,7 +10,7 @@ use crate::kept::Kept;
 use crate::text::pairs::Pairs;
 use hart_commands::FieldRow;
 
-/// Appends the lines of data of which these rows take the first `count` bytes.
+/// Appends the lines of data: the first `count` bytes by these rows, and the rest as ignored.
 pub fn push_taken(text: &mut Kept, pairs: &Pairs, rows: &[FieldRow], count: usize, bytes: &[u8])
     requires room { length text.old + 15 * length bytes.now + 1800 ≤ 32768 }
     requires shown { are_shown (map seen rows.now) ≡ true }
@@ -21,7 +21,7 @@ pub fn push_taken(text: &mut Kept, pairs: &Pairs, rows: &[FieldRow], count: usiz
     push_bytes_line(text, pairs, "ignored", rest);
 }
 
-/// Adds the lines of the fields of data, and gives the bytes after them.
+/// Adds the lines of the fields in data, and returns the bytes after the fields.
 pub fn push_fields<'a>(
     text: &mut Kept,
     pairs: &Pairs,

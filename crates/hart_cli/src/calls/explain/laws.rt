@@ -1,4 +1,4 @@
-//! What the text of an explanation has, and what it has not.
+//! What an explanation says, and what it does not say.
 ghost use Rattle.std.specs.Prelude.{◌≡◌, ◌+◌, ◌-◌, ◌<◌, ◌≤◌, ◌↔◌, ◌⊎◌, ◌++◌, ◌∷◌, [], ℕ, false, List, All, AllPairs, Contains, IsSome};
 ghost use Rattle.std.specs.Prelude.{Option, Some};
 ghost use Rattle.std.specs.Prelude.{drop, length, option_map, set};
@@ -29,8 +29,8 @@ use hart_frame::laws::{
     every_start_has_a_frame_or_a_miss, misses_are_in_the_way, misses_say_what_is_wrong,
 };
 
-/// What was told is told for good: whatever is heard next, or read next, what was decided by then is a prefix of the whole explanation.
-/// What is decided of what was heard is one text.
+/// What was told is never taken back: whatever is heard or read next, what was decided so far is a prefix of the whole explanation.
+/// What was heard determines the text that is decided.
 pub fn explanations_grow()
     ensures one { (heard : List Heard) (xs ys : List ℕ) → IsDecidedExplanation heard xs → IsDecidedExplanation heard ys → xs ≡ ys }
     ensures heard { (heard more : List Heard) (told whole : List ℕ) → IsDecidedExplanation heard told
@@ -43,9 +43,9 @@ pub fn explanations_grow()
         → (rest : List ℕ) × (whole ≡ told ++ rest) }
 {}
 
-/// Of an input without a silence that was read so far, `hart dump` and `hart explain` say the same fault, if any, and what they write is
-/// of the same messages with the same places. So it is if one of them left the input at bad hex, before it came to its end, and the other
-/// read on.
+/// For an input without a silence, read equally far, `hart dump` and `hart explain` return the same fault, if any, and write of the
+/// same messages at the same places. This also holds if one of them left the input at bad hex, before its end, and the other read
+/// on.
 pub fn explanations_name_the_messages_of_dump()
     ensures whole { (input : List ℕ) (ending : Ending) (f g : Option CliFault) (lines text : List ℕ) → HasNoSilence input
         → IsDump input ending f lines → IsExplanation input ending g text
@@ -58,11 +58,11 @@ pub fn explanations_name_the_messages_of_dump()
         → (f ≡ g) × AreOfOneHearing (input ++ more) ending f lines text }
 {}
 
-/// What is said of characters is what is said of the places before their first message, its paragraph, and what is said from its stop on.
+/// An explanation is what is said of the places before the first message, that message's paragraph, and what is said after it.
 ///
-/// What is said of a gap between messages is a line for each of its places that has a miss, in the order of the places; those are the
-/// places of the gap at which the definition has a miss, none twice. Each place of it at which a body may start, in the list from the end
-/// of the last message on, is among them, and no other is but one after one preamble byte alone.
+/// A gap between messages has one line for each place where the definition has a miss, in the order of the places. Let the list be
+/// the characters from the end of the last message on. Each place of the gap where a body may start in it has a line. Any other
+/// place has one only if it comes after one preamble byte alone.
 pub fn every_start_outside_messages_has_one_line()
     ensures by_message { (chars : List Character) (from : ℕ) (found : Found) (later : List Found)
         → explanation (sightings chars from (found ∷ later))
@@ -84,12 +84,11 @@ pub fn every_start_outside_messages_has_one_line()
 
 /// Each line of a gap names what really stands in the way, at its real place.
 ///
-/// Where a body may start, in the list from the end of the last message on, the reason that a line gives is in the way in the characters
-/// of the whole input. With the byte that would fit at the place told, a frame stands at the place of the line, and ends with it. The
-/// character at the place told has the fault bits told. Whatever bytes come for all that are missing but the last, with their check byte as
-/// the last a frame stands at the place of the line, and ends with it. Where only one `FF` is said to stand, one alone stands right before
-/// the place of the line, in the list from the end of the last message on, and a whole body there, which ends before two `FF` in a row
-/// begin.
+/// Let the list be the characters from the end of the last message on. Where a body may start in it, the line's reason is in the
+/// way in the whole input. If the byte that would fit replaces the check byte, a frame stands at the line's place and ends with
+/// that byte. The character at the place told has the fault bits told. If the missing characters come, any bytes and then their
+/// check byte, a frame stands at the line's place and ends with them. If a line says that only one `FF` stands before its place,
+/// just one stands right before it in the list. A whole body stands at that place, and ends before two `FF` in a row begin.
 pub fn hints_of_explanations_are_right()
     ensures in_the_way { (chars : List Character) (from stop place : ℕ) (miss : Miss) → All (λ character. character.byte < 256) chars
         → Contains (missed chars from stop) (Missed place miss) → IsStart (place - from) (drop from chars)

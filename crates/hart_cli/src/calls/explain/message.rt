@@ -16,7 +16,7 @@ use hart_commands::command_name;
 use hart_frame::{FoundView, FrameKind, FrameView};
 use itoa::Buffer;
 
-/// Appends the paragraph of a message, whose places are counted from this first place on.
+/// Appends the paragraph of a message. Its places are counted from `first` on.
 #[tactic(auto, unfolding(crate::specs::explain::Message::paragraph))]
 pub fn push_paragraph(text: &mut Kept, pairs: &Pairs, first: u64, found: &FoundView<'_>)
     requires room { length text.old + 8192 ≤ 32768 }
@@ -54,7 +54,7 @@ fn push_reply(text: &mut Kept, pairs: &Pairs, command: u8, payload: &[u8])
     push_reply_data(text, pairs, command, payload);
 }
 
-/// Appends the line of a message, whose places are counted from this first place on.
+/// Appends the line of a message. Its places are counted from `first` on.
 fn push_message_line(text: &mut Kept, pairs: &Pairs, first: u64, found: &FoundView<'_>)
     requires room { length text.old + 220 ≤ 32768 }
     requires start { first + found.now.start < 2 ^ 64 }

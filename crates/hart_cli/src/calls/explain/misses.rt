@@ -1,4 +1,4 @@
-//! What is said of places at which no message stands, though one seems to start there.
+//! What is said of places where a message seems to start, but none stands.
 ghost use Rattle.std.specs.Prelude.{◌≡◌, ◌++◌, ◌+◌, ◌-◌, ◌<◌, ◌≤◌, ◌^◌, codes, decimal, length};
 ghost use Rattle.hart_frame.specs.heard.Sighting.{miss_in_whole};
 ghost use Rattle.hart_frame.specs.scan.Sighting.{NamesPlacesBelow};
@@ -11,7 +11,7 @@ use crate::text::words::push_text;
 use hart_frame::Miss;
 use itoa::Buffer;
 
-/// Appends the line of a missed place. It and the places in its miss are counted from this first place on.
+/// Appends the line of a missed place. This place and those in its miss are counted from `first` on.
 pub fn push_miss_line(text: &mut Kept, pairs: &Pairs, first: u64, place: usize, miss: Miss)
     requires room { length text.old + 200 ≤ 32768 }
     requires place { first + place < 2 ^ 64 }
@@ -25,7 +25,7 @@ pub fn push_miss_line(text: &mut Kept, pairs: &Pairs, first: u64, place: usize, 
     text.push(b'\n');
 }
 
-/// Appends the words of a miss, whose places are counted from this first place on.
+/// Appends the words of a miss. Its places are counted from `first` on.
 fn push_miss(text: &mut Kept, pairs: &Pairs, first: u64, miss: Miss)
     requires room { length text.old + 100 ≤ 32768 }
     requires fits { NamesPlacesBelow (2 ^ 64 - first) miss }
@@ -58,7 +58,7 @@ fn push_miss(text: &mut Kept, pairs: &Pairs, first: u64, miss: Miss)
     }
 }
 
-/// Appends the words of a number of missing characters, the last of which is the check byte.
+/// Appends the words for this number of missing characters. The last of them is the check byte.
 fn push_missing(text: &mut Kept, count: usize)
     requires { length text.old + 80 ≤ 32768 }
     ensures words { text.new ≡ text.old ++ missing_words count }
@@ -73,7 +73,7 @@ fn push_missing(text: &mut Kept, count: usize)
     }
 }
 
-/// Adds the words of a check byte at a place, and of the one that would fit.
+/// Adds the words for a check byte at a place, and for the check byte that would fit.
 fn push_check(text: &mut Kept, pairs: &Pairs, place: u64, byte: u8, fits: u8)
     requires { length text.old + 70 ≤ 32768 }
     ensures words { text.new ≡ text.old ++ codes "the check byte is " ++ byte_value byte ++ codes " at " ++ decimal place

@@ -16,7 +16,7 @@ struct NamedBit {
     name: &'static str,
 }
 
-/// A bit, in one line.
+/// Makes a named bit in one line.
 macro_rules! bit {
     ($value:expr, $name:literal) => {
         NamedBit {

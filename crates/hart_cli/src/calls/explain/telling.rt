@@ -1,4 +1,4 @@
-//! What is heard and not yet told, and what is said of it until that is written.
+//! What is heard and not yet told, and text that is not yet written.
 ghost use Rattle.std.specs.Prelude.{◌≡◌, ◌↔◌, ◌++◌, ◌+◌, ◌-◌, ◌<◌, ◌≤◌, ◌^◌, [], false, true, IfOk, IsTrue, OnOk, MatchResult, drop, length};
 ghost use Rattle.std.specs.Option.{option_to_list};
 ghost use Rattle.hart_frame.specs.declared.scan.sighting.After.TheVariants.{End};
@@ -24,30 +24,30 @@ use hart_frame::{After, Char, NextSighting, Sighting, next_sighting};
 use hart_line::Digits;
 use hart_values::ByteList;
 
-/// The most characters that are kept while they decide nothing: two preamble bytes, and all of the longest body but its check byte.
+/// How many characters are kept at most while they decide nothing: two preamble bytes, and the longest body without its check byte.
 const MOST_OPEN: usize = 268;
 
 /// Characters that decide nothing yet.
 type Open = ByteList<MOST_OPEN>;
 
-/// The most characters that are looked at together: those that decide nothing yet, and a chunk of what is read.
+/// How many characters are looked at together at most: those that decide nothing yet, and a chunk of what is read.
 const HELD_LEN: usize = MOST_OPEN + CHUNK_LEN;
 
-/// Faultless characters that were heard, of which not all is told, and text that is not yet written.
+/// Faultless characters that were heard but are not wholly told, and text that is not yet written.
 #[derive(Drop)]
 pub struct Telling {
-    /// The characters of which not all is told.
+    /// The characters that are not wholly told.
     pub held: ByteList<HELD_LEN>,
     /// The place of the first of them in all that was heard.
     pub first: u64,
     /// The text that is not yet written.
     pub kept: Kept,
-    /// The digits of what it says in hex.
+    /// The table of hex digits for the text.
     pub pairs: Pairs,
 }
 
 impl Telling {
-    /// Nothing was heard, and no text is kept.
+    /// Returns the state in which nothing was heard and no text is kept.
     pub fn new() -> Telling
         ensures { IsNew result }
     {
@@ -59,8 +59,8 @@ impl Telling {
         }
     }
 
-    /// Hears the characters and the silences that a text begins with, and writes what is decided of them. Returns the place of the rest of
-    /// the text, at whose beginning neither a piece nor a `/` stands.
+    /// Hears the leading characters and silences of a text, and writes what they decide. Returns the place of the rest of the text,
+    /// which begins with neither a piece nor a `/`.
     ///
     /// # Errors
     ///
@@ -106,8 +106,8 @@ impl Telling {
         Ok(())
     }
 
-    /// Hears the characters and the silences that a text begins with. Returns the place of the rest of the text, at whose beginning neither
-    /// a piece nor a `/` stands.
+    /// Hears the leading characters and silences of a text. Returns the place of the rest of the text, which begins with neither a
+    /// piece nor a `/`.
     ///
     /// # Errors
     ///
@@ -136,8 +136,7 @@ impl Telling {
         }
     }
 
-    /// Hears the characters of the items that a text begins with. Returns the place of the rest of the text, at whose beginning no piece
-    /// stands.
+    /// Hears the characters of the leading items of a text. Returns the place of the rest of the text, which no piece begins.
     ///
     /// # Errors
     ///
@@ -218,7 +217,7 @@ impl Telling {
         }
     }
 
-    /// Tells all that is decided of what is held and of what comes after it, and holds the rest.
+    /// Tells all that the held characters and what comes after them decide, and holds the rest.
     ///
     /// # Errors
     ///
@@ -246,7 +245,7 @@ impl Telling {
         Ok(())
     }
 
-    /// Lets characters that are told go: this number of what is held and of what came after it. At most 268 stay.
+    /// Drops the characters that are told: the first `used` of those held and of what came after them. At most 268 stay.
     fn let_go(&mut self, used: usize)
         requires places { self.old.first + used < 2 ^ 64 }
         requires few { length (drop used self.old.held) ≤ 268 }
@@ -259,7 +258,7 @@ impl Telling {
         self.first += used as u64;
     }
 
-    /// Tells the rest of what was heard, after which nothing comes, and writes it.
+    /// Tells the rest of what was heard, since nothing comes after it, and writes the text.
     ///
     /// # Errors
     ///
@@ -283,8 +282,8 @@ fn begins_with_silence(text: &[u8]) -> bool
     text.first() == Some(&b'/')
 }
 
-/// Tells all sightings that are decided of bytes, whose first has this place in all that was heard, and of what comes after them. Returns
-/// how many characters are told by then.
+/// Tells all decided sightings in bytes and in what comes after them. The first byte has the place `first` in all that was heard.
+/// Returns how many characters are told by then.
 ///
 /// # Errors
 ///
@@ -318,8 +317,8 @@ fn tell_decided<W: Sink>(
     }
 }
 
-/// Returns the next sighting in bytes, with what comes after them, from a place on. Each arm makes that value anew, since the prover
-/// follows no copy of an enum that holds a character.
+/// Returns the next sighting in bytes and what comes after them, from a place on. Each arm makes the value of `after` anew, since
+/// the prover follows no copy of an enum that holds a character.
 fn next_after<'a>(held: &'a [u8], after: &After, from: usize) -> NextSighting<'a>
     requires within { from ≤ length (heard_with held.now after.now) }
     requires valid { AfterIsValid after.now }
@@ -333,7 +332,7 @@ fn next_after<'a>(held: &'a [u8], after: &After, from: usize) -> NextSighting<'a
     }
 }
 
-/// Appends what is said of a sighting, whose places are counted from this first place on.
+/// Appends what is said of a sighting. Its places are counted from `first` on.
 fn push_sighting(text: &mut Kept, pairs: &Pairs, first: u64, sighting: &Sighting<'_>)
     requires room { length text.old + 8192 ≤ 32768 }
     requires places { FitsFrom first sighting.now }

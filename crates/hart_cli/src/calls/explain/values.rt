@@ -17,7 +17,7 @@ use itoa::Buffer;
 /// The year whose byte is 0.
 const FIRST_YEAR: u16 = 1900;
 
-/// The most characters of a packed text.
+/// How many characters a packed text has at most.
 const MOST_CHARACTERS: usize = 32;
 
 /// Adds the value of a field.
@@ -75,7 +75,7 @@ fn push_unit(text: &mut Kept, code: u8)
     push_in_parentheses(text, unit_name(code));
 }
 
-/// Appends a name in parentheses after a space, if there is one.
+/// Appends a space and a name in parentheses, if there is a name.
 fn push_in_parentheses(text: &mut Kept, name: Option<&str>)
     requires room { length text.old + 48 ≤ 32768 }
     requires short { IfSome name (λ name. length name.now ≤ 45) }

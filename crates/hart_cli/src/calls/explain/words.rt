@@ -45,7 +45,7 @@ fn master_words(master: MasterId) -> &'static str
     }
 }
 
-/// Adds the words of an address, of which these are for broadcast.
+/// Adds the words of an address; those of a broadcast address are `broadcast`.
 fn push_device(text: &mut Kept, pairs: &Pairs, broadcast: &str, address: Address)
     requires room { length text.old + 40 ≤ 32768 }
     requires short { length broadcast.now ≤ 18 }
@@ -79,7 +79,7 @@ pub fn push_said(text: &mut Kept, name: &str, value: &str)
     text.push(b'\n');
 }
 
-/// Adds a line of what a message says, of bytes.
+/// Adds a line of what a message says, with bytes as its value.
 fn push_said_bytes(text: &mut Kept, pairs: &Pairs, name: &str, bytes: &[u8])
     requires { length text.old + length name.now + 2 * length bytes.now + 9 ≤ 32768 }
     ensures line { text.new ≡ text.old ++ said_line name.now (hex_value bytes.now) }
@@ -126,7 +126,7 @@ pub fn push_named_number(text: &mut Kept, number: u8, name: Option<&str>)
     }
 }
 
-/// Adds the beginning of a line of what a message says, with its name.
+/// Begins a line of what a message says: adds the line's name.
 pub fn push_name(text: &mut Kept, name: &str)
     requires { length text.old + length name.now + 6 ≤ 32768 }
     ensures name { text.new ≡ text.old ++ codes "    " ++ name.now ++ codes ": " }

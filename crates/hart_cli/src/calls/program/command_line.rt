@@ -25,9 +25,9 @@ use std::alloc::{AllocError, Global};
 /// The version that `hart --version` shows.
 const VERSION: &str = "0.1.0";
 
-/// The word `answer`, `dump`, `explain`, `serve` or `sim` alone is a call of it, without an image; `--image 01` after `answer`, `serve` or
-/// `sim` gives it the image `01`, and `--raw` after `explain` makes its input raw. `encode P @0 0` is a call with no data and 5 preamble
-/// bytes, and with 20 if `--preambles 20` follows. `request P @0 0` is a call with no fields, and `request P @0 6 a=1 b=2` one with two.
+/// The word `answer`, `dump`, `explain`, `serve` or `sim` alone calls that subcommand, without an image. After `answer`, `serve` or
+/// `sim`, `--image 01` gives the image `01`; after `explain`, `--raw` makes the input raw. `encode P @0 0` has no data and 5
+/// preamble bytes, or 20 if `--preambles 20` follows. `request P @0 0` has no fields, and `request P @0 6 a=1 b=2` has two.
 pub fn words_are_calls()
     ensures answer { Calls (Answer None) (codes "answer" ∷ []) }
     ensures answer_image { Calls (Answer (Some (codes "01"))) (codes "answer" ∷ codes "--image" ∷ codes "01" ∷ []) }
@@ -58,7 +58,7 @@ pub fn words_are_calls()
         (codes "request" ∷ codes "P" ∷ codes "@0" ∷ codes "6" ∷ codes "a=1" ∷ codes "b=2" ∷ []) }
 {}
 
-/// Words make one call at most, so that what the program does is determined by them.
+/// Words make at most one call, so they determine what the program does.
 pub fn one_call()
     ensures { (a b : Call) (words : List (List ℕ)) → Calls a words → Calls b words → a ≡ b }
 {}
@@ -98,8 +98,8 @@ pub fn matches_of<'a>(alloc: Global, words: &'a [String]) -> Result<ArgMatches<'
     Ok(matches)
 }
 
-/// Returns the call of the subcommand that the words named, or `None` if they named none of the seven, or if `encode_words` or `request_words`
-/// gives `None`. clap lets neither pass.
+/// Returns the call of the subcommand that the words name. Returns `None` if they name none of the seven, or if `encode_words` or
+/// `request_words` returns `None`; clap lets neither happen.
 pub fn call_of<'w, 'a: 'w>(matches: &'w ArgMatches<'a>) -> Option<Call<'w, 'a>>
     ensures { result ≡ call_of (subcommand_rows_of matches.now) }
 {
@@ -142,8 +142,8 @@ fn word_of<'a>(given: &ArgMatches<'a>, id: &str) -> Option<&'a str>
     given.get_str(id)
 }
 
-/// Returns the words of `hart encode`, or `None` if WHO, ADDRESS or COMMAND is missing, or if the number of preamble bytes is not from 5 to
-/// 20. clap lets neither pass.
+/// Returns the words of `hart encode`. Returns `None` if WHO, ADDRESS or COMMAND is missing, or if the number of preamble bytes is
+/// not from 5 to 20; clap lets neither happen.
 fn encode_words<'a>(given: &ArgMatches<'a>) -> Option<EncodeWords<'a>>
     ensures { result ≡ words_of (rows_of (found_of given.now)) }
 {
@@ -157,8 +157,8 @@ fn encode_words<'a>(given: &ArgMatches<'a>) -> Option<EncodeWords<'a>>
     })
 }
 
-/// Returns the words of `hart request`, or `None` if WHO, ADDRESS or COMMAND is missing, or if the number of preamble bytes is not from 5 to
-/// 20. clap lets neither pass.
+/// Returns the words of `hart request`. Returns `None` if WHO, ADDRESS or COMMAND is missing, or if the number of preamble bytes is
+/// not from 5 to 20; clap lets neither happen.
 fn request_words<'w, 'a: 'w>(given: &'w ArgMatches<'a>) -> Option<RequestWords<'w, 'a>>
     ensures { result ≡ request_words_of (rows_of (found_of given.now)) }
 {
@@ -182,7 +182,7 @@ fn words_of<'w, 'a: 'w>(given: &'w ArgMatches<'a>, id: &str) -> Option<&'w [&'a 
     given.get_strs(id)
 }
 
-/// Returns the number of preamble bytes that a word writes, or `None` if it writes none from 5 to 20.
+/// Returns the number of preamble bytes that a word writes, or `None` if it is not a number from 5 to 20.
 fn preambles_of(word: &str) -> Option<u8>
     ensures { result ≡ preambles_of word.now }
 {
@@ -193,17 +193,17 @@ fn preambles_of(word: &str) -> Option<u8>
     Some(count)
 }
 
-/// Returns what the words are matched against.
+/// Returns the command that the words are matched against.
 fn hart_command<'a>(alloc: Global) -> Result<Command<'a>, AllocError>
     ensures { IfOk result (λ command. app_of command ≡ hart_app) }
 {
     let hart = asking_command(alloc)?;
     let encode = encode_command(alloc)?;
-    // The words do not give clap the program's name, which the usage of `hart help` shows.
+    // The words leave out the program's name, so clap gets it here: the usage of `hart help` shows it.
     hart.subcommand(encode)?.bin_name("hart")
 }
 
-/// `hart` with the subcommands that read an input, and `request`.
+/// Returns `hart` with the subcommands that read an input, and `request`.
 fn asking_command<'a>(alloc: Global) -> Result<Command<'a>, AllocError>
     ensures { IfOk result (λ command. app_of command ≡ asking_app) }
 {
@@ -211,7 +211,7 @@ fn asking_command<'a>(alloc: Global) -> Result<Command<'a>, AllocError>
     hart.subcommand(request_command(alloc)?)
 }
 
-/// `hart` with the subcommands that read an input.
+/// Returns `hart` with the subcommands that read an input.
 fn reading_command<'a>(alloc: Global) -> Result<Command<'a>, AllocError>
     ensures { IfOk result (λ command. app_of command ≡ reading_app) }
 {
@@ -220,7 +220,7 @@ fn reading_command<'a>(alloc: Global) -> Result<Command<'a>, AllocError>
     with_image_command(alloc, hart, "sim", help::SIM)
 }
 
-/// `hart` with the subcommands that read what is heard at once.
+/// Returns `hart` with the subcommands that read what is heard: `answer`, `dump` and `explain`.
 fn hearing_command<'a>(alloc: Global) -> Result<Command<'a>, AllocError>
     ensures { IfOk result (λ command. app_of command ≡ hearing_app) }
 {
@@ -229,14 +229,14 @@ fn hearing_command<'a>(alloc: Global) -> Result<Command<'a>, AllocError>
     hart.subcommand(explain_command(alloc)?)
 }
 
-/// `hart explain` with its flag.
+/// Returns `hart explain` with its flag.
 fn explain_command<'a>(alloc: Global) -> Result<Command<'a>, AllocError>
     ensures { IfOk result (λ command. app_of command ≡ explain_app) }
 {
     plain_command(alloc, "explain", help::EXPLAIN).arg(raw_flag(alloc))
 }
 
-/// `hart` before it has its subcommands.
+/// Returns `hart` without its subcommands.
 fn hart_alone<'a>(alloc: Global) -> Command<'a>
     ensures { app_of result ≡ hart_alone }
 {
@@ -249,14 +249,14 @@ fn hart_alone<'a>(alloc: Global) -> Command<'a>
         .arg_required_else_help(true)
 }
 
-/// `hart encode` with its words and its option.
+/// Returns `hart encode` with its words and its option.
 fn encode_command<'a>(alloc: Global) -> Result<Command<'a>, AllocError>
     ensures { IfOk result (λ command. app_of command ≡ encode_app) }
 {
     with_options(alloc, with_required_words(alloc, "encode", help::ENCODE)?)
 }
 
-/// `hart request` with its words and its option.
+/// Returns `hart request` with its words and its option.
 fn request_command<'a>(alloc: Global) -> Result<Command<'a>, AllocError>
     ensures { IfOk result (λ command. app_of command ≡ request_app) }
 {
@@ -266,7 +266,7 @@ fn request_command<'a>(alloc: Global) -> Result<Command<'a>, AllocError>
         .arg(preambles_option(alloc))
 }
 
-/// Returns the words of fields, which may be left out.
+/// Returns the argument for the words of fields, which may be left out.
 fn field_words<'a>(alloc: Global) -> Arg<'a>
     ensures rule { rule_of result ≡ fields_rule }
     ensures local { result.global ≡ false }
@@ -276,7 +276,7 @@ fn field_words<'a>(alloc: Global) -> Arg<'a>
         .help(help::FIELD_HELP)
 }
 
-/// Returns a subcommand with the words that have to be there.
+/// Returns a subcommand with its required words.
 fn with_required_words<'a>(
     alloc: Global,
     name: &'a str,
@@ -290,7 +290,7 @@ fn with_required_words<'a>(
     with_word(alloc, plain, "COMMAND", help::COMMAND_HELP)
 }
 
-/// Returns the command with a word more, which has to be there.
+/// Returns the command with one more word, which is required.
 fn with_word<'a>(
     alloc: Global,
     command: Command<'a>,
@@ -302,7 +302,7 @@ fn with_word<'a>(
     command.arg(required_word(alloc, id, help))
 }
 
-/// Returns the command with the data and the number of preamble bytes, which may be left out.
+/// Returns the command with the data and the number of preamble bytes, both of which may be left out.
 fn with_options<'a>(alloc: Global, command: Command<'a>) -> Result<Command<'a>, AllocError>
     ensures { IfOk result (λ more. app_of more ≡
         with_rule (with_rule (app_of command.entry) (new_rule (codes "DATA"))) preambles_rule) }
@@ -310,7 +310,7 @@ fn with_options<'a>(alloc: Global, command: Command<'a>) -> Result<Command<'a>, 
     command.arg(data_word(alloc))?.arg(preambles_option(alloc))
 }
 
-/// Returns the word of the data, which may be left out.
+/// Returns the argument for the data, which may be left out.
 fn data_word<'a>(alloc: Global) -> Arg<'a>
     ensures rule { rule_of result ≡ new_rule (codes "DATA") }
     ensures local { result.global ≡ false }
@@ -318,7 +318,7 @@ fn data_word<'a>(alloc: Global) -> Arg<'a>
     Arg::new(alloc, "DATA").help(help::DATA_HELP)
 }
 
-/// Returns the command with a subcommand more, which takes an image.
+/// Returns the command with one more subcommand, which takes an image.
 fn with_image_command<'a>(
     alloc: Global,
     command: Command<'a>,
@@ -343,7 +343,7 @@ fn plain_command<'a>(alloc: Global, name: &'a str, page: Page<'a>) -> Command<'a
         .after_long_help(page.example)
 }
 
-/// Returns a word that has to be there.
+/// Returns the argument for a required word.
 fn required_word<'a>(alloc: Global, id: &'a str, help: &'a str) -> Arg<'a>
     ensures rule { rule_of result ≡ required_rule id.entry.now }
     ensures local { result.global ≡ false }
@@ -351,7 +351,7 @@ fn required_word<'a>(alloc: Global, id: &'a str, help: &'a str) -> Arg<'a>
     Arg::new(alloc, id).required(true).help(help)
 }
 
-/// Returns the image that the device of a call goes on from.
+/// Returns the option for the image that the device of a call goes on from.
 fn image_option<'a>(alloc: Global) -> Arg<'a>
     ensures rule { rule_of result ≡ image_rule }
     ensures local { result.global ≡ false }
@@ -362,7 +362,7 @@ fn image_option<'a>(alloc: Global) -> Arg<'a>
         .help(help::IMAGE_HELP)
 }
 
-/// Returns the option by which the input is the bytes themselves.
+/// Returns the flag for an input of raw bytes.
 fn raw_flag<'a>(alloc: Global) -> Arg<'a>
     ensures rule { rule_of result ≡ raw_rule }
     ensures local { result.global ≡ false }
@@ -373,7 +373,7 @@ fn raw_flag<'a>(alloc: Global) -> Arg<'a>
         .help(help::RAW_HELP)
 }
 
-/// Returns how many preamble bytes a message begins with.
+/// Returns the option for how many preamble bytes a message begins with.
 fn preambles_option<'a>(alloc: Global) -> Arg<'a>
     ensures rule { rule_of result ≡ preambles_rule }
     ensures local { result.global ≡ false }

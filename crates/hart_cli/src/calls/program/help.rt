@@ -9,7 +9,7 @@ pub(super) struct Page<'a> {
     pub usage: &'a str,
     /// What goes in and what comes out.
     pub help: &'a str,
-    /// How it is used, with what it writes.
+    /// An example of its use, with what it writes.
     pub example: &'a str,
 }
 

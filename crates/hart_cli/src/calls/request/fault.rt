@@ -1,4 +1,4 @@
-//! Why words give no request by the names of its fields.
+//! Why the words for the fields make no request.
 ghost use Rattle.std.specs.Prelude.{◌≡◌};
 ghost use Rattle.hart_cli.specs.request.FaultText.{name_at, reason_text};
 ghost use Rattle.hart_cli.specs.request.Reason.{reasoned};
@@ -9,38 +9,38 @@ use hart_commands::request_rows;
 /// A bad word, and why it is bad.
 #[derive(Clone, Copy, Debug)]
 pub struct BadField {
-    /// Its number, from 4 on; 3 if the command is not known, or refuses the fields; the next number if a field is missing.
+    /// The word's number, from 4 on; 3 if the command is unknown or refuses the fields; the next number if a field is missing.
     pub number: usize,
     /// What is wrong.
     pub fault: FieldFault,
 }
 
-/// Why words give no request by its fields.
+/// Why the words for the fields make no request.
 #[derive(Clone, Copy, Debug)]
 pub enum FieldFault {
     /// The command is not known.
     UnknownCommand,
-    /// The word is no NAME=VALUE.
+    /// The word does not have the form NAME=VALUE.
     NotNamed,
     /// The requests of the command have no field of this name.
     UnknownField,
     /// An earlier word gives the same field.
     GivenTwice,
-    /// No word gives the field of this command with this place, counted from 0.
+    /// No word gives the command's field at this place, counted from 0.
     Missing { command: u8, field: usize },
-    /// The character of the text at this place, counted from 0, is none that the field can have.
+    /// The field cannot have the character at this place of the text, counted from 0.
     BadCharacter { place: usize },
-    /// The text has more characters than this, the most that the field can have.
+    /// The text has more than this number of characters, which is the most that the field can have.
     TooLong { most: usize },
-    /// The value is no number in decimal up to this one.
+    /// The value is not a decimal number from 0 to this one.
     NoNumber { greatest: u16 },
-    /// The value is no day of the years 1900 to 2155, and not `not set`.
+    /// The value is neither a day of the years 1900 to 2155 nor `not set`.
     NoDate,
     /// The value is not `0x` and this number of bytes in hex.
     NoBytes { count: u8 },
     /// The value is not `0x` and one to eight bytes in hex.
     NoCodes,
-    /// A device refuses the data of the fields with this code.
+    /// With this code, a device refuses the data that the fields make.
     Refused { code: u8 },
 }
 
@@ -76,7 +76,7 @@ impl FieldFault {
     }
 }
 
-/// Returns the name of the field at a place of the requests of a command, or no text if it has none.
+/// Returns the name of the field at a place in a command's requests, or no text if there is no such field.
 fn name_at(command: u8, field: usize) -> &'static str
     ensures { result.now ≡ name_at command field }
 {

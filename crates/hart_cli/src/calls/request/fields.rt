@@ -1,4 +1,4 @@
-//! The data of a request, of words that give its fields.
+//! The data of a request, made from the words that give its fields.
 ghost use Rattle.std.specs.Prelude.{◌≡◌, ◌<◌, ◌≤◌, ◌^◌, [], length, map, option_map, true};
 ghost use Rattle.std.specs.List.{list_any};
 ghost use Rattle.std.specs.Str.{bytes_eq};
@@ -17,7 +17,7 @@ const COMMAND: usize = 3;
 /// The number of the first word that gives a field.
 const FIRST_FIELD: usize = 4;
 
-/// Returns the data of a request of this command whose fields the words give.
+/// Returns the data of this command's request, from the words for its fields.
 ///
 /// # Errors
 ///
@@ -58,7 +58,7 @@ fn first_bad_name(rows: &[FieldRow], words: &[&str]) -> Option<BadField>
     None
 }
 
-/// Returns what is wrong with the name that a word gives, after earlier words, if something is.
+/// Returns what is wrong with the name in a word that follows these earlier words, if anything is.
 fn name_fault(rows: &[FieldRow], earlier: &[&str], word: &str) -> Option<FieldFault>
     ensures { result ≡ name_fault (map seen rows.now) (map (λ word. word.now) earlier.now) word.now }
 {
@@ -86,7 +86,7 @@ fn is_field(rows: &[FieldRow], name: &str) -> bool
     false
 }
 
-/// Returns true if one of some words gives a value to this name.
+/// Returns true if any of the words gives a value to this name.
 fn is_given(words: &[&str], name: &str) -> bool
     ensures { result ≡ list_any (has_name name.now) (map (λ word. word.now) words.now) }
 {
@@ -128,7 +128,7 @@ fn data_of_fields(command: u8, rows: &[FieldRow], words: &[&str]) -> Result<Payl
     Ok(data)
 }
 
-/// Returns the bytes that words give the field of a row.
+/// Returns the bytes that the words give for the field of a row.
 fn field_value(
     command: u8,
     field: usize,
@@ -148,7 +148,7 @@ fn field_value(
     }
 }
 
-/// Returns the fault of the word of fields at a place, counted from 0.
+/// Returns the fault with the number of the word at this place among the words for fields, counted from 0.
 fn bad_at(place: usize, fault: FieldFault) -> BadField
     requires { place < 2 ^ 63 }
     ensures { result ≡ bad_at place fault }
@@ -159,7 +159,7 @@ fn bad_at(place: usize, fault: FieldFault) -> BadField
     }
 }
 
-/// Returns the place of the first word that gives the field of a row a value, or the number of words.
+/// Returns the place of the first word with a value for the field of a row, or the number of words if there is none.
 fn place_for(row: &FieldRow, words: &[&str]) -> usize
     ensures place { result ≡ place_for (map (λ word. word.now) words.now) (seen row.now) }
     ensures within { result ≤ length words.now }

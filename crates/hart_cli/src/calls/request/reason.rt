@@ -3,14 +3,14 @@ ghost use Rattle.std.specs.Prelude.{◌≡◌, ◌+◌, ◌++◌, ◌≤◌, [],
 
 use std::fmt;
 
-/// The text of a reason, in the parts that it is written of, so that it can be written without memory too.
+/// The text of a reason, in parts, so that it can be written without memory too.
 #[derive(Clone, Copy, Debug)]
 pub struct Reason {
-    /// The whole text, or what stands before its last part.
+    /// The whole text, or what stands before the number or the last word.
     pub before: &'static str,
-    /// The number, which is written in decimal.
+    /// The number, written in decimal, if there is one.
     pub number: Option<usize>,
-    /// What stands after the number.
+    /// What stands after the number. Without a number, the last word, or nothing.
     pub after: &'static str,
     /// With a number, a reason is 80 bytes long at most.
     pub ghost short: { length before.now + length after.now ≤ 60 },
@@ -19,7 +19,7 @@ pub struct Reason {
 impl Reason {
     ghost use Rattle.hart_cli.specs.request.Reason.{reasoned};
 
-    /// No text.
+    /// Returns the reason that has no text.
     pub fn none() -> Reason
         ensures { reasoned result ≡ [] }
     {

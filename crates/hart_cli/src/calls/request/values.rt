@@ -1,4 +1,4 @@
-//! The bytes of a field, of the word of its value.
+//! The bytes of a field, from the word of its value.
 ghost use Rattle.std.specs.Prelude.{◌≡◌, ◌*◌, ◌/◌, ◌≤◌, All, length, true};
 ghost use Rattle.std.specs.Str.{chars};
 ghost use Rattle.hart_values.specs.packed_text.Packing.{IsCharacter, IsPackedSize};
@@ -17,7 +17,7 @@ const FIRST_YEAR: i16 = 1900;
 
 const LAST_YEAR: i16 = 2155;
 
-/// The most bytes of a field that is given by its value.
+/// How many bytes a field given by its value has at most.
 const MOST_BYTES: usize = 32;
 
 /// The bytes of a field.
@@ -44,7 +44,7 @@ pub fn value_of(row: &FieldRow, word: &str) -> Result<FieldBytes, FieldFault>
     }
 }
 
-/// Returns this number of bytes that a word writes in hex.
+/// Reads this number of bytes from a word in hex.
 fn bytes_value(size: u8, word: &str) -> Result<FieldBytes, FieldFault>
     requires { size ≤ 32 }
     ensures { result ≡ bytes_value size word.now }
@@ -58,7 +58,7 @@ fn bytes_value(size: u8, word: &str) -> Result<FieldBytes, FieldFault>
     )
 }
 
-/// Returns bytes if they were read, and are at least and at most this number.
+/// Returns the bytes that were read, if there are at least `least` and at most `most` of them.
 fn sized(
     read: Option<Payload>,
     least: usize,
@@ -120,7 +120,7 @@ fn number_bytes(size: u8, number: u16) -> FieldBytes
     bytes
 }
 
-/// Returns the number up to a greatest one that a word writes in decimal.
+/// Returns the number that a word writes in decimal, if it is at most `greatest`.
 fn number_up_to(greatest: u16, word: &str) -> Option<u16>
     ensures { result ≡ number_up_to greatest word.now }
 {
@@ -165,7 +165,7 @@ fn latin_value(word: &str) -> Result<FieldBytes, FieldFault>
     text_value(FieldKind::LatinText, MOST_BYTES, word)
 }
 
-/// Returns the codes of a text, with spaces after it up to this number of characters.
+/// Returns the codes of a text, padded with spaces to this number of characters.
 fn text_value(kind: FieldKind, most: usize, word: &str) -> Result<FieldBytes, FieldFault>
     requires { most ≤ 32 }
     ensures { result ≡ text_value (can_have kind) most (chars word.now) }
@@ -204,7 +204,7 @@ fn pad(text: &mut FieldBytes, most: usize)
     }
 }
 
-/// Returns the bytes of a date, as jiff reads it, or of the one that is not set.
+/// Returns the bytes of a date as jiff reads it, or those of the date `not set`.
 fn date_value(word: &str) -> Result<FieldBytes, FieldFault>
     ensures { result ≡ date_value word.now }
 {

@@ -20,7 +20,7 @@ use hart_device::{Device, ImageRegisters, bench};
 use hart_frame::Char;
 use hart_line::{Digits, Filling};
 
-/// What a line asks of the device that is no delivery.
+/// What a line that is no delivery asks of the device.
 #[derive(Clone, Copy)]
 pub enum LineWord {
     /// It was without power and is on again.
@@ -33,7 +33,7 @@ pub enum LineWord {
     Counter,
 }
 
-/// Serves a line, after which one space stands, and returns the line for it.
+/// Serves a line, given with one space after it, and returns the line for it.
 pub fn serve_line(
     device: &mut Device<ImageRegisters>,
     digits: &Digits,
@@ -55,7 +55,7 @@ pub fn serve_line(
     }
 }
 
-/// Returns the word that a line is, or `None` if it is none.
+/// Reads a line as one of these words, or returns `None` if it is none of them.
 fn word_of(line: &[u8]) -> Option<LineWord>
     ensures { result ≡ named_in line_words line.now }
 {
@@ -90,7 +90,7 @@ fn obey(device: &mut Device<ImageRegisters>, pairs: &Pairs, word: LineWord) -> H
     said
 }
 
-/// Lets a device hear the characters of a line, after which one space stands, and returns the line for them.
+/// Lets a device hear the characters of a line, given with one space after it, and returns the line for them.
 fn hear_text(
     device: &mut Device<ImageRegisters>,
     digits: &Digits,
@@ -109,7 +109,7 @@ fn hear_text(
     hear(device, chars.as_slice())
 }
 
-/// Lets a device hear a delivery, and returns the line of what it answers.
+/// Lets a device hear a delivery, and returns the line with its answer.
 fn hear(device: &mut Device<ImageRegisters>, delivery: &[Char]) -> HexLine
     ensures { Hears device.old delivery.now device.new result }
 {

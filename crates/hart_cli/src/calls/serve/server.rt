@@ -1,4 +1,4 @@
-//! A device that serves, with what is read of a line and with what it says until that is written.
+//! A device that serves, with what is read of a line and with its answers until they are written.
 ghost use Rattle.std.specs.Prelude.{◌≡◌, ◌≤◌, ◌↔◌, ◌+◌, ◌⊎◌, ◌++◌, ◌∷◌, [], ℕ, List, IfErr, IfOk, IsTrue, MatchOption, OnOk, length, take};
 ghost use Rattle.std.specs.Str.Lines.{strip_carriage_return};
 ghost use Rattle.hart_cli.specs.serve.Serve.{chars_room, line_room};
@@ -15,13 +15,13 @@ use hart_frame::Char;
 use hart_line::{Digits, Filling, NoRoom};
 use std::alloc::Global;
 
-/// The most bytes of a part that are kept. If they are all there, the line is too long even if one of them is a carriage return.
+/// How many bytes of a part are kept at most. With all of them, the line is too long even if its last byte is a carriage return.
 const MOST_KEPT: usize = INPUT_LIMIT + 2;
 
 /// The room for a part, and for the space after its line.
 const LINE_ROOM: usize = MOST_KEPT + 1;
 
-/// The room for the characters of a line, which has two bytes at least for each.
+/// The room for the characters of a line, each of which takes at least two bytes.
 const CHARS_ROOM: usize = INPUT_LIMIT / 2;
 
 /// A device that serves lines.
@@ -29,15 +29,15 @@ const CHARS_ROOM: usize = INPUT_LIMIT / 2;
 pub struct Server {
     /// It hears the lines.
     pub device: Device<ImageRegisters>,
-    /// The first bytes of what is read since the last line feed.
+    /// The first bytes that were read since the last line feed.
     pub part: Filling<u8>,
     /// The characters of a line.
     pub chars: Filling<Char>,
     /// The lines that are not yet written.
     pub kept: Kept,
-    /// What the digits of a line mean.
+    /// The table of what hex digits mean, for reading lines.
     pub digits: Digits,
-    /// The digits of what is said.
+    /// The table of hex digits, for writing answers.
     pub pairs: Pairs,
 }
 
@@ -65,7 +65,7 @@ impl Server {
         })
     }
 
-    /// Serves the lines that become whole with more of an input, writes what the device says to them, and keeps the rest.
+    /// Serves the lines that more bytes of an input complete, writes what the device says to them, and keeps the rest.
     ///
     /// # Errors
     ///
@@ -83,7 +83,7 @@ impl Server {
         Ok(())
     }
 
-    /// Serves the lines that become whole with more of an input, and keeps the rest.
+    /// Serves the lines that more bytes of an input complete, and keeps the rest.
     ///
     /// # Errors
     ///
@@ -104,7 +104,7 @@ impl Server {
         Ok(())
     }
 
-    /// Serves the last line, which no line feed follows, if it is not empty, and writes what the device says to it.
+    /// Serves the last line, which has no line feed, unless it is empty, and writes what the device says to it.
     ///
     /// # Errors
     ///
@@ -122,7 +122,7 @@ impl Server {
         write_all(writer, self.kept.as_slice())
     }
 
-    /// Serves the line of the part that is kept, and keeps none of it any more.
+    /// Serves the line of the kept part, and then drops the part.
     fn serve_part(&mut self)
         requires few { length self.old.part.items ≤ most_kept }
         requires part { self.old.part.room ≡ line_room }
@@ -143,7 +143,7 @@ impl Server {
     }
 }
 
-/// Returns what stands before the first line feed of a text and what stands after it, or `None` if there is none.
+/// Returns the text before the first line feed and the text after it, or `None` if there is no line feed.
 fn next_part(text: &[u8]) -> Option<(&[u8], &[u8])>
     ensures { MatchOption result (HasNoFeed text.now) (λ taken. BeginsWithPart text.now (taken.0).now (taken.1).now) }
 {
