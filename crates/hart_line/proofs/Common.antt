@@ -1,4 +1,4 @@
--- The words that many proofs of this crate use: its definitions, the types of the code, and those of std and of the crates below.
+-- The names that many proofs of this crate use: from its definitions and its code, from std and from the crates below.
 pub use Rattle.hart_commands.specs.Registers.{AreValid, Contents, overwrite_of, overwritten, registers_of}
 pub use Rattle.hart_commands.specs.RequestData.{IsRequest, command_of}
 pub use Rattle.hart_device.specs.Device.{IsDevice, after, after_reply}

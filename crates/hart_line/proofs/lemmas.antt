@@ -1,4 +1,4 @@
--- Lemmas, in the rooms of the code and the definitions.
+-- Lemmas, in the same modules as the code and the definitions.
 pub mod script
 pub mod line
 pub mod world

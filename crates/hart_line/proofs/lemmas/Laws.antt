@@ -1,4 +1,4 @@
--- The laws of scripts and of their worlds, for the proofs of this crate and of those above.
+-- The laws of scripts and of their worlds, for the proofs of this crate and of the crates above it.
 use Rattle.hart_line.proofs.Common.{DeviceState, Outcome, Spoken, Led, arith, length, take, refl, ◌≡◌, ◌<◌, ◌^◌, ℕ, List, mod-eq_of_lt}
 use Rattle.hart_line.proofs.Common.{common_steps, take_all, LineEvent, Leg, Undetected, IsFault, AreWellMade, IsWellMadeStart, IsLast}
 use Rattle.hart_line.proofs.Common.{Start, World, first_world, state_of}

@@ -1,4 +1,4 @@
--- Scripts: texts of lines that say events.
+-- Scripts: texts whose lines say events.
 pub mod Items
 pub mod Rows
 pub mod Decided

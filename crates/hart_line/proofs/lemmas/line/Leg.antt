@@ -10,17 +10,17 @@ use Rattle.hart_device.specs.answer.Garbled.{HasGarbled, garbled_reply}
 use Rattle.hart_device.specs.declared.answer.garbled.GarbledRequest.{GarbledRequest}
 
 -- WHAT CHARACTERS BRING
--- A frame that arrives is brought.
+-- A frame that arrives is brought to the device.
 pub among_frame : (identity : IdentityParts) (chars : List Character) (sent : Option FrameParts) (frame : FrameParts)
     → ArrivesAmong chars sent (Some frame) → ReachesAmong identity chars sent (OneFrame frame)
 among_frame identity chars sent frame a = record { frame = Some frame; arrives = a; brings = grind arith }
 
--- If none arrives it is brought what characters without a frame bring.
+-- If no frame arrives, the device is brought what characters without a frame bring.
 pub among_none : (identity : IdentityParts) (chars : List Character) (sent : Option FrameParts) (brought : Brought)
     → ArrivesAmong chars sent None → BringsBy identity chars [] brought → ReachesAmong identity chars sent brought
 among_none identity chars sent brought a brings = record { frame = None; arrives = a; brings = grind arith }
 
--- What the code answers to characters without a frame is the reply to what they bring.
+-- The code's answer to characters without a frame is the reply to what they bring.
 pub answered_among : (chars : List Character) (sent : Option FrameParts) (device : DeviceState) (process : Process)
     (answer : Option FrameParts) → ArrivesAmong chars sent None
     → MatchOption answer ((request : GarbledRequest) → HasGarbled device.identity chars request → ⊥)
@@ -34,14 +34,14 @@ answered_among chars sent device process (Some reply) a is = record {
   after_is = refl;
 }
 
--- A frame that is written if there is an answer is the answer.
+-- If there is an answer, the frame that is written is this answer.
 pub frame_given : (result : Bool) (reply : FrameParts) (answer : Option FrameParts)
     → (IsTrue result → IsSome answer) × (IsSome answer → IsTrue result) → IfSome answer (λ frame. reply ≡ frame)
     → frame_if result reply ≡ answer
 frame_given result reply answer same is = grind arith
 
 -- WHAT A LEG BRINGS
--- In no characters there is no garbled request, so they bring nothing.
+-- If no characters are heard, there is no garbled request in them, so nothing arrives and nothing is brought.
 pub nothing_arrives : (sent : Option FrameParts) → ArrivesAmong [] sent None
 nothing_arrives sent = record { frames = []; are_frames = messages_have_their_frame_alone-nothing; detected = refl }
 
@@ -51,7 +51,7 @@ nothing_reaches identity heard said are =
     let among = among_none identity [] (frame_of said) NoMessage (nothing_arrives (frame_of said)) (grind (arith, length-append)) in
     record { chars = []; are_heard = are; among = among }
 
--- Otherwise the frame that was sent arrives in it, and is brought.
+-- In a clean leg the frame that was sent arrives, and is brought to the device.
 pub message_arrives : (said : SpokenFrame) → IsSpeakable said → Arrives Clean (Some said) (Some said.frame)
 message_arrives said is =
     let is_message : IsMessage said.frame said.preambles (replicate said.preambles 255 ++ is.1) =
@@ -66,7 +66,7 @@ clean_reaches identity frame (Some said) is =
     let a = message_arrives said is.speakable in
     record { chars = a.chars; are_heard = a.are_heard; among = grind (arith, is.frame, among_frame) }
 
--- What is heard of noise is its characters, in which nothing was sent.
+-- At noise its characters are heard, and nothing was sent.
 pub noise_answers : (chars : List Character) (device : DeviceState) (process : Process) (answer : Option FrameParts)
     (after : DeviceState) → AnswersTo (ReachesAmong device.identity chars None) device process answer after
     → AnswersTo (Reaches device.identity (Chars chars) None) device process answer after
@@ -78,7 +78,7 @@ noise_answers chars device process answer after a = record {
 }
 
 -- WHAT IS SPOKEN
--- What is spoken after enough preamble bytes was sent.
+-- A frame that is spoken after at least two preamble bytes counts as sent.
 pub speaks_sent : (party : Party) (preambles : ℕ) (sent : Option FrameParts) (old new : List Spoken) → 2 ≤ preambles
     → Speaks (spoken_by party preambles sent) old new → IsSent sent (spoken_by party preambles sent)
 speaks_sent party preambles sent old new enough speaks = grind arith
@@ -88,14 +88,14 @@ pub says_request : (who : MasterId) (hand : Option InHand) (frame : Option Frame
     → Speaks (sent_by who hand) old new × IsSent frame (sent_by who hand)
 says_request who hand frame old new sends speaks = grind (arith, common_steps, speaks_sent)
 
--- Frames that are spoken after others are put down after those.
+-- Frames that are spoken after others are kept after them.
 pub AreSpoken-append : (frames more : List SpokenFrame) (list others : List Spoken) → AreSpoken frames list → AreSpoken more others
     → AreSpoken (frames ++ more) (list ++ others)
 AreSpoken-append [] more [] others are next = next
 AreSpoken-append (said ∷ frames) more (spoken ∷ list) others are next = (are.0, AreSpoken-append frames more list others are.1 next)
 AreSpoken-append frames more list others are next = absurd are
 
--- What is spoken first and second in an event is put down so.
+-- What is spoken first and second in an event is kept in this order.
 pub AreSpoken-two : (first second : Option SpokenFrame) (mid new : List Spoken) → Speaks first [] mid → Speaks second mid new
     → AreSpoken (option_to_list first ++ option_to_list second) new
 AreSpoken-two first second mid new one two = grind arith

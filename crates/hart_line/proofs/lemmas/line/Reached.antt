@@ -1,4 +1,4 @@
--- How far a script has come on a line that lets go what was spoken once it is noted.
+-- How far a script has come on a line that drops spoken frames once they are noted.
 use Rattle.hart_line.proofs.Common.{◌∙◌, ◌∷◌, arith, ◌≡◌, ℕ, ◌+◌, ◌<◌, sym, refl, List, [], length, take, get_or, rules, ◌++◌, Any}
 use Rattle.hart_line.proofs.Common.{common_steps, take_more, Primary, Secondary, DeviceState, IsDevice, Process, MasterState, LineEvent}
 use Rattle.hart_line.proofs.Common.{Outcome, Spoken, LineState, Stands, Stepped, Led, start_from, AreWellMade, AreSpoken, IsLast}
@@ -9,7 +9,7 @@ use Rattle.hart_line.proofs.lemmas.world.Steps.{entered, leads_more, marks_kept}
 use Rattle.hart_line.proofs.lemmas.world.Submitted.{made_more}
 use Rattle.hart_line.proofs.lemmas.line.Leg.{AreSpoken-append}
 
--- The line stands for a world that the events, which are well made, lead to, and what was spoken in them has been noted.
+-- The events are well made and lead to a world. The line stands for it, and what was spoken in the events has been noted.
 pub record IsReached (start : Start) (events : List LineEvent) (line : LineState) (noted : List Spoken) : Type 0 where
   pub world : World
   pub is_last : IsLast start events world
@@ -18,7 +18,7 @@ pub record IsReached (start : Start) (events : List LineEvent) (line : LineState
   pub marks : MarksWithin world
   pub well_made : AreWellMade events
 
--- An event more, after which what was spoken in it is noted and let go.
+-- One more event is carried out, and what was spoken in it is noted and dropped.
 pub reached_more : (start : Start) (events : List LineEvent) (n : ℕ) (unused : LineEvent) (line line' : LineState) (noted : List Spoken)
     → n < length events → (r : IsReached start (take n events) line noted) → Stepped start r.world (get_or events n unused) line'
     → AreWellMade (get_or events n unused ∷ [])
@@ -55,7 +55,7 @@ reached_first device process primary secondary line is one other same master ano
       well_made = search rules;
     }
 
--- What such a line gives back is what the events led to.
+-- What such a line returns is what the events led to.
 pub reached_led : {start : Start} {events : List LineEvent} {line : LineState} {noted : List Spoken} (device : DeviceState)
     (outcomes : List Outcome) → (r : IsReached start events line noted) → device ≡ line.device → outcomes ≡ line.outcomes
     → Led start events device outcomes noted
@@ -67,7 +67,7 @@ reached_led device outcomes r device_is outcomes_are = record {
   spoken_are = r.spoken_are;
 }
 
--- If something holds of an element of a list, it does of one of a list that ends so.
+-- If something holds for an element of a list, it also holds for an element of any list that ends with this one.
 pub Any-append : {X : Type 0} (P : X → Type 0) (xs ys : List X) → Any P ys → Any P (xs ++ ys)
 Any-append P xs ys (k, x, within, is, holds) =
     (length xs + k, x, grind (arith, common_steps), grind (arith, common_steps), holds)

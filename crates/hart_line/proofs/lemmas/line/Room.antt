@@ -5,7 +5,7 @@ use Rattle.hart_line.specs.line.Room.{HasRoomFor, LeavesRoom}
 use Rattle.hart_line.specs.world.Needs.{most_spoken}
 use Rattle.hart_line.proofs.lemmas.world.Steps.{along, turn_cases}
 
--- Where there is room for the events from this one on, there is room for this one, and then for those after it.
+-- If there is room for the events from this one on, there is room for this one, and afterwards for those that follow.
 pub room_here : (events : List LineEvent) (n : ℕ) (unused : LineEvent) (line : LineState) → n < length events
     → HasRoomFor (drop n events) line → HasRoomFor (get_or events n unused ∷ []) line
 room_here events n unused line here room = grind (arith, common_steps, drop_more)
@@ -15,7 +15,7 @@ pub room_after : (events : List LineEvent) (n : ℕ) (unused : LineEvent) (line 
     → HasRoomFor (drop (n + 1) events) (record line' { spoken = [] })
 room_after events n unused line line' here room leaves = grind (arith, common_steps, drop_more)
 
--- An event adds the most that is spoken in it to what was spoken, or less.
+-- An event adds at most `most_spoken` frames to what was spoken.
 step_speaks : (start : Start) (world : World) (event : LineEvent) (next : World) → Step start world event next
     → length next.spoken ≤ length world.spoken + most_spoken (event ∷ [])
 step_speaks start world (Turn who up down) next step = elim (turn_cases start world who up down next step) [

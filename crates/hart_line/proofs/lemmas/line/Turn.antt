@@ -1,4 +1,4 @@
--- A turn of the line is a turn of the world, and noise on it is noise there.
+-- A turn of the line is a turn of the world, and noise on the line is noise in the world.
 use Rattle.hart_line.proofs.Common.{◌≡◌, Bool, false, ◌∙◌, refl, Option, None, Some, List, [], ◌∷◌, ◌++◌, ◌⊎◌, arith, common_steps}
 use Rattle.hart_line.proofs.Common.{option_to_list, of_master, with_master, MasterId, FrameParts, DeviceState, Effect, Nothing, after}
 use Rattle.hart_line.proofs.Common.{after_reply, Brought, OneFrame, state_after_delivery, Process, Heard, LineEvent, Turn, Spoken, ◌&&◌}
@@ -12,7 +12,7 @@ use Rattle.hart_line.proofs.lemmas.world.Basics.{with_master-same}
 use Rattle.hart_line.proofs.lemmas.world.Steps.{frame_in, none_reaches, reaches_sent, state-after}
 use Rattle.hart_line.specs.declared.line.report.Party.TheVariants as parties
 
--- What the device answered to what this leg brought it was spoken after what was said in it, and nothing else in this event.
+-- The device answered what this leg brought it. In this event, what was sent in the leg was spoken, then the answer, and no more.
 pub record IsAnswered (start : Start) (world : World) (heard : Heard) (said : Option SpokenFrame) (answer : Option FrameParts)
     (after : DeviceState) (spoken : List Spoken) : Type 0 where
   pub brought : Brought
@@ -38,7 +38,7 @@ answered start world heard said answer process line after mid new s same says gi
       spoken_are = AreSpoken-two said (sent_back start world a.brought) mid new says (rw back at replies);
     }
 
--- In a turn the request of the master was said, if it has one in hand.
+-- In a turn the master's request was spoken, if the master has one in hand.
 pub turn_answered : (start : Start) (world : World) (who : MasterId) (up : Heard) (sent answer : Option FrameParts) (process : Process)
     (line : LineState) (after : DeviceState) (mid new : List Spoken) → Stands start world line → start.process ≡ process
     → sent ≡ frame_of (sent_by who (of_master who world.hands)) → Speaks (spoken_by (party_of who) master_preambles sent) [] mid
@@ -67,7 +67,7 @@ unheard : (state : DeviceState) (brought : Brought) → frame_in brought ≡ Non
 unheard state (OneFrame frame) none = cc
 unheard state brought none = refl
 
--- If nothing was said, as in noise, the event leads to the world in which the device has replied to what it was brought.
+-- If nothing was sent, as at noise, the event leads to the world in which the device has replied to what it was brought.
 pub replied_steps : (start : Start) (world : World) (event : LineEvent) (heard : Heard) (answer : Option FrameParts) (line : LineState)
     → (a : IsAnswered start world heard None answer line.device line.spoken) → Step start world event (replied start world a.brought)
     → AreHeld start.retries world.hands line.masters → line.outcomes ≡ world.outcomes
@@ -87,7 +87,7 @@ replied_steps start world event heard answer line a step held same preambles_are
   spoken_are = a.spoken_are;
 }
 
--- What an answer leaves is what its command leaves, but for the cold start bit of its master; silence leaves all.
+-- An answer leaves the state that its command leaves, except for its master's cold start bit. Silence changes nothing.
 answer_leaves : (answered zero : Bool) (asked : Effect) (id : MasterId) (state : DeviceState)
     → (if answered then after_reply id (after id (if answered && zero then asked else Nothing) state) else state)
     ≡ record (after id (if answered && zero then asked else Nothing) state) {

@@ -12,12 +12,12 @@ items_end (Plain high low) [] valid = tt
 items_end (Plain high low) (Plain a b ∷ items) valid = grind arith
 items_end (Plain high low) (Faulty a b c d ∷ items) valid = grind arith
 
--- A text begins with one item at most.
+-- A text begins with at most one item.
 begins_one : (text : List ℕ) (item other : Item) (tail rest : List ℕ) → BeginsWithItem text item tail → BeginsWithItem text other rest
     → (item ≡ other) × (tail ≡ rest)
 begins_one text item other tail rest a b = grind arith
 
--- A text of items that is not empty begins with the first of them.
+-- A nonempty text of items begins with the first of them.
 first_begins : (text : List ℕ) (item : Item) (items : List Item) → text ≡ flat_map item_spelling (item ∷ items)
     → AllByRecursion IsValidItem (item ∷ items) → BeginsWithItem text item (flat_map item_spelling items)
 first_begins text item items spelled valid = record { valid = valid.0; spelled = spelled; ends = items_end item items valid.1 }
@@ -35,7 +35,7 @@ pub words_have_one_value-items : (word : List ℕ) (xs ys : List Character) → 
 words_have_one_value-items word xs ys a b =
     let same = items_one a.items b.items a.valid b.valid (grind arith) in grind arith
 
--- A text is read as characters up to a rest of it: its characters are these, and then those of the rest.
+-- A text is read up to a rest: its characters are these, followed by the characters of the rest.
 pub record ReadsTo (text : List ℕ) (chars : List Character) (rest : List ℕ) : Type 0 where
   pub on : (more : List Character) → AreItems rest more → AreItems text (chars ++ more)
   pub back : (all : List Character) → AreItems text all → (more : List Character) × AreItems rest more × (all ≡ chars ++ more)
@@ -43,12 +43,12 @@ pub record ReadsTo (text : List ℕ) (chars : List Character) (rest : List ℕ) 
 pub reads_nothing : (text : List ℕ) → ReadsTo text [] text
 reads_nothing text = record { on = λ more are. are; back = λ all are. (all, are, refl) }
 
--- What is read to the end has these characters.
+-- A text that is read to its end has just these characters.
 pub reads_all : (text : List ℕ) (chars : List Character) → ReadsTo text chars [] → AreItems text chars
 reads_all text chars reads =
     rw append-nil at (reads.on [] (record { items = []; valid = tt; spelled = refl; means = refl }))
 
--- A text that begins with an item is these characters exactly if the text after that is those after the first.
+-- If a text of items begins with an item, its characters are that of the item and then those of the text after the item.
 pub after_item : (rest : List ℕ) (item : Item) (tail : List ℕ) (all : List Character) → BeginsWithItem rest item tail → AreItems rest all
     → (more : List Character) × AreItems tail more × (all ≡ item_meaning item ∷ more)
 after_item rest item tail all begins are = after are.items are.valid are.spelled are.means
@@ -60,7 +60,7 @@ after_item rest item tail all begins are = after are.items are.valid are.spelled
         let same = begins_one rest item first tail _ begins (first_begins rest first items spelled valid) in
         (map item_meaning items, record { items = items; valid = valid.1; spelled = same.1; means = refl }, cc)
 
--- An item before items is items too.
+-- An item followed by items is items too.
 pub before_items : (text : List ℕ) (item : Item) (tail : List ℕ) (more : List Character) → BeginsWithItem text item tail
     → AreItems tail more → AreItems text (item_meaning item ∷ more)
 before_items text item tail more begins are = record {
@@ -81,7 +81,7 @@ reads_item text chars rest item tail reads begins = record {
       (more, are_more, grind (arith, common_steps, append_assoc));
 }
 
--- A text that is not empty is not items end to end if no item begins it.
+-- A nonempty text of items end to end begins with an item.
 pub items_begin : (text : List ℕ) (chars : List Character) → text ≢ [] → AreItems text chars
     → (item : Item) × (tail : List ℕ) × BeginsWithItem text item tail
 items_begin text chars some are = begin are.items are.valid are.spelled
@@ -96,7 +96,7 @@ pub items_begin_with_digit : (byte : ℕ) (word : List ℕ) (chars : List Charac
 items_begin_with_digit byte word chars are =
     let (item, tail, begins) = items_begin (byte ∷ word) chars (λ is. cc) are in grind arith
 
--- An item without fault bits begins a text.
+-- The case of a text that begins with an item without fault bits.
 pub begins_as_plain : (text : List ℕ) (char : Character) (byte : ℕ) → 2 ≤ length text → AreDigits (get_or text 0 0) (get_or text 1 0)
     → byte ≡ byte_of (get_or text 0 0) (get_or text 1 0) → (get_or text 2 0 ≡ 33 → ⊥) → char ≡ record { byte = byte; faults = 0 }
     → BeginsAsItem text char 2
@@ -109,7 +109,7 @@ begins_as_plain (x ∷ y ∷ tail) char byte some d b n e = record {
 }
 begins_as_plain text char byte some d b n e = absurd (omega arith)
 
--- An item with fault bits begins a text.
+-- The case of a text that begins with an item with fault bits.
 pub begins_as_faulty : (text : List ℕ) (char : Character) (byte faults : ℕ) → 5 ≤ length text
     → AreDigits (get_or text 0 0) (get_or text 1 0) → byte ≡ byte_of (get_or text 0 0) (get_or text 1 0) → get_or text 2 0 ≡ 33
     → AreDigits (get_or text 3 0) (get_or text 4 0) → faults ≡ byte_of (get_or text 3 0) (get_or text 4 0) → faults ≢ 0

@@ -1,4 +1,4 @@
--- What lines say is one thing, and no bad line is among those that say events.
+-- Lines say at most one list of events, and lines that say events include no bad line.
 use Rattle.hart_line.proofs.Common.{◌≡◌, ◌<◌, ◌⊎◌, ℕ, List, [], ◌∷◌, Some, Err, ap, arith, codes, subst, suc, sym, refl, take, pred, length}
 use Rattle.hart_line.proofs.Common.{get_or, common_steps, AllZip, slice_get, Heard, Chars, Clean, Lost, LineEvent, Noise, Turn, Character}
 use Rattle.hart_line.proofs.Common.{RowFault, AreItems, IsItemsWord, AreEvents, HasFirstBadLine, IsBadLine, IsLegWord, IsScript, ReadsWords}
@@ -44,7 +44,7 @@ pub texts_have_one_script-no_bad_line : (text : List ℕ) (events : List LineEve
     → HasFirstBadLine text number → ⊥
 texts_have_one_script-no_bad_line text events number are bad = none_bad (lines_in_words text) bad.before bad.words events are bad.is bad.bad
 
--- Of two first bad lines none comes before the other.
+-- Of two first bad lines, neither comes before the other.
 slice_get-take : {A : Type 0} (xs : List A) (m n : ℕ) → m < n → slice_get (take n xs) m ≡ slice_get xs m
 slice_get-take [] m n below = grind (arith, common_steps)
 slice_get-take (x ∷ xs) m n below = grind (arith, common_steps, slice_get-take xs (pred m) (pred n))
@@ -60,41 +60,41 @@ texts_have_one_script-one_bad_line text number other a b =
     grind (arith, a.counted, b.counted)
 
 -- WORDS THAT SAY NOTHING
--- A word is the first one of no row.
+-- No row begins with this word.
 abbrev pub IsOther : List ℕ → Type 0
 IsOther first = (first ≡ codes "submit" → ⊥) × (first ≡ codes "turn" → ⊥) × (first ≡ codes "protect" → ⊥)
     × (first ≡ codes "noise" → ⊥) × (first ≡ codes "restart" → ⊥)
 
--- So it says no event.
+-- So words that begin with it say no event.
 pub says_none : (first : List ℕ) (words : List (List ℕ)) → IsOther first → HasNoValue (Says (first ∷ words))
 says_none first words other event said = grind arith
 
--- A leg that is no items is none but for two words.
+-- A word that is not items, nor `ok` or `lost`, is not the word of a leg.
 pub no_leg : (word : List ℕ) → (word ≡ codes "ok" → ⊥) × (word ≡ codes "lost" → ⊥) → HasNoValue (IsItemsWord word)
     → HasNoValue (IsLegWord word)
 no_leg word other none Clean is = other.0 is
 no_leg word other none Lost is = other.1 is
 no_leg word other none (Chars chars) is = none chars is
 
--- A turn of which a leg is none is none.
+-- The words of a turn say no event if one of the words for its legs is not the word of a leg.
 pub no_turn : (who up down leg : List ℕ) → (leg ≡ up) ⊎ (leg ≡ down) → HasNoValue (IsLegWord leg)
     → HasNoValue (Says (codes "turn" ∷ who ∷ up ∷ down ∷ []))
 no_turn who up down leg one none event said = grind arith
 
--- Noise whose word is no items is none.
+-- The words of noise say no event if the word after `noise` is not items.
 pub no_noise : (word : List ℕ) → HasNoValue (IsItemsWord word) → HasNoValue (Says (codes "noise" ∷ word ∷ []))
 no_noise word none (Noise chars) said = let same : said.0 ≡ word = grind arith in none chars (rw same at said.2)
 no_noise word none event said = grind arith
 
 -- WHAT A WORD BRINGS ABOUT
--- Words that say nothing if one of them says nothing have its fault.
+-- If words say nothing whenever one certain word of them does, they have the fault of this word.
 pub fault_of_word : {A B : Type 0} (words : List (List ℕ)) (k : ℕ) (word : List ℕ) (fault : RowFault) (IsPart : A → Type 0)
     (IsWhole : B → Type 0) → k < length words → get_or words k word ≡ word → (HasNoValue IsPart → HasNoValue IsWhole)
     → ReadsWords (word ∷ []) IsPart (Err fault) → ReadsWords words IsWhole (Err fault)
 fault_of_word words k word Bad IsPart IsWhole short here none reads = none reads
 fault_of_word words k word (Memory room) IsPart IsWhole short here none reads = grind arith
 
--- So does a row, if one of the words after its first one says nothing.
+-- So a row has the fault of a word after its first one, if the row says nothing whenever this word does.
 pub fault_in_row : {A : Type 0} (row : List ℕ) (words given : List (List ℕ)) (k : ℕ) (word : List ℕ) (fault : RowFault)
     (IsPart : A → Type 0) → words ≡ given → k < length given → get_or given k word ≡ word
     → (HasNoValue IsPart → HasNoValue (Says (row ∷ given))) → ReadsWords (word ∷ []) IsPart (Err fault)

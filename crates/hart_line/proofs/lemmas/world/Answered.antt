@@ -1,4 +1,4 @@
--- Each accepted reply was accepted in the turn of the last sending, and is the one that the device made.
+-- Each accepted reply was accepted in the turn in which its request was last sent, and is the reply that the device made.
 use Rattle.hart_line.proofs.Common.{same_Some, ◌≡◌, ℕ, ◌+◌, ap, ◌∙◌, sym, arith, slice_index, Option, None, Some, List, slice_set, ◌⊎◌, inl}
 use Rattle.hart_line.proofs.Common.{inr, refl, subst, nat_tests, common_steps, slice_get, Address, MasterId, FrameParts, Reply, Request}
 use Rattle.hart_line.proofs.Common.{AreValid, Contents, Overwrite, registers_of, IsRequest, MasterFault, DeviceState, Effect, Executes}
@@ -15,7 +15,7 @@ use Rattle.hart_line.proofs.lemmas.world.Steps.{along, turn_cases, entered, fram
 use Rattle.hart_line.proofs.lemmas.world.Submitted.{held_in}
 
 -- IN EVERY WORLD THE REGISTERS HOLD VALID BYTES
--- An effect leaves valid bytes valid, as what is executed is a well-made request.
+-- An effect leaves valid bytes valid, as only well-made requests are executed.
 effect_made : (state : DeviceState) (brought : Brought) (overwrite : Overwrite) → effect_on state brought ≡ Executes overwrite
     → IsRequest overwrite
 effect_made state brought overwrite is = grind (arith, writes_execute_their_overwrite-well_made)
@@ -38,7 +38,7 @@ led_valid start valid events = along start (first_world start) events (λ es wor
     rw executions (effect_valid start.device.contents (effect_on (state_of start.device before) brought) number before.executions
     (effect_made (state_of start.device before) brought) holds)) (rw registers_of_lists-none valid)
 
--- The reply that is accepted of the device's answer is the one that the device made.
+-- The reply that a master accepts from the device's answer is the one that the device made.
 device_replied : (start : Start) (events : List LineEvent) (before : World) (who : MasterId) (held : InHand) (answer : FrameParts)
     (reply : Reply) → IsWellMadeStart start → LeadsTo start (first_world start) events before
     → answer_of (state_of start.device before) start.process (spoken_request who held).frame ≡ Some answer
@@ -50,7 +50,7 @@ device_replied start events before who held answer reply made led answered is =
     grind (arith, common_steps, same_Some)
 
 -- THE TURN OF THE LAST SENDING
--- What is found after a store.
+-- What is found in a list after an element was stored in it.
 slice_set-cases : {A : Type 0} (xs : List A) (k : ℕ) (y : A) (n : ℕ) (x : A) → slice_get (slice_set xs k y) n ≡ Some x
     → (slice_get xs n ≡ Some x) ⊎ ((n ≡ k) × (y ≡ x))
 slice_set-cases xs k y n x is = grind (arith, nat_tests, slice_get-set)
@@ -74,7 +74,7 @@ came_back : (party : Party) (preambles : ℕ) (down : Heard) (answer returned : 
     → Arrives down (spoken_by party preambles answer) returned → (returned ≡ None) ⊎ (returned ≡ answer)
 came_back party preambles down answer returned back = grind arith
 
--- A submission answers nothing.
+-- A submission adds no answered outcome.
 not_answered : (world : World) (who : MasterId) (address : Address) (request : Request) (fault : Option MasterFault) (number : ℕ)
     (reply : Reply) (sendings : ℕ) → slice_get (submitted world who address request fault).outcomes number ≡ Some (Answered reply sendings)
     → slice_get world.outcomes number ≡ Some (Answered reply sendings)

@@ -11,7 +11,7 @@ pub none_or_some : {A : Type 0} (a : Option A) → (a ≡ None) ⊎ (x : A) × (
 none_or_some None = inl refl
 none_or_some (Some x) = inr (x, refl)
 
--- A master has what it was given, and the other one what it had.
+-- One master has what it was given, and the other still has what it had.
 pub with_master-cases : {A : Type 0} (id who : MasterId) (a : Option A) (each : EachMaster (Option A)) (x : A)
     → of_master id (with_master who a each) ≡ Some x → ((id ≡ who) × (a ≡ Some x)) ⊎ ((id ≢ who) × (of_master id each ≡ Some x))
 with_master-cases id who a each x is = grind arith
@@ -19,7 +19,7 @@ with_master-cases id who a each x is = grind arith
 pub with_master-same : {A : Type 0} (id : MasterId) (a : A) (each : EachMaster A) → of_master id each ≡ a → with_master id a each ≡ each
 with_master-same id a each is = grind arith
 
--- What is in a list with others after it, and after a store.
+-- What is in a list after another list was appended, and after an element was stored.
 pub slice_get-append : {A : Type 0} (xs ys : List A) (n : ℕ)
     → slice_get (xs ++ ys) n ≡ option_or (slice_get xs n) (slice_get ys (n - length xs))
 slice_get-append [] ys n = grind arith

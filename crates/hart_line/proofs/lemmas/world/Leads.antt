@@ -1,4 +1,4 @@
--- A script leads to one world, if all damage is detected, and past no undetected damage; and detectable damage is detected.
+-- A script leads to one world if all damage is detected, and never past undetected damage. Detectable damage is detected.
 use Rattle.hart_line.proofs.Common.{ap, ◌≡◌, ℕ, ◌<◌, ◌∙◌, sym, arith, Option, None, Some, List, [], ◌∷◌, ◌++◌, suc, pred, take, drop, ◌≤◌}
 use Rattle.hart_line.proofs.Common.{refl, inl, inr, common_steps, slice_get, of_master, MasterId, Character, FrameParts, Reply, Brings}
 use Rattle.hart_line.proofs.Common.{Brought, IdentityParts, Heard, Clean, Chars, LineEvent, Turn, Noise, Leg, Undetected, LineFault}
@@ -54,20 +54,20 @@ step_one start world (Noise chars) a b s t =
     let same = Reaches-one start.device.identity (Chars chars) None s.brought t.brought s.arrives t.arrives in cc
 step_one start world event a b s t = s ∙ sym t
 
--- From a world that some events lead to a script goes on to its last one.
+-- If the first events of a script lead to a world, the other events lead from there to the script's last world.
 pub leads_on : (start : Start) (prefix suffix : List LineEvent) (from world last : World) → LeadsTo start from (prefix ++ suffix) last
     → LeadsTo start from prefix world → LeadsTo start world suffix last
 leads_on start [] suffix from world last run led = rw led run
 leads_on start (event ∷ prefix) suffix from world last run led =
     leads_on start prefix suffix led.0 world last (rw (step_one start from event run.0 led.0 run.1 led.1) at run.2) led.2
 
--- So a script leads to one world.
+-- So a script leads to at most one world.
 pub leads_one : (start : Start) (events : List LineEvent) (world a b : World) → LeadsTo start world events a → LeadsTo start world events b
     → a ≡ b
 leads_one start events world a b s t = leads_on start events [] world b a (rw append-nil s) t
 
 -- FAULTS
--- What is heard in a leg, and what was sent in it, is one.
+-- What is heard in a leg is unique, and so is what was sent in it.
 HeardIn-one : (start : Start) (world : World) (event : LineEvent) (leg : Leg) (a b : Heard) (s t : Option SpokenFrame)
     → HeardIn start world event leg a s → HeardIn start world event leg b t → (a ≡ b) × (s ≡ t)
 HeardIn-one start world (Turn who up down) legs.Down a b s t x y =
@@ -75,12 +75,12 @@ HeardIn-one start world (Turn who up down) legs.Down a b s t x y =
     (x.0 ∙ sym y.0, x.3 ∙ ap (sent_back start world) same ∙ sym y.3)
 HeardIn-one start world event leg a b s t x y = grind arith
 
--- What brings the device something arrives, whatever it is.
+-- In a leg that brings the device something, a frame or nothing arrives.
 arrived_of : {identity : IdentityParts} {heard : Heard} {sent : Option SpokenFrame} {brought : Brought}
     → Reaches identity heard sent brought → (arrived : Option FrameParts) × Arrives heard sent arrived
 arrived_of r = (r.among.frame, record { chars = r.chars; are_heard = r.are_heard; among = r.among.arrives })
 
--- In each leg of an event that leads on damage is detected.
+-- If an event leads to a next world, the damage of each of its legs is detected.
 step_hears : (start : Start) (world : World) (event : LineEvent) (next : World) (leg : Leg) (heard : Heard) (sent : Option SpokenFrame)
     → Step start world event next → HeardIn start world event leg heard sent → (arrived : Option FrameParts) × Arrives heard sent arrived
 step_hears start world (Turn who up down) next legs.Up heard sent step h = rw (h.0, h.1) (arrived_of step.arrives)
@@ -90,7 +90,7 @@ step_hears start world (Turn who up down) next legs.Down heard sent step h =
 step_hears start world (Noise chars) next legs.Noise heard sent step h = rw (h.0, h.1) (arrived_of step.arrives)
 step_hears start world event next leg heard sent step h = absurd h
 
--- So it has no undetected damage, and no other event has it in two legs.
+-- So such an event has no undetected damage. Any other event has undetected damage in at most one leg.
 step_detected : (start : Start) (world : World) (event : LineEvent) (next : World) (leg : Leg)
     → Step start world event next → HasUndetected start world event leg → ⊥
 step_detected start world event next leg step u =
@@ -109,7 +109,7 @@ take-past : {A : Type 0} (number other : ℕ) (xs : List A) (x : A) → slice_ge
 take-past number other [] x is before = cc
 take-past number other (y ∷ xs) x is before = grind (arith, take-past (pred number) (pred other) xs x)
 
--- A fault comes after no other.
+-- Events that include the event of a fault lead to no world.
 pub fault_before : (start : Start) (events : List LineEvent) (number other : ℕ) (leg : Leg) (world : World) → number < other
     → IsFault start events (Undetected number leg) → IsLast start (take other events) world → ⊥
 fault_before start events number other leg world before f run =
@@ -118,7 +118,7 @@ fault_before start events number other leg world before f run =
     step_detected start f.0 f.1 on.0 leg on.1 f.4
 
 -- DETECTABLE DAMAGE
--- Characters whose frames are detected damage are no undetected damage.
+-- If the frames of characters are detected damage, the characters are not undetected damage.
 not_undetected : {heard : Heard} {sent : Option SpokenFrame} (chars : List Character) (frames : List Found) (arrived : Option FrameParts)
     → (u : IsUndetected heard sent) → u.chars ≡ chars → AreFrames chars 0 frames → IsDetected (frame_of sent) frames arrived → ⊥
 not_undetected {sent = sent} chars frames arrived u is are detected = grind (arith, common_steps, frames_are_unambiguous-one_list)
@@ -138,7 +138,7 @@ heard_detected (Chars chars) (Some said) long (inr check) u =
     not_undetected chars [] None u u.are_heard (damaged_messages_have_no_other_frame-check said.frame said.preambles chars check) refl
 heard_detected heard sent long d u = not_undetected [] [] None u u.are_heard messages_have_their_frame_alone-nothing refl
 
--- What is sent has two preamble bytes before it at least.
+-- Whatever is sent has at least two preamble bytes before it.
 sent_long : (start : Start) (world : World) (event : LineEvent) (leg : Leg) (heard : Heard) (sent : Option SpokenFrame)
     → 5 ≤ start.device.identity.response_preambles → HeardIn start world event leg heard sent
     → (said : SpokenFrame) → sent ≡ Some said → 2 ≤ said.preambles

@@ -11,7 +11,7 @@ use Rattle.hart_line.proofs.lemmas.world.Leads.{leads_on}
 use Rattle.hart_line.proofs.lemmas.world.Steps.{along, entered, leads_more, master_in, turn_cases}
 
 -- A RESET
--- Executions grow, and a master's mark stays where no turn of it resets.
+-- Executions only grow, and a master's mark stays the same as long as no turn of this master resets it.
 record IsSince (id : MasterId) (world : World) (executions : List Execution) (marks : EachMaster (Option ℕ)) : Type 0 where
   mark : of_master id marks ≡ of_master id world.marks
   few : length executions ≤ length world.executions → executions ≡ world.executions
@@ -38,14 +38,14 @@ given_one : (state : DeviceState) (frame : FrameParts) (given : Option ℕ) (cou
     → effect_of state frame ≡ Resets → counter ≡ state.counter → IfSome given (λ n. counter ≡ n)
 given_one state frame given counter is resets same = grind (arith, resets_name_this_counter-only)
 
--- After a step of a script its last world is one that the events after it lead to.
+-- From the world after a step of a script, the events after this step lead to the script's last world.
 after_step : (start : Start) (events : List LineEvent) (last : World) → IsLast start events last → (before next : World) (event : LineEvent)
     (here : IsStepOf start (first_world start) events before event next) → LeadsTo start next here.suffix last
 after_step start events last run before next event here =
     leads_on start (here.prefix ++ event ∷ []) here.suffix (first_world start) next last (grind (arith, common_steps, append_assoc))
     (leads_more start here.prefix event (first_world start) before next here.led here.step)
 
--- If the master's bit is clear, nothing was executed since.
+-- If the master's bit is clear, nothing was executed since its last reset.
 pub unseen : (start : Start) (events : List LineEvent) (last : World) → IsLast start events last
     → (who : MasterId) (before : World) (given : Option ℕ) → IsLastReset start events who before given
     → of_master who (state_of start.device last).changed ≡ false → IfSome given (λ counter. (state_of start.device last).counter ≡ counter)

@@ -19,7 +19,7 @@ pub reaches_sent : (identity : IdentityParts) (heard : Heard) (said : SpokenFram
     → Reaches identity heard (Some said) brought → (frame_in brought ≡ None) ⊎ (brought ≡ OneFrame said.frame)
 reaches_sent identity heard said brought r = grind arith
 
--- So none is if nothing was sent.
+-- So if nothing was sent, no frame is brought.
 pub none_reaches : (identity : IdentityParts) (heard : Heard) (brought : Brought) → Reaches identity heard None brought
     → frame_in brought ≡ None
 none_reaches identity heard brought r = grind arith
@@ -33,7 +33,7 @@ pub record IsSending (start : Start) (world : World) (who : MasterId) (brought :
   pub known : (frame_in brought ≡ None) ⊎ (brought ≡ OneFrame (spoken_request who held).frame)
   pub next_is : next ≡ turned start world who (Some held) brought accepted
 
--- A turn without one brings the device no frame, and it replies to that alone.
+-- A turn without a request in hand brings the device no frame, and the device only replies to what it is brought.
 pub turn_cases : (start : Start) (world : World) (who : MasterId) (up down : Heard) (next : World)
     (turn : IsTurn start world who up down next)
     → IsSending start world who turn.brought turn.accepted next ⊎ (frame_in turn.brought ≡ None) × (next ≡ replied start world turn.brought)
@@ -48,7 +48,7 @@ turn_cases start world who up down next turn =
       })
     ]
 
--- A step submits a request, sends the one in a master's hand, or leaves all but protection, cold start bits and what was spoken.
+-- A step submits a request, sends the one in a master's hand, or changes at most protection, cold start bits and what was spoken.
 pub data StepCases (start : Start) (world next : World) (submissions : List Submission) : Type 0 where
   Submits : (said : Submission) (fault : Option MasterFault) → submissions ≡ said ∷ []
       → next ≡ submitted world said.who said.address said.request fault → StepCases start world next submissions
@@ -69,12 +69,12 @@ step_cases start world (Protect on) next step = Stays _ _ _ refl step
 step_cases start world (Noise chars) next step = Stays _ _ _ refl step.next_is
 step_cases start world Restart next step = Stays _ _ _ refl step
 
--- The master whose turn an event is, if it is one.
+-- The master of a turn. For any other event it is the primary master.
 abbrev pub master_in : LineEvent → MasterId
 master_in (Turn who up down) = who
 master_in event = Primary
 
--- So it enters into the executions and the marks the effect of what it brought the device, if that is some master's turn.
+-- So each step enters the effect of what it brought the device into the executions and the marks.
 pub entered : (start : Start) (world : World) (event : LineEvent) (next : World) (step : Step start world event next) → (number : ℕ)
     × (next.executions
     ≡ executions_after (effect_on (state_of start.device world) (brought_in_step start world event next step)) number world.executions)
@@ -108,7 +108,7 @@ along start from (event ∷ events) P keeps holds last led = along start led.0 e
       step = here.step;
     })) (keeps from led.0 event (record { prefix = []; suffix = events; split = refl; led = refl; step = led.1 }) holds) last led.2
 
--- One event more.
+-- If events lead to a world and one more event leads on from it, all of them lead to the next world.
 pub leads_more : (start : Start) (events : List LineEvent) (event : LineEvent) (world mid next : World)
     → LeadsTo start world events mid → Step start mid event next → LeadsTo start world (events ++ event ∷ []) next
 leads_more start [] event world mid next run step = (next, subst (λ w. Step start w event next) run step, refl)
@@ -126,7 +126,7 @@ pub contents-more : (executions : List Execution) (execution : Execution) (initi
     ≡ registers_of (overwrites_of (executions ++ execution ∷ [])) initial
 contents-more executions execution initial = grind (arith, common_steps, map-append, registers_of_lists-last)
 
--- The state after an effect, with other cold start bits, is that of the world that the effect entered, with these bits.
+-- The state after an effect, with new cold start bits, is that of the world after this effect, with the same bits.
 pub state-after : (initial : DeviceState) (world next : World) (id : MasterId) (number : ℕ) (effect : Effect) → MarksWithin world
     → next.executions ≡ executions_after effect number world.executions
     → next.marks ≡ marks_after effect id (length world.executions) world.marks → next.protected ≡ world.protected

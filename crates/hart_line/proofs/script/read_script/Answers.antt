@@ -9,7 +9,7 @@ use Rattle.std.specs.Str.Lines.{strip_carriage_return}
 use Rattle.hart_line.proofs.script.read_script.Goals.{After-without_return}
 use Rattle.hart_line.proofs.script.read_script.Goals as goal
 
--- the line of a part of a text, in words, stands at its place
+-- the line of a text at this index has these words
 record StandsAt (text : List ℕ) (n : ℕ) (words : List (List ℕ)) : Type 0 where
   pub within : n < length (lines_in_words text)
   pub is : get_or (lines_in_words text) n words ≡ words
@@ -18,14 +18,14 @@ record StandsAt (text : List ℕ) (n : ℕ) (words : List (List ℕ)) : Type 0 w
 abbrev parts_of : List ℕ → List (List ℕ)
 parts_of text = slice_split (λ byte. byte == 10) text
 
--- each part has its line
+-- each part of a text has its line at the same index
 stands_at : (text : List ℕ) (n : ℕ) (part line : List ℕ) → n < length (parts_of text) → part ≡ get_or (parts_of text) n part
     → line ≡ strip_carriage_return part → StandsAt text n (words_of line)
 stands_at text n part line short is stripped =
     let parts = length-map (parts_of text) strip_carriage_return in
     let here : get_or (lines_of text) n line ≡ line = grind (arith, common_steps, get_or-map) in grind (arith, common_steps, get_or-map)
 
--- one line of a text more
+-- one more line, and the event that it says, if any
 one_more : (number : ℕ) (lines : List (List (List ℕ))) (words : List (List ℕ)) (events : List LineEvent) (said : Option LineEvent)
     → AreEvents lines events → SaysLine number words (Ok said) → AreEvents (lines ++ words ∷ []) (events ++ option_to_list said)
 one_more number lines words events None before says = grind (arith, append-nil, filter-append)
@@ -39,7 +39,7 @@ AreEvents-more text n m number words events new said stands more before says pus
     let cut : take m lines ≡ take n lines ++ words ∷ [] = grind (arith, take_more, stands.within, stands.is) in
     rw (cut, pushed) (one_more number (take n lines) words events said before says)
 
--- the fault of a line is that of its text
+-- a fault of a line is a fault of its text
 line_fault : (text : List ℕ) (n number : ℕ) (words : List (List ℕ)) (events : List LineEvent) (fault : LineFault)
     → StandsAt text n words → number ≡ n + 1 → AreEvents (take n (lines_in_words text)) events → SaysLine number words (Err fault)
     → IsScriptFault text fault
@@ -61,7 +61,7 @@ event_needed : (text : List ℕ) (n : ℕ) (words : List (List ℕ)) (event : Li
     → (is_skipped words ≡ false) × Says words event → IsNeededByText text 1
 event_needed text n words event stands says = (n, words, stands.within, stands.is, (says.0, inl (event, says.1, refl)))
 
--- so does the line that is read
+-- the line that is being read stands at its index
 stands_here : (c : After-without_return) → StandsAt c.args.text.now (length c.loop-part.yielded) (words_of c.without_return.result.now)
 stands_here c =
     let t = YieldsList-turn (YieldsList-at c.into_iter-part-iterator.ensures.into_iter_gives

@@ -42,7 +42,7 @@ returns-in-Err-clause-stopped g c =
       scripts_keep_their_promises-detected start c.args.events.now (Undetected c.loop-index.index c.in-Err.leg) enough fault,
     )
 
--- An event more is carried out, whose spoken frames are to be noted.
+-- One more event is carried out, and its spoken frames count as noted.
 carried_out : (g : Over) (c : After-tell g) → IsReached (start_from c.args.device c.args.process.now c.args.primary c.args.secondary)
     (take (c.loop-index.index + 1) c.args.events.now) (record c.step.new.self { spoken = [] })
     (c.loop-index.invariant.told.0 ++ c.step.new.self.spoken)

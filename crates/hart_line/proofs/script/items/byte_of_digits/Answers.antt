@@ -4,7 +4,7 @@ use Rattle.std.specs.Result.{result_ok}
 use Rattle.hex.specs.Hex.{decode_pairs, digit_or_error, hex_digit_value, is_hex_digit, ◌>>=◌}
 use Rattle.hart_line.proofs.script.items.byte_of_digits.Goals as goal
 
--- what `hex` reads of two bytes whose values as digits these are
+-- what `hex` reads from two bytes that have these values as digits
 pair_read : (high low : ℕ) (a b : Option ℕ)
     → result_ok ((digit_or_error high 0 a >>= (λ h. digit_or_error low 1 b >>= (λ l. Ok (h * 16 + l)))) >>= (λ byte. Ok (byte ∷ [])))
     ≡ (if is_some a && is_some b then Some ((16 * unwrap_or a 0 + unwrap_or b 0) ∷ []) else None)

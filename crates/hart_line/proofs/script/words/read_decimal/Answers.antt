@@ -5,11 +5,11 @@ use Rattle.std.proofs.lemmas.Str.Parse.{IsNumeralModel, numerals_by_value, parse
 use Rattle.std.specs.Str.Parse.{digits_value}
 use Rattle.hart_line.proofs.script.words.read_decimal.Goals as goal
 
--- a number in decimal is told by its digits
+-- a decimal number is determined by its digits
 digits_tell : IsNumeralModel (λ ds. all_ascii_digits ds ≡ true) (digits_value 10)
 digits_tell = numerals_by_value (λ ds. all_ascii_digits ds ≡ true) tells_all_ascii_digits
 
--- what `parse` reads of a word without a sign is its number in decimal, and a word that is no text is none
+-- `parse` reads a word without a sign as its decimal number, and a word that is not valid text is no number
 pub returns-in-Ok : goal.returns-in-Ok
 returns-in-Ok c = grind (arith, common_steps, nat_tests, parse_plain, digits_tell)
 
