@@ -16,14 +16,14 @@ FAULT_BITS = (0x40, 0x20, 0x10, 0x02)
 ALL_FAULT_BITS = sum(FAULT_BITS)
 COUNTER_BYTES = 2
 
-# The two words that docs/WIRE.md uses in its rows of garbled requests, and a row of what is heard; its second cell may be a reply.
+# The words Q and A of the rows of garbled requests in docs/WIRE.md; a row of what is heard; and a cell that can be a reply.
 WORDS = {word: digits for word, digits in re.findall(r"\b([QA]) (?:stands )?for\s+`([0-9A-F ]+)`", PAGES)}
 ROW = re.compile(r"^\| ((?:Q )?`[0-9A-F! ]+`) \| (.+?) \|", re.MULTILINE)
 CODE_CELL = re.compile(r"(?:[QA] )?`[0-9A-F! ]+`")
 
 
 class Case(NamedTuple):
-    """A case: the device, what it hears, and what is known beforehand of its reply: the message, "" being silence, or its first byte.
+    """A case: the device, what it hears, and what is known of its reply: the message ("" for silence), or its first status byte.
 
     The device is one of the model, or the digits of an image.
     """
@@ -35,12 +35,12 @@ class Case(NamedTuple):
 
 
 def cell_text(cell):
-    """What a cell of a row says in digits, with the page's words in full."""
+    """Returns what a cell of a row says in digits, with Q and A written out."""
     return " ".join(WORDS.get(part, part) for part in cell.replace("`", "").split())
 
 
 def is_heard(text):
-    """Whether a text is of items, with two preamble bytes among them."""
+    """Whether a text consists of items, with two preamble bytes in a row among them."""
     try:
         return "FF FF" in heard_text(texts.read_items(text.encode()))
     except texts.BadHex:
@@ -56,7 +56,7 @@ def of_rows():
 
 
 def of_pages():
-    """What is worked on the pages: answered, listed or explained there."""
+    """The worked examples of the pages, which are answered, listed or explained there."""
     yield from (Case(new_device(), heard, reply) for heard, reply in worked.ANSWERED)
     for image, heard, reply in worked.ANSWERED_FROM:
         yield Case(image.upper(), heard, reply)
@@ -77,13 +77,13 @@ def request(command, data=b"", master="P", address=OWN_ADDRESS, **more):
 
 
 def lone(text):
-    """The one frame of a text, None if there is another number of them."""
+    """Returns the only frame of a text; None if the text has no frame, or several."""
     found = frames_of(texts.read_items(text.encode()))
     return found[0].frame if len(found) == 1 else None
 
 
 def worked_data():
-    """The data of the first request of each command to which docs/COMMANDS.md shows a reply with code 0."""
+    """Returns, for each command, the data of its first request in docs/COMMANDS.md whose reply has code 0."""
     taken = {}
     for heard, reply, _ in worked.ON_PAGE:
         asked, answered = lone(heard), lone(reply) if reply else None
@@ -98,7 +98,7 @@ PROTECTED = dataclasses.replace(NEW, protected=True)
 PUMP_TAG = bytes.fromhex(worked.TAG_OF_PUMP)
 PUMP_LONG_TAG = bytes.fromhex(worked.LONG_TAG_OF_PUMP)
 NO_DATE = bytes.fromhex("1D0200")
-# A device that holds something else in each register than a new one.
+# A device in which every register differs from that of a new device.
 WRITTEN = dataclasses.replace(
     NEW, polling=5, mode=0, message=PUMP_TAG * 4, tag=PUMP_TAG, descriptor=PUMP_TAG * 2, date=bytes.fromhex("1D0264"),
     assembly=bytes.fromhex("012345"), long_tag=PUMP_LONG_TAG, counter=0xFFFF, changed={"P": True, "S": False})
@@ -106,7 +106,7 @@ TAGS = ((11, NEW.tag, PUMP_TAG), (21, NEW.long_tag, PUMP_LONG_TAG))
 
 
 def too_few(command):
-    """Request data of a command that are too few: the shortest, and those that lack a byte. Command 38 does without any."""
+    """Too few request data for a command: none, and a byte less than it needs. Command 38 may have none, so it has one byte."""
     needed = commands.NEEDED[command]
     if needed == 0:
         return [bytes(COUNTER_BYTES - 1)]
@@ -125,7 +125,7 @@ def refused_data(command, code):
 
 
 def refusals():
-    """Each refusal of each command, as the table in docs/COMMANDS.md names them, and which comes first if more of them hold."""
+    """Each refusal of each command, as the table in docs/COMMANDS.md names them, and which comes first if several hold."""
     for command, row in commands.COMMANDS.items():
         for code in (int(code) for code in row.refusals.split(", ") if code != "none"):
             device = PROTECTED if code == commands.WRITE_PROTECTED else NEW
@@ -149,7 +149,7 @@ def with_item(text, place, item):
 
 
 def communication_faults():
-    """Each communication fault at each kind of character, and where a damaged request is met with silence."""
+    """Each communication fault at each kind of character, and damaged requests that are met with silence."""
     asked = request(19, DATA[19])
     items = asked.split()
     last = len(items) - 1
@@ -174,7 +174,7 @@ def communication_faults():
 
 
 def addresses():
-    """Who is answered: each kind of address, with commands that go to it and commands that do not, of both masters."""
+    """Requests of both masters to each kind of address, with commands that are answered there and commands that are not."""
     other_id, other_type = Unique(OWN_ADDRESS.type, OWN_ADDRESS.id ^ 1), Unique(OWN_ADDRESS.type ^ 1, OWN_ADDRESS.id)
     for master in "PS":
         for polling in (0, 1, GREATEST_POLLING):
@@ -196,7 +196,7 @@ def addresses():
 
 
 def tags():
-    """Both tags by broadcast and at the own address: the device's, another one, too few bytes of one, and bytes after one."""
+    """Both tags, by broadcast and at the device's own address: its own tag, another one, too few bytes, and too many."""
     for command, new_tag, pump_tag in TAGS:
         for device, tag, other in ((NEW, new_tag, pump_tag), (WRITTEN, pump_tag, new_tag)):
             for master in "PS":
@@ -210,7 +210,7 @@ def tags():
 
 
 def states():
-    """What a device holds, as each command reads it, and what of it each master is shown."""
+    """What a device holds: what each command reads of it, and what each master is shown of it."""
     for command, data in DATA.items():
         if command not in (11, 21):
             yield Case(WRITTEN, request(command, data), first=0)
@@ -225,7 +225,7 @@ def states():
 
 
 def preambles():
-    """A request after too few preamble bytes, after as few as are needed, and after as many as are sent."""
+    """A request after too few preamble bytes, after the fewest that suffice, and after more."""
     body = " ".join(request(0).split()[PREAMBLES:])
     for count in (0, 1, 2, 3, 20, 255):
         known = {"first": 0} if count >= 2 else {"reply": ""}

@@ -1,13 +1,13 @@
 #!/usr/bin/env bash
-# Runs the gate. Then tries, over the libraries that the gate has built, the wrong bodies that it does not try; and, on the program that
-# it has built, what only runs of it show. Says what all of it cost. The last line is the gate's count with the wrong bodies that were
-# refused here, in which each wrong body that was not, and each script that failed, is one failure more; the status is the worst of all.
+# Runs the gate. Then tries the wrong bodies that it does not try, over the libraries that it has built, and what only runs of the
+# program show. Prints what all of it cost. The last line is the gate's count plus the wrong bodies that were refused here. Each
+# wrong body that was not refused, and each script that failed, is one more failure. The status is the worst of all.
 set -u
 cd "$(dirname "$0")/.." || exit 1
 program=crates/hart/out/hart
 work=$(mktemp -d)
 trap 'rm -rf "$work"' EXIT
-# The gate runs programs and tests below it as nobody.
+# The gate runs programs and tests below this folder as the user nobody.
 chmod a+rx "$work"
 log=$work/log
 
@@ -17,9 +17,9 @@ note() {
     [ "$1" -le "$worst" ] || worst=$1
 }
 
-# Each task of the gate gets one job. Else a proof takes the processors that nothing waits for just then, and each job more takes time of
-# its own to read the libraries. So many tasks run at once as there are processors, and 4 GB of memory for each, but four at most: with
-# them the crates that wait for one another take as long as all the others beside them.
+# Each task of the gate gets one job. Otherwise a proof would take processors that are idle just then, and each further job would
+# take time to read the libraries. As many tasks run at once as there are processors with 4 GB of memory each, but at most four:
+# with four, the crates that wait for one another take as long as all the others beside them.
 if [ -z "${RT_JOBS:-}" ]; then
     RT_JOBS=$(cat /proc/meminfo /sys/fs/cgroup/memory.max 2>/dev/null | awk -v tasks="$(nproc)" '
         /^MemAvailable:/ { free = $2 / 4000000 }
@@ -33,8 +33,8 @@ if [ -z "${RT_JOBS:-}" ]; then
     export RT_JOBS
 fi
 
-# What the gate proved of a crate before it tries its wrong bodies, for those that are tried after it and for the library for C. They are
-# links to files that the gate does not change, and soon removes.
+# Keeps what the gate proved of a crate before it tries the wrong bodies of that crate. The later wrong bodies and the library for C
+# use it. It is kept as links to files, which the gate does not change and soon removes.
 keep_proved() {
     for proved in "$work"/gate/rt-edits-*/seed; do
         if find "$proved" -name "Rattle-$1-*" -print -quit | grep -q .; then
@@ -43,7 +43,7 @@ keep_proved() {
     done
 }
 
-# What stands there after the gate was built by it.
+# Whatever program is there afterwards was built by the gate.
 rm -f "$program"
 mkdir -m 1777 "$work/gate"
 mkdir "$work/proved"
@@ -59,7 +59,7 @@ count=$(grep -xE '[0-9]+ passed, [0-9]+ failed' "$log" | tail -n 1)
 read -r passed _ failed _ <<<"${count:-0 passed, 1 failed}"
 
 if [ -f "$program" ]; then
-    # The wrong bodies of crates/NAME/mistakes, and that a run of them can fail.
+    # The wrong bodies of crates/NAME/mistakes, then a check that such a run can fail, and the other scripts.
     python3 tools/mistakes.py --gate "$work/proved" | tee "$log"
     note "${PIPESTATUS[0]}"
     read -r refused unrefused < <(sed -nE 's/^mistakes: ([0-9]+) refused, ([0-9]+) failed.*/\1 \2/p' "$log")
@@ -79,7 +79,7 @@ else
     note 1
 fi
 
-# What all of it cost, in processor time. `times` has to run in this shell, which waited for it.
+# The processor time of all of it. `times` has to run in this shell, which waited for all of it.
 times >"$log"
 read -r user system < <(tail -n 1 "$log")
 echo "processor time: $user user, $system system"

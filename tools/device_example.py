@@ -1,8 +1,8 @@
 """Holds the device of examples/c/device.c against the program: at a pseudo-terminal it replies byte for byte what the program says.
 
-Each request of docs/COMMANDS.md goes to a new device, as `hart encode` makes it, and has the reply of `hart answer`. What is heard in
-turn, as tools/restarts.py has it, goes to a device that is restarted where it says so, and has the replies of `hart sim`; what the device
-holds at the end is the image of `hart sim`. All devices run at once.
+Each request of docs/COMMANDS.md, as `hart encode` makes it, goes to a new device, which must reply as `hart answer` does. The parts
+of each case in tools/restarts.py go to one device, which is restarted where the case says so: it must reply as `hart sim` does, and
+hold the same image at the end. All devices run at once.
 
 Usage: tools/device_example.py PROGRAM DEVICE
 """
@@ -24,13 +24,13 @@ from restarts import RESTART, runs, script_of  # noqa: E402
 from vectors import call, replies_of  # noqa: E402
 
 SECONDS = "60"
-# So long a silence is waited for: much longer than the device waits for a byte.
+# How many seconds of silence are waited for: much longer than the device waits for a byte.
 QUIET = 0.5
 PATIENCE = 20
 
 
 class Played:
-    """A device that runs, what it is to hear in turn and to reply, and the image that it has to show at the end, if one is known."""
+    """A running device, what it hears in turn, what it must reply, and the image that it must show at the end, if it is known."""
 
     def __init__(self, device, parts, replies, image=None):
         self.parts, self.replies, self.image = parts, [bytes.fromhex(reply) for reply in replies], image
@@ -44,7 +44,7 @@ class Played:
         sys.exit(f"device: {what}, at {self.parts}")
 
     def tell(self, turn):
-        """Has the device hear a part, in two pieces as it may come."""
+        """Sends a part to the device in two pieces, or restarts the device."""
         if self.parts[turn] == RESTART:
             self.process.send_signal(signal.SIGUSR1)
             return
@@ -62,7 +62,7 @@ class Played:
             return b""
 
     def listen(self, turn, quiet):
-        """Holds the reply to a part; where none is wanted, none has come by the time `quiet`."""
+        """Holds the device to its reply to a part. Where no reply is wanted, none may come before the time `quiet`."""
         wanted, replied = self.replies[turn], b""
         until = time.monotonic() + PATIENCE if wanted else quiet
         while len(replied) < max(len(wanted), 1) and (more := self.read(until)):
@@ -84,7 +84,7 @@ class Played:
 
 
 def asked(program, heard):
-    """A request as `hart encode` makes it; what is no request stays as it is."""
+    """Returns a request as `hart encode` makes it. Characters without exactly one frame stay as they are."""
     frame = lone(heard)
     if frame is None:
         return heard

@@ -1,6 +1,6 @@
 #!/bin/sh
-# Runs the examples of the help texts and of the pages, each with the lines that it shows below: it has to write just these. An
-# example that shows nothing of what it writes is left out, since it names a file of the reader's own.
+# Runs the examples of the help texts and of the pages. Each has to write just the lines that are shown below it. An example without
+# such lines is left out, since it names a file of the reader's own.
 #
 # Usage: tools/examples.sh [PROGRAM]; PROGRAM is the ./hart of the repository if absent.
 set -eu
@@ -17,8 +17,8 @@ printf '#!/bin/sh\n' >"$work/bin/make"
 chmod +x "$work/bin/make"
 PATH=$work/bin:$PATH
 
-# A help text has its commands and what they write two spaces in, with the word "writes" between; a page has "$ " before a command, and
-# "> " before a line that goes on with it.
+# A help text indents its commands and what they write by two spaces, with the word "writes" between. A page has "$ " before a
+# command, and "> " before a line that continues it.
 awk -v folder="$work/examples" '
     function give() {
         if (text != "") {

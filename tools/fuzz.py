@@ -1,11 +1,11 @@
 #!/usr/bin/env python3
 """Holds the built program against a plain model of it, on random frames, noise, damage, scripts, images and words.
 
-Each case is the words and the input of one call: the status, what is written and the fault that is given have to be those of the
-model in tools/fuzz, and nothing may be read after words that make no call, or that are no image. Inputs of `hart dump` without a
-fault are heard together, some of them in one call, which is quicker. At first the model and the program are tried on worked
-messages. A difference is printed with the smallest words and input that were found to show one. The cases of a seed are always the
-same. The last line is `N passed, M failed`, and the status is 1 after any difference.
+Each case is the words and the input of one call. Its status, its output and its fault have to be those of the model in tools/fuzz,
+and nothing may be read after words that make no call or are no image. For speed, several inputs of `hart dump` without a fault are
+heard together in one call. First of all, the model and the program are tried on worked messages. A difference is printed with the
+smallest words and input that were found to show one. The cases of a seed are always the same. The last line is
+`N passed, M failed`, and the status is 1 after any difference.
 
 Usage: tools/fuzz.py [PROGRAM] [--cases N] [--seed S] [--only CALL]; PROGRAM is ./hart, N 10000, and S
 another one in each run.
@@ -55,7 +55,7 @@ BY_NAME = {call.name: call for call in CALLS}
 
 
 def input_stream(text):
-    """A stream of this text; for None one whose reads fail, as those of a folder do."""
+    """Returns a stream of this text; for None, a folder, whose reads fail."""
     if text is None:
         return os.open(os.sep, os.O_RDONLY)
     stream = os.memfd_create("input")
@@ -77,7 +77,7 @@ def run(program, call, given):
 
 
 def status_of(process):
-    """The status with which a process ends; one that does not end is stopped, and has a status below 0."""
+    """Returns the status with which a process ends. A process that does not end is stopped, and has a status below 0."""
     signal.signal(signal.SIGALRM, lambda *_: os.kill(process, signal.SIGKILL))
     signal.alarm(LONGEST_RUN)
     status = os.waitstatus_to_exitcode(os.waitpid(process, 0)[1])
@@ -86,7 +86,7 @@ def status_of(process):
 
 
 def agree(shown, wanted):
-    """Whether the program ended as the model says; the text of usage and help may be any but none."""
+    """Whether the program ended as the model says. A text of usage or help may be any text but the empty one."""
     if wanted.unread and not shown.unread or (shown.status, shown.written) != (wanted.status, wanted.written):
         return False
     return shown.fault != b"" if wanted.fault is None else shown.fault == wanted.fault
@@ -116,7 +116,7 @@ def worked_cases():
 
 
 def worked_refusals():
-    """Each word that is no image, for the calls that take one, with an input that is bad too."""
+    """Each word that is no image, for each call that takes an image, with an input that is bad too."""
     for image, fault in worked.NO_IMAGES:
         for name, text in itertools.product(("answer", "serve", "sim"), ("turn X ok ok", None)):
             yield name, given_of(["--image", image], text), texts.failed(fault, unread=True)
@@ -177,7 +177,7 @@ class Fuzz:
                     print_difference(call, given, shown, wanted)
 
     def try_case(self, number, only):
-        """Tries the case of a number, or lets it wait for others."""
+        """Tries the case with this number, or keeps it to be tried together with others."""
         rng = random.Random(f"{self.seed} {number}")
         call = BY_NAME[only] if only else rng.choices(CALLS, [call.share for call in CALLS])[0]
         given = call.make(rng)
@@ -189,7 +189,7 @@ class Fuzz:
             self.try_waiting()
 
     def try_waiting(self):
-        """Tries the inputs that wait as one, between whose characters damaged ones stand; and each alone if that differs."""
+        """Tries the waiting inputs as one, with a damaged character between them. If that differs, tries each alone."""
         call, waiting, failed = BY_NAME["dump"], self.waiting, self.failed
         self.waiting = []
         together = Given([], BETWEEN.join(given.text for _, given in waiting))
@@ -210,14 +210,14 @@ class Fuzz:
             self.print_smallest(call, given)
 
     def print_smallest(self, call, given):
-        """Prints the smallest words and input near these on which program and model differ."""
+        """Prints a difference. Among the first failures, its words and input are made smaller first."""
         if self.failed <= MOST_SHRUNK:
             given = Shrinker(lambda smaller: self.differs(call, smaller)).given(given)
         print_difference(call, given, run(self.program, call, given), call.model(given))
 
 
 def main():
-    """Reads the words of the command line, tries the cases, and gives the status."""
+    """Reads the words of the command line, tries the cases, and returns the status."""
     parser = argparse.ArgumentParser(description=__doc__.split("\n", maxsplit=1)[0])
     parser.add_argument("program", nargs="?", default="./hart", help="the built program")
     parser.add_argument("--cases", type=int, default=10000, help="how many cases")

@@ -1,8 +1,8 @@
 #!/usr/bin/env python3
 """Builds the static library of hart_c over what the gate has just proved and built, which `rt lib` would prove again.
 
-Usage: tools/gate_library.py FOLDER FILE.a; the folder has what the gate proved of each crate. It writes nothing, and ends with 3, unless
-all libraries that stand built are the gate's.
+Usage: tools/gate_library.py FOLDER FILE.a; the folder has what the gate proved of each crate. Unless the gate has built all
+libraries, it writes nothing and ends with 3.
 """
 
 import os

@@ -1,4 +1,4 @@
-"""Holds include/hart.h against the source of hart_c: the same structs, fields, constants and calls, in C's words."""
+"""Holds include/hart.h against the source of hart_c: both have the same structs, fields, constants and calls, the header in C."""
 
 import pathlib
 import re
@@ -21,7 +21,7 @@ DECLARED_CALL = re.compile(r"^([\w ]+?) ?(hart_\w+)\(([^)]*)\);", re.MULTILINE)
 
 
 def c_name(name):
-    """The name in C of a struct of the source, or of a number."""
+    """Returns the C name of a struct or a number type of the source."""
     return NUMBERS.get(name) or re.sub(r"(?<=[a-z])(?=[A-Z])", "_", name).lower()
 
 
@@ -32,7 +32,7 @@ def c_field(name, kind):
 
 
 def c_parameters(name, kind):
-    """The parameters in C of one of the source: a slice is a pointer and a length."""
+    """Returns the C parameters for a parameter of the source: a slice becomes a pointer and a length."""
     if not kind.startswith("&"):
         return [f"{c_name(kind)} {name}"]
     changes = kind.startswith("&mut ")

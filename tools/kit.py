@@ -19,7 +19,7 @@ def load():
     module = importlib.util.module_from_spec(importlib.util.spec_from_loader("rt", loader))
     sys.modules["rt"] = module
     loader.exec_module(module)
-    # Its first call sets a signal's handler, which only the main thread may.
+    # The first call of `guarded` sets a signal handler, which only the main thread may do.
     module.rtlib.guarded()
     return module
 
@@ -34,12 +34,12 @@ class Kit:
         self.crates = {it.name: it for it in self.rt.rtlib.crates_below(ROOT)}
 
     def has_gates_libraries(self):
-        """Whether all libraries that stand built are those of the gate, which have no stamp."""
+        """Whether all libraries are built, and by the gate, whose libraries have no stamp."""
         made = [it for it in self.crates.values() if it.makes_rlib()]
         return all(os.path.isfile(f"{it.rlib}/format") and not os.path.exists(f"{os.path.dirname(it.rlib)}/stamp") for it in made)
 
     def build_below(self, name):
-        """Builds the libraries below a crate that do not stand built, and returns whether they stand then. Says why if not."""
+        """Builds the missing libraries below a crate, and returns whether all are built then. Prints the reason if not."""
         for library in self.crates[name].below():
             with tempfile.TemporaryFile("w+", errors="replace") as library.out:
                 if library.build_rlib(["--jobs", "1"], anew=False):
@@ -58,7 +58,7 @@ class Kit:
 
     @contextlib.contextmanager
     def kept(self, name):
-        """A folder for what checks of a crate prove, which later ones need not prove again. It begins with what was proved of it before."""
+        """A folder for what checks of a crate prove, so that later ones need not. It begins with what was proved before."""
         begun = self.begun(name)
         with tempfile.TemporaryDirectory(prefix="mistakes-") as room:
             folder = f"{room}/kept"
@@ -74,8 +74,8 @@ class Kit:
         return self.rt.checked(self.crates[name], texts, flags, kept).stdout
 
     def build_static(self, name, to):
-        """Builds a static library over the libraries that stand built, and proves what is not kept of it. Returns what the prover printed,
-        and its status."""
+        """Builds a static library over the built libraries, and proves those parts of it that are not kept. Returns what the prover
+        printed, and its status."""
         crate = self.crates[name]
         with tempfile.TemporaryDirectory(prefix="library-") as room, self.kept(name) as kept:
             words = [*crate.words(["--jobs", "1"], keeps=False), "--incremental", kept]

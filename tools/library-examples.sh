@@ -1,8 +1,8 @@
 #!/bin/sh
 # Holds include/hart.h against the source, makes the library, and makes each call of the header from C, which has to do what
-# tools/library_calls.c says with its rows. Then it builds the examples without a warning, and runs them: on captures they have to print
-# just what the program does, whether the capture comes at once or byte by byte; the one of fields, what is written here; and the devices
-# among them have to reply just as it does.
+# tools/library_calls.c says with its rows. Then it builds the examples without a warning, and runs them. On captures they have to
+# print just what the program does, whether a capture comes at once or byte by byte. The example of fields has to print what is
+# written here, and the device examples have to reply just as the program does.
 #
 # A C compiler and Python are needed. C++ and Rust are tried where they are found, and so are the sanitizers of the C compiler.
 #
@@ -54,7 +54,7 @@ build() {
     shift
     $cc -std=c11 $strict "$@" -Iinclude "$source" "$work/libhart.a" -o "$work/$(basename "$source" .c)"
 }
-# Builds one on the shared library; its name ends with _shared.
+# Builds a program on the shared library; its name ends with _shared.
 build_shared() {
     $cc -std=c11 $strict -Iinclude "$1" -L"$work" -lhart -o "$work/$(basename "$1" .c)_shared"
 }

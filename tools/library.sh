@@ -1,11 +1,11 @@
 #!/bin/sh
-# Makes libhart.a and libhart.so of the proved static library of hart_c, with what it needs of the toolchain's C library in them. They
-# offer the calls of include/hart.h and no other symbol. libhart.so is a link to libhart.so.0, whose number grows when a program that was
-# built before would not run with it.
+# Makes libhart.a and libhart.so of the proved static library of hart_c, with what it needs of the toolchain's C library in them.
+# They offer the calls of include/hart.h and no other symbol. libhart.so is a link to libhart.so.0, whose number grows when a
+# program that was built with an earlier one would not run with it.
 #
-# Usage: tools/library.sh [--gate PROVED] FOLDER; the folder is where both are put. With `--gate`, hart_c is built over the libraries that
-# the gate has just built, and over what it proved of each crate, which stands in PROVED. Else `rt lib` builds it, and proves again what
-# does not stand proved, which takes some minutes.
+# Usage: tools/library.sh [--gate PROVED] FOLDER; the folder is where both are put. With `--gate`, hart_c is built over the
+# libraries that the gate has just built, and over what it proved of each crate, which stands in PROVED. Otherwise `rt lib` builds
+# it, and proves what is not proved yet, which takes some minutes.
 set -eu
 proved=
 if [ "$1" = --gate ]; then

@@ -1,8 +1,8 @@
 #!/usr/bin/env python3
 """Finds dead links in the pages of the repository.
 
-A link to a file of the repository is dead if the file is not there, and one with an anchor if no heading of the page has it. Links to
-other places, as https://, are not looked at. What stands in a block of code is no link.
+A link to a file of the repository is dead if the file is missing, or if the link has an anchor that no heading of the page has.
+Links to other places, such as https://, are not checked. Text in a block of code is no link.
 
 Usage: tools/links.py [DIRECTORY]; DIRECTORY is the repository if absent.
 """
@@ -16,7 +16,7 @@ ELSEWHERE = re.compile(r"[a-z]+:")
 
 
 def outside_code(page):
-    """Gives the text of a page, with an empty line for each line of a block of code."""
+    """Returns the text of a page, with an empty line for each line of a block of code."""
     in_code = False
     lines = []
     for line in page.read_text().splitlines():
@@ -27,7 +27,7 @@ def outside_code(page):
 
 
 def anchors(page):
-    """Gives the anchors of the headings of a page, as they are made where it is shown: lower case, a hyphen for a space, no other sign."""
+    """Yields the anchors of a page's headings, as the site makes them: lower case, hyphens for spaces, no other signs."""
     seen = {}
     for heading in re.findall(r"^#{1,6} +(.*?) *$", outside_code(page), re.MULTILINE):
         text = re.sub(r"\[([^\]]*)\]\([^)]*\)", r"\1", heading).lower()
@@ -38,7 +38,7 @@ def anchors(page):
 
 
 def links_of(page):
-    """Gives the links of a page to places of the repository, each with the number of its line."""
+    """Yields the links of a page to places of the repository, each with the number of its line."""
     text = re.sub(r"`[^`\n]*`", lambda code: "`" * len(code[0]), outside_code(page))
     for link in LINK.finditer(text):
         if not ELSEWHERE.match(link[1]):
@@ -46,7 +46,7 @@ def links_of(page):
 
 
 def fault_of(page, target, root):
-    """Gives what is wrong with a link of a page, or None."""
+    """Returns what is wrong with a link of a page, or None."""
     name, _, anchor = target.partition("#")
     aim = (page.parent / name).resolve() if name else page
     if not aim.is_relative_to(root) or not aim.exists():

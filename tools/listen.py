@@ -84,7 +84,7 @@ def first_line(output, patience):
 
 
 def drop_rest(output):
-    """Reads what is still said of the same message."""
+    """Drops the rest of what is said of the same message."""
     while select.select([output], [], [], SILENCE)[0]:
         os.read(output.fileno(), 65536)
 

@@ -1,7 +1,7 @@
 #!/bin/sh
-# Holds the page of man and the completion for bash against the help of the program: both have to name each subcommand and each option
-# that `hart --help` and `hart COMMAND --help` name, the page each option with its commands, and neither may name another. An option has
-# its long name.
+# Holds the man page and the bash completion against the help of the program. Both have to name each subcommand and each option that
+# `hart --help` and `hart COMMAND --help` name, and no other. The man page names each option with its commands. Options go by their
+# long names.
 #
 # Usage: tools/manual.sh [PROGRAM]; PROGRAM is the ./hart of the repository if absent.
 set -eu
@@ -24,7 +24,7 @@ options_of() {
     "$program" "$@" --help 2>&1 | awk '/^ +(-[A-Za-z], +)?--[a-z]/ { match($0, /--[a-z]+/); print substr($0, RSTART, RLENGTH) }'
 }
 
-# The names at the heads of the paragraphs of a section of the page; with "of" joined to each, the commands that its paragraph names.
+# The names at the heads of the paragraphs of a section of the man page; and NAME=COMMAND for each command in a paragraph.
 named_in() {
     sed 's/\\-/-/g' docs/hart.1 | awk -v section="$1" '
         /^\.SH / { on = $2 == section; next }
@@ -53,7 +53,7 @@ grep -q "\"$version\"" docs/hart.1 || {
     exit 1
 }
 
-# What bash is offered after these words.
+# What the bash completion offers after these words.
 offered() {
     bash -c '. docs/hart.bash; COMP_WORDS=(hart "$@" ""); COMP_CWORD=$(($# + 1)); _hart; echo "${COMPREPLY[@]}"' bash "$@"
 }

@@ -4,10 +4,10 @@
 Usage: tools/mistakes.py [--gate FOLDER] [--table] [CRATE | MISTAKE ..]
        tools/mistakes.py --can-fail
 
-Without names it tries all of `crates/NAME/mistakes/`, and then holds the table of docs/WRONG_BODIES.md against what it saw. `--table` tries
-those of `must-fail/` too, which the gate tries one by one, and writes the table. `--gate` is for a run right after the gate: it takes the
-libraries that the gate has built, and the folder has what it proved of each crate. `--can-fail` shows that a run fails by edits that are
-no mistakes.
+Without names it tries all of `crates/NAME/mistakes/`, and then holds the table of docs/WRONG_BODIES.md against what it saw.
+`--table` tries those of `must-fail/` too, which the gate tries one by one, and writes the table. `--gate` is for a run right after
+the gate: it takes the libraries that the gate has built, and the folder has what it proved of each crate. `--can-fail` shows that
+edits that are no mistakes make a run fail.
 """
 
 import argparse
@@ -22,7 +22,7 @@ from mistakes.verdicts import Verdict, verdict_of
 
 
 def judged(kit, batch, kept=None):
-    """The verdict on each mistake of a batch. What is not refused beside others is tried once more, alone."""
+    """Returns the verdict on each mistake of a batch. A mistake that is not refused beside others is tried once more, alone."""
     crate = os.path.basename(batch[0].edit.crate)
     functions = sorted({it.path for mistake in batch for it in mistake.functions})
     said = kit.check(crate, texts_of(batch), functions, kept)
@@ -33,7 +33,7 @@ def judged(kit, batch, kept=None):
 
 
 def judged_anew(kit, crate, batch):
-    """The verdict on each mistake of a batch that begins with what is kept of the crate."""
+    """Returns the verdict on each mistake of a batch. The batch begins with what is kept of the crate."""
     with kit.kept(crate) as kept:
         return judged(kit, batch, kept)
 
@@ -41,8 +41,8 @@ def judged_anew(kit, crate, batch):
 def judged_crate(kit, crate, mistakes):
     """The verdict on each mistake of a crate.
 
-    Each batch begins with what is kept of the crate as it stands, since after a batch what that changed would be proved again. If nothing
-    is kept, it begins with what those before it proved."""
+    Each batch begins with what is kept of the unchanged crate. After another batch it would have to prove again what that one
+    changed. If nothing is kept, a batch begins with what the batches before it proved."""
     batches = batches_of(mistakes)
     if kit.has_kept(crate):
         return [pair for batch in batches for pair in judged_anew(kit, crate, batch)]
@@ -51,7 +51,7 @@ def judged_crate(kit, crate, mistakes):
 
 
 def mistakes_of(edits):
-    """The mistakes that these edits are, and the verdict on each edit that is none."""
+    """Returns the mistakes among these edits, and a verdict on each edit that is no mistake."""
     found, bad = [], []
     for edit in edits:
         try:
@@ -62,14 +62,14 @@ def mistakes_of(edits):
 
 
 def crates_with_libraries(kit, names, is_after_gate):
-    """Those of these crates below which every library stands built."""
+    """Returns those of these crates whose libraries below them are all built."""
     if is_after_gate and kit.has_gates_libraries():
         return names
     return [it for it in names if kit.build_below(it)]
 
 
 def tried(kit, edits, is_after_gate):
-    """Each edit with its functions and its verdict, as they are decided. A crate is one task."""
+    """Yields each edit with its functions and its verdict, as they are decided. Each crate is one task."""
     mistakes, bad = mistakes_of(edits)
     yield from ((edit, (), verdict) for edit, verdict in bad)
     of_crates = {}

@@ -1,13 +1,13 @@
 #!/bin/sh
-# Runs each call of the built program again and again, and refuses one allocation each time: the first, the second, and so on. A
-# run ends with `out of memory` and a prefix of whole lines written: with status 2 if the growth was for the words, of which clap
-# has most, and with 1 if it was one of the call. Of its own a call has as many as its reservations, of which a script has one
-# more for each word of characters, and those by which its events and its text grow; `hart dump`, `hart explain` and `hart encode`
-# have none. Only before clap has the words a run may do without a growth. That it succeeds with ample memory is the last run, in
-# which none is left to refuse.
+# Runs each call of the built program again and again, and refuses one allocation (growth) each time: the first, the second, and so
+# on. Such a run ends with `out of memory`, after a prefix of whole lines: with status 2 if the growth was for the words (most of
+# these are clap's), and with 1 if it was the call's own. A call's own growths are its reservations. A script has one more for each
+# word of characters, and those by which its events and its text grow; `hart dump`, `hart explain` and `hart encode` have none. Only
+# before clap has the words may a run succeed without a growth. In the last run no growth is left to refuse, and the call has to
+# succeed.
 #
-# The program does not call `run`, and tells a refusal by `read_script` as its own. So a test of hart_tests makes each call once by its
-# name and tells what it answered, and each growth of that test is refused in the same way.
+# The program does not call `run`, and reports a refusal by `read_script` as its own. So a test of hart_tests makes each call once
+# by its name and prints what it answered. Each growth of that test is refused in the same way.
 #
 # Usage: tools/refused-growths.sh [PROGRAM [TESTS]]; PROGRAM is the ./hart of the repository if absent, and TESTS the tests that `rt test`
 # or the gate has built in crates/hart_tests. It needs cc.
@@ -19,7 +19,7 @@ work=$(mktemp -d)
 trap 'rm -rf "$work"' EXIT
 cc -shared -fPIC -O1 -o "$work/refuse_growth.so" tools/refuse_growth.c -ldl
 
-# Whether the output is so many first lines of what is wanted.
+# Whether the output is a prefix, in whole lines, of what is wanted.
 is_prefix() {
     lines=$(wc -l <"$work/output")
     head -n "$lines" "$work/wanted" | cmp -s - "$work/output"
@@ -30,7 +30,7 @@ has_ample_memory() {
     [ "$1" -eq "$wanted_status" ] && cmp -s "$work/output" "$work/wanted" && cmp -s "$work/errors" "$work/fault"
 }
 
-# Whether the run was refused memory for itself.
+# Whether the run was refused memory for the call itself.
 lacks_memory() {
     [ "$1" -eq 1 ] && is_prefix && [ "$(cat "$work/errors")" = 'out of memory' ]
 }
@@ -40,8 +40,8 @@ lacks_words() {
     [ "$1" -eq 2 ] && is_prefix && grep -q 'out of memory$' "$work/errors"
 }
 
-# Refuses each growth of one call in turn; its input and what it must write stand in $work, to standard error too. The first word is
-# how many of them are its own.
+# Refuses each growth of one call in turn. Its input and what it must write, to standard error too, stand in $work. The first word
+# is the number of the call's own growths.
 refuse_each() {
     wanted_own=$1
     shift
@@ -80,9 +80,9 @@ refuse_each() {
         "$without that it did without"
 }
 
-# Refuses each growth of a script of so many submissions, each with a turn in which no characters are given. There is one of the
-# input, one of `run_logged` for outcomes, and as many as its events and its text need to grow to their size, each of
-# which at least doubles what there is room for: the second word is how many they are in all.
+# Refuses each growth of a script of $1 submissions, each with a turn without characters. One growth is for the input, and one is
+# that of `run_logged` for outcomes. The others let the events and the text grow to their size, and each at least doubles the room.
+# The second word is the number of all these growths.
 refuse_script() {
     lines=0
     while [ "$lines" -lt "$1" ]; do
@@ -96,13 +96,13 @@ refuse_script() {
 : >"$work/fault"
 cp crates/hart/stdin "$work/input"
 cp crates/hart/stdout "$work/wanted"
-# Its own are of the input and of its characters.
+# Its own growths are for the input and for its characters.
 refuse_each 2 answer
-# With an image, that of the bench device as it is new, also of the bytes of the image.
+# With an image, here that of a new bench device, there is one more for the bytes of the image.
 image=0200018208208208208208208208208208208208208208208208208208208208208208208208208208208208200000000000002020202020202020202020202020202020202020202020202020202020202020000000
 refuse_each 3 answer --image "$image"
 
-# Its own are of a line and of its characters, however many lines there are.
+# Its own growths are for a line and for its characters, however many lines there are.
 yes counter | head -n 3000 >"$work/input"
 yes 'counter 0' | head -n 3000 >"$work/wanted"
 refuse_each 2 serve
@@ -148,7 +148,7 @@ D 5 86B7420A1B2C130500400123457F
 counter 2
 image 0200018208208208208208208208208208208208208208208208208208208208208208208208208208208208200000000123452020202020202020202020202020202020202020202020202020202020202020000203
 TEXT
-# One of the input, one of `run_logged`, two of words of characters, and those of its six events and of its text.
+# One growth is for the input, one that of `run_logged`, two for words of characters; the others for its six events and its text.
 refuse_each 11 sim
 refuse_each 12 sim --image "$image"
 
@@ -157,13 +157,13 @@ refuse_script 65 18
 refuse_script 300 22
 refuse_script 3000 29
 
-# A script without events has those of the input and of its text alone.
+# A script without events has growths for the input and for its text alone.
 : >"$work/input"
 "$program" sim <"$work/input" >"$work/wanted"
 refuse_each 2 sim
 
-# A refused line of the text ends a script before a later leg with undetected damage does. Its own are of the input, of three events, of
-# a word of characters, of an outcome, and two of the text.
+# If a line of the text is refused memory, the script ends before a later leg with undetected damage. Its own growths are one each
+# for the input, the three events, a word of characters and an outcome, and two for the text.
 printf 'submit P 37420A1B2C 19 012345\nturn P ok ok\nnoise FFFF0280000082\n' >"$work/input"
 : >"$work/wanted"
 echo 'undetected damage at event 2, noise' >"$work/fault"
@@ -174,15 +174,15 @@ refuse_each 6 sim
 echo 'FF FF FF FF FF 82 B7 42 0A 1B 2C 13 03 01 23 45 3D' >"$work/wanted"
 refuse_each 0 encode P 37420A1B2C 19 012345
 
-# Runs the test that makes each call by its name, and refuses the growth with this number. The test ends otherwise than with ample memory
-# then; what counts is what it tells of the calls. Whether there was such a growth is the result.
+# Runs the test that makes each call by its name, and refuses the growth with this number. Then the test does not end as with ample
+# memory, but only what it prints of the calls counts. The result is whether there was such a growth.
 refuse_by_name() {
     REFUSED_GROWTH=$1 LD_PRELOAD=$work/refuse_growth.so "$tests" cli::growths::each_call_succeeds_with_ample_memory \
         2>"$work/errors" 3>"$work/hit" | grep -E ' [0-9]+$' >"$work/output" || true
     [ -s "$work/hit" ]
 }
 
-# With ample memory each call answers 0, and those that write have written so many bytes.
+# With ample memory each call answers 0. Each call that writes has written this number of bytes.
 cat >"$work/wanted" <<'ANSWERS'
 read_script 0
 run 0
@@ -198,7 +198,7 @@ simulate with an image 0 410
 encode_text 0 51
 ANSWERS
 
-# Each growth is one of a single call, which answers otherwise if it is refused. All other calls answer as with ample memory.
+# Each growth belongs to a single call, whose answer differs if the growth is refused. All other calls answer as with ample memory.
 : >"$work/refused"
 number=1
 while refuse_by_name "$number"; do

@@ -18,12 +18,12 @@ OF_RESTART_AND_CHANGE = "00 60"
 OF_CHANGE = "00 40"
 # A write, and the command that reads what it wrote.
 READ_BACK = ((6, 7), (17, 12), (18, 13), (19, 16), (22, 20))
-# The data that a command is asked with, if nothing else is said: as it is worked, and Command 6 with a mode.
+# The data that each command is asked with by default: those of its worked example, and for Command 6 with a mode.
 ASKED = DATA | {6: b"\x05\x01"}
 
 
 class Part(NamedTuple):
-    """A part of a case: what is heard, or `restart`; and the two status bytes of the reply that are known beforehand, "" for silence."""
+    """A part of a case: what is heard, or `restart`; and the two known status bytes of the reply, or "" for silence."""
 
     heard: str
     shown: str = SILENCE
@@ -37,7 +37,7 @@ class Run(NamedTuple):
 
 
 def asked(command, shown, master="P", **more):
-    """The part in which a master asks a command, with the bytes of the data that are sent."""
+    """Returns the part in which a master asks a command, with those bytes of the data that are sent."""
     data = more.pop("data", ASKED[command])
     return Part(request(command, commands.written_data(command, data), master=master, **more), shown)
 
@@ -48,7 +48,7 @@ def restarted(device, *parts):
 
 
 def first_replies():
-    """Each command, asked first after a restart, by each master."""
+    """Each command as the first one after a restart, from each master."""
     for command in DATA:
         shown = OF_RESTART_AND_CHANGE if command in commands.WRITES else OF_RESTART
         for master in MASTERS:
@@ -58,7 +58,7 @@ def first_replies():
 
 
 def once_each():
-    """The bit is shown to each master once, and again after a further restart."""
+    """The cold start bit is shown to each master once, and again after a further restart."""
     for master, other in MASTERS.items():
         own, others = (asked(7, OF_RESTART, who) for who in (master, other))
         own_again, others_again = (asked(7, NO_CODE, who) for who in (master, other))
@@ -71,7 +71,7 @@ def once_each():
 
 
 def refused():
-    """A refusal shows the bit, and to its master alone."""
+    """A refusal shows the cold start bit, to the refused master alone."""
     for master, other in MASTERS.items():
         last, last_of_other = asked(7, NO_CODE, master), asked(7, OF_RESTART, other)
         yield restarted(PROTECTED, asked(19, "07 20", master), last, last_of_other)
@@ -79,7 +79,7 @@ def refused():
 
 
 def damaged():
-    """A communication-fault reply neither shows the bit nor clears it."""
+    """A communication-fault reply neither shows the cold start bit nor clears it."""
     for master in MASTERS:
         whole = asked(19, SILENCE, master).heard
         changed = whole[:-2] + f"{int(whole[-2:], 16) ^ 1:02X}"
@@ -89,7 +89,7 @@ def damaged():
 
 
 def silent():
-    """Silence does not clear the bit: another tag, another address, and a damaged request that is met with silence."""
+    """Silence does not clear the cold start bit: after another tag, another address, and a damaged request."""
     neighbour = Unique(OWN_ADDRESS.type, OWN_ADDRESS.id ^ 1)
     for master in MASTERS:
         then = asked(7, OF_RESTART, master), asked(7, NO_CODE, master)
@@ -131,7 +131,7 @@ def runs():
 
 
 def script_of(heard):
-    """The lines of a script in which the device of `hart sim` hears something. A request is in no hand any more after them."""
+    """Returns the script lines by which the device of `hart sim` hears something. After them no request is in hand."""
     if heard == RESTART:
         return [RESTART]
     items, frame = heard.replace(" ", ""), lone(heard)

@@ -1,8 +1,8 @@
 #!/usr/bin/env python3
 """Runs the built program on the rows in tools/rows.
 
-Each run is the program itself, on streams that tools/cut_streams.c cuts short or lets fail as the check says. A run is held to what it
-writes to standard output and to standard error and to its status, and where the check counts them to the number of its reads or writes.
+Each run is the program itself, on streams that tools/cut_streams.c cuts short or lets fail as the check says. A run is held to its
+status, its output and its errors, and to the number of its reads or writes where the check counts them.
 
 Usage: tools/runs.py PROGRAM FOLDER; FOLDER has cut_streams.so, and takes the input of a run and its counts.
 """
@@ -35,13 +35,13 @@ CALLS = (
     (["encode", "P", "@0", "0"], "", encode.IDENTIFY),
 )
 
-# The most bytes that a read gives. Those from 4 to 8 cut the second item of `FF FF!40` after each of its bytes.
+# How many bytes a read returns at most. The numbers from 4 to 8 cut the second item of `FF FF!40` after each of its bytes.
 PORTIONS = (1, 2, 3, 4, 5, 6, 7, 8, 100)
 
 # A word with which the program refuses the input `!`, and the status.
 REFUSALS = (("answer", FAULT), ("dump", FAULT), ("explain", FAULT), ("sim", FAULT), ("frob", NO_CALL))
 
-# A subcommand, what is read before spaces without end, and what is written.
+# A subcommand, what it reads before endless spaces, and what it writes.
 WITHOUT_END = (
     ("answer", "", ""),
     ("answer", IDENTIFY + " ", ""),
@@ -69,12 +69,12 @@ class Run(NamedTuple):
     error_writes: int
 
     def gave(self, status, output, errors):
-        """Whether this was the status, and this was written."""
+        """Whether the run had this status, this output and these errors."""
         return (self.status, self.output, self.errors) == (status, output.encode(), errors.encode())
 
 
 def bytes_of(text):
-    """The bytes of an input that is a text, or of one that is bytes already."""
+    """Returns the bytes of an input, which is a text or bytes already."""
     return text if isinstance(text, bytes) else text.encode()
 
 
@@ -101,13 +101,13 @@ class Runner:
         return Run(ended.returncode, ended.stdout, ended.stderr, *struct.unpack("3q", self.counts.read_bytes()))
 
     def hold(self, condition, call, note):
-        """Ends if a run was not what is wanted of it."""
+        """Ends the script if a run was not as wanted."""
         if not condition:
             sys.exit(f"runs: {' '.join(call)}: not as it has to be, {note}")
 
     def check_row(self, call, row, after, portion):
-        """Runs a call on the input of a row, after which this comes. The last read is the one that finds the end, or that fails; at
-        another fault they are not counted."""
+        """Runs a call on the input of a row, with `after` behind it. The last read is the one that finds the end, or that fails. At
+        another fault the reads are not counted."""
         text, wanted, fault = row
         run = self.run(call, text, most_read=portion, after=after, most_written=1)
         size = len(bytes_of(text))
@@ -121,7 +121,7 @@ class Runner:
                 self.check_row(call, row, after, portion)
 
     def serves(self, call, text, wanted):
-        """Runs a call with no limit: it does its work, and writes this. Gives the run."""
+        """Runs a call without limits: it has to succeed and to write the wanted text. Returns the run."""
         run = self.run(call, text)
         self.hold(run.gave(DONE, wanted, ""), call, f"on {text[:80]!r}: {str(run)[:400]}")
         return run
@@ -162,7 +162,7 @@ def lines_are_served_in_turn(runner):
 
 
 def a_line_is_served_before_more_is_read(runner):
-    # Each read gives a byte, and the second write fails: a line and its line feed had been read twice by then.
+    # Each read gives a byte, and the second write fails: only `counter` and the empty line had been read by then.
     run = runner.run(["serve"], "counter\n\nrestart\n", most_read=1, failed_output=1)
     is_named = run.gave(FAULT, "counter 0\n", "write fault\n") and (run.reads, run.writes) == (9, 2)
     runner.hold(is_named, ["serve"], run)
@@ -226,7 +226,7 @@ def a_bad_image_is_named_before_anything_is_read(runner):
     for bad, fault in images.BAD_IMAGES:
         for word in ("answer", "serve", "sim"):
             call = [word, "--image", bad]
-            # The input would be at fault too.
+            # The input is bad too.
             run = runner.run(call, "!")
             runner.hold(run.gave(FAULT, "", fault) and run.reads == 0, call, run)
 
@@ -246,7 +246,7 @@ def each_failed_read_is_named(runner):
         for read in range(len(IDENTIFY) + 1):
             run = runner.run([word], IDENTIFY[:read], most_read=1, after="failure", interrupted=interrupted)
             is_named = (run.status, run.errors, run.reads) == (FAULT, b"read fault\n", read + 1)
-            # What `explain` says of what it read before stands in its rows.
+            # The rows of `explain` hold what it says of the bytes before the failed read.
             runner.hold(is_named and (run.output == b"" or word == "explain"), [word], f"at read {read}: {run}")
 
 

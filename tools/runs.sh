@@ -1,6 +1,6 @@
 #!/bin/sh
-# Runs the built program on the rows in tools/rows, on streams that a preloaded library cuts short or lets fail as a check says: what each
-# run writes, how it ends, and, where a check counts them, how often it reads and writes.
+# Runs the built program on the rows in tools/rows, on streams that a preloaded library cuts short or lets fail as a check says.
+# Checks what each run writes, how it ends, and, where a check counts them, how often it reads and writes.
 #
 # Usage: tools/runs.sh [PROGRAM]; PROGRAM is the ./hart of the repository if absent. It needs cc.
 set -eu

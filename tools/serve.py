@@ -1,9 +1,9 @@
 #!/usr/bin/env python3
 """Holds `hart serve` to docs/vectors.tsv and to the plain model in tools/fuzz, as a process that lives through many deliveries.
 
-Each row of the vectors is heard by a process of its own, which begins with the image of the row: its replies have to be those of the row.
-Then one process hears all rows, with a restart and the image between two of them; and one hears deliveries, each after it has answered the
-one before, and may not take more memory than at their beginning.
+Each row of the vectors is heard by a process of its own, which begins with the image of the row and has to reply as the row says.
+Then one process hears all rows, with a restart and the image after each. Another one hears many deliveries, each after it has
+answered the one before, and may not take more memory than after the first few.
 
 Usage: tools/serve.py PROGRAM [--deliveries N]; N is 100000 if absent.
 """
@@ -22,7 +22,7 @@ from fuzz.serve import said  # noqa: E402
 FILE = pathlib.Path(__file__).parents[1] / "docs" / "vectors.tsv"
 BETWEEN = "; "
 RESTART = "restart"
-# A request that writes, one that reads what it wrote, one of noise, and a line that is bad.
+# A request that writes, one that reads what was written, noise, a bad line, and two words.
 LINES = (
     "FF FF 82 B7 42 0A 1B 2C 13 03 01 23 45 3D",
     "FF FF 82 B7 42 0A 1B 2C 10 00 5A",
@@ -43,7 +43,7 @@ def rows():
 
 
 def ended(program, words, lines):
-    """The lines of a process that serves these lines."""
+    """Returns the lines that a process says to these lines."""
     text = "".join(f"{line}\n" for line in lines)
     process = subprocess.run([program, "serve", *words], input=text, capture_output=True, text=True, check=False)
     if process.returncode or process.stderr:
@@ -52,7 +52,7 @@ def ended(program, words, lines):
 
 
 def hold(shown, wanted, note):
-    """Ends if lines are not those that are wanted."""
+    """Ends the run if lines are not the wanted ones."""
     if shown != wanted:
         place = next((place for place, pair in enumerate(zip(shown, wanted)) if pair[0] != pair[1]), min(len(shown), len(wanted)))
         sys.exit(f"serve: {note}: line {place + 1} is {shown[place:place + 1]}, but {wanted[place:place + 1]} is wanted")
@@ -70,7 +70,7 @@ def each_row_alone(program):
 
 
 def all_rows_together(program):
-    """Lets all rows be heard by one process, with a restart and the image between them."""
+    """Lets all rows be heard by one process, with a restart, the image and the counter after each."""
     lines = [line for _, parts in rows() for line in (*(heard for heard, _ in parts), RESTART, "image", "counter")]
     device = new_device()
     hold(ended(program, [], lines), [said(device, line.encode()).decode().rstrip("\n") for line in lines], "all rows")
@@ -78,13 +78,13 @@ def all_rows_together(program):
 
 
 def resident(process):
-    """The most memory that a process has taken so far, in kilobytes."""
+    """Returns the most memory that a process has taken so far, in kilobytes."""
     status = pathlib.Path(f"/proc/{process.pid}/status").read_text(encoding="ascii")
     return next(int(line.split()[1]) for line in status.splitlines() if line.startswith("VmHWM:"))
 
 
 def many_deliveries(program, count):
-    """Sends lines one by one, each after the line for the last has come."""
+    """Sends lines one by one, each after the answer to the line before."""
     with subprocess.Popen([program, "serve"], stdin=subprocess.PIPE, stdout=subprocess.PIPE, bufsize=0) as process:
         device = new_device()
         taken = 0
@@ -105,7 +105,7 @@ def many_deliveries(program, count):
 
 
 def main():
-    """Runs all of them."""
+    """Runs all three checks."""
     parser = argparse.ArgumentParser(description=__doc__.split("\n", maxsplit=1)[0])
     parser.add_argument("program", help="the built program")
     parser.add_argument("--deliveries", type=int, default=100000, help="how many lines are sent one by one")

@@ -1,9 +1,9 @@
 #!/bin/sh
-# Runs the built program on what no contract speaks of. On streams and words of the system that fail it has to say so: a
-# device that is full, an input that cannot be read, a word that is not UTF-8. With a buffered standard output, for one,
-# `hart dump >/dev/full` would end with 0, every proof done and every test passed. On a pipe that stays open `hart dump` has to
-# write each line before it reads on, and to end at bad hex. All words have to reach the call, the seventh and an empty one too,
-# and the texts of clap have to be those in tools/texts, each in its place.
+# Runs the built program on what no contract speaks of. It has to report streams and words of the system that fail: a full device,
+# an unreadable input, a word that is not UTF-8. For example, with a buffered standard output `hart dump >/dev/full` would end with
+# 0, although every proof is done and every test passes. On a pipe that stays open `hart dump` has to write each line before it
+# reads on, and to end at bad hex. All words have to reach the call, even a seventh one and an empty one, and the texts of clap have
+# to be those in tools/texts, each in its place.
 #
 # Usage: tools/streams.sh [PROGRAM]; PROGRAM is the ./hart of the repository if absent.
 set -eu
@@ -122,7 +122,7 @@ printf 'FFFF82B7420A1B2C13' >&3
 says_at_once '00!40 ' '31: no message: the character at 38 has the fault bits 0x40'
 ends_at_bad_hex 91
 
-# A device that serves says a line for each line, though it could read on, and is the same one all the time.
+# A serving device answers each line with a line before it reads on, and stays the same device all the time.
 mkfifo "$work/asked" "$work/said"
 timeout 60 "$program" serve <"$work/asked" >"$work/said" 2>"$work/errors" &
 serve=$!
@@ -162,7 +162,7 @@ ends_with 1 'read fault' "$work/output" explain <"$work"
 ends_with 1 'read fault' "$work/output" answer <"$work"
 ends_with 1 'read fault' "$work/output" serve <"$work"
 ends_with 1 'read fault' "$work/output" sim <"$work"
-# An image that is none is refused before anything is read, and so before the fault of the input.
+# A bad image is refused before anything is read, and so before the fault of the input.
 ends_with 1 'bad image: version' "$work/output" answer --image 03 <"$work"
 ends_with 1 'bad image: length' "$work/output" answer --image 02 <"$work"
 ends_with 1 'bad image: length' "$work/output" serve --image '' <"$work"
@@ -174,7 +174,7 @@ ends_with 2 'error: *' "$work/output" encode P @0 "$(printf '\377')" <"$request"
 ends_with 1 'bad word 1' "$work/output" encode '' @0 0 </dev/null
 writes 'FF FF FF FF FF FF FF FF FF FF FF FF FF FF FF FF FF FF FF FF 82 00 00 00 00 00 0B 06 41 53 50 B7 1C 31 57' \
     encode S all 11 415350B71C31 --preambles 20
-# What a device holds is what the next run goes on from, and an image of version 1 is written as one of version 2.
+# The next run goes on from what a device holds, and a version 1 image is written as a version 2 image.
 earlier=010501820820820820820820820820820820820820820820820820820820820820820820820820820820820820000000012345000107
 image=0205018208208208208208208208208208208208208208208208208208208208208208208208208208208208200000000123452020202020202020202020202020202020202020202020202020202020202020000107
 writes "$(printf 'counter 1\nimage %s' "$image")" sim --image "$image"
@@ -188,10 +188,10 @@ shows help-help help help
 shows version --version
 shows wrong-word frob
 shows missing-word encode P @0
-# A file is no word of a call: what is said of one names how it goes in.
+# A file is no word of a call: the error for such a word names how a file goes in.
 shows wrong-file dump heard.txt
 
-# An input has as many bytes as the limit, and not one more.
+# An input may have as many bytes as the limit, and not one more.
 head -c 1048576 /dev/zero | tr '\0' ' ' >"$work/full"
 cp "$work/full" "$work/longer"
 printf ' ' >>"$work/longer"
@@ -205,7 +205,7 @@ done
 heard=$work/longer
 writes '' explain
 
-# However many preamble bytes are heard, they are no frame, and the frame after them is found.
+# Any number of preamble bytes is no frame, and the frame after them is found.
 head -c 100000 /dev/zero | tr '\0' '\377' | od -An -v -tx1 >"$work/preamble"
 heard=$work/preamble
 writes '' dump

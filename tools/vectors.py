@@ -1,13 +1,13 @@
 #!/usr/bin/env python3
 """Makes docs/vectors.tsv: what a device hears, and what it replies, a case a row.
 
-The cases are those of docs/COMMANDS.md, docs/WIRE.md, docs/FORMATS.md and docs/explained.txt, and of what the model is held against
-(tools/fuzz/worked.py); and after them those that rules make: each refusal in the table of the commands, each communication fault, each kind
-of address, both tags. The reply is the program's. It has to be the one that the page shows, if it shows one, and that of the plain model in
-tools/fuzz.
+The cases come from docs/COMMANDS.md, docs/WIRE.md, docs/FORMATS.md, docs/explained.txt, and the worked messages in
+tools/fuzz/worked.py. After them come cases that rules make: each refusal in the table of the commands, each communication fault,
+each kind of address, both tags. The reply is the program's. It has to be the reply on the page, if the page shows one, and that of
+the plain model in tools/fuzz.
 
-A row has the image of the device, or - for the bench device as it is new; what it hears; its reply, or - for silence; and a note, which
-`hart explain` says of both. In some rows the device is restarted and hears something after it: these have parts, with "; " between.
+A row has the image of the device, or - for a new bench device; what it hears; its reply, or - for silence; and a note of what
+`hart explain` says of both. Where a device is restarted and hears something after it, the row has parts, with "; " between.
 
 Usage: tools/vectors.py PROGRAM [--check]; with --check nothing is written, and the file has to be what would be.
 """
@@ -45,7 +45,7 @@ STATUS_LINE = re.compile(r" +(response code|device status|communication faults):
 
 @functools.cache
 def call(program, words, text):
-    """What the program writes of a text; it has to end with 0."""
+    """Returns what the program writes for an input; it has to end with 0."""
     ended = subprocess.run([program, *words], input=text, capture_output=True, text=True, check=False)
     if ended.returncode or ended.stderr:
         sys.exit(f"vectors: {' '.join(words)} ended with {ended.returncode} and {ended.stderr!r} at {text}")
@@ -53,7 +53,7 @@ def call(program, words, text):
 
 
 def is_known(case, reply):
-    """Whether a reply is what is known of it beforehand."""
+    """Whether a reply agrees with what is known of it beforehand."""
     if case.first is not None:
         return reply != "" and lone(reply).payload[0] == case.first
     return case.reply is None or reply == bytes.fromhex(case.reply).hex(" ").upper()
@@ -80,7 +80,7 @@ def note(program, heard, reply):
 
 
 def image_words(image):
-    """The words of a call by which its device has an image."""
+    """Returns the words of a call that give its device an image."""
     return () if image == "-" else ("--image", image)
 
 

@@ -1,6 +1,6 @@
 #!/bin/sh
-# Holds docs/vectors.tsv against the program: it has to reply to each case as its row says, `hart serve` too, row by row and all of them
-# in one process.
+# Holds docs/vectors.tsv against the program, which has to reply to each case as its row says. So has `hart serve`, row by row and
+# with all rows in one process.
 #
 # Usage: tools/vectors.sh [PROGRAM]; PROGRAM is the ./hart of the repository if absent.
 set -eu

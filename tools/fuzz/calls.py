@@ -27,7 +27,7 @@ def explain_given(rng):
 
 
 def with_silences(rng, text):
-    """A text in which the line falls silent, or not."""
+    """Puts up to five `/` into a text, at each of which the line falls silent."""
     for _ in range(weighted(rng, (4, 0), (3, 1), (2, 2), (1, 5))):
         place = rng.randrange(len(text) + 1)
         text = text[:place] + b"/" + text[place:]
@@ -60,7 +60,7 @@ def serve_given(rng):
 
 
 def with_image(rng, make):
-    """What a call that may go on from an image is given: none, a good one, and a text made for its device, or a bad word."""
+    """What a call that takes an image is given: no image, a good one or a bad word, mostly with a text made for its device."""
     image, word, other = NEW_IMAGE, None, 0.02
     kind = weighted(rng, (3, "none"), (6, "good"), (3, "bad"))
     if kind == "good":
@@ -73,7 +73,7 @@ def with_image(rng, make):
 
 
 def image_words(rng, word):
-    """The words that hand on the word of an image, or none, as a rule."""
+    """The words that give a call its image, or no words; sometimes spoilt."""
     words = [] if word is None else rng.choice((["--image", word], [f"--image={word}"]))
     if rng.random() < 0.08:
         words = spoilt_words(rng, words)
@@ -84,12 +84,12 @@ def image_words(rng, word):
 
 
 def other_text(rng):
-    """A text that one call or the other does not take, or one of which no read succeeds."""
+    """A text that one call or another refuses, or None, of which no read succeeds."""
     return weighted(rng, (6, None), (6, b"0G"), (6, b"turn X ok ok"), (6, b"noise FFFF0280000082"), (1, b" " * (INPUT_LIMIT + 1)))
 
 
 def spoilt_words(rng, words):
-    """Words of which one is missing, twice there, or one too many."""
+    """Words with one of them missing, all of them twice, or one too many."""
     place = rng.randrange(len(words) + 1)
     more = rng.choice(OTHER_WORDS)
     return rng.choice((words[:place] + words[place + 1:], words + words, words[:place] + [more] + words[place:], words + ["--"]))

@@ -27,7 +27,7 @@ def table():
 
 
 def least(cell):
-    """The number of bytes with which a cell begins, 0 if there is none."""
+    """Returns the number of bytes with which a cell begins, or 0 if it begins with no number."""
     return int(re.match(r"\d*", cell).group() or 0)
 
 
@@ -77,7 +77,7 @@ def polling_and_mode(data):
 
 
 def value_code(command, data, counter):
-    """The code of data that are long enough but say what can't be done; a counter that is None is not compared."""
+    """The response code for the values in data that are long enough. A counter of None is not compared."""
     if command == 6:
         address, mode = polling_and_mode(data)
         if address > 63:
@@ -102,7 +102,7 @@ def request_code(command, data, protected=False, counter=None):
 
 
 def written_data(command, data):
-    """The bytes that a request of these data is sent with: those that the command takes."""
+    """Returns the data with which a request is sent: the bytes that the command takes."""
     if command == 6:
         return bytes(polling_and_mode(data))
     if command == 9:
@@ -128,7 +128,7 @@ def reply_data(command, data):
 
 
 def read_reply(command, payload):
-    """The reply that a payload is; None if it is none, as with communication faults."""
+    """Returns the reply in a payload; None if it is no reply, as with communication faults."""
     if len(payload) < 2 or payload[0] & 0x80 or command not in NEEDED:
         return None
     if payload[0] != SUCCESS:

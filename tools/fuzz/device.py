@@ -22,7 +22,7 @@ SENSOR = bytes.fromhex("000000 20 43480000 00000000 41200000")
 OUTPUT = bytes.fromhex("00 00 20 42C80000 00000000 3F800000")
 CHANNEL_FLAGS = b"\x00"
 
-# What follows the code asked in a group of Command 9, by the code; every other code has the last.
+# What follows the requested code in a group of Command 9, for each code. Every other code has `NO_VARIABLE`.
 VARIABLES = {
     244: bytes([0, 57]) + PERCENT + VARIABLE_STATUS,
     245: bytes([0, 39]) + LOOP_CURRENT + VARIABLE_STATUS,
@@ -48,7 +48,7 @@ NEW_IMAGE = bytes.fromhex("020001" + "820820" * 14 + "000000" + "000000" + "20" 
 
 
 def bytes_fault(data):
-    """The first thing by which bytes are no image; None if they are one."""
+    """Returns the first reason why bytes are no image; None if they are an image."""
     if not data:
         return "length"
     if data[0] not in IMAGE_BYTES:
@@ -85,7 +85,7 @@ class Device:
 
     @classmethod
     def from_image(cls, image):
-        """The device that goes on from a good image; after one of version 1 its long tag is the text of its tag and spaces."""
+        """The device that goes on from a good image. After a version 1 image its long tag is the text of its tag and spaces."""
         long_tag = image[51:-3] or unpacked(image[27:33]).ljust(32)
         counter, flags = int.from_bytes(image[-3:-1], "big"), image[-1]
         changed = {"P": bool(flags & 1), "S": bool(flags & 2)}
@@ -100,11 +100,11 @@ class Device:
         return prefix + registers + self.counter.to_bytes(2, "big") + bytes([flags])
 
     def restart(self):
-        """The device was without power, which it says to each master once."""
+        """Restarts the device, which then shows a cold start to each master once."""
         self.cold_start = {"P": True, "S": True}
 
     def hear(self, heard):
-        """The answer to a delivery: to its frame if it has exactly one, or if it has none to a garbled request. None is silence."""
+        """The answer to a delivery: to its only frame, or, if it has no frame, to a garbled request. None is silence."""
         found = frames_of(heard)
         if not found:
             return reply_to_garbled(heard)
@@ -129,7 +129,7 @@ class Device:
         return Frame("ACK", frame.master, 0, frame.address, b"", command, payload)
 
     def is_asked(self, address, command):
-        """Whether address and command of a request go together."""
+        """Whether the device is asked by a request with this address and command."""
         if isinstance(address, Polling):
             return address.number == self.polling and command == 0
         return address == OWN_ADDRESS or address == BROADCAST and command in (11, 21)
@@ -205,7 +205,7 @@ def garbled_request(heard):
 
 
 def reply_to_garbled(heard):
-    """The communication-fault reply to the garbled request in characters without a frame; None if there is none."""
+    """The communication-fault reply to the garbled request in characters without a frame; None without such a request."""
     garbled = garbled_request(heard)
     if garbled is None:
         return None

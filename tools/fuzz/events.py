@@ -1,4 +1,4 @@
-"""Makes random scripts: events that know what was sent in each leg, and their lines, good and spoilt."""
+"""Makes random scripts: events, chosen by what was sent in each leg, and their lines, good and spoilt."""
 
 from dataclasses import replace
 
@@ -25,7 +25,7 @@ QUIET_LINES = ("", "", " ", "\t \t", "# any", "#", "#submit P @0 0", " \t# é \r
 
 
 def leg_of_message(rng, sent, preambles):
-    """What is heard in place of a message: it whole, damaged, cut, twice, or with something else."""
+    """What is heard in place of a message: the message whole, damaged, cut, twice, or with something else."""
     whole = faultless(b"\xFF" * preambles + body_of(sent))
     short = faultless(b"\xFF" * rng.choice((0, 1, 2, 2, 2, 3, 5, 21)) + body_of(sent))
     quiet = (Char(0x55), Char(0xFF), Char(0x00, 0x40), Char(0xFF, 0x10))
@@ -38,7 +38,7 @@ def leg_of_message(rng, sent, preambles):
 
 
 def near_message(rng, sent):
-    """A message like the one that was sent, with one field of its frame another."""
+    """A message that differs in one field from the one that was sent."""
     field, value = rng.choice((("burst", 1), ("master", "S" if sent.master == "P" else "P"), ("command", sent.command ^ 1),
                                ("payload", sent.payload + b"\x00"), ("expansion", b"\x00"), ("address", Polling(1)),
                                ("kind", "ACK" if sent.kind == "STX" else "STX")))
@@ -48,7 +48,7 @@ def near_message(rng, sent):
 
 
 def without_frames(rng):
-    """Characters in which no frame is heard, though messages may have been near: each has a character with a fault."""
+    """Characters in which no frame is heard: each message among them has a character with a fault."""
     make = heard.garbled_request if rng.random() < 0.3 else heard.random_heard
     characters = list(make(rng)) or [Char(0)]
     while found := frames_of(characters):
@@ -82,12 +82,12 @@ class Play:
         self.stopped = False
 
     def event(self):
-        """A next event."""
+        """Returns the next event."""
         kinds = [(10, self.turn), (6, self.submit), (1, self.protect), (1, self.noise), (1, Restart)]
         return weighted(self.rng, *kinds)()
 
     def submit(self):
-        """A submission of a request that is well formed, also one that its master refuses."""
+        """A submission of a well-formed request, which its master may refuse."""
         rng, device = self.rng, self.line.device
         command = rng.choice([*commands.WRITES, 38, 38]) if rng.random() < 0.5 else rng.choice(list(commands.NEEDED))
         address = OWN_ADDRESS if rng.random() < 0.5 else heard.random_address(rng, device.polling)
@@ -114,7 +114,7 @@ class Play:
         return Turn(who, up, random_leg(rng, answer, RESPONSE_PREAMBLES, self.loss))
 
     def trial_device(self):
-        """A device in the state of the line's."""
+        """Returns a copy of the line's device."""
         device = self.line.device
         return replace(device, changed=dict(device.changed), cold_start=dict(device.cold_start))
 
@@ -128,7 +128,7 @@ class Play:
         return Noise(characters or (Char(0),))
 
     def step(self):
-        """One event more."""
+        """Adds an event, and carries it out unless the script has stopped."""
         event = self.event()
         self.events.append(event)
         if not self.stopped:
@@ -171,14 +171,14 @@ def event_line(rng, words, plain):
 
 
 def script_text(rng, lines):
-    """The lines as one text, ended in one way or in any."""
+    """The lines as one text, with one kind of line end or with mixed ones."""
     end = weighted(rng, (6, "\n"), (2, "\r\n"), (1, None))
     text = "".join(line + (end or rng.choice(("\n", "\r\n"))) for line in lines).encode()
     return text[:-1] if rng.random() < 0.2 else text
 
 
 def quiet_script(rng, device):
-    """The lines of a script without bad ones, save by chance; the device is played with."""
+    """The lines of a script without deliberately bad ones. The device is changed by its events."""
     play = Play(rng, device)
     plain = rng.random() < 0.7
     lines = []
@@ -202,7 +202,7 @@ def sim_input(rng, device):
 
 
 def filled_script(rng, text):
-    """A script filled up with a comment or empty lines to the longest that there may be, or about as long."""
+    """A script filled up with a comment, spaces or empty lines to the limit of an input, or nearly so."""
     room = inputs.INPUT_LIMIT - len(text) + rng.choice((0, 0, 0, 1, 1, -1, 2, 5000))
     filling = rng.choice((b"#" * (room - 1) + b"\n", b"\n" * room, b"\r\n" * (room // 2) + b"\n" * (room % 2), b" " * room))
     return rng.choice((filling + text, text + b"\n" + filling[:-1]))

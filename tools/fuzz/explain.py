@@ -20,15 +20,15 @@ STATUS_NAMES = {
     0x80: "device malfunction", 0x40: "configuration changed", 0x20: "cold start", 0x10: "more status available",
     0x08: "loop current fixed", 0x04: "loop current saturated", 0x02: "non-primary variable out of limits",
     0x01: "primary variable out of limits"}
-# A row of the table of response codes in docs/COMMANDS.md: its code and its meaning. One with a command has that meaning there alone.
+# A row of the response codes in docs/COMMANDS.md: code and meaning. A meaning with a command holds for that command alone.
 CODE_ROW = re.compile(r"^\| (\d+) \| `[0-9A-F]{2}` \| ([^|]+) \|", re.MULTILINE)
 OF_COMMAND = re.compile(r"(.+), of Command (\d+)")
-# How many bytes Command 38 needs, which also does without any.
+# How many bytes of data Command 38 needs, if it has any.
 COUNTER_BYTES = 2
 
 
 def code_names():
-    """The names in the table of response codes, by the code and the command; the command is None where any has the name."""
+    """The names in the table of response codes, by code and command. The command is None if the name holds for all commands."""
     names = {}
     for code, cell in CODE_ROW.findall(commands.PAGE.read_text(encoding="utf-8")):
         for meaning in cell.removesuffix(" (own profile)").split("; "):
@@ -48,7 +48,7 @@ def code_text(command, code):
 
 
 def device_text(address, all_devices):
-    """The device of an address, or these words for broadcast."""
+    """The words for the device of an address; for broadcast, `all_devices`."""
     if isinstance(address, Polling):
         return f"the device at polling address {address.number}"
     return all_devices if address == BROADCAST else f"device {address.type:04X}{address.id:06X}"
@@ -77,7 +77,7 @@ def names_text(names, byte):
 
 
 def said_of_status(command, first, second):
-    """What the two status bytes of a reply to a command say, by the names of the lines."""
+    """What the two status bytes of a reply to a command say, each with the name of its line."""
     if first & COMMUNICATION_FAULTS:
         yield "communication faults", names_text(FAULT_NAMES, first)
     else:
@@ -86,7 +86,7 @@ def said_of_status(command, first, second):
 
 
 def bytes_line(name, data):
-    """The line of this name with these bytes, none without any."""
+    """The line with this name and these bytes; no line if there are no bytes."""
     if data:
         yield name, bytes_text(data)
 
@@ -133,7 +133,7 @@ def said_of_reply(command, first, data):
 
 
 def said(frame):
-    """What a message says, by the names of the lines."""
+    """What a message says, each part with the name of its line."""
     command, data = frame.command, frame.payload
     if frame.burst:
         yield "burst bit", "set"
@@ -160,8 +160,8 @@ def explained_lines(heard):
 
 
 def explained(heard):
-    """What is said of some characters, among which None says that the line fell silent: of each stretch by itself, with its places
-    counted on."""
+    """What is said of characters, where None means that the line fell silent. Each stretch is explained by itself, with its places
+    counted on from the stretches before."""
     text, first = "", 0
     for is_silent, stretch in itertools.groupby(heard, lambda char: char is None):
         chars = [] if is_silent else list(stretch)
@@ -171,7 +171,7 @@ def explained(heard):
 
 
 def moved_line(line, first):
-    """A line whose places are counted from a first place on: those at its head, and the one that a miss names."""
+    """Returns a line with `first` added to its places: those at its head, and the one that a miss names."""
     if line.startswith(" "):
         return line
     line = re.sub(r"^(\d+)-(\d+)", lambda places: f"{int(places[1]) + first}-{int(places[2]) + first}", line)
@@ -180,7 +180,7 @@ def moved_line(line, first):
 
 
 def explain(given):
-    """What `hart explain` does with an input, which is bytes that were heard if its one word says so, and otherwise hex."""
+    """What `hart explain` does with an input, which is raw bytes with the word `--raw`, and otherwise hex."""
     if given.words == [b"--raw"]:
         return explain_raw(given.text)
     return USAGE if given.words else told(given, explained, NO_LIMIT, read_heard)

@@ -8,7 +8,7 @@ from .device import unpacked
 from .units import unit_text
 
 SECTION = PAGE.read_text(encoding="utf-8").split("\n## Names of fields\n")[1].split("\n## ")[0]
-# The cell of a row that says which data it is of, as `requests of 6; replies to 6 and 7`.
+# The cell that says whose data a row describes, such as `requests of 6; replies to 6 and 7`.
 WHOSE = re.compile(r"(requests of|replies to) ([^;]+)")
 KINDS_OF_MESSAGES = {"requests of": "STX", "replies to": "ACK"}
 VARIABLE_BYTES = 8
@@ -44,7 +44,7 @@ FIELDS = table()
 
 
 def fallen(fields, data):
-    """The fields that these bytes reach, each with its own: the one without a fixed number has all that the others leave."""
+    """The fields that these bytes reach, each with its bytes. A field without a fixed size has all that the others leave."""
     left = len(data) - sum(field.size or 0 for field in fields)
     place = 0
     for field in fields:

@@ -125,7 +125,7 @@ def leading_frame(data):
 
 
 def first_start(heard):
-    """The least place at which a body may start, whatever is heard of it; None if there is none."""
+    """Returns the first place at which a body may start, whatever is heard there; None without such a place."""
     for place in range(2, len(heard)):
         if heard[place - 2] == heard[place - 1] == PREAMBLE != heard[place]:
             return place
@@ -133,7 +133,7 @@ def first_start(heard):
 
 
 def faultless_bytes(heard, place):
-    """The bytes of the faultless characters from a place on, up to the first with a fault, and no more than a body has."""
+    """The bytes of characters from a place on, up to the first with a fault, and at most as many as the longest body has."""
     run = bytearray()
     for char in heard[place:place + LONGEST_BODY]:
         if char.faults:
@@ -143,7 +143,7 @@ def faultless_bytes(heard, place):
 
 
 def first_frame(heard, begin):
-    """The frame at the least place of the list that begins at a place; None if there is none."""
+    """Returns the first frame of the list that begins at `begin`; None without a frame."""
     for place in range(begin + 2, len(heard)):
         if heard[place - 1] == heard[place - 2] == PREAMBLE and is_delimiter(heard[place].byte):
             leading = leading_frame(faultless_bytes(heard, place))

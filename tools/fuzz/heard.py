@@ -15,7 +15,7 @@ NOISE_BYTES = [0xFF] * 6 + [0x02, 0x82, 0x06, 0x86, 0x00, 0x00, 0x80, 0x01, 0x81
 
 
 def weighted(rng, *choices):
-    """One of some pairs of weight and value."""
+    """Returns one of the values in these pairs of weight and value, by their weights."""
     return rng.choices([value for _, value in choices], [weight for weight, _ in choices])[0]
 
 
@@ -39,7 +39,7 @@ def random_command(rng):
 
 
 def random_bytes(rng, length):
-    """So many bytes, of all kinds or of those that stand in messages."""
+    """Returns `length` bytes, of any values or of those that are common in messages."""
     if rng.random() < 0.5:
         return rng.randbytes(length)
     return bytes(rng.choices(NOISE_BYTES, k=length))
@@ -54,7 +54,7 @@ def with_message_inside(rng, data):
 
 
 def random_date(rng):
-    """The bytes of a date, also of one that is in no calendar, or of none."""
+    """The bytes of a date, which may be in no calendar, or not set."""
     day = bytes([rng.randint(1, 31), rng.randint(1, 12), rng.randrange(256)])
     return weighted(rng, (2, rng.choice(DATES)), (2, day), (1, rng.randbytes(3)), (1, bytes(3)))
 
@@ -100,7 +100,7 @@ def random_data(rng, command, counter=0, tag=BLANK_TAG, long_tag=BLANK_LONG_TAG)
 
 
 def random_payload(rng, command, ack):
-    """The payload of a message: request data, or of an ACK status bytes and any data, also too few for a frame."""
+    """The payload of a message: request data, or for an ACK status bytes and any data, sometimes too few for a frame."""
     if not ack:
         return random_data(rng, command)
     data = rng.choice(STATUS_PAIRS) + random_bytes(rng, rng.choice((0, 0, 1, 2, 3, 5, 22, 25, rng.randrange(254))))
@@ -108,7 +108,7 @@ def random_payload(rng, command, ack):
 
 
 def random_body(rng, polling=0):
-    """A body, mostly a request to the device; the fields may be any that have a place in a body."""
+    """A body, mostly a request to the device. Its fields may have any values that fit into a body."""
     ack = rng.random() < 0.25
     if rng.random() < 0.02:
         return body_of_fields(rng, ack, OWN_ADDRESS, rng.randbytes(3), random_command(rng), random_bytes(rng, 255))
@@ -119,7 +119,7 @@ def random_body(rng, polling=0):
 
 
 def body_of_fields(rng, ack, address, expansion, command, payload):
-    """The bytes of a body of any master, of which an ACK may be too short for a frame."""
+    """The bytes of a body with these fields and any master. An ACK may be too short for a frame."""
     delimiter = 0x80 * isinstance(address, Unique) | len(expansion) << 5 | (6 if ack else 2)
     burst = int(rng.random() < 0.15)
     prefix = bytes([delimiter]) + address_bytes(address, random_master(rng), burst) + expansion
@@ -140,7 +140,7 @@ def preamble(rng):
 
 
 def false_start(rng):
-    """Preamble bytes and a prefix of a body that says how many bytes follow, which are not given."""
+    """Two preamble bytes and a body that is cut at its byte count or before it."""
     delimiter = rng.choice((0x02, 0x82, 0x82, 0x86, 0x06, 0xE2, 0xA6, 0x22))
     prefix = bytes([delimiter]) + random_bytes(rng, (5 if delimiter & 0x80 else 1) + (delimiter >> 5 & 3))
     count = rng.choice((0, 1, 2, 5, 9, 30, 255, 255, rng.randrange(256)))
@@ -149,14 +149,14 @@ def false_start(rng):
 
 
 def unknown_message(rng):
-    """A message of even parity whose delimiter is of no frame: a burst message, or of another physical layer."""
+    """A message with a check byte that fits, but a delimiter of no frame: of a burst message or another physical layer."""
     body = random_body(rng)
     delimiter = rng.choice((body[0] & 0xF8 | rng.choice((0, 1, 3, 4, 5, 7)), body[0] | rng.choice((0x08, 0x10, 0x18))))
     return preamble(rng) + with_check_byte(bytes([delimiter]) + body[1:-1])
 
 
 def filled_start(rng):
-    """A message whose payload is what else may be heard; it has even parity as often as not."""
+    """A message with other heard bytes as its payload. Its check byte fits half of the time."""
     inner = heard_bytes(rng, rng.randrange(3))[:255]
     body = body_of_fields(rng, False, random_address(rng), b"", random_command(rng), inner)
     return preamble(rng) + body[:-1] + bytes([body[-1] ^ rng.choice((0, 0, 1, 0x80))])
@@ -180,7 +180,7 @@ def fault_bits(rng):
 
 
 def marked(rng, heard):
-    """One or some characters given fault bits, of whatever byte."""
+    """What was heard, with fault bits on one or more characters, whose bytes may change."""
     heard = list(heard)
     for _ in range(weighted(rng, (8, 1), (2, 2), (1, 6))):
         place = rng.randrange(len(heard))
@@ -189,14 +189,14 @@ def marked(rng, heard):
 
 
 def changed(rng, heard):
-    """A character replaced by another faultless one."""
+    """What was heard, with one character replaced by a faultless one."""
     place = rng.randrange(len(heard))
     byte = rng.choice((heard[place].byte ^ 1 << rng.randrange(8), rng.randrange(256), 0xFF))
     return heard[:place] + (Char(byte),) + heard[place + 1:]
 
 
 def mended(rng, heard):
-    """Two characters changed in the same bits, so that the parity stays."""
+    """What was heard, with the same bits changed in two characters, so that the parity stays."""
     bits = rng.choice((1 << rng.randrange(8), rng.randrange(1, 256)))
     heard = list(heard)
     for place in (rng.randrange(len(heard)), rng.randrange(len(heard))):
@@ -218,13 +218,13 @@ def garbled_request(rng):
 
 
 def lost_part(rng, heard):
-    """A run of characters missing."""
+    """What was heard, without a run of its characters."""
     place = rng.randrange(len(heard))
     return heard[:place] + heard[place + rng.choice((1, 1, 2, 3, 10, 300)):]
 
 
 def put_in(rng, heard):
-    """Characters that nobody sent, in between."""
+    """What was heard, with characters in between that nobody sent."""
     place = rng.randrange(len(heard) + 1)
     return heard[:place] + faultless(noise(rng)) + heard[place:]
 

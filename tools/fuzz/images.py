@@ -1,4 +1,4 @@
-"""Makes random images, good ones and words that are none."""
+"""Makes random images, and words that are no images."""
 
 from . import events, heard, inputs, scripts
 from .device import NEW_IMAGE, Device
@@ -11,7 +11,7 @@ NO_DIGITS = ("G", "g", "@", "`", "/", ":", " ", "!", "-", "\n", "\x7f", "é", "\
 
 
 def good_date(rng):
-    """A day of the calendar, or none."""
+    """The bytes of a day of the calendar, or of a date that is not set."""
     some = rng.choice(("000000", "1D0264", "1F0CFF", "010100", "1C02C8", "1E0401"))
     return bytes.fromhex(some) if rng.random() < 0.5 else bytes([rng.randint(1, 28), rng.randint(1, 12), rng.randrange(256)])
 
@@ -52,7 +52,7 @@ def with_field(image, place, field):
 
 
 def bad_field(rng, image):
-    """Bytes of an image's length with one or two fields that are not taken."""
+    """Bytes of an image's length with one or two bad fields."""
     for _ in range(rng.choice((1, 1, 1, 2))):
         date = rng.choice((*BAD_DATES, bytes([32 + rng.randrange(224), 1, 0]), bytes([1, 13 + rng.randrange(243), 0])))
         image = with_field(image, *rng.choice((
@@ -63,13 +63,13 @@ def bad_field(rng, image):
 
 
 def bad_version(rng, image):
-    """Bytes of any length, an image's too, that begin with a version that is none."""
+    """Bytes of any length, also of an image's, that begin with an unknown version."""
     version = rng.choice((0, 3, 3, 4, 0xFF, 0x10, 0x81))
     return bytes([version]) + rng.choice((image, image + bytes(32), b"", image[:20], rng.randbytes(rng.randrange(300))))[1:]
 
 
 def bad_length(rng, image):
-    """The bytes of an image, fewer or more, or with the other version; also with a field that is not taken."""
+    """An image with too few or too many bytes, or with the other version; sometimes with a bad field too."""
     image = image if rng.random() < 0.7 else bad_field(rng, image)
     longer = image + rng.choice((b"\x00", rng.randbytes(1), rng.randbytes(32), image, rng.randbytes(rng.randrange(1, 300))))
     other = bytes([3 - image[0]]) + image[1:]
@@ -83,7 +83,7 @@ def bad_bytes(rng):
 
 
 def bad_digits(rng):
-    """A word that is not of two hex digits for each byte: of an odd length, or with something else among them."""
+    """A word that is not two hex digits for each byte: its length is odd, or it has other characters."""
     digits = inputs.in_any_case(rng, rng.choice((good_image, bad_bytes))(rng).hex())
     if rng.random() < 0.05:
         digits *= LONGEST_WORD // max(len(digits), 1)

@@ -27,7 +27,7 @@ def separators(rng):
 
 
 def item_text(rng, characters):
-    """Characters as a text, with one separator or any."""
+    """Characters as a text, with one kind of separator or with mixed ones."""
     one = weighted(rng, (5, " "), (3, ""), (1, "\n"), (1, "\t"), (2, None))
     parts = [separators(rng) if rng.random() < 0.2 else ""]
     for char in characters:
@@ -38,7 +38,7 @@ def item_text(rng, characters):
 
 
 def spoilt(rng, text):
-    """A text with a byte put in, taken out, replaced, or cut off with all that follow."""
+    """A text with a byte put in, taken out or replaced, with part of an item put in, or cut off."""
     place = rng.randrange(len(text) + 1)
     odd = bytes([rng.choice(ODD_BYTES)])
     return rng.choice((text[:place] + odd + text[place:], text[:place] + text[place + 1:], text[:place] + odd + text[place + 1:],
@@ -46,7 +46,7 @@ def spoilt(rng, text):
 
 
 def at_the_limit(rng, text):
-    """A text filled up to the longest that there may be, or about as long."""
+    """A text filled up to the limit of an input, or nearly so."""
     room = INPUT_LIMIT - len(text) + rng.choice((0, 0, 0, 1, 1, -1, 2, 3, 5000))
     filling = rng.choice((b" ", b" ", b"\n", b"FF "))
     filling = (filling * (room // len(filling) + 1))[:room]
@@ -86,7 +86,7 @@ def answer_input(rng, device):
 
 
 def address_word(rng, address):
-    """An address as one of the words that it may be written as."""
+    """One of the words for an address."""
     if isinstance(address, Polling):
         return rng.choice((f"@{address.number}", f"@{address.number:02}"))
     if address == heard.BROADCAST and rng.random() < 0.7:
@@ -96,7 +96,7 @@ def address_word(rng, address):
 
 
 def command_word(rng, command):
-    """A command as one of the words that it may be written as."""
+    """One of the words for a command."""
     return f"{command:0{rng.choice((1, 1, 1, 2, 3))}}"
 
 
@@ -106,13 +106,13 @@ def data_word(rng, data):
 
 
 def request_words(rng, who, address, command, data):
-    """The words of a request; data that are none are left out."""
+    """The words of a request, with no word for empty data."""
     words = [who, address_word(rng, address), command_word(rng, command)]
     return words + [data_word(rng, data)] if data else words
 
 
 def bad_word(rng, number):
-    """A word that is none of the form that the word of this number has, as a rule."""
+    """A word that, as a rule, does not have the form of the word with this number."""
     digits = rng.choice(("0" * 510, "0" * 511, "0" * 512, "F" * 514))
     return rng.choice((
         ("p", "s", "PS", "", "P ", "primary", "0", "D"),
@@ -124,7 +124,7 @@ def bad_word(rng, number):
 
 
 def option_words(rng):
-    """The option with good or bad numbers, in its two forms."""
+    """The option with a good or a bad number, in one of its two forms."""
     number = rng.choice(("5", "6", "7", "19", "20", "20", "4", "21", "0", "255", "256", "", "+7", "x", "-1", "7.0", " 7", "07", "é"))
     return rng.choice(([f"--preambles={number}"], ["--preambles", number]))
 
@@ -153,7 +153,7 @@ def random_word_address(rng):
 
 
 def spoilt_words(rng, words):
-    """Words of which one is missing, twice there, one too many, or an option that there is not."""
+    """Words with one of them missing or twice there, or with one too many, which may be an unknown option."""
     place = rng.randrange(len(words) + 1)
     more = rng.choice(("-", "--", "-x", "--help", "-h", "--version", "--preambles", "--pre=7", "help", "00", "--preambles=9"))
     return rng.choice((words[:place] + words[place + 1:], words[:place] + words[place - 1:], words[:place] + [more] + words[place:]))

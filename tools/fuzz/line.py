@@ -45,7 +45,7 @@ class Restart(NamedTuple):
 
 
 class Spoken(NamedTuple):
-    """A message that was spoken: by `P`, `S` or `D`, with so many preamble bytes."""
+    """A message that was spoken: by `P`, `S` or `D`, with its number of preamble bytes and its frame."""
 
     party: str
     preambles: int
@@ -57,7 +57,7 @@ class Spoken(NamedTuple):
 
 
 class Undetected(Exception):
-    """A leg in which a frame was heard that was not the one sent, or more than one."""
+    """A leg in which a frame other than the one sent was heard, or more than one frame."""
 
     def __init__(self, leg):
         super().__init__(leg)
@@ -65,7 +65,7 @@ class Undetected(Exception):
 
 
 def arrives(sent, heard, leg):
-    """Whether what was sent in a leg arrives, by the frames of what is heard in it; `sent` is None if nothing was."""
+    """Whether what was sent in a leg arrives, by the frames that are heard in it; `sent` is None if nothing was sent."""
     if heard == OK:
         return sent is not None
     frames = [] if heard == LOST else [found.frame for found in frames_of(heard)]
@@ -77,7 +77,7 @@ def arrives(sent, heard, leg):
 
 
 def answer_in(device, sent, heard, leg):
-    """What a device answers in a leg: to what was sent if that arrives, and else to a garbled request. None is silence."""
+    """What a device answers in a leg: to what was sent, if it arrives, and otherwise to a garbled request. None is silence."""
     if arrives(sent, heard, leg):
         return device.receive(sent)
     return None if heard in (OK, LOST) else reply_to_garbled(heard)
@@ -85,7 +85,7 @@ def answer_in(device, sent, heard, leg):
 
 @dataclass
 class Line:
-    """The device, the masters, an outcome for each submission as its words, and what was spoken."""
+    """The device, the masters, the outcome of each submission in words, and what was spoken."""
 
     device: Device
     masters: dict = field(default_factory=lambda: {who: Master(who) for who in "PS"})
@@ -93,7 +93,7 @@ class Line:
     spoken: list = field(default_factory=list)
 
     def carry_out(self, event):
-        """Does what the rule of an event says; raises `Undetected`."""
+        """Carries out an event by its rule; raises `Undetected`."""
         if isinstance(event, Submit):
             self.submit(event)
         elif isinstance(event, Turn):
@@ -129,7 +129,7 @@ class Line:
             self.spoken.append(Spoken("D", RESPONSE_PREAMBLES, answer))
 
     def end_turn(self, master, reply):
-        """Writes down what has become of the request in hand, which leaves the hand with its reply or its last sending."""
+        """Writes down the outcome of the request in hand, which leaves the hand after its reply or its last sending."""
         asked = master.pending
         if asked is None:
             return

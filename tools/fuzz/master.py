@@ -30,7 +30,7 @@ class Master:
     pending: Pending | None = None
 
     def submit(self, number, address, command, data):
-        """Takes a request in hand, and gives None; or the number of the refusal."""
+        """Takes a request in hand and returns None, or returns the number of the refusal."""
         if self.pending is not None:
             return PENDING
         if isinstance(address, Polling) and command != 0 or address == BROADCAST and command not in (11, 21):
@@ -45,7 +45,7 @@ class Master:
         return Frame("STX", self.who, 0, self.pending.address, b"", self.pending.command, self.pending.data)
 
     def accepted(self, frame):
-        """The reply that a frame is to the request in hand; None if it is none."""
+        """Returns the reply to the request in hand that a frame holds; None if it holds no such reply."""
         asked = self.pending
         if asked is None or frame.kind != "ACK" or frame.expansion or frame.master != self.who:
             return None

@@ -1,4 +1,4 @@
-"""Makes characters of which `hart explain` has more to say: messages that are no messages, and those whose data do not fit."""
+"""Makes characters of which `hart explain` has more to say: broken messages, and messages whose data do not fit."""
 
 from . import heard
 from .commands import COMMANDS, UNKNOWN
@@ -15,7 +15,7 @@ def command_of(rng):
 
 
 def body(rng):
-    """A body of a request or a reply, whose data are mostly near to those of its command."""
+    """A body of a request or a reply, whose data mostly come near to those of its command."""
     command, ack = command_of(rng), rng.random() < 0.6
     expansion = rng.randbytes(weighted(rng, (12, 0), (1, 1), (1, 2), (1, 3)))
     payload = reply_payload(rng, command) if ack else request_data(rng, command)
@@ -46,19 +46,19 @@ def one_preamble(rng):
 
 
 def after_check_byte_of_preamble(rng):
-    """A body whose check byte is FF, and after it no or one preamble byte before another body."""
+    """A body whose check byte is FF, then one preamble byte or none, then another body."""
     first = faultless(heard.with_check_byte_of_preamble(rng))
     return start(rng) + first + (PREAMBLE,) * rng.randrange(2) + faultless(body(rng))
 
 
 def wrong_check_byte(rng):
-    """A message whose check byte is another."""
+    """A message with a wrong check byte."""
     whole = body(rng)
     return start(rng) + faultless(whole[:-1] + bytes([whole[-1] ^ rng.choice((1, 0x80, rng.randrange(1, 256)))]))
 
 
 def marked_body(rng):
-    """A message one character of which has fault bits, sometimes with a further mistake before or after it."""
+    """A message with fault bits on one character, sometimes cut short before or after it."""
     characters = list(faultless(body(rng)))
     place = rng.choice((0, 1, rng.randrange(len(characters)), rng.randrange(len(characters)), len(characters) - 1))
     characters[place] = Char(rng.choice((characters[place].byte, 0xFF, rng.randrange(256))), heard.fault_bits(rng))

@@ -18,7 +18,7 @@ class Walk:
         self.bytes = b""
 
     def take(self, count, at_end):
-        """The bytes of so many characters more; of an end before that `at_end` says what is wrong, by the number of those missing."""
+        """Returns the bytes of the next `count` characters. If some are missing, `at_end` of their number is what is wrong."""
         for taken in range(count):
             if self.place == len(self.heard):
                 raise Wrong(at_end(count - taken))
@@ -43,7 +43,7 @@ def later_end(missing):
 
 
 def judge_delimiter(byte):
-    """Goes on after a byte that is a delimiter of the profile."""
+    """Raises `Wrong` unless a byte is a delimiter of the profile."""
     if byte & 0x18 == 0 and byte & 7 == BURST_BITS:
         raise Wrong("it is a burst message, which is not read")
     if not is_delimiter(byte):
@@ -74,7 +74,7 @@ def wrong_from(heard, place):
 
 
 def stands_alone(heard, place):
-    """Whether a whole body stands at a place that ends before two `FF` in a row begin: none in it, nor with its last character."""
+    """Whether a whole body stands at a place, and no two `FF` in a row begin in it, not even with its last character."""
     walk = Walk(heard, place)
     try:
         walk_body(walk)
@@ -84,7 +84,7 @@ def stands_alone(heard, place):
 
 
 def missed(heard, begin, end):
-    """The lines of the misses from the stop of a message to a place; what stands before that stop is not looked at."""
+    """The lines of the misses between `begin`, where a message stopped, and `end`. What stands before `begin` does not count."""
     for place in range(begin + 1, end):
         if heard[place - 1] != PREAMBLE or heard[place] == PREAMBLE:
             continue

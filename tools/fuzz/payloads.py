@@ -11,7 +11,7 @@ MOST_REPLY_DATA = 253
 
 
 def request_data(rng, command):
-    """Data of a request: as it wants them, too few, too many, or refused; any of a command that is not listed."""
+    """Data of a request: as its command wants them, too few, too many, or refused; any data for an unlisted command."""
     if command not in COMMANDS:
         return heard.random_bytes(rng, rng.choice((0, 1, 3, 8)))
     if command == 6:
@@ -25,7 +25,7 @@ def request_data(rng, command):
 
 
 def reply_size(rng, command):
-    """How many bytes of data a reply with code 0 has, those too that are ignored or that make it no reply."""
+    """How many bytes of data a reply with code 0 has. Some of them may be ignored, or there may be too many or too few."""
     if command == 3:
         return 4 + 5 * rng.randint(1, 5) + rng.choice((0, 0, 0, 1, 2, 3, 4))
     if command == 9:
@@ -36,7 +36,7 @@ def reply_size(rng, command):
 
 
 def reply_data(rng, command):
-    """Data of a reply with code 0: as they are to be, as a rule, or too few, too many, or others."""
+    """Data of a reply with code 0: mostly as they must be, or too few, too many, or others."""
     data = heard.random_bytes(rng, reply_size(rng, command))
     if command in (13, 18):
         data = data[:18] + heard.random_date(rng)

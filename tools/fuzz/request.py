@@ -1,4 +1,4 @@
-"""What `hart request` writes for words, and words for it: written from docs/FORMATS.md and docs/COMMANDS.md."""
+"""What `hart request` writes for words, and random words for it, by docs/FORMATS.md and docs/COMMANDS.md."""
 
 import datetime
 import re
@@ -34,7 +34,7 @@ def packed_bytes(text):
 
 
 def padded(text, most, allowed):
-    """A text with the spaces after it that make it so long."""
+    """Returns a text with spaces after it, `most` characters in all."""
     for place, character in enumerate(text[:most]):
         if character not in allowed:
             raise Bad(f"bad character at {place}")
@@ -91,7 +91,7 @@ def word_name(field):
 
 
 def bad_name(fields, words):
-    """The place and the reason of the first word that has a bad name, None if each has a good one."""
+    """The place of the first word with a bad name, and what is wrong with it; None if all names are good."""
     names, given = {word_name(field) for field in fields}, set()
     for place, word in enumerate(words):
         name, equals, _ = word.partition("=")

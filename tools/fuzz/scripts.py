@@ -1,4 +1,4 @@
-"""Scripts: the events that a text says, and what `hart sim` writes."""
+"""Scripts: the events in a text, and what `hart sim` writes for them."""
 
 import re
 
@@ -55,7 +55,7 @@ def read_noise(words):
 
 
 def read_restart(words):
-    """The event of the words after `restart`, which are none, or None."""
+    """The event of `restart`, or None if words follow it."""
     return None if words else Restart()
 
 

@@ -10,7 +10,7 @@ WORDS = (b"restart", b"restart", b"protect on", b"protect off", b"image", b"coun
 
 
 def lines_of(text):
-    """The lines of an input that ended, each without a carriage return at its end; an empty last one is none."""
+    """The lines of an input that ended, each without a carriage return at its end. An empty last line does not count."""
     lines = [line.removesuffix(b"\r") for line in text.split(b"\n")]
     return lines if lines[-1] else lines[:-1]
 
@@ -53,7 +53,7 @@ def serve(given):
 
 
 def heard_text(rng, device):
-    """A line by which a device hears something: what `hart answer` may be given, in one line."""
+    """A line that a device hears: an input of `hart answer`, put on one line."""
     return b" ".join(inputs.answer_input(rng, device).split(b"\n"))
 
 
@@ -69,7 +69,7 @@ def empty_text(_rng, _device):
 
 
 def serve_input(rng, device):
-    """An input of `hart serve`: lines for one device. It hears them while they are made, so that they are made for what it is."""
+    """An input of `hart serve`: lines for one device. It hears each line once it is made, so that the next one suits its state."""
     text = b""
     for _ in range(rng.randrange(MOST_LINES)):
         make = weighted(rng, (12, heard_text), (6, word_text), (1, empty_text))

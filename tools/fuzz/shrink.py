@@ -18,7 +18,7 @@ class Shrinker:
         return self.fails(smaller)
 
     def dropped(self, parts, whole):
-        """The parts that are left once no run of them can be dropped, or there were tries enough; `whole` makes an input of parts."""
+        """The parts that are left when no run of them can be dropped, or no tries are left. `whole` makes an input of parts."""
         size = len(parts)
         while size and self.tries:
             place = 0

@@ -7,7 +7,7 @@ from .device import RESPONSE_PREAMBLES, Device, bytes_fault, new_device
 from .frames import BROADCAST, Char, Frame, Polling, Unique, body_of, frames_of
 
 INPUT_LIMIT = 1_048_576
-# What `hart explain` reads has no other limit than that of 64 bits, which no input here comes near to.
+# The only limit on what `hart explain` reads is that of 64 bits, which no input here comes near.
 NO_LIMIT = 2 ** 64 - 1
 LONGEST_ITEM = 5
 MOST_DATA = 255
@@ -17,13 +17,13 @@ TOO_LONG = "input too long"
 
 SEPARATORS = re.compile(rb"[ \t\r\n]*")
 HEX_DIGITS = re.compile(rb"[0-9A-Fa-f]*")
-# The longest run that an item can begin with: two hex digits, and after them `!` and fault bits, from 02 to 72.
+# The longest run with which an item can begin: two hex digits, then `!`, then fault bits from 02 to 72.
 ITEM_PREFIX = re.compile(rb"(?:[0-9A-Fa-f](?:[0-9A-Fa-f](?:!(?:02?|[1-7][02]?)?)?)?)?")
 DECIMAL_DIGITS = re.compile(rb"[0-9]+")
 
 
 class Given(NamedTuple):
-    """What a call is given: the words after its name, and the text that it may read; None is one of which no read succeeds."""
+    """What a call is given: the words after its name, and the text that it may read. With None every read fails."""
 
     words: list
     text: bytes | None
@@ -73,12 +73,12 @@ def is_hex(data):
 
 
 def item_char(item):
-    """The character that an item is."""
+    """Returns the character of an item."""
     return Char(int(item[:2], 16), int(item[3:] or b"0", 16))
 
 
 def read_items(text, cut_short=False):
-    """The characters of a text; raises `BadHex`. If the text is cut short, what stands at its end may have gone on."""
+    """The characters of a text; raises `BadHex`. If the text is cut short, an item at its end is left out."""
     heard = []
     place = SEPARATORS.match(text).end()
     while place < len(text):
@@ -93,7 +93,7 @@ def read_items(text, cut_short=False):
 
 
 def read_heard(text, cut_short=False):
-    """What was heard in a text in which a `/` says that the line fell silent, where None stands; raises `BadHex`."""
+    """What was heard in a text, with None for each `/`, where the line fell silent; raises `BadHex`."""
     heard, first = [], 0
     *ended, last = text.split(b"/")
     for stretch in ended:
@@ -103,7 +103,7 @@ def read_heard(text, cut_short=False):
 
 
 def read_after(heard, first, text, cut_short):
-    """The characters of a stretch whose text begins at this place, after what was heard; raises `BadHex`."""
+    """The characters of a stretch whose text begins at `first`, after what was `heard`; raises `BadHex`."""
     try:
         return read_items(text, cut_short)
     except BadHex as bad:
@@ -138,7 +138,7 @@ def dumped(heard):
 
 
 def up_to_fault(text, limit, read=read_items):
-    """What was heard in an input before its first fault in the order of its bytes, and this fault, None without one."""
+    """What was heard in an input before its first fault, in the order of the bytes; and this fault, or None."""
     if text is None:
         return [], READ_FAULT
     too_long = len(text) > limit
@@ -149,7 +149,7 @@ def up_to_fault(text, limit, read=read_items):
 
 
 def told(given, text_of, limit, read=read_items):
-    """What a call does that tells of its input: it writes the text of what was heard before the first fault, and gives that fault."""
+    """The end of a call that writes the text of what was heard before the first fault, and reports that fault."""
     heard, fault = up_to_fault(given.text, limit, read)
     written = text_of(heard)
     return done(written) if fault is None else failed(fault, written)
@@ -180,7 +180,7 @@ def answer(given):
 
 
 def decimal(word, most_digits, greatest):
-    """The number that a word of decimal digits is; None if it has another form."""
+    """The number in a word of decimal digits; None if the word has another form, or the number is too great."""
     if not DECIMAL_DIGITS.fullmatch(word) or len(word) > most_digits or int(word) > greatest:
         return None
     return int(word)
@@ -192,7 +192,7 @@ def read_who(word):
 
 
 def read_address_word(word):
-    """The address that a word names, or None; of a type the lower 14 bits count."""
+    """The address that a word names, or None. Only the lower 14 bits of a type count."""
     if word == b"all":
         return BROADCAST
     if word[:1] == b"@":
@@ -235,12 +235,12 @@ def is_utf8(word):
 
 
 def is_plain(word):
-    """Whether a word is neither an option nor the mark after which there are none."""
+    """Whether a word is neither an option nor `--`, after which there are no options."""
     return word == b"-" or not word.startswith(b"-")
 
 
 def split_words(words, option):
-    """The plain words of a call, and the value of its one option, None without it; None if the words make no call."""
+    """The plain words of a call and the value of its one option, or None for it; None alone if the words make no call."""
     rest, plain, values = list(words), [], []
     while rest and rest[0] != b"--":
         word = rest.pop(0)
@@ -255,7 +255,7 @@ def split_words(words, option):
 
 
 class Ended(Exception):
-    """The end of a call before its text is looked at, by the result."""
+    """The end of a call before its text is looked at, with its result."""
 
     def __init__(self, result):
         super().__init__(result)

@@ -54,7 +54,7 @@ DUMPED = (
     ("F F", "", "bad hex at 0"),
 )
 
-# What is said, as the pages show it: each line below the first stands nine spaces in, and what a line goes on with eight more.
+# What is said, as the pages show it: lines after the first are indented by nine spaces, continued lines by eight more.
 SAID = r"said     (.+(?:\n {9}.+)*)\n"
 INDENT, GOES_ON = "\n" + 9 * " ", "\n" + 17 * " "
 
@@ -67,7 +67,7 @@ def said_text(shown):
 # What `hart explain` hears and says, as docs/explained.txt shows it; what is heard may be wrapped.
 HEARD = re.compile(r"^heard    (.+(?:\n {9}.+)*)\n" + SAID, re.MULTILINE)
 
-# What the bench device as it is new hears and replies, as docs/COMMANDS.md shows it, and what is said of both, one after the other.
+# What a new bench device hears and replies, as docs/COMMANDS.md shows it, and what is said of both, one after the other.
 SHOWN = re.compile(r"^```\nrequest  ([0-9A-F\s]+)^(?:reply    ([0-9A-F\s]+)|silence\n)(?:" + SAID + ")?^```$", re.MULTILINE)
 ON_PAGE = SHOWN.findall(PAGE.read_text(encoding="utf-8"))
 

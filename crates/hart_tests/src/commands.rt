@@ -10,13 +10,13 @@ const TAG: [u8; 21] = [
     0x08, 0x20, 0x1D, 0x02, 0x64,
 ];
 
-/// The same with the year 1900, which is no leap year.
+/// `TAG` with the year 1900, which was no leap year.
 const BAD_DATE: [u8; 21] = [
     0x41, 0x53, 0x50, 0xB7, 0x1C, 0x31, 0x82, 0x08, 0x20, 0x82, 0x08, 0x20, 0x82, 0x08, 0x20, 0x82,
     0x08, 0x20, 0x1D, 0x02, 0x00,
 ];
 
-/// Each command that is known, how many bytes its request needs, and how many the payload of its reply.
+/// Each known command, how many bytes of data its request needs, and how many bytes the payload of its reply needs.
 const COMMANDS: &[(u8, usize, usize)] = &[
     (0, 0, 2 + 22),
     (1, 0, 2 + 5),
@@ -42,16 +42,16 @@ const COMMANDS: &[(u8, usize, usize)] = &[
     (48, 0, 2 + 1),
 ];
 
-/// Two status bytes, and data that begin as those of every command may.
+/// Two status bytes, and data with which a reply to any command may begin.
 const PAYLOAD: [u8; 34] = [
     0x00, 0x00, 0xFE, 0, 0, 0, 0, 0, 0, 0, 0, 0, 0, 0, 0, 0, 0, 0, 0, 0, 0, 0, 0, 0, 0, 0, 0, 0, 0,
     0, 0, 0, 0, 0,
 ];
 
-/// As many zeros as a request needs at most.
+/// Zeros, enough for the request that needs the most data.
 const ZEROS: [u8; 32] = [0; 32];
 
-/// Whether data of a command are read as a request that is written as these data, or are refused with this code.
+/// Whether a command with data is read as a request that is written back as the wanted data, or is refused with the wanted code.
 fn request_is(command: u8, bytes: &[u8], want: Result<&[u8], u8>) -> bool {
     match (Request::read(command, bytes), want) {
         (Ok(request), Ok(want)) => {
@@ -67,7 +67,7 @@ fn request_is(command: u8, bytes: &[u8], want: Result<&[u8], u8>) -> bool {
     }
 }
 
-/// Whether a payload holds a reply to a command that is written as so many of its bytes, or holds none.
+/// Whether a payload holds a reply that is written back as its first `want` bytes, or holds no reply if `want` is `None`.
 fn reply_is(command: u8, payload: &[u8], want: Option<usize>) -> bool {
     let Some(reply) = Reply::read(command, payload) else {
         return want.is_none();
@@ -78,7 +78,7 @@ fn reply_is(command: u8, payload: &[u8], want: Option<usize>) -> bool {
     reply.command == command && Some(written.as_slice()) == payload.get(..len) && Some(len) == want
 }
 
-/// Whether a command needs so many bytes.
+/// Whether a command needs `needed` bytes of data.
 fn needs(command: u8, needed: usize) -> bool {
     let bytes = ZEROS.get(..needed).unwrap_or(&[]);
     let written = if command == 6 { &[0, 1] } else { bytes };
@@ -89,7 +89,7 @@ fn needs(command: u8, needed: usize) -> bool {
         && (needed == 0 || request_is(command, fewer, Err(5)))
 }
 
-/// Whether a command is replied to with a payload of so many bytes, and not with a byte fewer.
+/// Whether a payload of `len` bytes is a reply to a command, and one with a byte fewer is not.
 fn is_replied_with(command: u8, len: usize) -> bool {
     let payload = PAYLOAD.get(..len).unwrap_or(&[]);
     let Some((_, shorter)) = payload.split_last() else {
@@ -122,7 +122,7 @@ fn every_other_command_is_unknown(rt: HostRuntime) {
     }
 }
 
-/// Commands with data, and the data that the requests are written as, or the code that refuses them.
+/// Commands with data, and the data that the request is written back as, or the code with which it is refused.
 const REQUESTS: &[(u8, &[u8], Result<&[u8], u8>)] = &[
     (0, &[], Ok(&[])),
     (6, &[0x05], Ok(&[0x05, 0x00])),
@@ -158,19 +158,19 @@ fn requests_are_read_and_written(rt: HostRuntime) {
     }
 }
 
-/// The identity of a device, in 22 bytes and three that follow.
+/// Two status bytes, the identity of a device in 22 bytes, and three more bytes.
 const IDENTITY: [u8; 27] = [
     0x00, 0x00, 0xFE, 0x37, 0x42, 0x05, 0x07, 0x01, 0x02, 0x18, 0x00, 0x0A, 0x1B, 0x2C, 0x05, 0x04,
     0x00, 0x00, 0x00, 0x00, 0x37, 0x00, 0x37, 0x01, 0x55, 0x55, 0x55,
 ];
 
-/// The same with another first byte.
+/// Two status bytes, and that identity with another first byte.
 const NO_IDENTITY: [u8; 24] = [
     0x00, 0x00, 0xFD, 0x37, 0x42, 0x05, 0x07, 0x01, 0x02, 0x18, 0x00, 0x0A, 0x1B, 0x2C, 0x05, 0x04,
     0x00, 0x00, 0x00, 0x00, 0x37, 0x00, 0x37, 0x01,
 ];
 
-/// Commands and payloads, and how many of their bytes the reply is written as, if they hold one.
+/// Commands and payloads, and how many bytes of the payload the reply in it is written back as, if it holds one.
 const REPLIES: &[(u8, &[u8], Option<usize>)] = &[
     (0, &IDENTITY, Some(2 + 22)),
     (0, &NO_IDENTITY, None),
@@ -236,7 +236,7 @@ fn replies_say_their_content(rt: HostRuntime) {
     assert!(rt; says(19, &[0x07, 0x40], 7, 0x40, &ReplyContent::Refused));
 }
 
-/// Each register, and what a write of TAG gives it.
+/// Each register, and the bytes that a write of `TAG` puts into it, if it does.
 const NAMED: &[(Register, Option<&[u8]>)] = &[
     (Register::Polling, None),
     (Register::Mode, None),
@@ -253,7 +253,7 @@ const NAMED: &[(Register, Option<&[u8]>)] = &[
     (Register::LongTag, None),
 ];
 
-/// Whether a write of a command with these data gives a register these bytes, or leaves it.
+/// Whether a write command with these data puts the wanted bytes into a register, or leaves it if `want` is `None`.
 fn writes(command: u8, bytes: &[u8], register: Register, want: Option<&[u8]>) -> bool {
     match Request::read(command, bytes) {
         Ok(request) => match writes_of(&request) {
@@ -271,7 +271,7 @@ fn a_write_names_its_registers(rt: HostRuntime) {
     }
 }
 
-/// Whether the request that has a long tag as its data writes just that, and the reply that has it says just that.
+/// Whether Command 22 with a long tag writes just this long tag, and a reply to Command 20 with it says just this one.
 fn is_long_tag(long_tag: [u8; 32]) -> bool {
     let mut payload = Payload::new();
     payload.extend_from_slice(&[0; 2]);

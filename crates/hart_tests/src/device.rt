@@ -15,13 +15,13 @@ mod restarts;
 pub mod worked;
 mod writes;
 
-/// The payload of the reply to Command 0, before anything is counted.
+/// The payload of the reply to Command 0 while the configuration change counter is 0.
 const IDENTITY: &[u8] = &[
     0x00, 0x00, 0xFE, 0x37, 0x42, 0x05, 0x07, 0x01, 0x02, 0x18, 0x00, 0x0A, 0x1B, 0x2C, 0x05, 0x04,
     0x00, 0x00, 0x00, 0x00, 0x37, 0x00, 0x37, 0x01,
 ];
 
-/// A tag, a descriptor, and a day that the calendar has not.
+/// A tag, a descriptor, and a date that does not exist.
 const BAD_DATE: &[u8] = &[
     0x41, 0x53, 0x50, 0xB7, 0x1C, 0x31, 0x82, 0x08, 0x20, 0x82, 0x08, 0x20, 0x82, 0x08, 0x20, 0x82,
     0x08, 0x20, 0x1D, 0x02, 0x00,
@@ -30,7 +30,7 @@ const BAD_DATE: &[u8] = &[
 /// A command, its data, and the payload of the reply.
 type Row<'a> = (u8, &'a [u8], &'a [u8]);
 
-/// What a new bench device replies, beside what `hart answer` shows of it.
+/// What a new bench device replies, besides the replies that `hart answer` shows.
 const BENCH: &[Row] = &[
     (6, &[], &[0x05, 0x00]),
     (7, &[], &[0x00, 0x00, 0x00, 0x01]),
@@ -40,7 +40,7 @@ const BENCH: &[Row] = &[
     (38, &[0x00, 0x01], &[0x09, 0x00]),
 ];
 
-/// What a new bench device replies that is write protected.
+/// What a write-protected new bench device replies.
 const PROTECTED: &[Row] = &[
     (17, &[], &[0x05, 0x00]),
     (18, BAD_DATE, &[0x07, 0x00]),
@@ -63,7 +63,7 @@ fn bench_device() -> Device<FieldRegisters> {
     Device::new(bench::identity(), &bench::register_values())
 }
 
-/// The primary master's request of a command to the bench device at its own address.
+/// Returns the primary master's request with this command, to the bench device at its own address.
 fn request(command: u8, data: &[u8]) -> Result<Frame, Fail> {
     let payload = Payload::from_slice(data).ok_or("too long")?;
     let own = Address::Unique(bench::identity().unique_address());
@@ -92,7 +92,7 @@ fn replies(device: &mut Device<FieldRegisters>, row: &Row) -> Result<bool, Fail>
     Ok(asked(device, *command, data)?.payload() == *payload)
 }
 
-/// Whether a bench device under protection replies as a row says, and stays as it is.
+/// Whether a write-protected bench device replies as a row says, counts nothing, and stays protected.
 fn replies_protected(row: &Row) -> Result<bool, Fail> {
     let mut device = bench_device();
     device.protect(true);
@@ -110,12 +110,12 @@ fn requests_are_answered(rt: HostRuntime) {
     }
 }
 
-/// Whether a command is unknown: whether no request has it.
+/// Whether a command is unknown, so that no request has it.
 fn is_unknown(command: u8) -> bool {
     Request::read(command, &[]).err() == Some(ResponseCode::COMMAND_NOT_IMPLEMENTED)
 }
 
-/// Whether a bench device, under protection or not, refuses a command as one that is not known if it is not.
+/// Whether a bench device refuses a command as not implemented exactly if it is unknown. For even commands it is protected.
 fn is_met_by_number(command: u8) -> Result<bool, Fail> {
     let mut device = bench_device();
     device.protect(command % 2 == 0);
@@ -131,7 +131,7 @@ fn unknown_commands_are_refused(rt: HostRuntime) {
     }
 }
 
-/// Whether the reply to Command 48 has this device status and this check byte, where a byte of the additional status is 1.
+/// Whether the reply to Command 48 has this device status and this check byte if the byte at `place` of the additional status is 1.
 fn status_is(place: usize, status: u8, check: u8) -> Result<bool, Fail> {
     let mut process = bench::process();
     *process.additional_status.get_mut(place).ok_or("a place")? = 1;
@@ -140,7 +140,7 @@ fn status_is(place: usize, status: u8, check: u8) -> Result<bool, Fail> {
     Ok(has_status && reply.body().as_slice().last() == Some(&check))
 }
 
-/// Bytes of the additional status, and with each of them the device status and the check byte of the reply.
+/// Places of bytes in the additional status, each with the device status and the check byte of the reply if that byte is 1.
 const STATUSES: &[(usize, u8, u8)] = &[
     (0, 0x10, 0x74),
     (5, 0x10, 0x74),
@@ -157,7 +157,7 @@ fn additional_status_is_shown(rt: HostRuntime) {
     }
 }
 
-/// The parts of an identity that are at the ends of their ranges.
+/// The parts of an identity, at the ends of their ranges.
 const PARTS: IdentityParts = IdentityParts {
     expanded_device_type: 0x4000,
     device_id: 0x00FF_FFFF,
@@ -176,16 +176,16 @@ const PARTS: IdentityParts = IdentityParts {
 
 /// What is refused.
 enum Refused<'a> {
-    /// As the parts of an identity.
+    /// Parts that make no identity.
     Parts(IdentityParts),
-    /// As an image.
+    /// Bytes that are no image.
     Bytes(&'a [u8]),
 }
 
 /// What is refused, and the number and the text of the fault.
 type RefusedRow<'a> = (Refused<'a>, u8, &'a str);
 
-/// Parts that are not like these in one way, and bytes that are no image in each way.
+/// Parts that differ from `PARTS` and make no identity, and bytes that are no image, with a row for each reason.
 const REFUSED: &[RefusedRow] = &[
     (
         Refused::Parts(IdentityParts {
@@ -241,7 +241,7 @@ const REFUSED: &[RefusedRow] = &[
     (Refused::Bytes(&[0x02; 86]), 5, "bad image: field"),
 ];
 
-/// The fault for which it is refused.
+/// Returns the fault with which the parts or the bytes are refused.
 fn fault_of(refused: &Refused) -> Option<DeviceFault> {
     match refused {
         Refused::Parts(parts) => Identity::new(*parts).err(),

@@ -8,11 +8,11 @@ use hart_frame::*;
 use hart_values::{Address, MasterId};
 use std::test::Fail;
 
-/// What bytes are read as: the length of the body, the kind, the address bytes, the expansion bytes and the
-/// payload of a frame of the primary master with the command 0.
+/// A frame of the primary master with Command 0, by its parts: the length of its body, its kind, its address bytes, its expansion
+/// bytes and its payload.
 type Read<'a> = (usize, FrameKind, &'a [u8], &'a [u8], &'a [u8]);
 
-/// Bytes that begin with a body, each with a byte after it.
+/// Bytes that begin with a body, with one more byte after it, and the frame in them.
 const BODIES: &[(&[u8], Read)] = &[
     (
         &[0x02, 0x80, 0x00, 0x00, 0x82, 0x55],
@@ -117,13 +117,13 @@ const REQUEST: &[u8] = &[
     0x3D,
 ];
 
-/// The message of its reply.
+/// The message of the reply to that request.
 const REPLY: &[u8] = &[
     0xFF, 0xFF, 0xFF, 0xFF, 0xFF, 0x86, 0xB7, 0x42, 0x0A, 0x1B, 0x2C, 0x13, 0x05, 0x00, 0x40, 0x01,
     0x23, 0x45, 0x7F,
 ];
 
-/// Whether a frame is written as this message in place of what was there, and too few or too many preamble bytes leave the message.
+/// Whether `encode` replaces `output` with this message, and leaves it unchanged for too few or too many preamble bytes.
 fn is_written_as(frame: &Frame, want: &[u8], output: &mut Message) -> Result<bool, Fail> {
     encode(frame, 5, output)?;
     let is_written = output.as_slice() == want;
@@ -160,12 +160,12 @@ fn a_reply_has_two_bytes_of_payload(rt: HostRuntime) -> Result<(), Fail> {
     Ok(())
 }
 
-/// What the longest body has before its payload of 255 zeros: with expansion bytes, at the broadcast address.
+/// The longest body up to its payload of 255 zeros: it has expansion bytes and the broadcast address.
 const LONGEST_HEADER: &[u8] = &[
     0xE2, 0x80, 0x00, 0x00, 0x00, 0x00, 0x00, 0x00, 0x00, 0x00, 0xFF,
 ];
 
-/// The message with 20 preamble bytes and the longest body, which ends with its check byte.
+/// Returns the longest message: 20 preamble bytes, and the longest body with its check byte.
 fn longest_message() -> [u8; 287] {
     let mut message = [0; 287];
     message[..20].fill(0xFF);
@@ -194,7 +194,7 @@ fn the_longest_message_has_287_bytes(rt: HostRuntime) -> Result<(), Fail> {
     Ok(())
 }
 
-/// Numbers of bytes, about and at whole blocks of 32.
+/// The lengths that are tried, most of them at or next to a multiple of 32.
 const CHECKED_LENGTHS: &[usize] = &[0, 1, 31, 32, 33, 63, 64, 65, 255, 267, MOST_CHECKED];
 
 const MOST_CHECKED: usize = 1000;
@@ -208,7 +208,7 @@ fn checked_bytes() -> [u8; MOST_CHECKED] {
     bytes
 }
 
-/// Whether the check byte of so many first bytes is their exclusive or.
+/// Whether the check byte of the first `len` bytes is their exclusive or.
 fn is_checked(bytes: &[u8], len: usize) -> bool {
     match bytes.get(..len) {
         Some(part) => check_byte(part) == exclusive_or(part),

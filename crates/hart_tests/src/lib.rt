@@ -1,8 +1,8 @@
-//! The tests of the crates from hart_values to hart_cli, a module for each crate: what no clause says, as worked messages, texts, readers
-//! and writers that fail, and memory that is refused. What the modules share is in `rows`.
+//! The tests of the crates from hart_values to hart_cli, a module for each crate. They try what no clause says: worked messages,
+//! texts, readers and writers that fail, and refused memory. What the modules share is in `rows`.
 //!
-//! They see what a crate shows to every other. Runs of the built program come beside them (`tools/runs.py`). The calls of hart_c are
-//! tested from C (`tools/library_calls.c`).
+//! They use only what a crate offers to every other crate. `tools/runs.py` runs the built program, and `tools/library_calls.c`
+//! tests the calls of hart_c from C.
 #![tactic(auto)]
 
 #[cfg(test)]

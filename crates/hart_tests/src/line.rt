@@ -12,7 +12,7 @@ use hart_values::{Address, MasterId};
 use std::alloc::{AllocError, Global};
 use std::test::Fail;
 
-/// Each fault but that of memory, its number and its text.
+/// Each fault but `Memory`, with its number and its text.
 const FAULTS: &[(LineFault, u8, &str)] = &[
     (
         LineFault::Undetected {
@@ -47,7 +47,7 @@ fn faults_have_numbers_and_texts(rt: HostRuntime) -> Result<(), Fail> {
         hold(&rt, fault.number() == *number, "the number of row", row);
         hold_ok(&rt, has_text(rt.alloc(), fault, text), "row", row);
     }
-    // No room is as large as that.
+    // No allocation can be as large as this.
     let none = reserved::<u8>(rt.alloc(), usize::MAX).err().ok_or("room")?;
     assert!(rt; none.items() == usize::MAX);
     let fault = LineFault::Memory(none);
@@ -84,7 +84,7 @@ fn each_word_is_read(rt: HostRuntime) -> Result<(), Fail> {
     Ok(())
 }
 
-/// Texts, each with what its script is: a letter for each event, or the number of its first bad line.
+/// Texts of scripts, each with a letter for each of its events, or with the number of its first bad line.
 const SCRIPTS: &[(&str, Result<&str, usize>)] = &[
     ("", Ok("")),
     ("\r", Ok("")),
@@ -126,7 +126,7 @@ const SCRIPTS: &[(&str, Result<&str, usize>)] = &[
     ("# one\n\nturn P ok ok ok\nturn\n", Err(3)),
 ];
 
-/// A letter for each event.
+/// Returns a letter for each event.
 fn letters(alloc: Global, events: &[LineEvent]) -> Result<Vec<u8>, AllocError> {
     let mut letters = Vec::new(alloc);
     for event in events {
@@ -142,7 +142,7 @@ fn letters(alloc: Global, events: &[LineEvent]) -> Result<Vec<u8>, AllocError> {
     Ok(letters)
 }
 
-/// Whether a text is read as the script of these letters, or has its first bad line there.
+/// Whether a text is read as a script with the events of these letters, or is refused at the first bad line with this number.
 fn is_read_as(alloc: Global, text: &[u8], want: Result<&str, usize>) -> Result<bool, Fail> {
     Ok(match read_script(alloc, text) {
         Ok(events) => {
@@ -159,7 +159,7 @@ fn is_read_as(alloc: Global, text: &[u8], want: Result<&str, usize>) -> Result<b
     })
 }
 
-/// Whether a submission of this command without data is read if that is a request, and is a bad line otherwise.
+/// Whether this command, submitted without data, is read if it makes a request without them, and is a bad line otherwise.
 fn is_read_if_asked(alloc: Global, command: u8) -> Result<bool, Fail> {
     let text = format!(in alloc; "submit P 37420A1B2C {command}")?;
     let want = if Request::read(command, &[]).is_ok() {

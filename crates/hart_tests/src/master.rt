@@ -20,7 +20,7 @@ fn faults_have_numbers_and_texts(rt: HostRuntime) {
     }
 }
 
-/// Retries and reply limits, and the fault that they are refused with.
+/// Retries and reply limits, and the fault with which they are refused, if they are.
 const LIMITS: &[(u8, u8, Option<MasterFault>)] = &[
     (0, 1, None),
     (15, 255, None),
@@ -36,14 +36,14 @@ fn masters_have_limits(rt: HostRuntime) {
     }
 }
 
-/// The address bytes of a polling address, a device and broadcast.
+/// The address bytes of a polling address; below, those of a device and of broadcast.
 const POLLING: &[u8] = &[0x80];
 
 const DEVICE: &[u8] = &[0xB7, 0x42, 0x0A, 0x1B, 0x2C];
 
 const ALL: &[u8] = &[0x80, 0x00, 0x00, 0x00, 0x00];
 
-/// Address bytes, a command and its data, and the fault that an idle master refuses the submission with.
+/// Address bytes, a command and its data, and the fault with which an idle master refuses the submission, if it does.
 type Submission<'a> = (&'a [u8], u8, &'a [u8], Option<MasterFault>);
 
 const SUBMISSIONS: &[Submission] = &[
@@ -78,7 +78,7 @@ fn refuses_another(master: &mut Master) -> Result<bool, Fail> {
     Ok(rejected.fault == MasterFault::Pending && rejected.request == Request::ReadPrimary)
 }
 
-/// Whether an idle master takes a submission, and then no other, or refuses it with its fault, and is idle then.
+/// Whether an idle master takes a submission and then refuses another, or refuses it with the fault of its row and stays idle.
 fn is_taken_or_refused(submission: &Submission) -> Result<bool, Fail> {
     let (address, command, data, want) = *submission;
     let mut master = Master::new(MasterId::Secondary, 3, 41)?;
@@ -98,17 +98,17 @@ fn one_request_is_taken(rt: HostRuntime) {
     }
 }
 
-/// A call, and what it gives.
+/// A call of a master, and its result.
 enum Call {
     /// `send`: the frame of the request.
     Sends,
-    /// `send`: none.
+    /// `send`: no frame.
     StaysSilent,
-    /// `tick` with so many character times: nothing.
+    /// `tick` with this many character times: nothing happens.
     Waits(u8),
     /// `tick`: the request is to be sent again.
     Retries(u8),
-    /// `tick`: it is given up after two sendings.
+    /// `tick`: the request is given up after two sendings.
     GivesUp(u8),
 }
 
@@ -133,7 +133,7 @@ fn sends(master: &mut Master, request: &Frame) -> bool {
     }
 }
 
-/// Whether a call gives what it says; what is sent has to be this request.
+/// Whether a call has its result. A frame that is sent must be this request.
 fn gives(master: &mut Master, call: &Call, request: &Frame) -> bool {
     match call {
         Call::Sends => sends(master, request),
@@ -157,7 +157,7 @@ fn a_request_is_sent_twice_and_given_up(rt: HostRuntime) -> Result<(), Fail> {
     Ok(())
 }
 
-/// The identity of the bench device, to the primary master and to the secondary.
+/// The reply with the bench device's identity to the primary master; below, to the secondary.
 const TO_PRIMARY: &[u8] = &[
     0xFF, 0xFF, 0xFF, 0xFF, 0xFF, 0x06, 0x80, 0x00, 0x18, 0x00, 0x00, 0xFE, 0x37, 0x42, 0x05, 0x07,
     0x01, 0x02, 0x18, 0x00, 0x0A, 0x1B, 0x2C, 0x05, 0x04, 0x00, 0x00, 0x00, 0x00, 0x37, 0x00, 0x37,
@@ -170,13 +170,13 @@ const TO_SECONDARY: &[u8] = &[
     0x01, 0xB1,
 ];
 
-/// The payload of these.
+/// The payload of both replies.
 const IDENTITY: &[u8] = &[
     0x00, 0x00, 0xFE, 0x37, 0x42, 0x05, 0x07, 0x01, 0x02, 0x18, 0x00, 0x0A, 0x1B, 0x2C, 0x05, 0x04,
     0x00, 0x00, 0x00, 0x00, 0x37, 0x00, 0x37, 0x01,
 ];
 
-/// Communication faults, response code 32, and the assembly number, from the bench device for Command 19.
+/// Replies of the bench device to Command 19: communication faults; below, response code 32, and the assembly number.
 const FAULTY: &[u8] = &[
     0xFF, 0xFF, 0xFF, 0xFF, 0xFF, 0x86, 0xB7, 0x42, 0x0A, 0x1B, 0x2C, 0x13, 0x02, 0x88, 0x00, 0xD7,
 ];
@@ -213,7 +213,7 @@ const HEARD: &[Heard] = &[
     (DEVICE, 16, &[], WRITTEN, &[], None),
 ];
 
-/// The characters of what is heard in two parts, and of zeros after them.
+/// Returns the characters of both parts that are heard, followed by zeros, 80 in all.
 fn heard(first: &[u8], second: &[u8]) -> Option<[Char; 80]> {
     let mut chars = [Char::new(0, 0)?; 80];
     write_faultless(&mut chars, first)?;
@@ -229,7 +229,7 @@ fn with_request(address: &[u8], request: Request) -> Result<Master, Fail> {
     Ok(master)
 }
 
-/// The event at a reply with this payload, or at none.
+/// Returns the event for a reply with this payload, or for no reply.
 fn event_of(command: u8, payload: Option<&[u8]>) -> Result<MasterEvent, Fail> {
     let Some(payload) = payload else {
         return Ok(MasterEvent::Nothing);
@@ -241,7 +241,7 @@ fn event_of(command: u8, payload: Option<&[u8]>) -> Result<MasterEvent, Fail> {
     Ok(answered.ok_or("either a code or content")?)
 }
 
-/// Whether a master accepts nothing before it sends, and then what is wanted.
+/// Returns whether a master accepts nothing before it sends, and whether it then accepts just the wanted reply.
 fn accepts(row: &Heard) -> Result<(bool, bool), Fail> {
     let (address, command, data, first, second, want) = *row;
     let chars = heard(first, second).ok_or("characters")?;
@@ -277,7 +277,7 @@ fn a_reply_to_the_other_master_is_not_accepted(rt: HostRuntime) -> Result<(), Fa
     Ok(())
 }
 
-/// Payloads of an identity whose expanded device type has its upper two bits set, and of one whose address is broadcast.
+/// The payload of an identity whose expanded device type has its upper two bits set; below, of one whose address is broadcast.
 const LONG_TYPE: &[u8] = &[
     0x00, 0x00, 0xFE, 0xFF, 0x42, 0x05, 0x07, 0x01, 0x02, 0x18, 0x00, 0x0A, 0x1B, 0x2C, 0x05, 0x04,
     0x00, 0x00, 0x00, 0x00, 0x37, 0x00, 0x37, 0x01,
@@ -288,7 +288,7 @@ const NOWHERE: &[u8] = &[
     0x00, 0x00, 0x00, 0x00, 0x37, 0x00, 0x37, 0x01,
 ];
 
-/// A command, the payload of a reply, and the type and the id of the address that it gives.
+/// A command, the payload of a reply, and the type and the id of the address in the reply, if it has one.
 type Given<'a> = (u8, &'a [u8], Option<(u16, u32)>);
 
 const IDENTITIES: &[Given] = &[
@@ -301,7 +301,7 @@ const IDENTITIES: &[Given] = &[
     (19, &[0x00, 0x40, 0x01, 0x23, 0x45], None),
 ];
 
-/// Whether a reply gives the address of its row.
+/// Whether a reply yields the address in its row.
 fn gives_address(given: &Given) -> Result<bool, Fail> {
     let (command, payload, want) = *given;
     let reply = Reply::read(command, payload).ok_or("a reply")?;

@@ -1,4 +1,4 @@
-//! How tests hold what they try to what they say of it. What is proved here is not proved again in each test.
+//! Helpers that compare results with what tests expect. What is proved here is not proved again in each test.
 use hart_frame::Char;
 use hart_line::leading_item;
 use std::alloc::{AllocError, Global};
@@ -6,12 +6,12 @@ use std::fmt::Display;
 use std::process::{Abort, Termination};
 use std::test::Fail;
 
-/// Fails a test at a numbered row of a table, or what else the word is, if that does not hold.
+/// Fails a test unless `holds`. The failure names the row of a table, or what else `word` says, by its number.
 pub fn hold(rt: &impl Abort, holds: bool, word: &str, number: usize) {
     assert!(rt; holds, "of {word} {number}");
 }
 
-/// The same of what may end in an error, which is printed and fails the test at that row too.
+/// Like `hold`, for a check that may end in an error. An error is printed, and fails the test too.
 pub fn hold_ok(rt: &(impl Abort + Eprint), holds: Result<bool, Fail>, word: &str, number: usize) {
     let holds = match holds {
         Ok(holds) => holds,
@@ -29,13 +29,13 @@ pub fn has_text(alloc: Global, value: &impl Display, text: &str) -> Result<bool,
     Ok(written.as_str() == text)
 }
 
-/// Returns the character of a byte and of fault bits, which are the high byte.
+/// Returns the character whose fault bits are the high byte of `both` and whose byte is the low one.
 pub fn char_of(both: u16) -> Option<Char> {
     let [faults, byte] = both.to_be_bytes();
     Char::new(byte, faults)
 }
 
-/// Writes characters over the first of some others. The high byte of each is its fault bits.
+/// Overwrites the first of `chars` with the characters `heard`. The high byte of each is its fault bits.
 pub fn write_chars(chars: &mut [Char], heard: &[u16]) -> Option<()> {
     for (character, both) in chars.iter_mut().zip(heard) {
         *character = char_of(*both)?;
@@ -52,7 +52,7 @@ pub fn exclusive_or(bytes: &[u8]) -> u8 {
     all
 }
 
-/// Writes faultless characters of these bytes over the first of some others.
+/// Overwrites the first of `chars` with faultless characters of these bytes.
 pub fn write_faultless(chars: &mut [Char], bytes: &[u8]) -> Option<()> {
     for (character, byte) in chars.iter_mut().zip(bytes) {
         *character = Char::new(*byte, 0)?;
@@ -60,14 +60,14 @@ pub fn write_faultless(chars: &mut [Char], bytes: &[u8]) -> Option<()> {
     Some(())
 }
 
-/// Returns the first character of a text of items, and the text after it, if an item is next after spaces.
+/// Skips spaces, and returns the character of the item that follows and the text after it; `None` if no item follows.
 fn first_item(text: &[u8]) -> Option<(Char, &[u8])> {
     let text = text.trim_ascii_start();
     let item = leading_item(text)?;
     Some((item.char, text.get(item.len..)?))
 }
 
-/// The characters that the items of a text stand for, with spaces between them.
+/// Returns the characters of a text of items, which may have spaces between them.
 pub fn chars_of_items(alloc: Global, text: &str) -> Result<Vec<Char>, Fail> {
     let mut chars = Vec::new(alloc);
     let mut rest = text.as_bytes();
@@ -102,7 +102,7 @@ fn push_often(text: &mut String, part: &str, times: usize) -> Result<(), AllocEr
     Ok(())
 }
 
-/// Returns a text in which a part stands `times` times between two others.
+/// Returns the text of `prefix`, then `part` repeated `times` times, then `suffix`.
 pub fn text_of(
     alloc: Global,
     prefix: &str,

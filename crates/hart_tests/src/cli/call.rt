@@ -8,7 +8,7 @@ use hart_frame::{LEAST_PREAMBLES, is_preamble_count};
 use std::alloc::{AllocError, Global};
 use std::test::Fail;
 
-/// A message to send, in the words of the command line, which has no word for empty DATA and for 5 preamble bytes.
+/// A message to send, in the words of the command line. Empty DATA and 5 preamble bytes have no word there.
 #[derive(Clone, Copy)]
 pub struct Words<'a> {
     pub who: &'a str,
@@ -28,7 +28,7 @@ pub struct Named<'a> {
     pub preambles: u8,
 }
 
-/// A call, with what it is given beside its streams.
+/// A call, with what it is given besides its streams.
 #[derive(Clone, Copy)]
 pub enum Call<'a> {
     Dump,
@@ -66,7 +66,7 @@ pub fn strings_of(alloc: Global, words: &[&str]) -> Result<Vec<String>, AllocErr
     Ok(strings)
 }
 
-/// Appends the option that gives a number of preamble bytes, if there is a word for it.
+/// Appends the option for a number of preamble bytes, unless the number is the least one, which is the default.
 fn push_preambles(alloc: Global, words: &mut Vec<String>, preambles: u8) -> Result<(), AllocError> {
     if preambles == LEAST_PREAMBLES {
         return Ok(());

@@ -1,4 +1,4 @@
-//! A call on fake streams, by its name and by the words that make it.
+//! Makes a call on fake streams, by its name and by words of the command line.
 
 use super::call::Call;
 use super::fakes::{ALL, After, Tape, Trickle};
@@ -44,7 +44,7 @@ impl<'a> Given<'a> {
         Trickle::new(alloc, self.fails_at, self.most_written)
     }
 
-    /// Returns the number of reads that give the input, and of the one that finds its end.
+    /// Returns how many reads take in the whole input, with the one that finds its end.
     fn reads(&self) -> usize {
         self.input
             .len()
@@ -65,7 +65,7 @@ pub const WRITE: Fault = (2, "write fault");
 
 pub const TOO_LONG: Fault = (3, "input too long");
 
-/// What a call is to answer and to write, and how often it is to read and to write, if that is wanted.
+/// The fault and the text that are wanted of a call, and how often it must read and write; `None` if that does not matter.
 #[derive(Clone, Copy)]
 pub struct Wanted<'a> {
     pub fault: Fault<'a>,
@@ -74,7 +74,7 @@ pub struct Wanted<'a> {
     pub writes: Option<usize>,
 }
 
-/// What a call did. Its number is that of its fault, or the status of `program`, and what it said the line of the fault, or all that
+/// What a call did. `number` is the number of its fault, or the status of `program`. `said` is the line of the fault, or all that
 /// `program` wrote to `errors`.
 #[derive(Drop)]
 pub struct Outcome {
@@ -85,7 +85,7 @@ pub struct Outcome {
 }
 
 impl Outcome {
-    /// Whether it is what is wanted, with this number. Tells what it is if not.
+    /// Whether the outcome is the wanted one, with this number. Prints the outcome if not.
     fn is(&self, rt: &impl Eprint, number: u8, wanted: &Wanted) -> bool {
         let is_wanted = self.number == number
             && is_line(self.said.taken(), wanted.fault.1)
@@ -98,7 +98,7 @@ impl Outcome {
         is_wanted
     }
 
-    /// Tells what the call did.
+    /// Prints what the call did.
     pub fn tell(&self, rt: &impl Eprint) {
         let number = self.number;
         let reads = self.reads;
@@ -111,7 +111,7 @@ impl Outcome {
     }
 }
 
-/// Whether a line is a text and a line feed, or nothing if there is no text.
+/// Whether a line is this text and a line feed, or is empty if the text is empty.
 fn is_line(line: &[u8], text: &str) -> bool {
     match line.split_last() {
         Some((last, line)) => *last == b'\n' && line == text.as_bytes(),
@@ -150,7 +150,7 @@ pub fn by_words(alloc: Global, words: &[String], given: &Given, mut said: Trickl
     }
 }
 
-/// Whether a call does what is wanted by its name, on these streams.
+/// Whether a call, made by its name on these streams, does what is wanted.
 pub fn does_by_name(
     rt: &impl Eprint,
     alloc: Global,
@@ -162,7 +162,7 @@ pub fn does_by_name(
     Ok(outcome.is(rt, wanted.fault.0, wanted))
 }
 
-/// Whether a call does what is wanted by its name and by its words, on these streams.
+/// Whether a call, made by its name and by its words on these streams, does what is wanted.
 pub fn does(
     rt: &impl Eprint,
     alloc: Global,
@@ -184,11 +184,11 @@ pub fn does(
 /// What a call reads, what it writes then, and its fault.
 pub type Row<'a> = (&'a str, &'a str, Fault<'a>);
 
-/// The most bytes that a read gives. Those from 4 to 8 cut the second item of `FF FF!40` after each of its bytes.
+/// How many bytes a read returns at most. The numbers from 4 to 8 cut the second item of `FF FF!40` after each of its bytes.
 const PORTIONS: &[usize] = &[1, 2, 3, 4, 5, 6, 7, 8, 100, ALL];
 
-/// Whether a call does as a row says, if this comes after the input, whatever the most bytes of a read. A call that succeeds reads
-/// once more than it needs for the input, and so finds its end.
+/// Whether a call does as a row says with `after` behind its input, for each size in `PORTIONS`. A call that succeeds reads once
+/// more than the input needs, and so finds its end.
 pub fn does_as(
     rt: &impl Eprint,
     alloc: Global,
@@ -217,7 +217,7 @@ pub fn does_as(
     Ok(true)
 }
 
-/// Holds a call to each row of a table, if this comes after its input.
+/// Holds a call to each row of a table, with `after` behind each input.
 pub fn hold_rows(
     rt: &(impl Abort + Eprint),
     alloc: Global,

@@ -66,7 +66,7 @@ const ROWS: &[Row] = &[
     ("P", "@0", "0", "0G", 5, "", (8, "bad word 4")),
 ];
 
-/// Whether the words of a row are written as a message, or have a fault. Nothing is read for them.
+/// Whether the words of a row are written as a message, or refused with its fault. Nothing is read for them.
 fn is_written(rt: &impl Eprint, alloc: Global, row: Row) -> Result<bool, Fail> {
     let (who, address, command, data, preambles, text, fault) = row;
     let call = Call::Encode(Words {
@@ -90,7 +90,7 @@ fn is_written(rt: &impl Eprint, alloc: Global, row: Row) -> Result<bool, Fail> {
     does(rt, alloc, call, &given, &wanted)
 }
 
-/// Whether data of `len` bytes are written, or are refused if they are too many.
+/// Whether data of `len` bytes are written, or refused with this fault.
 fn has_data(rt: &impl Eprint, alloc: Global, len: usize, fault: Fault) -> Result<bool, Fail> {
     let data = text_of(alloc, "", "00", len, "")?;
     let message = if fault.0 == 0 {

@@ -19,7 +19,7 @@ pub enum After {
     Spaces,
 }
 
-/// A reader that gives spaces, its bytes, and then what comes after them.
+/// A reader that returns spaces, then its bytes, then what comes after them.
 #[derive(Drop)]
 pub struct Tape<'a> {
     spaces: usize,
@@ -31,7 +31,7 @@ pub struct Tape<'a> {
 }
 
 impl<'a> Tape<'a> {
-    /// Returns a reader each of whose reads gives at most `most` bytes.
+    /// Returns a reader that returns at most `most` bytes a read.
     pub fn new(spaces: usize, bytes: &'a [u8], after: After, most: usize) -> Tape<'a> {
         Tape {
             spaces,
@@ -92,8 +92,8 @@ pub struct Trickle {
 }
 
 impl Trickle {
-    /// Returns a writer each of whose writes takes at most `most` bytes, and at least one. The write with the number `fails_at`,
-    /// from 0, fails; none does at `None`.
+    /// Returns a writer that takes at most `most` bytes a write, and at least one. The write with the number `fails_at`, counted
+    /// from 0, fails; with `None` no write fails.
     pub fn new(alloc: Global, fails_at: Option<usize>, most: usize) -> Trickle {
         Trickle {
             taken: Vec::new(alloc),

@@ -1,4 +1,4 @@
-//! Each call that takes memory, once, with what it answered.
+//! Makes each call that takes memory once, and prints what it answered.
 //!
 //! `tools/refused-growths.sh` runs this test again and again, and refuses another growth each time. So nothing but the calls takes
 //! memory here: inputs are constants, and texts go into an array.
@@ -49,7 +49,7 @@ const CALLS: &[(Call, &str, &str)] = &[
     ),
 ];
 
-/// The most bytes of a text.
+/// How many bytes a text has at most.
 const ROOM: usize = 1024;
 
 /// Makes a call, and returns the number of its fault, or 0, and how many bytes it wrote.
@@ -80,8 +80,8 @@ fn number_of<T>(answered: &Result<T, LineFault>) -> u8 {
     }
 }
 
-/// Reads the script and carries it out, and returns the numbers of the faults. A script that memory was refused to is read again: no
-/// further growth is refused then.
+/// Reads the script, carries it out, and returns the fault numbers of both steps. If the reading was refused memory, it is
+/// repeated: no further growth is refused then.
 fn run_script(alloc: Global) -> Result<(u8, u8), Fail> {
     let read = read_script(alloc, SCRIPT.as_bytes());
     let number = number_of(&read);

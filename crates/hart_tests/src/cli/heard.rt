@@ -14,10 +14,10 @@ pub const IDENTIFY: &str = "FF FF 02 80 00 00 82";
 
 pub const IDENTIFY_LINE: &str = "2 7 STX P 0 @0 - 0 -\n";
 
-/// The same with the separator that makes its last item whole.
+/// That message with the separator that makes its last item whole.
 pub const IDENTIFY_WHOLE: &str = "FF FF 02 80 00 00 82 ";
 
-/// What is said of it in words.
+/// What `explain` says of that message.
 pub const IDENTIFY_SAID: &str =
     "2-7: request of the primary master to the device at polling address 0, \
     Command 0, read unique identifier\n";
@@ -27,7 +27,7 @@ pub const TWO_MESSAGES: &str = "FF FF 02 80 00 00 82 FF FF 02 00 00 00 02";
 
 pub const TWO_LINES: &str = "2 7 STX P 0 @0 - 0 -\n9 14 STX S 0 @0 - 0 -\n";
 
-/// A message that says that 255 bytes of payload follow, and a whole one within them; then the line of this one.
+/// The beginning of a message with the byte count 255, and a whole message in its payload; below, the line of the whole message.
 const FALSE_START: &str = "FF FF 82 B7 42 0A 1B 2C 13 FF FF FF FF FF FF 02 80 00 00 82";
 
 const INNER_LINE: &str = "15 20 STX P 0 @0 - 0 -\n";
@@ -51,8 +51,8 @@ const DUMPED: &[Row] = &[
     ("02!08", "", (4, "bad hex at 0")),
 ];
 
-/// Inputs that cannot be read to their end. What follows its last digits makes an item whole, and a failed read is not that; bad hex
-/// before it comes first.
+/// Inputs after which a read fails. An item is whole only if something follows its digits, and a failed read does not count. Bad
+/// hex before the failed read comes first.
 const BROKEN_OFF: &[Row] = &[
     ("", "", READ),
     (IDENTIFY, "", READ),
@@ -65,10 +65,10 @@ const BROKEN_OFF: &[Row] = &[
     ("FF FF 02 80 00 00 82 8", IDENTIFY_LINE, READ),
 ];
 
-/// A text in which a part stands often, and what is written for it.
+/// The prefix, the repeated part, its number and the suffix of a text, and what is written for this text.
 type Long<'a> = (&'a str, &'a str, usize, &'a str, &'a str);
 
-/// Whether this is written for a long text, however it is read.
+/// Whether `dump` writes the wanted text for a long one, whatever the size of a read.
 fn is_dumped(rt: &impl Eprint, alloc: Global, long: &Long) -> Result<bool, Fail> {
     let (prefix, part, times, suffix, text) = *long;
     let input = text_of(alloc, prefix, part, times, suffix)?;
@@ -86,7 +86,7 @@ const LONG: &[Long] = &[
     (FALSE_START, " 00", 245, "", INNER_LINE),
 ];
 
-/// Whether this is written for a text that is read at once.
+/// Like `is_dumped`, for a text that is read at once.
 fn is_dumped_at_once(rt: &impl Eprint, alloc: Global, long: &Long) -> Result<bool, Fail> {
     let (prefix, part, times, suffix, text) = *long;
     let input = text_of(alloc, prefix, part, times, suffix)?;
@@ -205,13 +205,13 @@ fn what_was_heard_is_said_in_words(rt: HostRuntime) {
     hold_rows(&rt, rt.alloc(), Call::Explain, After::End, "row", EXPLAINED);
 }
 
-/// Texts without a preamble byte, none of which is bad hex as raw bytes.
+/// Texts that have no preamble byte as raw bytes, and cannot be bad hex.
 const SILENT: &[Row] = &[("", "", NONE), (IDENTIFY, "", NONE), ("0G!@/", "", NONE)];
 
-/// Texts that cannot be read further.
+/// Texts after which a read fails.
 const RAW_BROKEN_OFF: &[Row] = &[(IDENTIFY, "", READ)];
 
-/// Whether a message that is heard as raw bytes is said in words.
+/// Whether `explain_raw` says a message of raw bytes in words.
 fn is_said_of_raw_bytes(alloc: Global) -> Result<bool, Fail> {
     let mut reader = Plain::new(b"\xFF\xFF\x02\x80\x00\x00\x82".as_slice());
     let mut writer = Plain::new(Vec::new(alloc));
@@ -240,7 +240,7 @@ const NOT_ANSWERED: &[Row] = &[
     ("02!08", "", (4, "bad hex at 0")),
 ];
 
-/// Whether a reply is written for what is heard, on a line of its own, and nothing if it is empty.
+/// Whether `answer` writes the reply to what is heard on a line of its own, or nothing if the reply is empty.
 fn is_answered(rt: &impl Eprint, alloc: Global, heard: &str, reply: &str) -> Result<bool, Fail> {
     let end = if reply.is_empty() { "" } else { "\n" };
     let line = format!(in alloc; "{reply}{end}")?;
@@ -253,7 +253,7 @@ fn is_answered(rt: &impl Eprint, alloc: Global, heard: &str, reply: &str) -> Res
     )
 }
 
-/// The same of a request to the device's own address.
+/// Like `is_answered`, for a request to the device's own address.
 fn is_answered_on_its_own(
     rt: &impl Eprint,
     alloc: Global,

@@ -7,8 +7,8 @@ use crate::rows::hold_ok;
 use std::alloc::Global;
 use std::test::Fail;
 
-/// Images of version 1 of devices that are as new but in one way: write protected, with the tag PUMP-101, after one change of the
-/// configuration that both masters have to learn of, and with the greatest counter.
+/// Images of version 1. Each device differs from a new one in one way: it is write protected, has the tag PUMP-101, has had a
+/// configuration change that both masters must still learn of, or has the greatest counter.
 const PROTECTED: &str = "010001\
     820820820820820820820820820820820820820820820820820820820820820820820820820820820820\
     000000000000000004";
@@ -30,7 +30,7 @@ pub const NEW: &str = "020001\
     820820820820820820820820820820820820820820820820820820820820820820820820820820820820\
     0000000000002020202020202020202020202020202020202020202020202020202020202020000000";
 
-/// An image of version 1 of a new device, with flags that there are not.
+/// An image of version 1 of a new device, but with flags that do not exist.
 const BAD_FLAGS: &str = "010001\
     820820820820820820820820820820820820820820820820820820820820820820820820820820820820\
     000000000000000008";
@@ -49,14 +49,14 @@ const TO_PROTECTED: &[Row] = &[
     ),
 ];
 
-/// A request to the device with this tag.
+/// A request to the device with the tag PUMP-101.
 const TO_TAGGED: &[Row] = &[(
     "FF FF 82 80 00 00 00 00 0B 06 41 53 50 B7 1C 31 D7",
     "FF FF FF FF FF 86 80 00 00 00 00 0B 18 00 00 FE 37 42 05 07 01 02 18 00 0A 1B 2C 05 04 00 00 00 00 37 00 37 01 BA\n",
     NONE,
 )];
 
-/// The empty script, and the text of a device that goes on from an image of version 1, with its tag as the long tag.
+/// The empty script, and its text for a device that goes on from an image of version 1: the tag becomes the long tag.
 const MIGRATED: &[Row] = &[(
     "",
     "counter 0\nimage 020001\
@@ -83,7 +83,7 @@ fn devices_go_on_from_their_images(rt: HostRuntime) {
     hold_rows(&rt, alloc, migrated, After::End, "migrated row", MIGRATED);
 }
 
-/// Words that write no image, and their faults.
+/// Words that are no image, and their faults.
 const BAD_IMAGES: &[(&str, Fault)] = &[
     ("", (6, "bad image: length")),
     ("01", (6, "bad image: length")),
@@ -95,7 +95,7 @@ const BAD_IMAGES: &[(&str, Fault)] = &[
     ("\u{e9}", (4, "bad hex at 0")),
 ];
 
-/// Whether a call with a bad image names its fault before it reads anything. The input would be at fault too.
+/// Whether a call reports the fault of its bad image before it reads anything. The input is bad too.
 fn is_named(rt: &impl Eprint, alloc: Global, call: Call, fault: Fault) -> Result<bool, Fail> {
     let given = Given {
         input: "!",

@@ -1,4 +1,4 @@
-//! Inputs that are as long as they may be, longer, and without end.
+//! Inputs of the greatest length, longer ones, and endless ones.
 
 use super::call::Call;
 use super::calls::{EMPTY, Fault, Given, NONE, TOO_LONG, Wanted, does_by_name};
@@ -33,7 +33,7 @@ const LONGEST: &[Spaced] = &[
         NONE,
         IDENTIFY_LINE,
     ),
-    // That of `explain` may be longer.
+    // The input of `explain` may be longer.
     (Call::Explain, INPUT_LIMIT + 1, "", After::End, NONE, ""),
     (
         Call::Explain,
@@ -45,7 +45,7 @@ const LONGEST: &[Spaced] = &[
     ),
 ];
 
-/// Inputs with a byte more. An item that ends with the longest input is whole only if a byte follows that is read within it.
+/// Longer inputs. Their last item counts as whole only if the byte after it still lies within the limit.
 const LONGER: &[Spaced] = &[
     (Call::Dump, INPUT_LIMIT + 1, "", After::End, TOO_LONG, ""),
     (
@@ -82,7 +82,7 @@ const LONGER: &[Spaced] = &[
     ),
 ];
 
-/// Whether an input with so many spaces is taken or refused as its row says.
+/// Whether the input of a row is taken or refused as the row says.
 fn has_its_length(rt: &impl Eprint, alloc: Global, row: &Spaced) -> Result<bool, Fail> {
     let (call, spaces, input, after, fault, text) = *row;
     let given = Given {
@@ -119,10 +119,10 @@ fn longer_inputs_are_refused(rt: HostRuntime) {
     }
 }
 
-/// The number of reads of 64 bytes that give more bytes than an input may have, also if the first gives fewer.
+/// How many reads of 64 bytes exceed the limit of an input, even if the first one returns fewer bytes.
 const READS_TO_THE_LIMIT: usize = 16_385;
 
-/// Calls, what each reads before spaces without end, and what it writes.
+/// Calls, what each reads before endless spaces, and what it writes.
 const WITHOUT_END: &[Written] = &[
     (Call::Dump, "", ""),
     (Call::Dump, IDENTIFY_WHOLE, IDENTIFY_LINE),
@@ -131,7 +131,7 @@ const WITHOUT_END: &[Written] = &[
     (Call::Simulate(None), "turn P ok ok\n", ""),
 ];
 
-/// Whether an input without end, of which each read gives 64 bytes, is refused at the first byte after the longest input.
+/// Whether an endless input, read 64 bytes at a time, is refused at the first byte over the limit.
 fn is_refused(
     rt: &impl Eprint,
     alloc: Global,

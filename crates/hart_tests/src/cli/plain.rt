@@ -11,14 +11,14 @@ use std::io;
 use std::io::{ErrorKind, Read, Write};
 use std::test::Fail;
 
-/// Whether a call by its name on readers and writers of the standard library writes a text.
+/// Whether a call, made by its name on readers and writers of the standard library, writes a text.
 fn serves_by_name(alloc: Global, call: Call, input: &str, text: &str) -> Result<bool, Fail> {
     let mut output = Plain::new(Vec::new(alloc));
     let result = call.make(alloc, &mut Plain::new(input.as_bytes()), &mut output)?;
     Ok(result.is_ok() && output.into_inner().as_slice() == text.as_bytes())
 }
 
-/// Whether `program` on readers and writers of the standard library writes a text, and nothing to its errors.
+/// Whether `program`, on readers and writers of the standard library, writes a text, and nothing to `errors`.
 fn serves_by_words(alloc: Global, words: &[String], input: &str, text: &str) -> bool {
     let mut reader = Plain::new(input.as_bytes());
     let mut output = Plain::new(Vec::new(alloc));
@@ -35,8 +35,8 @@ fn serves(alloc: Global, (call, input, text): &Written) -> Result<bool, Fail> {
     Ok(is_run && serves_by_name(alloc, *call, input, text)?)
 }
 
-/// Whether a call whose output is a slice, which takes no byte once it is full, fills it with the beginning of its text, and ends
-/// with a write fault.
+/// Whether a call whose output is a slice fills it with the beginning of its text, and ends with a write fault. A full slice takes
+/// no byte.
 fn fills_a_slice(alloc: Global, (call, input, text): &Written) -> Result<bool, Fail> {
     let mut room = [0; 25];
     let mut output = Plain::new(&mut room[..]);
@@ -53,7 +53,7 @@ fn readers_and_writers_of_the_standard_library_serve(rt: HostRuntime) {
     }
 }
 
-/// Counts the calls that are made of it, and gives or takes all that it can, or is interrupted each time.
+/// Counts its calls. Each call reads or writes all that it can, or is interrupted if `fails`.
 #[derive(Drop)]
 struct Counted {
     calls: u64,
@@ -88,20 +88,19 @@ impl Write for Counted {
     }
 }
 
-/// Whether a read into a buffer gives `want`, and makes one call of what is inside.
+/// Whether a read into a buffer returns `want`, and calls the inner reader once.
 fn reads_once(buffer: &mut [u8], fails: bool, want: Result<usize, Failed>) -> bool {
     let mut reader = Plain::new(Counted { calls: 0, fails });
     reader.read(buffer) == want && reader.into_inner().calls == 1
 }
 
-/// Whether a write of bytes gives `want`, and calls the inner writer once.
+/// Whether a write of bytes returns `want`, and calls the inner writer once.
 fn writes_once(bytes: &[u8], fails: bool, want: Result<usize, Failed>) -> bool {
     let mut writer = Plain::new(Counted { calls: 0, fails });
     writer.write(bytes) == want && writer.into_inner().calls == 1
 }
 
-/// Whether one read and one write of `size` bytes succeed, or are failures if what is inside is interrupted, and make one call of it
-/// each.
+/// Whether a read and a write of `size` bytes make one inner call each. They succeed, or fail if the inner call is interrupted.
 fn makes_one_call(alloc: Global, size: usize, fails: bool) -> Result<bool, Fail> {
     let want = if fails { Err(Failed) } else { Ok(size) };
     let mut bytes = vec![in alloc; 0; size]?;

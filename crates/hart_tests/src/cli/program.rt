@@ -1,4 +1,4 @@
-//! Words that make no call, and a writer of errors that fails.
+//! Tests words that make no call, and a writer for errors that fails.
 
 use super::call::strings_of;
 use super::calls::{EMPTY, Given, Outcome, by_words};
@@ -9,7 +9,7 @@ use std::alloc::{AllocError, Global};
 use std::process::Abort;
 use std::test::Fail;
 
-/// Words that make no call, and how the text begins that clap has for them.
+/// Words that make no call, and the beginning of the text that clap has for them.
 const NO_CALLS: &[(&[&str], &str)] = &[
     (&[], "Find, explain, write and answer HART messages"),
     (&["frob"], "error: unrecognized subcommand 'frob'\n"),
@@ -34,7 +34,7 @@ const NO_CALLS: &[(&[&str], &str)] = &[
     (&["encode", "P", "@0", "0", "--preambles", "21"], "error: "),
 ];
 
-/// Runs `program` on words and the input `!`. The write of `errors` with the number `fails_at` fails; each takes a byte.
+/// Runs `program` on words and the input `!`. Each write to `errors` takes a byte; the one with the number `fails_at` fails.
 fn run_on(alloc: Global, words: &[&str], fails_at: Option<usize>) -> Result<Outcome, AllocError> {
     let strings = strings_of(alloc, words)?;
     let given = Given {
@@ -49,7 +49,7 @@ fn run_on(alloc: Global, words: &[&str], fails_at: Option<usize>) -> Result<Outc
     ))
 }
 
-/// Whether words make no call, touch no stream, and are told a text that begins so.
+/// Whether words make no call, touch no stream, and are answered with a text that begins with `start`.
 fn make_no_call(
     rt: &impl Eprint,
     alloc: Global,
@@ -82,7 +82,7 @@ const REFUSALS: &[(&str, u8)] = &[
     ("frob", NO_CALL),
 ];
 
-/// Whether the status is this, and the beginning of a text is written, if the write with this number fails.
+/// Whether the status remains, and the text is written up to there, if the write to `errors` with this number fails.
 fn leaves_status(
     rt: &impl Eprint,
     alloc: Global,

@@ -1,4 +1,4 @@
-//! Words of a request by the names of its fields.
+//! Words of a request that name the fields of its data.
 
 use super::call::{Call, Named};
 use super::calls::{EMPTY, Fault, Given, NONE, Wanted, does};
@@ -482,7 +482,7 @@ const ROWS: &[Row] = &[
     ),
 ];
 
-/// Whether the words of a row are written as a message, or have a fault. Nothing is read for them.
+/// Whether the words of a row are written as a message, or refused with its fault. Nothing is read for them.
 fn is_written(rt: &impl Eprint, alloc: Global, row: Row) -> Result<bool, Fail> {
     let (who, address, command, fields, preambles, text, fault) = row;
     let call = Call::Request(Named {

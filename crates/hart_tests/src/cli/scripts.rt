@@ -9,8 +9,8 @@ use crate::rows::hold_ok;
 use std::alloc::{AllocError, Global};
 use std::test::Fail;
 
-/// A script on a device that goes on from an image or is new; then the lines of what is spoken and of what becomes of the
-/// submissions, and how the device is in the end.
+/// A script, and the image of its device, which is new without one. Then the lines for what is spoken and for the outcomes of the
+/// submissions, and the state of the device at the end.
 struct Script<'a> {
     image: Option<&'a str>,
     script: &'a str,
@@ -21,7 +21,7 @@ struct Script<'a> {
     flags: &'a str,
 }
 
-/// The empty script, of which nothing comes.
+/// The empty script, which changes nothing.
 const NOTHING: Script = Script {
     image: None,
     script: "",
@@ -32,7 +32,7 @@ const NOTHING: Script = Script {
     flags: "00",
 };
 
-/// What every write here leaves.
+/// What a single write of 012345 leaves.
 const WROTE: Script = Script {
     assembly: "012345",
     counter: 1,
@@ -238,7 +238,7 @@ D 5 8637420A1B2C070400600001AC\n\
     },
 ];
 
-/// Scripts that are not carried out, among them one with a frame inside a message.
+/// Scripts that end with a fault, one of them with a frame inside a message.
 const REFUSED_SCRIPTS: &[Row] = &[
     (
         "submit P @0 0\nturn P ok FFFF06800002000084",
@@ -269,7 +269,7 @@ const REFUSED_SCRIPTS: &[Row] = &[
     ("protect on\nturn X ok ok", "", (5, "bad line 2")),
 ];
 
-/// Whether a script has its text.
+/// Whether `simulate` writes the text of a row for its script.
 fn is_carried_out(rt: &impl Eprint, alloc: Global, row: &Script) -> Result<bool, Fail> {
     let text = written(alloc, row)?;
     let call = Call::Simulate(row.image);

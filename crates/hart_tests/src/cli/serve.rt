@@ -11,7 +11,7 @@ use hart_cli::INPUT_LIMIT;
 use std::alloc::Global;
 use std::test::Fail;
 
-/// A device that is written to, restarted and protected, between two writes and reads of what was written.
+/// A device that is written to, read, restarted, protected and written to again, with its image before and after.
 const LIFE: Row = (
     "image\n\
     FF FF 82 B7 42 0A 1B 2C 13 03 01 23 45 3D\n\
@@ -50,14 +50,14 @@ const LINES: &[Row] = &[
     ("", "", NONE),
     ("\n", "-\n", NONE),
     ("\n\n\r\n \t\n", "-\n-\n-\n-\n", NONE),
-    // The last line needs no line feed, and is none if it is empty.
+    // The last line needs no line feed. If it is empty, it does not count as a line.
     ("counter", "counter 0\n", NONE),
     ("counter\n", "counter 0\n", NONE),
     ("counter\n\r", "counter 0\n", NONE),
     // One carriage return at the end of a line is dropped.
     ("counter\r\nrestart\r", "counter 0\nok\n", NONE),
     ("counter\r\r\n", "bad line: bad hex at 0\n", NONE),
-    // Words are as they are printed.
+    // A word counts only in its exact spelling.
     (
         "Counter\n counter\ncounter \nprotect  on\nprotect\nrestart now\n",
         "bad line: bad hex at 0\nbad line: bad hex at 1\nbad line: bad hex at 0\n\
@@ -70,7 +70,7 @@ const LINES: &[Row] = &[
         "bad line: bad hex at 9\nbad line: bad hex at 6\nbad line: bad hex at 0\nbad line: bad hex at 0\ncounter 0\n",
         NONE,
     ),
-    // A message is whole in one line alone.
+    // A message has to stand in one line.
     ("FF FF 02 80\n00 00 82\n", "-\n-\n", NONE),
     // Damage is heard.
     (
@@ -85,7 +85,7 @@ fn lines_are_served_in_turn(rt: HostRuntime) {
     hold_rows(&rt, rt.alloc(), Call::Serve(None), After::End, "row", LINES);
 }
 
-/// What is served before a read that fails: whole lines alone.
+/// What is served before a read that fails: only whole lines.
 const BEFORE_FAILURE: &[Row] = &[
     ("", "", READ),
     ("counter", "", READ),
@@ -109,7 +109,7 @@ fn whole_lines_are_served_before_a_failure(rt: HostRuntime) {
     );
 }
 
-/// An image, and what a device that goes on from it says, or why there is none.
+/// An image, and what a device that goes on from it says, or the fault of the image.
 const IMAGES: &[(&str, &str, Fault)] = &[
     (NEW, "counter 0\n", NONE),
     ("", "", (6, "bad image: length")),
@@ -135,7 +135,7 @@ fn images_are_gone_on_from(rt: HostRuntime) {
     }
 }
 
-/// A number of spaces, what comes after them, and what is said to both.
+/// A number of spaces, the input after them, and what the device says to both.
 const LONG: &[(usize, &str, &str)] = &[
     (INPUT_LIMIT, "\ncounter\n", "-\ncounter 0\n"),
     (INPUT_LIMIT, "\r\ncounter\n", "-\ncounter 0\n"),
@@ -164,7 +164,7 @@ const LONG: &[(usize, &str, &str)] = &[
     ),
 ];
 
-/// Whether a device says this to a line that begins with this number of spaces.
+/// Whether a device says the text of a row to its spaces and the input after them.
 fn says(rt: &impl Eprint, alloc: Global, row: &(usize, &str, &str)) -> Result<bool, Fail> {
     let (spaces, input, text) = *row;
     let given = Given {
@@ -188,7 +188,7 @@ fn lines_have_a_longest_one(rt: HostRuntime) {
     }
 }
 
-/// Whether a write that fails ends the call with what was written before it.
+/// Whether a failed write ends the call, after all bytes before it were written.
 fn ends_at(
     rt: &impl Eprint,
     alloc: Global,
@@ -226,7 +226,7 @@ fn failed_writes_end_serving(rt: HostRuntime) {
     }
 }
 
-/// Lines that are read at once, and say more than is kept before it is written.
+/// Reads many lines at once. Their answers are longer than what is kept before a write.
 #[test]
 fn many_lines_are_read_at_once(rt: HostRuntime) -> Result<(), Fail> {
     let mut input = String::new(rt.alloc());

@@ -11,10 +11,10 @@ use std::alloc::Global;
 use std::process::Abort;
 use std::test::Fail;
 
-/// A call, an input for it, and what it writes then on the bench device.
+/// A call, its input, and what the call writes for it, with the bench device.
 pub type Written<'a> = (Call<'a>, &'a str, &'a str);
 
-/// One for each call.
+/// A row for each of five calls.
 pub const WRITTEN: &[Written] = &[
     (Call::Dump, TWO_MESSAGES, TWO_LINES),
     (Call::Explain, IDENTIFY, IDENTIFY_SAID),
@@ -37,12 +37,12 @@ pub const WRITTEN: &[Written] = &[
     ),
 ];
 
-/// The text of a script of which nothing comes.
+/// The text of a script that changes nothing.
 pub const AS_NEW: &str = "counter 0\nimage 020001\
     820820820820820820820820820820820820820820820820820820820820820820820820820820820820\
     0000000000002020202020202020202020202020202020202020202020202020202020202020000000\n";
 
-/// What is written up to a failed read, from each number of bytes on that were read before it.
+/// What is written before a failed read: each text, with the least number of bytes that must have been read for it.
 type Lines<'a> = &'a [(usize, &'a str)];
 
 /// Calls that read, their inputs, and what they write if a read fails.
@@ -77,7 +77,7 @@ fn written_before<'a>(lines: Lines<'a>, bytes: usize) -> &'a str {
     text
 }
 
-/// Whether a call of which each read gives a byte names the read that fails after these bytes, and wrote this before it.
+/// Whether a call that reads a byte at a time reports the read that fails after `input`, and wrote `text` before it.
 fn names_read(
     rt: &impl Eprint,
     alloc: Global,
@@ -131,7 +131,7 @@ fn each_failed_read_is_named(rt: HostRuntime) -> Result<(), Fail> {
     Ok(())
 }
 
-/// Whether a call of which each write takes a byte names the write with this number as failed, and wrote all that comes before it.
+/// Whether a call that writes a byte at a time reports that the write with this number failed, and wrote all bytes before it.
 fn names_write(
     rt: &impl Eprint,
     alloc: Global,
@@ -176,10 +176,10 @@ fn each_failed_write_is_named(rt: HostRuntime) {
     }
 }
 
-/// Bytes that hold a whole message, and a message that begins around it and is no frame.
+/// A whole message inside the bytes of an earlier start, which prove to be no frame.
 const HELD_BACK: &str = "FF FF 02 80 00 08 FF FF 02 80 00 00 82 00 00 00 ";
 
-/// Bytes that hold a whole message, and before it one preamble byte alone, after which a longer body may begin.
+/// A single preamble byte, after which a longer body may begin, and a whole message inside that body.
 const OPEN_AFTER_ONE: &str = "FF 82 B7 42 0A 1B 2C 13 FF FF FF 02 80 00 00 82 ";
 
 /// A call, its input and what comes after that, the most bytes of a read and the write that fails; then the fault, the numbers of reads

@@ -8,7 +8,7 @@ type Named = &'static [(&'static str, &'static [u8])];
 /// A command, whether the data are those of a reply, the data, and their fields.
 type Data = (u8, bool, &'static [u8], Named);
 
-/// Those of worked messages, and one byte more.
+/// Data of worked messages, and data with a byte more than their fields.
 const FIELDS: &[Data] = &[
     (
         0,
@@ -82,7 +82,7 @@ const FIELDS: &[Data] = &[
     (4, false, &[0x01], &[]),
 ];
 
-/// Whether data fall into these fields by rows.
+/// Whether rows split data into these fields.
 fn fall_into(rows: &[FieldRow], data: &[u8], fields: Named) -> bool {
     let mut rest = data;
     let mut found = 0;
@@ -99,7 +99,7 @@ fn fall_into(rows: &[FieldRow], data: &[u8], fields: Named) -> bool {
     found == fields.len()
 }
 
-/// Whether data have their fields.
+/// Whether the data of a row have its fields.
 fn have_fields(row: &Data) -> bool {
     let (command, replies, data, fields) = *row;
     if replies {

@@ -25,7 +25,7 @@ fn address_of(asked: Asked) -> Result<Address, ValueFault> {
     }
 }
 
-/// A master's request of a command to whom it is for.
+/// Returns a master's request with this command to `asked`.
 pub(super) fn request_to(
     asked: Asked,
     master: MasterId,
@@ -40,7 +40,7 @@ pub(super) fn request_to(
 /// What the registers of the bench device hold.
 #[derive(Clone, Copy)]
 enum Values {
-    /// What they begin with.
+    /// Their initial values.
     New,
     /// Polling address 5 and the tag PUMP-101.
     Pump,
@@ -73,19 +73,19 @@ type Row<'a> = (Values, Asked, u8, &'a [u8], Option<&'a [u8]>);
 /// The tag PUMP-101.
 const PUMP: [u8; 6] = [0x41, 0x53, 0x50, 0xB7, 0x1C, 0x31];
 
-/// The tag of the bench device, and more spaces in packed text.
+/// The tag of the bench device, which is spaces in packed text, and more spaces.
 const SPACES: &[u8] = &[0x82, 0x08, 0x20, 0x82, 0x08, 0x20, 0x82, 0x08, 0x20];
 
 /// The tag of the bench device without its last byte.
 const SHORT: &[u8] = &[0x82, 0x08, 0x20, 0x82, 0x08];
 
-/// The long tag of the bench device but for its last byte.
+/// The long tag of the bench device with another last byte.
 const LAST_IS_ANOTHER: &[u8] = &[
     0x20, 0x20, 0x20, 0x20, 0x20, 0x20, 0x20, 0x20, 0x20, 0x20, 0x20, 0x20, 0x20, 0x20, 0x20, 0x20,
     0x20, 0x20, 0x20, 0x20, 0x20, 0x20, 0x20, 0x20, 0x20, 0x20, 0x20, 0x20, 0x20, 0x20, 0x20, 0x00,
 ];
 
-/// Requests by each kind of address, with the device's tags and others, and with too few and too many bytes of them.
+/// Requests to each kind of address: with the device's tags, with other tags, and with too few or too many bytes of a tag.
 const ROWS: &[Row] = &[
     (Values::Fixed, Asked::Own, 7, &[], Some(&[0, 8, 5, 0])),
     (Values::New, Asked::Another, 7, &[], None),

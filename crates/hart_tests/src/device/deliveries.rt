@@ -4,7 +4,7 @@ use super::*;
 use crate::rows::{exclusive_or, write_faultless};
 use hart_frame::{Message, encode};
 
-/// The place in an image from which the register stands that a row here writes.
+/// The place in an image where the final assembly number begins, which a row here writes.
 const ASSEMBLY: usize = 48;
 
 /// What stands in an image of a bench device: the final assembly number, and then the counter and the flags.
@@ -13,7 +13,7 @@ type Held = ([u8; 3], [u8; 3]);
 /// What stands in the image of a new bench device.
 const UNCHANGED: Held = ([0; 3], [0; 3]);
 
-/// A request's message, that of the reply, and what stands in the image then.
+/// The message of a request, the message of its reply, and what stands in the image afterwards.
 struct Exchange<'a> {
     request: &'a [u8],
     reply: &'a [u8],
@@ -27,7 +27,7 @@ const FOUND: &[u8] = &[
     0x01, 0x31,
 ];
 
-/// A reading and a writing.
+/// A read request and a write request.
 const EXCHANGES: &[Exchange] = &[
     Exchange {
         request: &[0xFF, 0xFF, 0xFF, 0xFF, 0xFF, 0x02, 0x80, 0x00, 0x00, 0x82],
@@ -50,7 +50,7 @@ const EXCHANGES: &[Exchange] = &[
 /// How many characters the longer request has.
 pub(super) const MOST: usize = 17;
 
-/// As many of the five preamble bytes may be lost: two have to stand before the delimiter.
+/// How many of the five preamble bytes may be lost: two have to stand before the delimiter.
 const SPARE: usize = 3;
 
 /// Each set of fault bits that is not empty.
@@ -58,14 +58,14 @@ const FAULT_SETS: &[u8] = &[
     0x02, 0x10, 0x12, 0x20, 0x22, 0x30, 0x32, 0x40, 0x42, 0x50, 0x52, 0x60, 0x62, 0x70, 0x72,
 ];
 
-/// The characters of a request, all faultless, and others after them.
+/// Returns the characters of a request, followed by zeros, all faultless.
 fn chars_of(request: &[u8]) -> Option<[Char; MOST]> {
     let mut chars = [Char::new(0, 0)?; MOST];
     write_faultless(&mut chars, request)?;
     Some(chars)
 }
 
-/// Whether a new bench device replies so to a delivery, by nothing if it is silent, and this stands in its image then.
+/// Whether a new bench device replies to a delivery with `reply`, or is silent if that is empty, and then holds `held`.
 fn leads_to(delivery: &[Char], reply: &[u8], held: Held) -> Result<bool, Fail> {
     let mut device = bench_device();
     let mut message = Message::new();
@@ -78,7 +78,7 @@ fn leads_to(delivery: &[Char], reply: &[u8], held: Held) -> Result<bool, Fail> {
     Ok(message.as_slice() == reply && device.image().as_slice() == image.as_slice())
 }
 
-/// The message of a communication-fault reply of the bench device: with this first byte of its address, this command and this
+/// Returns the message of a communication-fault reply of the bench device, with this first address byte, this command and this
 /// first status byte. FB is the exclusive or of the other bytes.
 fn faulty_reply(address: u8, command: u8, status: u8) -> [u8; 16] {
     let check = exclusive_or(&[0xFB, address, command, status]);
@@ -88,7 +88,7 @@ fn faulty_reply(address: u8, command: u8, status: u8) -> [u8; 16] {
     ]
 }
 
-/// The communication-fault reply to the writing with another character at a place after the spare preamble bytes, if there is one.
+/// Returns the communication-fault reply, if any, to the write request with another character at a place from `SPARE` on.
 fn reply_to_change(place: usize, byte: u8, faults: u8) -> Option<[u8; 16]> {
     match (place, byte) {
         (11..=16, _) if faults != 0 => Some(faulty_reply(0xB7, 0x13, 0x80 | faults)),
@@ -100,9 +100,9 @@ fn reply_to_change(place: usize, byte: u8, faults: u8) -> Option<[u8; 16]> {
     }
 }
 
-/// Whether a request with another character at a place is replied to as without it at the spare preamble bytes. At every later
-/// place the reading, which is for a polling address, is met with silence, and the writing with its communication faults or with
-/// silence.
+/// Whether a request with another character at a place leads to what it must. At the spare preamble bytes the change has no effect.
+/// At every later place the read request, which is for a polling address, meets silence, and the write request meets its
+/// communication faults or silence.
 fn is_met_at(exchange: &Exchange, place: usize, byte: u8, faults: u8) -> Result<bool, Fail> {
     let mut chars = chars_of(exchange.request).ok_or("characters")?;
     let character = chars.get_mut(place).ok_or("a place")?;
@@ -119,7 +119,7 @@ fn is_met_at(exchange: &Exchange, place: usize, byte: u8, faults: u8) -> Result<
     leads_to(delivery, &[], UNCHANGED)
 }
 
-/// Whether so many first characters of a request lead to a reply, and to this in the image.
+/// Whether the first `len` characters of a request lead to this reply, and to this in the image.
 fn lead_to(request: &[u8], len: usize, reply: &[u8], held: Held) -> Result<bool, Fail> {
     let chars = chars_of(request).ok_or("characters")?;
     leads_to(chars.get(..len).ok_or("too long")?, reply, held)
@@ -130,13 +130,13 @@ fn is_silent_before(exchange: &Exchange, place: usize) -> Result<bool, Fail> {
     lead_to(exchange.request, place, &[], UNCHANGED)
 }
 
-/// Whether a request is replied to as it stands.
+/// Whether a whole request leads to its reply.
 fn is_met_whole(exchange: &Exchange) -> Result<bool, Fail> {
     let len = exchange.request.len();
     lead_to(exchange.request, len, exchange.reply, exchange.held)
 }
 
-/// Whether a request is met, as `is_met_at` says, with each other byte at a place.
+/// Whether `is_met_at` holds of a request with each other byte at a place.
 fn is_met_with_other_bytes(exchange: &Exchange, place: usize, byte: u8) -> Result<bool, Fail> {
     let mut met = true;
     for change in 1..=255u8 {
@@ -145,7 +145,7 @@ fn is_met_with_other_bytes(exchange: &Exchange, place: usize, byte: u8) -> Resul
     Ok(met)
 }
 
-/// Whether a request is met, as `is_met_at` says, with each set of fault bits at a place.
+/// Whether `is_met_at` holds of a request with each set of fault bits at a place.
 fn is_met_with_fault_bits(exchange: &Exchange, place: usize, byte: u8) -> Result<bool, Fail> {
     let mut met = true;
     for faults in FAULT_SETS {
@@ -154,7 +154,7 @@ fn is_met_with_fault_bits(exchange: &Exchange, place: usize, byte: u8) -> Result
     Ok(met)
 }
 
-/// Whether a request is met as it has to be that ends before a place, where this byte stands, or has another character there.
+/// Whether a request leads to what it must if it ends before a place, or has another character than this byte there.
 fn is_met_with_damage(exchange: &Exchange, place: usize, byte: u8) -> Result<bool, Fail> {
     let cut = is_silent_before(exchange, place)?;
     let other = is_met_with_other_bytes(exchange, place, byte)?;
@@ -162,7 +162,7 @@ fn is_met_with_damage(exchange: &Exchange, place: usize, byte: u8) -> Result<boo
     Ok(cut && other && faulty)
 }
 
-/// Holds each place of a request to that.
+/// Holds each place of a request to `is_met_with_damage`.
 fn hold_places(rt: &(impl Abort + Eprint), exchange: &Exchange) {
     for (place, byte) in exchange.request.iter().enumerate() {
         let met = is_met_with_damage(exchange, place, *byte);
@@ -178,18 +178,18 @@ fn damage_is_borne_in_the_spare_preamble_alone(rt: HostRuntime) {
     }
 }
 
-/// The writing with another check byte.
+/// The write request with another check byte.
 const BAD_CHECK: &[u8] = &[
     0xFF, 0xFF, 0xFF, 0xFF, 0xFF, 0x82, 0xB7, 0x42, 0x0A, 0x1B, 0x2C, 0x13, 0x03, 0x01, 0x23, 0x45,
     0x3C,
 ];
 
-/// The message of the reply to that.
+/// The message of the reply to `BAD_CHECK`.
 const FAULTY: &[u8] = &[
     0xFF, 0xFF, 0xFF, 0xFF, 0xFF, 0x86, 0xB7, 0x42, 0x0A, 0x1B, 0x2C, 0x13, 0x02, 0x88, 0x00, 0xD7,
 ];
 
-/// The characters of the writing with another check byte.
+/// Returns the characters of the write request with another check byte.
 pub(super) fn garbled_write() -> Option<[Char; MOST]> {
     chars_of(BAD_CHECK)
 }
@@ -200,33 +200,33 @@ type Noise<'a> = &'a [(&'a [u8], usize, u8)];
 /// The body of a request for the identity at polling address 0.
 const IDENTIFY: &[u8] = &[0x02, 0x80, 0x00, 0x00, 0x82];
 
-/// A false start, with the first preamble byte of the next, which is the byte count of a payload of 255 bytes.
+/// A false start, and the first preamble byte of the next one. This FF is the byte count of the first: 255 bytes of payload.
 const FALSE_START: &[u8] = &[0xFF, 0xFF, 0x82, 0xB7, 0x42, 0x0A, 0x1B, 0x2C, 0x13, 0xFF];
 
-/// What the longest body, with expansion bytes and at the broadcast address, has before its payload of 255 bytes.
+/// The longest body up to its payload of 255 bytes: it has expansion bytes and the broadcast address.
 const LONGEST: &[u8] = &[
     0xE2, 0x80, 0x00, 0x00, 0x00, 0x00, 0x00, 0x00, 0x00, 0x00, 0xFF,
 ];
 
-/// A start and the body of the writing up to its address.
+/// Two preamble bytes, and the body of the write request up to the end of its address.
 const TO_ADDRESS: &[u8] = &[0xFF, 0xFF, 0x82, 0xB7, 0x42, 0x0A, 0x1B, 0x2C];
 
-/// A writing of the secondary master with another check byte.
+/// A write request of the secondary master with another check byte.
 const BAD_CHECK_OF_SECONDARY: &[u8] = &[
     0xFF, 0xFF, 0x82, 0x37, 0x42, 0x0A, 0x1B, 0x2C, 0x13, 0x03, 0x0A, 0x0B, 0x0C, 0xD6,
 ];
 
-/// The message of the reply to that.
+/// The message of the reply to `BAD_CHECK_OF_SECONDARY`.
 const FAULTY_TO_SECONDARY: &[u8] = &[
     0xFF, 0xFF, 0xFF, 0xFF, 0xFF, 0x86, 0x37, 0x42, 0x0A, 0x1B, 0x2C, 0x13, 0x02, 0x88, 0x00, 0x57,
 ];
 
-/// The message of the reply to the writing with a vertical parity fault at a data byte.
+/// The message of the reply to the write request with a vertical parity fault at a data byte.
 const VERTICAL: &[u8] = &[
     0xFF, 0xFF, 0xFF, 0xFF, 0xFF, 0x86, 0xB7, 0x42, 0x0A, 0x1B, 0x2C, 0x13, 0x02, 0xC0, 0x00, 0x9F,
 ];
 
-/// The message of the reply to the writing with an overrun at the byte count and another check byte.
+/// The message of the reply to the write request with an overrun at the byte count and another check byte.
 const OVERRUN: &[u8] = &[
     0xFF, 0xFF, 0xFF, 0xFF, 0xFF, 0x86, 0xB7, 0x42, 0x0A, 0x1B, 0x2C, 0x13, 0x02, 0xA8, 0x00, 0xF7,
 ];
@@ -261,7 +261,7 @@ const NOISES: &[Delivered] = &[
     ),
 ];
 
-/// Garbled requests, with fault bits after their address and in it, and the longest one and one character less.
+/// Garbled requests: with fault bits after their address or in it, the longest one, and the longest one without its last character.
 const GARBLED: &[Delivered] = &[
     (&[(BAD_CHECK, 1, 0)], FAULTY),
     (&[(BAD_CHECK_OF_SECONDARY, 1, 0)], FAULTY_TO_SECONDARY),
@@ -336,7 +336,7 @@ fn chars_of_noise(alloc: Global, noise: Noise) -> Result<Vec<Char>, Fail> {
     Ok(chars)
 }
 
-/// Whether a new bench device replies so to noise, and nothing changes in its image.
+/// Whether a new bench device replies to noise with this message, and nothing changes in its image.
 fn noise_leads_to(alloc: Global, noise: Noise, reply: &[u8]) -> Result<bool, Fail> {
     let chars = chars_of_noise(alloc, noise)?;
     leads_to(chars.as_slice(), reply, UNCHANGED)

@@ -19,20 +19,20 @@ pub(super) const IMAGE_2: [u8; 86] = [
     0x20, 0x20, 0x20, 0x00, 0x00, 0x00,
 ];
 
-/// The place in an image of version 2 from which the long tag stands.
+/// The place in an image of version 2 where the long tag begins.
 const LONG_TAG: usize = 51;
 
-/// The place in an image of version 2 from which the counter and the flags stand.
+/// The place in an image of version 2 where the counter and the flags begin.
 pub(super) const ENDING: usize = 83;
 
-/// An image with other bytes from a place on.
+/// Returns an image with these bytes from a place on.
 pub(super) fn image_with<const N: usize>(image: [u8; N], place: usize, bytes: &[u8]) -> [u8; N] {
     let mut changed = image;
     write_from(&mut changed, place, bytes);
     changed
 }
 
-/// Writes bytes over others from a place on, if all of them have room there.
+/// Overwrites an image with bytes from a place on, if all of them fit there.
 fn write_from(image: &mut [u8], place: usize, bytes: &[u8]) {
     if let Some(rest) = image.get_mut(place..)
         && let Some(part) = rest.get_mut(..bytes.len())
@@ -41,15 +41,15 @@ fn write_from(image: &mut [u8], place: usize, bytes: &[u8]) {
     }
 }
 
-/// The fault for which bytes are refused as an image.
+/// Returns the fault with which bytes are refused as an image.
 pub(super) fn image_fault(image: &[u8]) -> Option<DeviceFault> {
     Device::<ImageRegisters>::from_image(bench::identity(), image).err()
 }
 
-/// Bytes that make an image one that is refused, the places from which they stand in version 1 and in version 2, and the fault.
+/// Bytes that make an image a bad one, the places where they begin in version 1 and in version 2, and the fault.
 type BadImage<'a> = (&'a [u8], usize, usize, DeviceFault);
 
-/// An unknown version, a polling address, a loop current mode, a date and flags that are none.
+/// Unknown versions, and bad values of the polling address, the loop current mode, the date and the flags.
 const BAD_IMAGES: &[BadImage] = &[
     (&[0x00], 0, 0, DeviceFault::BadVersion),
     (&[0x00, 0x40], 0, 0, DeviceFault::BadVersion),
@@ -63,7 +63,7 @@ const BAD_IMAGES: &[BadImage] = &[
     (&[0xFF], 53, 85, DeviceFault::BadField),
 ];
 
-/// Bytes that are not as many as an image of their version has, or are of no version, and the fault.
+/// Bytes of the wrong length for an image of their version, or of an unknown version, and the fault.
 const BAD_LENGTHS: &[(&[u8], DeviceFault)] = &[
     (&[], DeviceFault::BadLength),
     (&[0x00], DeviceFault::BadVersion),
@@ -81,13 +81,13 @@ const BAD_LENGTHS: &[(&[u8], DeviceFault)] = &[
     (&[0x03; 54], DeviceFault::BadVersion),
 ];
 
-/// Whether images of both versions are accepted, and with the bytes of a row refused for its fault.
+/// Whether images of both versions are accepted as they are, and refused with the fault of a row once they hold its bytes.
 fn is_refused(row: &BadImage) -> bool {
     let (bytes, first, second, fault) = *row;
     is_refused_with(IMAGE_1, first, bytes, fault) && is_refused_with(IMAGE_2, second, bytes, fault)
 }
 
-/// Whether an image is taken as it is, and refused for the fault with these bytes from a place on.
+/// Whether an image is accepted as it is, and refused with this fault once it holds these bytes from a place on.
 fn is_refused_with<const N: usize>(
     image: [u8; N],
     place: usize,
@@ -108,10 +108,10 @@ fn bad_images_are_refused(rt: HostRuntime) {
     }
 }
 
-/// How the image ends of which a device goes on, what it replies to a write, and how its image ends then.
+/// How the image ends from which a device goes on, what the device replies to a write, and how its image ends afterwards.
 type GoesOn<'a> = ([u8; 3], &'a [u8], [u8; 3]);
 
-/// Devices that go on, from an image without and with write protection, at the counter's end, and after a write.
+/// Devices that go on from an image: without and with write protection, with the greatest counter, and after a write.
 const GOES_ON: &[GoesOn] = &[
     (
         [0x00, 0x00, 0x00],
@@ -131,7 +131,7 @@ const GOES_ON: &[GoesOn] = &[
     ),
 ];
 
-/// Whether a device that goes on from such an image replies to the write and ends so, and another goes on from its image.
+/// Whether a device that goes on from the image of a row does as the row says, and another device goes on from its image.
 fn goes_on<S: RegisterStore + Drop>(row: &GoesOn) -> Result<bool, Fail> {
     let (before, payload, after) = row;
     let image = image_with(IMAGE_2, ENDING, before);
@@ -159,17 +159,17 @@ fn image_after<S: RegisterStore + Drop>(image: &[u8]) -> Result<Image, DeviceFau
     Ok(Device::<S>::from_image(bench::identity(), image)?.image())
 }
 
-/// Whether a device that goes on from one image has another.
+/// Whether a device that goes on from `image` has the image `other`.
 fn has_image<S: RegisterStore + Drop>(image: &[u8], other: &[u8]) -> Result<bool, DeviceFault> {
     Ok(image_after::<S>(image)?.as_slice() == other)
 }
 
-/// Whether devices of both stores that go on from one image have another.
+/// Whether devices with both kinds of store that go on from `image` have the image `other`.
 fn have_image(image: &[u8], other: &[u8]) -> Result<bool, DeviceFault> {
     Ok(has_image::<FieldRegisters>(image, other)? && has_image::<ImageRegisters>(image, other)?)
 }
 
-/// Bytes that stand in an image of version 1 from a place on, and the first eight characters of the long tag after it.
+/// A place in an image of version 1, the bytes from there on, and the first eight characters of the long tag that results.
 type Migrated<'a> = (usize, &'a [u8], &'a [u8; 8]);
 
 const MIGRATED: &[Migrated] = &[
@@ -186,14 +186,14 @@ const MIGRATED: &[Migrated] = &[
     (53, &[0x07], b"        "),
 ];
 
-/// The image of version 2 of a device that went on from one of version 1, with this text before the spaces of its long tag.
+/// Returns the version 2 image of a device that went on from a version 1 image. Its long tag is this text and spaces.
 fn migrated(image: &[u8; 54], text: &[u8; 8]) -> [u8; 86] {
     let held = image_with(IMAGE_2, 1, &image[1..51]);
     let tagged = image_with(held, LONG_TAG, text);
     image_with(tagged, ENDING, &image[51..54])
 }
 
-/// A long tag of the bytes from 32 times a number on.
+/// Returns a long tag of successive bytes, beginning with 32 times `group`.
 fn long_tag_of(group: u8) -> [u8; 32] {
     let mut long_tag = [0; 32];
     let mut next = group.wrapping_mul(32);
@@ -204,13 +204,13 @@ fn long_tag_of(group: u8) -> [u8; 32] {
     long_tag
 }
 
-/// Whether devices that go on from an image with the long tag of a group have that image.
+/// Whether devices that go on from an image with the long tag of a group keep that image.
 fn keep_long_tag(group: u8) -> Result<bool, Fail> {
     let image = image_with(IMAGE_2, LONG_TAG, &long_tag_of(group));
     Ok(have_image(&image, &image)?)
 }
 
-/// Whether devices that go on from the image of version 1 of a row have that of version 2.
+/// Whether devices that go on from the version 1 image of a row have its version 2 image.
 fn migrate(row: &Migrated) -> Result<bool, Fail> {
     let (place, bytes, text) = *row;
     let image = image_with(IMAGE_1, place, bytes);

@@ -4,8 +4,8 @@ use super::deliveries::garbled_write;
 use super::*;
 use hart_values::EachMaster;
 
-/// Whether a device is protected, whom requests are for, their first and last command and their data, and the status bytes of its
-/// first reply to each after a restart.
+/// Whether a device is protected, whom the requests are for, their first and last command, their data, and the status bytes of the
+/// first reply to each command after a restart.
 type Row<'a> = (bool, Asked, [u8; 2], &'a [u8], [u8; 2]);
 
 /// The tag of the bench device.
@@ -25,8 +25,7 @@ const SILENT: &[(Asked, u8, &[u8])] = &[
     (Asked::All, 21, &[0x20; 31]),
 ];
 
-/// Requests of which the first reply shows a cold start, whatever its response code. Of the last five rows are the commands that are
-/// not known.
+/// Requests whose first reply shows a cold start, whatever its response code. The commands of the last five rows are unknown.
 const FIRST_REPLIES: &[Row] = &[
     (false, Asked::Own, [7, 7], &[], [0x00, 0x20]),
     (false, Asked::Polling(0), [0, 0], &[], [0x00, 0x20]),
@@ -67,7 +66,7 @@ fn first_two(payload: &[u8]) -> Option<[u8; 2]> {
     }
 }
 
-/// The status bytes of the device's reply to a master's request, if it replies.
+/// Returns the status bytes of the device's reply to a master's request, if it replies.
 fn status_bytes(
     device: &mut Device<FieldRegisters>,
     master: MasterId,
@@ -82,7 +81,7 @@ fn status_bytes(
     })
 }
 
-/// A bench device that was restarted twice, and has since met silent requests and a garbled one.
+/// Returns a bench device that was restarted twice, and has since heard requests that it ignores and a garbled one.
 fn restarted_device(rt: &impl Abort, protected: bool) -> Result<Device<FieldRegisters>, Fail> {
     let mut device = bench_device();
     device.protect(protected);
@@ -105,7 +104,7 @@ fn replies_with_faults(device: &mut Device<FieldRegisters>) -> Result<bool, Fail
     Ok(reply.payload() == [0x88, 0x00].as_slice())
 }
 
-/// Whether a device shows a cold start in the first of two like replies to the primary master alone, and to the other master too.
+/// Whether a device shows a cold start to the primary master in the first of two replies only, and to the other master too.
 fn is_shown_once(
     device: &mut Device<FieldRegisters>,
     row: &Row,
@@ -123,7 +122,7 @@ fn is_shown_once(
     )
 }
 
-/// The device that goes on from what is kept of one as bytes: its image and its cold start bits.
+/// Returns a device that goes on from the image and the cold start bits of another one.
 fn kept(device: &Device<FieldRegisters>) -> Result<Device<FieldRegisters>, Fail> {
     let mut other = Device::from_image(bench::identity(), device.image().as_slice())?;
     other.restore_cold_start(EachMaster {
@@ -133,8 +132,8 @@ fn kept(device: &Device<FieldRegisters>) -> Result<Device<FieldRegisters>, Fail>
     Ok(other)
 }
 
-/// Whether a device shows a cold start so after a restart to each command of a row, and is protected then as it was; and one that
-/// goes on from it.
+/// Whether a device shows a cold start once after a restart, for each command of a row, and keeps its protection. A device that
+/// goes on from it must do the same.
 fn is_shown_after_restart(rt: &impl Abort, row: &Row) -> Result<bool, Fail> {
     let (protected, _, [first, last], ..) = *row;
     let mut shown = true;

@@ -3,16 +3,16 @@ use super::*;
 use crate::rows::{bytes_of, chars_of_items};
 use hart_frame::{Message, encode};
 
-/// What a request to the device's own unique address has before its command.
+/// A request to the device's own unique address, up to its command.
 pub const REQUEST: &str = "FF FF FF FF FF 82 B7 42 0A 1B 2C ";
 
-/// What the reply to it has there.
+/// The reply to such a request, up to its command.
 pub const REPLY: &str = "FF FF FF FF FF 86 B7 42 0A 1B 2C ";
 
-/// A request from its command on, its reply from there on, and the device's counter after it.
+/// A request and its reply, both from the command on, and the device's counter afterwards.
 pub type OwnRow<'a> = (&'a str, &'a str, u16);
 
-/// At least one for each command, in the order of their numbers.
+/// At least one row for each command, in the order of their numbers.
 pub const OWN: &[OwnRow] = &[
     (
         "00 00 4A",
@@ -153,7 +153,7 @@ pub const FOUND_BY_PRIMARY: &str =
 const FOUND_BY_SECONDARY: &str =
     "FF FF FF FF FF 06 00 00 18 00 00 FE 37 42 05 07 01 02 18 00 0A 1B 2C 05 04 00 00 00 00 37 00 37 01 B1";
 
-/// Whether a new bench device replies so to what is heard, and has this counter then.
+/// Whether a new bench device replies to what is heard with this message, and has this counter afterwards.
 fn replies_so(alloc: Global, heard: &str, reply: &str, counter: u16) -> Result<bool, Fail> {
     let delivery = chars_of_items(alloc, heard)?;
     let want = chars_of_items(alloc, reply)?;
@@ -166,7 +166,7 @@ fn replies_so(alloc: Global, heard: &str, reply: &str, counter: u16) -> Result<b
     Ok(message.as_slice() == want.as_slice() && device.counter() == counter)
 }
 
-/// The same of a request to the device's own address.
+/// Like `replies_so`, for a request to the device's own address.
 fn replies_on_its_own(alloc: Global, row: &OwnRow) -> Result<bool, Fail> {
     let (asked, replied, counter) = row;
     let request = format!(in alloc; "{REQUEST}{asked}")?;

@@ -1,9 +1,9 @@
-//! What one device replies to a write after another, and what it counts.
+//! What one device replies to one write after another, and what it counts.
 use super::addresses::{Asked, request_to};
 use super::*;
 use hart_commands::Register;
 
-/// A command and its data, the payload of the reply, and then the counter and for which masters the configuration has changed.
+/// A command and its data, the payload of the reply, and afterwards the counter and whether each master has a changed bit.
 struct Step<'a> {
     command: u8,
     data: &'a [u8],
@@ -15,14 +15,14 @@ struct Step<'a> {
 /// A final assembly number.
 const NUMBER: &[u8] = &[0x01, 0x23, 0x45];
 
-/// The payload of the reply with another long tag than the bench device's, after a write.
+/// The payload of a reply after a write, with a long tag other than the bench device's.
 const LONG_TAG: &[u8] = &[
     0x00, 0x40, 0xFF, 0xFF, 0xFF, 0xFF, 0xFF, 0xFF, 0xFF, 0xFF, 0xFF, 0xFF, 0xFF, 0xFF, 0xFF, 0xFF,
     0xFF, 0xFF, 0xFF, 0xFF, 0xFF, 0xFF, 0xFF, 0xFF, 0xFF, 0xFF, 0xFF, 0xFF, 0xFF, 0xFF, 0xFF, 0xFF,
     0xFF, 0xFF,
 ];
 
-/// What the primary master asks of the device in turn, once its counter has gone round.
+/// What the primary master asks of the device, step by step, once its counter has gone round to 0.
 const STEPS: &[Step] = &[
     Step {
         command: 19,
@@ -75,7 +75,7 @@ const STEPS: &[Step] = &[
     },
 ];
 
-/// A bench device after as many writes as its counter has values.
+/// Returns a bench device after as many writes as its counter has values.
 fn device_gone_round() -> Result<Device<FieldRegisters>, Fail> {
     let mut device = bench_device();
     let write = request(19, NUMBER)?;
@@ -85,7 +85,7 @@ fn device_gone_round() -> Result<Device<FieldRegisters>, Fail> {
     Ok(device)
 }
 
-/// Whether a device replies as a step says, and has its counter and its changed bits then.
+/// Whether a device replies as a step says, and then has the counter and the changed bits of the step.
 fn takes(device: &mut Device<FieldRegisters>, step: &Step) -> Result<bool, Fail> {
     let reply = asked(device, step.command, step.data)?;
     let [primary, secondary] = step.changed;
@@ -97,7 +97,7 @@ fn takes(device: &mut Device<FieldRegisters>, step: &Step) -> Result<bool, Fail>
     )
 }
 
-/// Whether a device is silent if a command with the long tag that it had is sent to all.
+/// Whether a device is silent when a command goes to all devices with the long tag that it had before.
 fn is_silent_to_former(device: &mut Device<FieldRegisters>, command: u8) -> Result<bool, Fail> {
     let former = request_to(Asked::All, MasterId::Primary, command, &[0x20; 32])?;
     Ok(device.receive(&former, &bench::process()).is_none())

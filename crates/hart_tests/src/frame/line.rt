@@ -40,7 +40,7 @@ const TWO: &[u16] = &[
     0xFF, 0xFF, 0x02, 0x80, 0x00, 0x00, 0x82, 0xFF, 0xFF, 0x02, 0x00, 0x00, 0x00, 0x02,
 ];
 
-/// Two messages that share a preamble byte with a check byte.
+/// Two messages: the check byte FF of the first is also the first preamble byte of the second.
 const SHARED: &[u16] = &[
     0xFF, 0xFF, 0x02, 0x80, 0x7D, 0x00, 0xFF, 0xFF, 0x02, 0x00, 0x00, 0x00, 0x02,
 ];
@@ -48,7 +48,7 @@ const SHARED: &[u16] = &[
 /// One message.
 const ONE: &[u16] = &[0xFF, 0xFF, 0x02, 0x80, 0x00, 0x00, 0x82];
 
-/// A prefix of a message with 255 bytes of payload, and a whole message in them.
+/// The first bytes of a message with 255 bytes of payload; a whole message stands in this payload.
 const INSIDE: &[u16] = &[
     0xFF, 0xFF, 0x82, 0xB7, 0x42, 0x0A, 0x1B, 0x2C, 0x13, 0xFF, 0xFF, 0xFF, 0xFF, 0xFF, 0xFF, 0x02,
     0x80, 0x00, 0x00, 0x82,
@@ -56,7 +56,7 @@ const INSIDE: &[u16] = &[
 
 /// Characters, how many are heard, the place to search from, and where the first frame starts and stops.
 ///
-/// The high byte of a character is its fault bits. After those of a row faultless characters 00 are heard.
+/// The high byte of a character is its fault bits. Faultless characters 00 follow those of a row.
 type Heard<'a> = (&'a [u16], usize, usize, Option<(usize, usize)>);
 
 const HEARD: &[Heard] = &[
@@ -95,14 +95,14 @@ const HEARD: &[Heard] = &[
     ),
 ];
 
-/// The characters of a row and of what is heard after them.
+/// Returns the characters of a row, followed by faultless 00, 300 in all.
 fn heard(row: &[u16]) -> Option<[Char; 300]> {
     let mut chars = [Char::new(0, 0)?; 300];
     write_chars(&mut chars, row)?;
     Some(chars)
 }
 
-/// Whether the first frame of a row is found where it is.
+/// Whether the first frame of a row is found at the place that the row says.
 fn is_found((bytes, count, from, want): &Heard) -> Result<bool, Fail> {
     let chars = heard(bytes).ok_or("characters")?;
     let chars = chars.get(..*count).ok_or("at most 300 characters")?;
@@ -149,7 +149,7 @@ fn are_frames_of(delivery: &[Char], want: &Frames) -> bool {
     }
 }
 
-/// Whether a delivery has its frames.
+/// Whether a delivery has the frames that its row says.
 fn has_its_frames((bytes, want): &Delivery) -> Result<bool, Fail> {
     let chars = heard(bytes).ok_or("characters")?;
     let delivery = chars.get(..bytes.len()).ok_or("at most 300 characters")?;
@@ -163,7 +163,7 @@ fn a_lone_frame_is_given(rt: HostRuntime) {
     }
 }
 
-/// The first characters of the longest message, in which all others are 00, also the check byte.
+/// The first characters of the longest message. All its other characters are 00, the check byte too.
 const LONGEST: &[u16] = &[
     0xFF, 0xFF, 0xE2, 0x80, 0x00, 0x00, 0x00, 0x00, 0x9D, 0x00, 0x00, 0x00, 0xFF,
 ];
@@ -361,7 +361,7 @@ const MISSES: &[Missed] = &[
     ),
 ];
 
-/// Whether no frame stands at a place for its reason.
+/// Whether the reason why no frame stands at a place is the one in its row.
 fn has_its_reason((bytes, count, start, want): &Missed) -> Result<bool, Fail> {
     let chars = heard(bytes).ok_or("characters")?;
     let chars = chars.get(..*count).ok_or("at most 300 characters")?;

@@ -1,4 +1,4 @@
-//! The messages and misses that are seen one after another, against those of the whole list.
+//! Compares the messages and misses that are seen one after another with those of the whole list.
 use crate::rows::{hold, hold_ok};
 use hart_frame::{After, Char, Miss, NextSighting, Sighting, first_frame, next_sighting, why_none};
 use std::alloc::Global;
@@ -11,10 +11,10 @@ enum Seen {
     Missed(usize, Miss),
 }
 
-/// Characters, what more there may be after them, and the sightings that are decided. The high byte of a character is its fault bits.
+/// Characters, whether more may follow, and the sightings that are decided. The high byte of a character is its fault bits.
 type Row<'a> = (&'a [u16], bool, &'a [Seen]);
 
-/// A message whose check byte is FF has its body after one FF alone.
+/// In these rows a body whose check byte is FF has a single FF before it.
 const SEEN: &[Row] = &[
     (&[], false, &[]),
     (
@@ -125,20 +125,20 @@ const SEEN: &[Row] = &[
     ),
 ];
 
-/// No test hears so many bytes.
+/// More bytes than any test hears.
 const MOST_BYTES: usize = 10_000;
 
-/// Characters that are heard, and those that were heard before and are not used.
+/// What was heard and is not used yet, and what was seen.
 #[derive(Drop)]
 struct Hearing {
-    /// Faultless bytes.
+    /// The faultless bytes that are not used yet.
     kept: Vec<u8>,
-    /// The place of the first of them.
+    /// The place of the first kept byte.
     first: usize,
     seen: Vec<Seen>,
 }
 
-/// What is seen, with places counted from the first character.
+/// Returns what is seen, with places counted from the first character heard instead of from `first`.
 fn placed(first: usize, sighting: &Sighting) -> Option<Seen> {
     match sighting {
         Sighting::Message(found) => {
@@ -154,7 +154,7 @@ fn placed(first: usize, sighting: &Sighting) -> Option<Seen> {
     }
 }
 
-/// A miss, with its places counted from so many places before.
+/// Returns a miss whose places are greater by `places`.
 fn moved(miss: Miss, places: usize) -> Option<Miss> {
     Some(match miss {
         Miss::Faulty { place, faults } => Miss::Faulty {
@@ -170,7 +170,7 @@ fn moved(miss: Miss, places: usize) -> Option<Miss> {
     })
 }
 
-/// The next sighting of bytes from a place on; `None` if the place lies past them, or what comes after them has no fault.
+/// Returns the next sighting from `from` on; `None` if `from` lies past the bytes, they are too many, or the damage has no fault.
 fn next_of(bytes: &[u8], after: After, from: usize) -> Option<NextSighting<'_>> {
     if from > bytes.len() || bytes.len() > MOST_BYTES {
         return None;
@@ -186,7 +186,7 @@ fn next_of(bytes: &[u8], after: After, from: usize) -> Option<NextSighting<'_>> 
 }
 
 impl Hearing {
-    /// Adds what is decided of the bytes that are kept and what comes after them, and lets go what is used.
+    /// Adds the sightings that the kept bytes and what comes after them decide, and drops the bytes that are used.
     fn see(&mut self, alloc: Global, after: After) -> Result<(), Fail> {
         let mut used = 0;
         for _ in 0..=self.kept.len() {
@@ -211,7 +211,7 @@ impl Hearing {
     }
 }
 
-/// What is seen of characters, heard `size` at a time.
+/// Returns what is seen of characters that are heard `size` at a time.
 fn heard(alloc: Global, chars: &[Char], ended: bool, size: usize) -> Result<Vec<Seen>, Fail> {
     let mut hearing = Hearing {
         kept: Vec::new(alloc),
@@ -235,7 +235,7 @@ fn heard(alloc: Global, chars: &[Char], ended: bool, size: usize) -> Result<Vec<
     Ok(hearing.seen)
 }
 
-/// What is seen of the whole list: of each gap between its messages the miss of each place, looked at from the beginning of the gap.
+/// Returns what is seen of the whole list: its messages, and the misses in each gap, judged without what comes before the gap.
 fn of_whole(alloc: Global, chars: &[Char]) -> Result<Vec<Seen>, Fail> {
     let mut seen = Vec::new(alloc);
     let mut from = 0;
@@ -258,7 +258,7 @@ fn of_whole(alloc: Global, chars: &[Char]) -> Result<Vec<Seen>, Fail> {
     Ok(seen)
 }
 
-/// Whether two faultless `FF` in a row begin in the whole body at a place.
+/// Whether two faultless `FF` in a row begin inside the whole body that stands at a place.
 fn is_crossed(chars: &[Char], place: usize) -> bool {
     let byte = |offset: usize| chars
         .get(place.wrapping_add(offset))
@@ -279,7 +279,7 @@ fn is_crossed(chars: &[Char], place: usize) -> bool {
     })
 }
 
-/// Whether the sightings of characters that are decided are these.
+/// Whether the decided sightings of a row's characters are those of the row.
 fn sees(alloc: Global, row: &Row) -> Result<bool, Fail> {
     let (heard_chars, more, want) = row;
     let mut chars = Vec::new(alloc);
@@ -309,7 +309,7 @@ fn next_number(number: u64) -> u64 {
         .wrapping_add(1_442_695_040_888_963_407)
 }
 
-/// Appends a byte that was chosen by a number, some with a fault; or as the check byte that fits the last bytes.
+/// Appends a byte that a number chooses: one of `BYTES`, or the check byte that fits the last bytes; a few with a fault.
 fn push_some(chars: &mut Vec<Char>, number: u64) -> Result<(), Fail> {
     let choice = (number / 65_536 % 64) as usize;
     let mut byte = *BYTES.get(choice % 12).unwrap_or(&0);
@@ -329,13 +329,13 @@ fn push_some(chars: &mut Vec<Char>, number: u64) -> Result<(), Fail> {
     Ok(())
 }
 
-/// Whether one is the beginning of the other.
+/// Whether `all` begins with `first`.
 fn begins(all: &[Seen], first: &[Seen]) -> bool {
     all.get(..first.len()) == Some(first)
 }
 
-/// Whether characters that a number stands for have the sightings of the whole list, heard at once and by pieces, and those decided before
-/// are the first of them.
+/// Whether the characters that a number stands for, heard at once or by pieces, have the sightings of the whole list. Those that
+/// are decided before the end must be the first of them.
 fn is_whole(alloc: Global, number: u64) -> Result<bool, Fail> {
     let mut chars = Vec::new(alloc);
     let mut state = number;

@@ -1,9 +1,9 @@
-//! A scanner against the first frames of the whole list.
+//! Compares the frames of a scanner with those found in the whole list.
 use super::*;
 use crate::rows::{bytes_of, char_of};
 use std::alloc::Global;
 
-/// Characters one after another, each so many times. The high byte of a character is its fault bits.
+/// Sequences of characters, each with how often it is repeated. The high byte of a character is its fault bits.
 type Parts = &'static [(&'static [u16], usize)];
 
 /// A request and its reply.
@@ -24,7 +24,7 @@ const WORKED: Parts = &[
     ),
 ];
 
-/// The first bytes of a message with 255 bytes of payload, and a whole message in them.
+/// The first bytes of a message with 255 bytes of payload; a whole message stands in this payload.
 const INSIDE: &[u16] = &[
     0xFF, 0xFF, 0x82, 0xB7, 0x42, 0x0A, 0x1B, 0x2C, 0x13, 0xFF, 0xFF, 0xFF, 0xFF, 0xFF, 0xFF, 0x02,
     0x80, 0x00, 0x00, 0x82,
@@ -36,7 +36,7 @@ const ONE: &[u16] = &[0xFF, 0xFF, 0x02, 0x80, 0x00, 0x00, 0x82];
 /// A message whose check byte is FF.
 const ENDS_WITH_FF: &[u16] = &[0xFF, 0xFF, 0x02, 0x80, 0x7D, 0x00, 0xFF];
 
-/// A false start, with the first FF of the next.
+/// A false start, and the first FF of the next one.
 const FALSE: &[u16] = &[0xFF, 0xFF, 0x82, 0xB7, 0x42, 0x0A, 0x1B, 0x2C, 0x13, 0xFF];
 
 /// Characters, and where their last frame stops.
@@ -76,7 +76,7 @@ const HEARD: &[(Parts, usize)] = &[
     (&[(INSIDE, 1), (&[0x40FF], 1), (ONE, 1)], 28),
 ];
 
-/// Noise and false starts without end, and the one frame that is found after them, if any: its start, and what it is read as.
+/// Long noise and many false starts, and the one frame that ends them, if any: its start, and what it is read as.
 const NOISE: &[(Parts, Option<(usize, Read)>)] = &[
     (&[(&[0xFF], 100_000)], None),
     (
@@ -104,7 +104,7 @@ const NOISE: &[(Parts, Option<(usize, Read)>)] = &[
     (&[(FALSE, 2000)], None),
 ];
 
-/// Chunks are pushed with so many characters at most.
+/// The chunk sizes that are tried: how many characters are pushed together at most.
 const RUNS: &[usize] = &[1, 2, 3, 7, 100, MOST_RUN];
 
 const MOST_RUN: usize = 1000;
@@ -130,7 +130,7 @@ fn push_part(chars: &mut Vec<Char>, part: &[u16]) -> Result<(), Fail> {
     Ok(())
 }
 
-/// Where the last frame stops that is taken, if all of them are the next ones of the whole list from a place on.
+/// Takes the frames that are ready. Returns where the last one stops, if they are the next frames of the whole list after `from`.
 fn taken(scanner: &mut Scanner, chars: &[Char], from: usize) -> Option<usize> {
     let mut stop = from;
     for _ in 0..=chars.len() {
@@ -147,7 +147,7 @@ fn taken(scanner: &mut Scanner, chars: &[Char], from: usize) -> Option<usize> {
     None
 }
 
-/// As `taken`, after the finish: no other frame is left, and the scanner is new.
+/// Like `taken`, after `finish`: the list must have no further frame, and the scanner must be as new.
 fn last_taken(scanner: &mut Scanner, chars: &[Char], from: usize) -> Option<usize> {
     scanner.finish();
     let stop = taken(scanner, chars, from)?;
@@ -157,7 +157,7 @@ fn last_taken(scanner: &mut Scanner, chars: &[Char], from: usize) -> Option<usiz
     Some(stop)
 }
 
-/// Where the last frame of a list stops, if the scanner gives all of them character by character.
+/// Returns where the last frame of a list stops, if the scanner finds all its frames character by character.
 fn by_character(chars: &[Char]) -> Option<usize> {
     let mut scanner = Scanner::new();
     let mut stop = 0;
@@ -186,7 +186,7 @@ enum Chunks {
     Chars,
 }
 
-/// As `by_character`, by chunks of so many characters at most.
+/// Like `by_character`, with chunks of at most `size` characters.
 fn by_chunks(chars: &[Char], size: usize, chunks: Chunks) -> Option<usize> {
     let mut scanner = Scanner::new();
     let mut heard: usize = 0;
@@ -209,7 +209,7 @@ fn by_chunks(chars: &[Char], size: usize, chunks: Chunks) -> Option<usize> {
     last_taken(&mut scanner, chars, stop)
 }
 
-/// Writes faultless characters from the first on as bytes, up to one with faults or the end of the room. Returns their number.
+/// Writes the first characters as bytes, up to one with faults or the end of `bytes`. Returns their number.
 fn write_bytes(bytes: &mut [u8], chars: &[Char]) -> usize {
     let mut count: usize = 0;
     for (place, character) in bytes.iter_mut().zip(chars) {
@@ -230,8 +230,8 @@ fn push_drained(scanner: &mut Scanner, bytes: &[u8]) -> Option<usize> {
     Some(scanner.push_bytes(bytes))
 }
 
-/// Pushes the first faultless characters, at most `size`, or the first character if it has faults, if the scanner is drained. Returns
-/// how many it heard.
+/// If the scanner is drained, pushes the first faultless characters, at most `size`, or the first character alone if it has faults.
+/// Returns how many the scanner heard.
 fn push_bytes(scanner: &mut Scanner, chars: &[Char], size: usize) -> Option<usize> {
     let mut bytes = [0; MOST_RUN];
     let count = write_bytes(bytes.get_mut(..size)?, chars);
@@ -242,7 +242,7 @@ fn push_bytes(scanner: &mut Scanner, chars: &[Char], size: usize) -> Option<usiz
     push_drained(scanner, bytes.get(..count)?)
 }
 
-/// Pushes the first characters, so many at most, if the scanner is drained, and gives how many it heard.
+/// If the scanner is drained, pushes the first characters, at most `size`, and returns how many it heard.
 fn push_chars(scanner: &mut Scanner, chars: &[Char], size: usize) -> Option<usize> {
     let chunk = chars.get(..chars.len().min(size))?;
     if !scanner.is_drained() || scanner.pushed() >= MOST_PUSHED {
@@ -251,13 +251,13 @@ fn push_chars(scanner: &mut Scanner, chars: &[Char], size: usize) -> Option<usiz
     Some(scanner.push_chars(chunk))
 }
 
-/// Whether the last frame of a list stops there, by chunks of every size.
+/// Whether the last frame of a list stops at `stop`, by chunks of each size in `RUNS`.
 fn stops_by_chunks_at(chars: &[Char], stop: usize, chunks: Chunks) -> bool {
     RUNS.iter()
         .all(|size| by_chunks(chars, *size, chunks) == Some(stop))
 }
 
-/// Whether the last frame of a list stops there, character by character and by chunks of bytes.
+/// Whether the last frame of a list stops at `stop`, character by character and by chunks of bytes.
 fn stops_at(chars: &[Char], stop: usize) -> bool {
     by_character(chars) == Some(stop) && stops_by_chunks_at(chars, stop, Chunks::Bytes)
 }
@@ -282,7 +282,7 @@ fn viewed(scanner: &mut Scanner, count: usize) -> Option<Viewed> {
     Some((count, view.start, view.stop))
 }
 
-/// Returns the first view of a list, which may come after the finish alone.
+/// Returns the first view of a list, which may come only after `finish`.
 fn first_view(chars: &[Char]) -> Option<Viewed> {
     let mut scanner = Scanner::new();
     for (place, character) in chars.iter().enumerate() {
@@ -305,7 +305,7 @@ fn a_view_waits_for_the_false_message_around_it(rt: HostRuntime) -> Result<(), F
     Ok(())
 }
 
-/// Where the first frame of the characters stops, or 0 if they have none, if it is the one that is wanted and ends them.
+/// Returns where the first frame stops, if it is the wanted one and ends the characters, or 0 if no frame is wanted or found.
 fn noise_stop(chars: &[Char], want: &Option<(usize, Read)>) -> Option<usize> {
     match (first_frame(chars, 0), want) {
         (None, None) => Some(0),
@@ -319,7 +319,7 @@ fn noise_stop(chars: &[Char], want: &Option<(usize, Read)>) -> Option<usize> {
     }
 }
 
-/// As `by_character`, by one chunk of all the characters, of which none has a fault.
+/// Like `by_character`, with all the characters as one chunk of bytes; none of them has a fault.
 fn at_once(chars: &[Char], bytes: &[u8]) -> Option<usize> {
     let mut scanner = Scanner::new();
     if scanner.push_bytes(bytes) != bytes.len() {
@@ -328,7 +328,7 @@ fn at_once(chars: &[Char], bytes: &[u8]) -> Option<usize> {
     last_taken(&mut scanner, chars, 0)
 }
 
-/// Whether the frame that is wanted is the one of the characters, however they and their bytes are pushed.
+/// Whether the wanted frame is found and no other, however the characters or their bytes are pushed.
 fn is_passed(chars: &[Char], bytes: &[u8], want: &Option<(usize, Read)>) -> bool {
     match noise_stop(chars, want) {
         Some(stop) => stops_at(chars, stop) && at_once(chars, bytes) == Some(stop),

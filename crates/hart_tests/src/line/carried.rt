@@ -1,9 +1,9 @@
-//! How scripts are carried out on the bench device.
+//! Carries scripts out on the bench device.
 use super::*;
 use hart_device::{Device, RegisterStore, bench};
 use hart_master::{Master, MasterFault};
 
-/// Carries events out on a device with the measured values of the bench device. The primary master sends `retries` times again.
+/// Carries events out on a device with the measured values of the bench device. The primary master retries at most `retries` times.
 pub fn carried_out<S: RegisterStore + Drop>(
     alloc: Global,
     device: Device<S>,

@@ -1,4 +1,4 @@
-//! Scripts of many kinds and lengths, none of which is refused if there is memory.
+//! Scripts of many kinds and lengths. All are carried out if there is memory.
 use super::carried::{carried_out, new_device};
 use super::*;
 use crate::rows::text_of;
@@ -6,13 +6,13 @@ use hart_commands::Request;
 use hart_device::FieldRegisters;
 use std::process::Abort;
 
-/// As many zeros as the data of any command need.
+/// Zeros, enough for the data of any command.
 const ZEROS: &[u8] = &[0; 80];
 
 /// Commands with more data than they need.
 const LONGER: &[&str] = &["6 0501", "9 0001020304F4F5F6", "38 0001"];
 
-/// What is heard in the two legs of a turn: each of three on each.
+/// What is heard in the two legs of a turn: each of three cases up with each of three cases down.
 const LEGS: &[&str] = &[
     "ok ok",
     "ok lost",
@@ -25,7 +25,7 @@ const LEGS: &[&str] = &[
     "FF00!10 00FF!40",
 ];
 
-/// The master of a turn, and what the other one was asked before.
+/// The master of a turn, and what was submitted to the other master before.
 const MASTERS: &[(&str, &str)] = &[
     ("P", ""),
     ("S", ""),
@@ -40,12 +40,12 @@ struct Growing<'a> {
     suffix: &'a str,
     /// How often the part stands in the text.
     times: &'a [usize],
-    /// What comes of each part.
+    /// How many outcomes and spoken frames each part leads to.
     outcomes: usize,
     spoken: usize,
 }
 
-/// Numbers about those at which lists and counts may change their size.
+/// Numbers next to those at which lists and counts may change their size, and others.
 const TIMES: &[usize] = &[0, 1, 9, 10, 63, 64, 65, 255, 256, 257, 300, 2500];
 
 const GROWING: &[Growing] = &[
@@ -99,7 +99,7 @@ const GROWING: &[Growing] = &[
     },
 ];
 
-/// The numbers of outcomes and of spoken frames that a script leads to.
+/// Returns how many outcomes and how many spoken frames a script leads to.
 fn lens_of(alloc: Global, script: &str) -> Result<(usize, usize), Fail> {
     let events = read_script(alloc, script.as_bytes())?;
     let device = new_device::<FieldRegisters>();
@@ -110,7 +110,7 @@ fn lens_of(alloc: Global, script: &str) -> Result<(usize, usize), Fail> {
     ))
 }
 
-/// Whether so many submissions have an outcome each where a master has so many turns after them.
+/// Whether this number of submissions have an outcome each when a master has `times` turns after them.
 fn have_outcomes(
     alloc: Global,
     submitted: &str,
@@ -123,7 +123,7 @@ fn have_outcomes(
     Ok(outcomes == submissions)
 }
 
-/// A master has one to four turns after so many submissions.
+/// Holds submissions to an outcome each, with one to four turns of a master after them.
 fn take_turns(
     rt: &impl Abort,
     alloc: Global,
@@ -138,7 +138,7 @@ fn take_turns(
     Ok(())
 }
 
-/// A master is asked for a command, which it sends once to four times.
+/// Submits a command to a master, which has one to four turns to send it.
 fn send_often(
     rt: &impl Abort,
     alloc: Global,
@@ -152,7 +152,7 @@ fn send_often(
     take_turns(rt, alloc, submitted.as_str(), turn.as_str(), submissions)
 }
 
-/// A master is asked for a command, with and without a request in the other's hand.
+/// Submits a command to each master, with and without a request in the other master's hand.
 fn send_by_each(rt: &impl Abort, alloc: Global, command: &str, legs: &str) -> Result<(), Fail> {
     for master in MASTERS {
         send_often(rt, alloc, command, legs, *master)?;
@@ -160,7 +160,7 @@ fn send_by_each(rt: &impl Abort, alloc: Global, command: &str, legs: &str) -> Re
     Ok(())
 }
 
-/// Whether all is carried out of a text in which a part stands so often.
+/// Whether a text in which the part stands `times` times is carried out in full.
 fn is_carried_out(alloc: Global, growing: &Growing, times: usize) -> Result<bool, Fail> {
     let text = text_of(alloc, growing.prefix, growing.part, times, growing.suffix)?;
     let (outcomes, spoken) = lens_of(alloc, text.as_str())?;
@@ -170,7 +170,7 @@ fn is_carried_out(alloc: Global, growing: &Growing, times: usize) -> Result<bool
     )
 }
 
-/// A text grows, and all that it says is carried out.
+/// Lets a text grow, and holds it to being carried out in full at each length.
 fn grow(rt: &(impl Abort + Eprint), alloc: Global, growing: &Growing) {
     for times in growing.times {
         let holds = is_carried_out(alloc, growing, *times);
@@ -178,7 +178,7 @@ fn grow(rt: &(impl Abort + Eprint), alloc: Global, growing: &Growing) {
     }
 }
 
-/// A command is submitted to a master, and its turn is heard as each row says.
+/// Submits a command to each master, whose turns are heard as each row of `LEGS` says.
 fn send_on_each_leg(rt: &impl Abort, alloc: Global, command: &str) -> Result<(), Fail> {
     for legs in LEGS {
         send_by_each(rt, alloc, command, *legs)?;
@@ -186,7 +186,7 @@ fn send_on_each_leg(rt: &impl Abort, alloc: Global, command: &str) -> Result<(),
     Ok(())
 }
 
-/// Whether so many zeros ask a command.
+/// Whether a command with `len` zeros as its data is a request.
 fn ask(command: u8, len: usize) -> bool {
     match ZEROS.get(..len) {
         Some(data) => Request::read(command, data).is_ok(),
@@ -194,7 +194,7 @@ fn ask(command: u8, len: usize) -> bool {
     }
 }
 
-/// How many zeros a command needs, if it is known: so many ask it, and one less do not.
+/// Returns how many zeros a command needs to be a request, if it is known. With one zero less it is no request.
 fn needed(command: u8) -> Option<usize> {
     for len in 0..=ZEROS.len() {
         if ask(command, len) && (len == 0 || !ask(command, len - 1)) {
@@ -204,7 +204,7 @@ fn needed(command: u8) -> Option<usize> {
     None
 }
 
-/// The words of a command with so many zeros.
+/// Returns the words of a command with `len` zeros as its data.
 fn words_of(alloc: Global, command: u8, len: usize) -> Result<String, AllocError> {
     let space = if len == 0 { "" } else { " " };
     let prefix = format!(in alloc; "{command}{space}")?;
@@ -228,7 +228,7 @@ fn every_command_has_room(rt: HostRuntime) -> Result<(), Fail> {
     Ok(())
 }
 
-/// Sizes that no script above asks for, for each of which there is room.
+/// Sizes that no script above asks for. There must be room for each.
 const ROOMS: &[usize] = &[1, 31, 7_777, 1_048_577];
 
 #[test]

@@ -9,7 +9,7 @@ use std::process::Abort;
 
 /// What becomes of a submission.
 enum Fate<'a> {
-    /// The reply to a command with this payload is accepted, after so many sendings.
+    /// A reply is accepted: its command, the number of sendings, and its payload.
     Answered(u8, u8, &'a [u8]),
     NoReply(u8),
     Unfinished(u8),
@@ -18,22 +18,22 @@ enum Fate<'a> {
 
 /// A script, and what it leads to.
 struct Row<'a> {
-    /// The counter and the flags with which the image of the device ends, whose registers are those of the bench device.
+    /// The counter and the flags at the end of the image that the device goes on from; its registers are the bench device's.
     ending: [u8; 3],
-    /// How often the primary master sends again.
+    /// How often the primary master retries at most.
     retries: u8,
     script: &'a str,
     fates: &'a [Fate<'a>],
     /// The number of spoken frames.
     spoken: usize,
     counter: u16,
-    /// What the registers of the polling address and of the final assembly number hold in the end; the loop current mode is
-    /// enabled in each.
+    /// What the registers of the polling address and of the final assembly number hold at the end. The loop current mode is enabled
+    /// in every row.
     polling: u8,
     assembly: [u8; 3],
 }
 
-/// The empty script, of which nothing comes.
+/// The empty script, which changes nothing.
 const NOTHING: Row = Row {
     ending: [0x00, 0x00, 0x00],
     retries: 3,
@@ -51,7 +51,7 @@ const IDENTITY: &[u8] = &[
     0x00, 0x00, 0x00, 0x00, 0x37, 0x00, 0x37, 0x01,
 ];
 
-/// The payload of the reply to the long tag that a script writes, whose bytes are of every size.
+/// The payload of a reply with the long tag that a script writes: the bytes F0 to FF and 00 to 0F.
 const LONG_TAG: &[u8] = &[
     0x00, 0x40, 0xF0, 0xF1, 0xF2, 0xF3, 0xF4, 0xF5, 0xF6, 0xF7, 0xF8, 0xF9, 0xFA, 0xFB, 0xFC, 0xFD,
     0xFE, 0xFF, 0x00, 0x01, 0x02, 0x03, 0x04, 0x05, 0x06, 0x07, 0x08, 0x09, 0x0A, 0x0B, 0x0C, 0x0D,
@@ -320,7 +320,7 @@ fn outcome_of(fate: &Fate) -> Option<Outcome> {
     }
 }
 
-/// The outcomes of submissions with these fates.
+/// Returns the outcomes of submissions with these fates.
 fn outcomes_of(alloc: Global, fates: &[Fate]) -> Result<Vec<Outcome>, Fail> {
     let mut outcomes = Vec::new(alloc);
     for fate in fates {
@@ -343,7 +343,7 @@ fn are_held(registers: &FieldRegisters, row: &Row) -> bool {
         && registers.get(Register::Assembly) == row.assembly.as_slice()
 }
 
-/// Whether two devices, each with a store of its own, did the same.
+/// Whether two devices, one with each kind of store, did the same.
 fn are_alike(report: &Report<FieldRegisters>, other: &Report<ImageRegisters>) -> bool {
     other.outcomes.as_slice() == report.outcomes.as_slice()
         && other.spoken.as_slice() == report.spoken.as_slice()

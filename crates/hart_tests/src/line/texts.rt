@@ -1,8 +1,8 @@
-//! Texts with long words, with many lines, and of bytes that no line has.
+//! Texts with long words, with many lines, with zero bytes, and of a single byte.
 use super::*;
 use crate::rows::text_of;
 
-/// A text in which a part stands often, and what its script is: a letter for each event, or the number of its first bad line.
+/// A text in which a part is repeated; and a letter for each event of its script, or the number of its first bad line.
 struct Long<'a> {
     prefix: &'a str,
     part: &'a str,
@@ -142,7 +142,7 @@ fn long_texts_are_read(rt: HostRuntime) {
     }
 }
 
-/// Texts with a byte zero, which is part of a word like any other.
+/// Texts with a zero byte, which is part of a word like any other byte.
 const WITH_ZEROS: &[(&str, Result<&str, usize>)] = &[
     ("\0\0", Err(1)),
     ("#\0\n", Ok("")),
@@ -167,7 +167,7 @@ fn a_byte_zero_is_part_of_a_word(rt: HostRuntime) {
     }
 }
 
-/// The bytes that are each a whole script: a blank, a line's end or a comment sign.
+/// The bytes that are a whole script by themselves: blanks, line ends and the comment sign.
 const LONE: &[u8] = b" \t\n\r#";
 
 #[test]

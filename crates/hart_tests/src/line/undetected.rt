@@ -6,25 +6,25 @@ use hart_device::{FieldRegisters, ImageRegisters};
 /// A frame in noise.
 const FRAME_IN_NOISE: &str = "noise FFFF0280000083\nprotect on\nnoise FFFF0280000082";
 
-/// The device replies to a garbled request, and the reply to the whole request is heard.
+/// The device replies to a garbled request, but the reply to the undamaged request is heard.
 const WRITTEN_HEARD: &str = "submit P 37420A1B2C 19 012345\n\
     turn P FFFF82B7420A1B2C13030123453C FFFF86B7420A1B2C130500400123457F";
 
-/// The same, but a communication-fault reply with another fault is heard.
+/// The device replies to a garbled request, but a communication-fault reply with another fault is heard.
 const OTHER_FAULT_HEARD: &str = "submit P 37420A1B2C 19 012345\n\
     turn P FFFF82B7420A1B2C13030123453C FFFF86B7420A1B2C1302C0009F";
 
-/// Both, though nothing was asked.
+/// Both of these, in turns without a request in hand.
 const WRITTEN_HEARD_UNASKED: &str =
     "turn P FFFF82B7420A1B2C13030123453C FFFF86B7420A1B2C130500400123457F";
 
 const OTHER_FAULT_HEARD_UNASKED: &str =
     "turn P FFFF82B7420A1B2C13030123453C FFFF86B7420A1B2C1302C0009F";
 
-/// Another reply than the device's is heard, whose parity is even.
+/// A reply other than the device's is heard, with a check byte that fits.
 const ANOTHER_REPLY: &str = "submit P @0 0\nturn P ok FFFF06800002000084";
 
-/// Another request than the master's is heard, whose parity is even.
+/// A request other than the master's is heard, with a check byte that fits.
 const ANOTHER_REQUEST: &str = "submit P 37420A1B2C 19 012345\n\
     turn P FFFF82B7420A1B2C13030123463E ok";
 
