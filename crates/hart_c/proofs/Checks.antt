@@ -1,9 +1,9 @@
--- Which fault some checks have.
+-- Which fault a list of checks has.
 use Rattle.std.proofs.Common.{◌≡◌, inl, inr, List, [], ◌∷◌, ◌++◌, sym, ◌∙◌}
 use Rattle.hart_c.specs.Faults.{AllPass, Check, IsFirstOf, needs, refused_if}
 use Rattle.hart_c.specs.declared.fault.Fault.{Fault}
 
--- a check that refuses with one fault, and nothing that passes it
+-- a check that refuses with one fault, and refuses nothing that passes it
 pub record IsSound (check : Check) : Type 0 where
   pub one : (fault other : Fault) → check.refuses fault → check.refuses other → fault ≡ other
   pub not_both : (fault : Fault) → check.passes → check.refuses fault → ⊥
@@ -18,7 +18,7 @@ needs-sound good fault = record { one = λ told other why because. why.1 ∙ sym
 pub refused_if-sound : (bad : Type 0) (fault : Fault) → IsSound (refused_if bad fault)
 refused_if-sound bad fault = record { one = λ told other why because. why.1 ∙ sym because.1; not_both = λ told is why. is why.0 }
 
--- sound checks have one first fault
+-- sound checks have at most one first fault
 pub first_one : (checks : List Check) → AreSound checks → (fault other : Fault) → IsFirstOf checks fault → IsFirstOf checks other
     → fault ≡ other
 first_one [] sound fault other why because = absurd why
@@ -27,13 +27,13 @@ first_one (check ∷ checks) sound fault other (inl why) (inr because) = absurd 
 first_one (check ∷ checks) sound fault other (inr why) (inl because) = absurd (sound.0.not_both other why.0 because)
 first_one (check ∷ checks) sound fault other (inr why) (inr because) = first_one checks sound.1 fault other why.1 because.1
 
--- and none if all are passed
+-- sound checks have no first fault if all are passed
 pub first_none : (checks : List Check) → AreSound checks → AllPass checks → (fault : Fault) → IsFirstOf checks fault → ⊥
 first_none [] sound passed fault why = why
 first_none (check ∷ checks) sound passed fault (inl why) = sound.0.not_both fault passed.0 why
 first_none (check ∷ checks) sound passed fault (inr why) = first_none checks sound.1 passed.1 fault why.1
 
--- further checks come after those that are there
+-- the first fault of some checks stays the first with further checks after them
 pub first_before : (checks others : List Check) (fault : Fault) → IsFirstOf checks fault → IsFirstOf (checks ++ others) fault
 first_before [] others fault why = absurd why
 first_before (check ∷ checks) others fault (inl why) = inl why

@@ -1,4 +1,4 @@
--- Lemmas, in the rooms of the code and the definitions.
+-- Lemmas, in the same modules as the code and the definitions.
 pub mod Kept
 pub mod Writes
 pub mod dump

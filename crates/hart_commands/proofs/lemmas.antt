@@ -1,4 +1,4 @@
--- Lemmas, each file named after what it speaks of.
+-- Lemmas, each file named after its subject.
 pub mod Rows
 pub mod Request
 pub mod Parts

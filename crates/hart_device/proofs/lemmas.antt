@@ -1,4 +1,4 @@
--- Lemmas, in the rooms of the code and the definitions.
+-- Lemmas, in the same modules as the code and the definitions.
 pub mod registers
 pub mod image
 pub mod answer

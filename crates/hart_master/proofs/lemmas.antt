@@ -1,3 +1,3 @@
--- Lemmas, each file named after what it speaks of.
+-- Lemmas, each file named after its subject.
 pub mod Decided
 pub mod Laws

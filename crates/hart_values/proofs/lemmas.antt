@@ -1,3 +1,3 @@
--- Lemmas, in the rooms of the code and the definitions.
+-- Lemmas, in the same modules as the code and the definitions.
 pub mod hart_date
 pub mod Laws

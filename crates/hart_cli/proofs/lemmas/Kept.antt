@@ -8,11 +8,11 @@ use Rattle.hart_cli.specs.stream.Kept.{AddsText, Tells}
 use Rattle.hart_cli.specs.stream.Stream.{FailsToWrite, Stream, Writes}
 use Rattle.hart_cli.proofs.lemmas.Writes.{FailsToWrite-longer, FailsToWrite-on, WritesAll-on}
 
--- a text is kept, or nothing is added
+-- a text that is appended to what is kept is added, with nothing written
 pub adds_kept : (s : Stream) (before after text : List ℕ) → after ≡ before ++ text → AddsText s s before after text
 adds_kept s before after text is = record { written = []; wrote = (Appends-nil _, refl); whole = is }
 
--- a text is added after another
+-- two texts are added one after the other
 pub adds_then : (a b c : Stream) (p q r x y : List ℕ) → AddsText a b p q x → AddsText b c q r y → AddsText a c p r (x ++ y)
 adds_then a b c p q r x y h k =
     let wrote = WritesAll-on a b c h.written k.written h.wrote k.wrote in grind (arith, common_steps, append_assoc)
@@ -26,12 +26,12 @@ fails_then a b c p q x y h fails =
 pub fails_first : (a b : Stream) (p x y : List ℕ) → FailsToWrite a b (p ++ x) → FailsToWrite a b (p ++ (x ++ y))
 fails_first a b p x y fails = rw (← append_assoc) (FailsToWrite-longer a b (p ++ x) y fails)
 
--- a call that answers that a write failed
+-- a call that returns an error after a failed write meets `Tells`
 pub tells_failure : {T : Type 0} (old new : Stream) (before after text : List ℕ) (P : Failed → Type 0) (result : Result T Failed)
     → IsErrAnd result P → FailsToWrite old new (before ++ text) → Tells old new before after text result
 tells_failure old new before after text P result failed fails = grind (arith, common_steps)
 
--- what is kept is written at last
+-- a text is written once what is kept of it is written
 pub writes_kept : {T : Type 0} (a b c : Stream) (kept text : List ℕ) (result : Result T Failed) → AddsText a b [] kept text
     → Writes b c kept result → Writes a c text result
 writes_kept a b c kept text result h wrote = grind (arith, common_steps, WritesAll-on, FailsToWrite-on)

@@ -6,20 +6,20 @@ use Rattle.std.specs.Io.KnownBytes.{Appends}
 use Rattle.hart_cli.specs.input.LiveInput.{WroteInTime}
 use Rattle.hart_cli.specs.stream.Stream.{FailsToWrite, Stream, WritesAll}
 
--- one text after another was written
+-- two texts that were written one after the other were written as one
 pub WritesAll-on : (a b c : Stream) (xs ys : List ℕ) → WritesAll a b xs → WritesAll b c ys → WritesAll a c (xs ++ ys)
 WritesAll-on a b c xs ys h k = grind (arith, common_steps, Appends-trans)
 
--- a write failed in a text after another
+-- a write failed in the second of two texts, after the first was written
 pub FailsToWrite-on : (a b c : Stream) (xs ys : List ℕ) → WritesAll a b xs → FailsToWrite b c ys → FailsToWrite a c (xs ++ ys)
 FailsToWrite-on a b c xs ys h k = grind (arith, common_steps, Appends-trans)
 
--- a prefix of a text is one of a longer text
+-- a write that failed in a text failed in each longer text
 pub FailsToWrite-longer : (old new : Stream) (text more : List ℕ) → FailsToWrite old new text → FailsToWrite old new (text ++ more)
 FailsToWrite-longer old new text more fails =
     let after = length-append fails.0.rest more in grind (arith, common_steps)
 
--- what is written later takes nothing back
+-- what was written in time stays so, whatever is written later
 pub in_time_on : (IsDecided : List ℕ → List ℕ → Type 0) (input : List ℕ) (w now later : Stream) (text : List ℕ)
     → WroteInTime IsDecided input w now → Appends now.bytes later.bytes text → WroteInTime IsDecided input w later
 in_time_on IsDecided input w now later text before on =

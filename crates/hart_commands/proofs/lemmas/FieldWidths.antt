@@ -1,4 +1,4 @@
--- The fields of data have as many bytes as their kind may have.
+-- The fields of data have a number of bytes that their kind allows.
 use Rattle.std.proofs.Common.{◌≡◌, ℕ, ◌+◌, ◌*◌, ◌<◌, ◌≤◌, ◌⊎◌, inl, inr, List, [], ◌∷◌, All, Option, None, Some, IfSome, take, drop, length}
 use Rattle.std.proofs.Common.{arith, length-drop, length-take, lit<, refl, rules}
 use Rattle.std.proofs.lemmas.Bool.Decides.{nat_tests}
@@ -24,7 +24,7 @@ use Rattle.hart_commands.proofs.lemmas.Reply.{variables_whole}
 use Rattle.hart_commands.proofs.lemmas.Rows.{of_known}
 use Rattle.hart_commands.specs.Fields as fields
 
--- a size is a width of the kind, whatever data there are
+-- whether a field of this size has a width of its kind in all data
 abbrev pub Suits : FieldKind → FieldSize → Type 0
 Suits kind (Exactly size) = IsWidthOf kind size
 Suits Bytes (AllBut after) = Unit {0}
@@ -33,23 +33,23 @@ Suits _ (AllBut after) = ⊥
 abbrev pub AreSuited : List Row → Type 0
 AreSuited these = AllByRecursion (λ row. Suits row.kind row.size) these
 
--- the fields that rows have in data have a width of their kind
+-- the fields of rows in data have a width of their kind
 abbrev pub Fit : List Row → List ℕ → Type 0
 Fit these bytes = All HasWidthOfKind (fields_of these bytes)
 
--- a row for which there are enough bytes has a field, and the other rows have those of the bytes after it
+-- fields fit if that of the first row has a width of its kind, and those of the other rows fit the later bytes
 with_field : (row : Row) (others : List Row) (bytes : List ℕ) (n : ℕ) → size_in row.size (length bytes) ≡ Some n
     → IsWidthOf row.kind (length (take n bytes)) → Fit others (drop n bytes) → Fit (row ∷ others) bytes
 with_field row others bytes n size first rest = rw size (All-cons HasWidthOfKind _ _ first rest)
 
--- the field of a row that suits its kind has a width of it
+-- the field of a row whose size suits its kind has a width of the kind
 width : (kind : FieldKind) (size : FieldSize) (bytes : List ℕ) (n : ℕ) → Suits kind size → size_in size (length bytes) ≡ Some n
     → IsWidthOf kind (length (take n bytes))
 width kind (Exactly size) bytes n suits e = grind (arith, common_steps, nat_tests)
 width Bytes (AllBut after) bytes n suits e = grind (arith, common_steps, nat_tests)
 width _ (AllBut after) bytes n suits e = absurd suits
 
--- so all fields have one, if the row of each suits its kind
+-- the fields of rows fit if the first row suits its kind, and the fields of the others fit
 step : (row : Row) (others : List Row) (bytes : List ℕ) (size : Option ℕ) → size_in row.size (length bytes) ≡ size
     → Suits row.kind row.size → ((rest : List ℕ) → Fit others rest) → Fit (row ∷ others) bytes
 step row others bytes None e suits rest = rw e (All-nil HasWidthOfKind)
@@ -63,14 +63,14 @@ widths (row ∷ others) bytes suited = step row others bytes _ refl suited.0 (λ
 requests_suited : AllByRecursion (λ row. AreSuited row.command.request) commands
 requests_suited = search rules
 
--- of the replies only those to Command 9 have device variables
+-- a reply has the fields of device variables for Command 9, or rows that all suit their kind
 abbrev pub SuitsReplies : Command → Type 0
 SuitsReplies command = ((command.number ≡ 9) × (command.reply ≡ fields.variables)) ⊎ AreSuited command.reply
 
 replies_suited : AllByRecursion (λ row. SuitsReplies row.command) commands
 replies_suited = search rules
 
--- the fields of an extended device status, one to eight variables and a time stamp
+-- the fields of device status, one to eight variables and a time stamp have a width of their kind
 of_variables : (groups : ℕ) (bytes : List ℕ) → 0 < groups → groups ≤ 8 → length bytes ≡ 5 + 8 * groups
     → Fit fields.variables bytes
 of_variables groups bytes some few long =
@@ -92,13 +92,13 @@ pub fields_have_the_width_of_their_kind-request : (command : ℕ) (bytes : List 
 fields_have_the_width_of_their_kind-request command bytes =
     of_request (known command) command bytes (of_known (λ told. AreSuited told.request) command requests_suited)
 
--- a reply to Command 9 says device variables, or was refused and says nothing
+-- a reply to Command 9 says device variables, or is a refusal
 said : (code status : ℕ) (bytes : List ℕ) (reply : Reply) → reply_reading 9 (code ∷ status ∷ bytes) ≡ Some reply
     → (reply.content ≡ Refused) ⊎ (variables_reading bytes ≡ Some reply.content)
 unfolding replied
 said code status bytes reply read = grind (arith, nat_tests)
 
--- so the data that are taken have the fields of device variables, or none
+-- the data taken of a reply to Command 9 have fields with a width of their kind
 of_content : (bytes : List ℕ) (content : ReplyContent) → (content ≡ Refused) ⊎ (variables_reading bytes ≡ Some content)
     → Fit fields.variables (take (length (content_bytes content)) bytes)
 of_content bytes content (inl refused) = rw refused (All-nil HasWidthOfKind)

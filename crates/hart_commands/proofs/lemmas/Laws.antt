@@ -33,7 +33,7 @@ all_registers_are_listed_once-every LongTag = (7, lit< tt, refl)
 pub all_registers_are_listed_once-once : AllPairs (λ (register other : Register). register ≢ other) registers
 all_registers_are_listed_once-once = search rules
 
--- the bytes of fields, one after another, are those of each
+-- the bytes of fields are the bytes of each field, one after another
 bytes-each : (fields : List Field) → bytes_of fields ≡ joined (field_bytes fields)
 bytes-each [] = refl
 bytes-each (field ∷ []) = append-nil field.bytes

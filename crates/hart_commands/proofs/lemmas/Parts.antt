@@ -1,4 +1,4 @@
--- Parts of data, one after another, and a list of so many bytes, seen byte by byte.
+-- Parts of data, one after another, and lists of `n` bytes, seen byte by byte.
 use Rattle.std.proofs.Common.{◌≡◌, ℕ, ◌≤◌, zero, suc, List, [], ◌∷◌, ◌++◌, take, drop, length, map, refl, subst, arith, slice_index}
 use Rattle.std.proofs.Common.{ap, append-nil, sym}
 use Rattle.std.proofs.lemmas.Grind.{common_steps}
@@ -23,17 +23,17 @@ spelled n xs long = grind (arith, common_steps, spelled_front n xs)
 pub whole : (n : ℕ) (xs : List ℕ) → length xs ≡ n → take n xs ≡ xs
 whole n xs long = take_all n xs (omega (arith, long))
 
--- What holds of so many bytes, one by one, holds of every list of so many.
+-- What holds of every list of `n` bytes that is spelled byte by byte holds of every list of `n` bytes.
 pub by_spelling : (n : ℕ) (P : List ℕ → Type 0) → ((xs : List ℕ) → P (spell n xs)) → (xs : List ℕ) → length xs ≡ n → P xs
 by_spelling n P each xs long = subst P (spelled n xs long) (each xs)
 
--- values with their units, and what is before them, are the parts of both
+-- the parts of values with units, after other bytes, join to these bytes and those of the values
 pub joined_values : (bytes : List ℕ) (vs : List UnitValue)
     → joined (bytes ∷ flat_map unit_value_parts vs) ≡ bytes ++ flat_map unit_value_bytes vs
 joined_values bytes [] = sym (append-nil bytes)
 joined_values bytes (v ∷ vs) = ap (λ xs. bytes ++ v.unit ∷ xs) (joined_values v.value.0 vs)
 
--- bytes are the parts of a byte each
+-- bytes are joined from parts of one byte each
 pub joined_singles : (xs : List ℕ) → joined (map one xs) ≡ xs
 joined_singles [] = refl
 joined_singles (x ∷ []) = refl

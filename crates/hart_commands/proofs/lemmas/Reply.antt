@@ -1,4 +1,4 @@
--- What is read of a payload is written as the front of it, and read again, and its fields are its parts.
+-- What is read from a payload is written as its first bytes and read again, and its fields are its parts.
 use Rattle.std.proofs.Common.{◌≡◌, ◌≢◌, ℕ, ◌-◌, ◌/◌, zero, suc, ◌+◌, ◌*◌, ◌<◌, ◌≤◌, List, [], ◌∷◌, take, drop, length, map, Option, Some, None, IfSome, refl, ap}
 use Rattle.std.proofs.Common.{arith, true, ltb, eqb, sym, length-take, slice_index}
 use Rattle.std.proofs.lemmas.Bool.Decides.{nat_tests}
@@ -25,11 +25,11 @@ use Rattle.hart_commands.proofs.lemmas.RequestFields.{all_left}
 use Rattle.hart_commands.proofs.lemmas.Rows.{by_row}
 use Rattle.hart_commands.specs.Fields as fields
 
--- the fields that a command has of a content are its parts
+-- the fields of a content of a command are the parts of the content
 abbrev pub IsParted : ℕ → ReplyContent → Type 0
 IsParted command content = field_bytes (fields_of (reply_rows command) (content_bytes content)) ≡ content_parts content
 
--- a content that was read of some bytes is written as the front of them, is read again, and its fields are its parts
+-- a content that was read from bytes is written as the first of them and read again, and its fields are its parts
 abbrev pub IsKept : ℕ → (List ℕ → Option ReplyContent) → List ℕ → ReplyContent → Type 0
 IsKept command read bytes content =
     (content_bytes content ≡ take (length (content_bytes content)) bytes) × (read (content_bytes content) ≡ Some content)
@@ -38,7 +38,7 @@ IsKept command read bytes content =
 abbrev pub Keeps : ℕ → (List ℕ → Option ReplyContent) → Type 0
 Keeps command read = (bytes : List ℕ) → IfSome (read bytes) (IsKept command read bytes)
 
--- so many bytes that say a content, seen byte by byte, are what it is written as
+-- a reading of `size` bytes keeps its content if it does so for these bytes one by one
 said : (command size : ℕ) (read : List ℕ → Option ReplyContent)
     → ((xs : List ℕ) → IfSome (read (spell size xs)) (λ content. (content_bytes content ≡ spell size xs) × IsParted command content))
     → Keeps command (having size None read)
@@ -50,7 +50,7 @@ identity : (command : ℕ) → reply_rows command ≡ fields.identity → Keeps 
 identity command same =
     said command 22 (λ xs. if eqb (slice_index xs 0) 254 then Some (Identity (identity_of xs)) else None) (λ xs. grind (arith, nat_tests))
 
--- a loop current and one to four variables, whatever follows them
+-- a loop current and one to four variables are kept, whatever follows them
 in_groups : (groups : ℕ) → 0 < groups → groups ≤ 4 → (bytes : List ℕ) → 4 + groups * 5 ≤ length bytes
     → IsKept 3 dynamic_reading bytes (Dynamic (float_at bytes 0) (map unit_value_of (first_chunks 5 groups (drop 4 bytes))))
 unfolding known
@@ -63,7 +63,7 @@ in_groups _ some few bytes long = absurd (omega arith)
 dynamic : Keeps 3 dynamic_reading
 dynamic bytes = grind (arith, common_steps, nat_tests, in_groups)
 
--- an extended device status, one to eight variables and a time stamp, which are all of the bytes
+-- a device status, one to eight variables and a time stamp that are all of the bytes are kept
 in_variables : (groups : ℕ) → 0 < groups → groups < 9 → (bytes : List ℕ) → length bytes ≡ 5 + 8 * groups
     → IfSome (variables_reading bytes) (λ content. (content_bytes content ≡ bytes) × IsKept 9 variables_reading bytes content)
 unfolding known
@@ -80,12 +80,12 @@ in_variables _ some few bytes long = absurd (omega arith)
 variables : Keeps 9 variables_reading
 variables bytes = grind (arith, common_steps, nat_tests, in_variables ((length bytes - 5) / 8))
 
--- bytes that are read so are five and eight for each variable
+-- bytes read as device variables are five, and eight more for each of one to eight variables
 variables_sized : (bytes : List ℕ) (content : ReplyContent) → variables_reading bytes ≡ Some content
     → (0 < (length bytes - 5) / 8) × ((length bytes - 5) / 8 < 9) × (length bytes ≡ 5 + 8 * ((length bytes - 5) / 8))
 variables_sized bytes content e = grind (arith, nat_tests)
 
--- and the content is written as all of them
+-- device variables are written as all of the bytes that they were read from
 pub variables_whole : (bytes : List ℕ) (content : ReplyContent) → variables_reading bytes ≡ Some content
     → (content_bytes content ≡ bytes) × ((groups : ℕ) × (0 < groups) × (groups ≤ 8) × (length bytes ≡ 5 + 8 * groups))
 variables_whole bytes content e =
@@ -94,7 +94,7 @@ variables_whole bytes content e =
     let is = rw e at (in_variables groups some few bytes long) in
     (is.0, (groups, some, omega arith, long))
 
--- the front of a list is as many of its items as it has
+-- the first `n` bytes of a list are the first `m`, where `m` is their number
 front : (n : ℕ) (xs : List ℕ) → take n xs ≡ take (length (take n xs)) xs
 front n xs = grind (arith, common_steps)
 
@@ -107,7 +107,7 @@ more (byte ∷ bytes) = (
   all_left "additional status" Bytes (take 25 (byte ∷ bytes)) (omega arith),
 )
 
--- every row of the table keeps what it reads of replies
+-- whether a row of the table keeps what it reads from replies
 abbrev pub KeepsOwn : CommandRow → Type 0
 KeepsOwn row = Keeps row.command.number (replied row.command.reply row.replied) × IsParted row.command.number Refused
 
@@ -115,7 +115,7 @@ own : AllByRecursion KeepsOwn commands
 unfolding known replied
 own = search (identity, dynamic, variables, more, said)
 
--- a reply is read of a payload by a row of the table, or is refused
+-- the reply that is read from a payload by a row of the table, which may be a refusal
 abbrev pub reply_by : Option CommandRow → ℕ → List ℕ → Option Reply
 reply_by row command (code ∷ status ∷ bytes) =
     let saying : ReplyContent → Reply =
@@ -126,7 +126,7 @@ reply_by row command (code ∷ status ∷ bytes) =
     else None
 reply_by row command _ = None
 
--- what is to be known of a reply that was read of a payload
+-- what is known of a reply that was read from a payload
 pub record IsReplyKept (command : ℕ) (row : Option CommandRow) (payload : List ℕ) (reply : Reply) : Type 0 where
   pub own : reply.command ≡ command
   pub written : reply_payload reply ≡ take (length (reply_payload reply)) payload

@@ -12,12 +12,12 @@ use Rattle.hart_commands.specs.declared.request.Request.{Request}
 use Rattle.hart_commands.specs.declared.request.Request.TheVariants.{SetPolling, ReadVariables, ResetChanged, WriteTag}
 use Rattle.hart_commands.proofs.lemmas.Parts.{spelled}
 
--- needed bytes are read, whatever follows
+-- as many bytes as a request needs are read, whatever follows
 needing-append : (size : ℕ) (asked : List ℕ → Request) (bytes rest : List ℕ) → length bytes ≡ size
     → needing size asked (bytes ++ rest) ≡ Ok (asked bytes)
 needing-append size asked bytes rest long = grind (arith, common_steps, nat_tests, length-append, take_at)
 
--- at most eight codes are read with what may follow
+-- up to eight codes are all that is taken, if they are eight or nothing follows
 take-codes : (codes rest : List ℕ) → length codes ≤ 8 → (length codes ≡ 8) ⊎ (rest ≡ []) → take 8 (codes ++ rest) ≡ codes
 take-codes codes rest few (inl eight) = take_at codes rest 8 eight
 take-codes codes rest few (inr none) = rw (none, append-nil) (take_all 8 codes few)
@@ -37,7 +37,7 @@ written_is_read (WriteTag tag descriptor date) rest is may = grind (arith, commo
 written_is_read (ResetChanged counter) rest is may = grind arith
 written_is_read _ rest is may = search needing-append
 
--- the same with nothing after them
+-- the data of a request are read as this request if nothing follows
 pub written_is_own : (request : Request) → IsRequest request
     → request_reading (command_of request) (request_data request) ≡ Ok request
 written_is_own request is =

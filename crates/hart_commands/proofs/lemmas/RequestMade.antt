@@ -1,4 +1,4 @@
--- What is read of data: a well-made request of its command, with which they begin, or the code that refuses them.
+-- What is read from data: a well-made request of the command whose data come first, or a code that refuses them.
 use Rattle.std.proofs.Common.{◌≡◌, ◌↔◌, ℕ, Bool, true, false, ◌<◌, ◌≤◌, ◌⊎◌, All, List, [], ◌++◌, get_or, take, drop, length, Ok, Err, refl, arith}
 use Rattle.std.proofs.Common.{append_assoc, eqb, length-drop, length-take-le}
 use Rattle.std.proofs.Math.Seq.{take-add}
@@ -17,12 +17,12 @@ use Rattle.hart_commands.specs.TagBytes.{tag_in, descriptor_in, date_in}
 use Rattle.hart_commands.specs.declared.request.Request.{Request}
 use Rattle.hart_commands.proofs.lemmas.Rows.{by_row}
 
--- data begin with those that a request is written as, or are an address without the mode with which it is written
+-- data begin with the data of the written request, or are an address without the mode that is written after it
 abbrev pub AreBegun : ℕ → List ℕ → List ℕ → Type 0
 AreBegun command bytes written =
     (take (length written) bytes ≡ written) ⊎ ((command ≡ 6) × (length bytes ≡ 1) × (length written ≡ 2) × (bytes ≡ take 1 written))
 
--- what is read of data, if a command is known and needs so many bytes
+-- what is read from data of a command that is known or not, and that needs `size` bytes
 abbrev pub IsGiven : Bool → ℕ → ℕ → List ℕ → Reading → Type 0
 IsGiven known size command bytes (Ok request) =
     (command_of request ≡ command) × IsRequest request × (known ≡ true)
@@ -32,7 +32,7 @@ IsGiven known size command bytes (Err code) =
     ((code ≡ 64) ↔ (known ≡ false)) × ((code ≡ 5) ↔ ((length bytes < size) × (command ≡ 38 → 0 < length bytes)))
     × (0 < code) × (code < 128)
 
--- that of all data
+-- what is read from all data of a known command
 abbrev pub Gives : ℕ → ℕ → (List ℕ → Reading) → Type 0
 Gives size command asked = (bytes : List ℕ) → IsGiven true size command bytes (asked bytes)
 
@@ -57,7 +57,7 @@ tag bytes =
     whole : tag_in bytes ++ descriptor_in bytes ++ date_in bytes ≡ take 21 bytes
     whole = rw (take-add 6 15 bytes, take-add 12 3 (drop 6 bytes), drop-drop 12 6 bytes, append_assoc) refl
 
--- what is to be seen of a row, so that it gives requests of its number
+-- what a row must have to read requests of its own command number
 abbrev pub Own : ℕ → ℕ → Asked → Type 0
 Own command size (Always request) = (size ≡ 0) × (command_of request ≡ command) × IsRequest request × (request_data request ≡ [])
 Own command size request = Gives size command (asked size request)

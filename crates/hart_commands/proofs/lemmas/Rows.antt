@@ -12,12 +12,12 @@ by_row P Q [] number all none some = none
 by_row P Q (row ∷ rows) number all none some =
     grind (arith, nat_tests, some row, by_row P Q rows number all.1 none some)
 
--- What is seen of the first row that passes a test is the first that passes it among what is seen of the rows.
+-- Mapping the first row that passes a test gives the first that passes among the mapped rows.
 pub find-map : {X Y : Type 0} (v : X → Y) (p : Y → Bool) (xs : List X) → option_map v (find (λ x. p (v x)) xs) ≡ find p (map v xs)
 find-map v p [] = refl
 find-map v p (x ∷ xs) = grind (arith, find-map v p xs)
 
--- What holds of every command of the table holds of the one that is known by a number.
+-- What holds of every command of the table holds of each command that is known by its number.
 pub of_known : (P : Command → Type 0) (number : ℕ) → AllByRecursion (λ row. P row.command) commands
     → IfSome (known number) (λ command. (command.number ≡ number) × P command)
 unfolding known

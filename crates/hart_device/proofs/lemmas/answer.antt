@@ -1,4 +1,4 @@
--- The answer: who is answered, with what, and what it does to the device.
+-- The answer: which frame is answered, with what, and what the frame does to the device.
 pub mod Effect
 pub mod Garbled
 pub mod Delivery

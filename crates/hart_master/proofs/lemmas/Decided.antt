@@ -13,7 +13,7 @@ use Rattle.hart_commands.specs.declared.reply.Reply.{Reply}
 use Rattle.hart_commands.specs.declared.request.Request.{Request}
 use Rattle.hart_master.specs.Acceptance.{IsReplyTo, IsAccepted, MatchesRequest}
 
--- there is a reply with this, or none
+-- there is a reply with a property, or there is none
 abbrev pub OneOrNone : (Reply → Type 0) → Type 0
 OneOrNone P = ((reply : Reply) × P reply) ⊎ ((reply : Reply) → P reply → ⊥)
 
@@ -21,7 +21,7 @@ reading_decided : (read : Option Reply) → OneOrNone (λ reply. read ≡ Some r
 reading_decided None = inr (λ reply is. cc)
 reading_decided (Some reply) = inl (reply, refl)
 
--- so a frame is a reply or none
+-- whether a frame is a reply to a request is decided
 pub reply_decided : (id : MasterId) (address : Address) (request : Request) (frame : FrameParts)
     → OneOrNone (IsReplyTo id address request frame)
 reply_decided id address request frame =
@@ -30,14 +30,14 @@ reply_decided id address request frame =
     grind (arith, nil_from_length) in
     grind (arith, reading_decided (reply_reading frame.command frame.payload))
 
--- a delivery with one frame alone is accepted as what the frame is
+-- a delivery with one frame is accepted only as the reply that the frame is
 pub acceptance_is_decided-by_its_frame : (id : MasterId) (address : Address) (request : Request) (delivery : List Character)
     (found : Found) (reply : Reply) → AreFrames delivery 0 (found ∷ [])
     → IsAccepted id address request delivery reply → IsReplyTo id address request found.frame reply
 acceptance_is_decided-by_its_frame id address request delivery found reply alone accepted =
     grind (arith, frames_are_unambiguous-one_list delivery 0 (found ∷ []) (accepted.found ∷ []))
 
--- and one with no frame, or with several, as none
+-- whether a delivery is accepted as a reply is decided
 decided_by : (id : MasterId) (address : Address) (request : Request) (chars : List Character) (frames : List Found)
     → AreFrames chars 0 frames → OneOrNone (IsAccepted id address request chars)
 decided_by id address request chars (found ∷ []) are = elim (reply_decided id address request found.frame) [

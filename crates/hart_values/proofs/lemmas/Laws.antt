@@ -17,14 +17,14 @@ pub address_bytes_are_unambiguous-one_list : (m : MasterId) (b : Bool) (x : Addr
     → IsAddressBytes m b x bytes → IsAddressBytes m b x others → bytes ≡ others
 address_bytes_are_unambiguous-one_list m b x bytes others p q = grind arith
 
--- A text has one list of bytes.
+-- A text is packed into one list of bytes.
 pub packed_text_and_bytes_determine_each_other-one_list : (text bytes others : List ℕ)
     → IsPacked text bytes → IsPacked text others → bytes ≡ others
 packed_text_and_bytes_determine_each_other-one_list text bytes others p q =
     ext_get_or 0 bytes others (omega (arith, p.lengths, q.lengths))
     (λ i h. grind (arith, p.groups (i / 3), q.groups (i / 3), p.lengths, p.bytes_fit, q.bytes_fit))
 
--- Bytes have one text.
+-- Packed bytes have one text.
 pub packed_text_and_bytes_determine_each_other-one_text : (text others bytes : List ℕ)
     → IsPacked text bytes → IsPacked others bytes → text ≡ others
 packed_text_and_bytes_determine_each_other-one_text text others bytes p q =

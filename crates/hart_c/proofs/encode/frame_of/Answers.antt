@@ -11,13 +11,13 @@ use Rattle.hart_c.specs.declared.fault.Fault.TheVariants.{Frame}
 use Rattle.hart_c.specs.declared.frame.HartFrame.{HartFrame}
 use Rattle.hart_c.proofs.encode.frame_of.Goals as goal
 
--- the last check of a frame
+-- a reply that is too short is refused by the last check of a frame
 too_short : (frame : HartFrame) (fault : Fault) → IsInRange frame.is_unique frame → frame.expansion_len ≤ 3
     → (IsLongEnough (frame_in frame).kind (frame_in frame).payload → ⊥) → fault ≡ Frame TooShortReply
     → IsFirstOf (frame_checks frame) fault
 too_short frame fault is few short told = inr (is, inr (few, inl (short, told)))
 
--- the fault of a frame that is not made
+-- a frame that is not made has the fault of its first check that refuses
 not_made : {T : Type 0} (frame : HartFrame) (result : Result T Fault) → IsInRange frame.is_unique frame → frame.expansion_len ≤ 3
     → (IsErr result → (IsLongEnough (frame_in frame).kind (frame_in frame).payload → ⊥))
     → IfErr result (λ fault. fault ≡ Frame TooShortReply) → IfErr result (IsFirstOf (frame_checks frame))

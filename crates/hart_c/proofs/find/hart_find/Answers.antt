@@ -24,7 +24,7 @@ use Rattle.hart_c.specs.Numbers.{found_in_first, IsTidy}
 use Rattle.hart_c.specs.Find.{Finds}
 use Rattle.hart_c.proofs.find.hart_find.Goals as goal
 
--- in nothing nothing is decided, since there is no frame
+-- an empty list of characters is undecided, since it holds no frame
 nothing_undecided : AreFrames [] 0 [] → IsUndecided []
 nothing_undecided (none from nothing) = inl nothing
 
@@ -50,7 +50,7 @@ loop-taken-preserved c =
     let fill = c.fill-count.ensures in
     search (arith, rest, history, fill.tidy, fill.going, fill.waits, fill.few, fill.undecided, fill.so_far)
 
--- the next frames of the first characters are those of all, if more may come, or if they are all
+-- the next frames of the first `n` characters are those of all, if the scan goes on or no others are to come
 next_of_all : (n : ℕ) (chars : List Character) (finished ended : Bool) (given : List Found) (used : ℕ)
     → (finished ≡ false) ⊎ (IsTrue ended × (n ≡ length chars)) → AreNext (take n chars) finished 0 given used
     → AreNext chars ended 0 given used
@@ -59,7 +59,7 @@ next_of_all n chars finished ended given used (inl going) next =
 next_of_all n chars finished ended given used (inr (over, all)) next =
     next_frames_are_all-ended chars finished 0 used given ended (λ _. over) (rw (all, take-length) at next)
 
--- what a search came to that goes on, since the scanner does, or since all was searched and nothing is to come
+-- the outcome of a search whose scanner goes on, or that searched all characters when none are to come
 finds_more : (n count : ℕ) (chars : List Character) (ended : Bool) (before after : List HartFrame)
     (scan : Scan) → n ≤ length chars → count ≤ length after → drop count after ≡ drop count before → All IsTidy (take count after)
     → (scan.finished ≡ false) ⊎ (IsTrue ended × (n ≡ length chars)) → IsHistory (take n chars) scan (found_in_first count after)

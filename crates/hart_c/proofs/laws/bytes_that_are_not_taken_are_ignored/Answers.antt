@@ -13,21 +13,21 @@ use Rattle.hart_c.specs.declared.data.HartField.{HartField}
 use Rattle.hart_c.specs.declared.data.HartReading.{HartReading}
 use Rattle.hart_c.proofs.laws.bytes_that_are_not_taken_are_ignored.Goals as goal
 
--- the first bytes of the first bytes are the same
+-- taking the first `n` bytes twice is taking them once
 again : (n : ℕ) (bytes : List ℕ) → take n (take n bytes) ≡ take n bytes
 again n bytes = take_all n (take n bytes) (omega (arith, length-take n bytes))
 
--- the first bytes of a list, counted, are the first bytes
+-- the first `n` bytes of a list are the first `m`, where `m` is their number
 as_many : (n : ℕ) (bytes : List ℕ) → take (length (take n bytes)) bytes ≡ take n bytes
 as_many n bytes = rw length-take (take_min n bytes)
 
--- the front of a payload that is read as the same reply has the same fields
+-- a reply has the same fields in the part of the payload that it takes
 same_fields : (command code status : ℕ) (bytes : List ℕ) (reply : Reply)
     → reply_fields command (take (length (reply_payload reply)) (code ∷ status ∷ bytes)) reply
     ≡ reply_fields command (code ∷ status ∷ bytes) reply
 same_fields command code status bytes reply = grind (arith, common_steps, again)
 
--- a front that is read as the same reply, with the same fields, has the same outcome
+-- a shorter payload with the same reply and the same fields has the same outcome
 reply_alike : (command : ℕ) (payload front : List ℕ) (reply : Reply) (before after : List HartField) (reading : HartReading)
     → reply_reading command payload ≡ Some reply → reply_reading command front ≡ Some reply
     → reply_fields command front reply ≡ reply_fields command payload reply → ReplyOutcome command payload before after reading
@@ -56,7 +56,7 @@ pub returns-clause-two : goal.returns-clause-two
 returns-clause-two c command payload reply before after reading read told =
     let taken = (reply_alike command payload payload reply before after reading read read refl told).0 in omega (arith, taken)
 
--- a front that is read as the same request, with the same first bytes, has the same outcome
+-- shorter data with the same request and the same first bytes have the same outcome
 request_alike : (command : ℕ) (bytes front : List ℕ) (request : Request) (before after : List HartField) (reading : HartReading)
     → request_reading command bytes ≡ Ok request → request_reading command front ≡ Ok request
     → take (length (request_data request)) front ≡ take (length (request_data request)) bytes

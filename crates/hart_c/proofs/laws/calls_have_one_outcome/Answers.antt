@@ -30,7 +30,7 @@ use Rattle.hart_c.proofs.Kept.{devices_are_kept-one_state}
 use Rattle.hart_c.proofs.laws.calls_have_one_outcome.Goals.{After-bytes_have_one_image_fault}
 use Rattle.hart_c.proofs.laws.calls_have_one_outcome.Goals as goal
 
--- an outcome is one if success is, and the fault, and there are not both
+-- an outcome is unique if success is, if the fault is, and if they exclude each other
 one_outcome : {A B C D R : Type 0} → (A → C → R) → (A → D → ⊥) → (B → C → ⊥) → (B → D → R) → A ⊎ B → C ⊎ D → R
 one_outcome both free none one is again = grind arith
 
@@ -40,12 +40,12 @@ returns-clause-decode c bytes before after other outcome another is again =
     let one = bodies_are_unambiguous-one_prefix (frame_in after) (frame_in other) bytes outcome.len another.len in
     grind (arith, c.bytes_have_one_fault.ensures.one bytes, free (frame_in after) outcome.len, free (frame_in other) another.len, one)
 
--- a frame has one message with so many preamble bytes
+-- a frame has one message for each number of preamble bytes
 one_message : (frame : FrameParts) (preambles : ℕ) (message other : List ℕ) → IsMessage frame preambles message
     → IsMessage frame preambles other → message ≡ other
 one_message frame preambles message other is again = grind (arith, bodies_are_unambiguous-one_body frame)
 
--- the checks of a frame that is written
+-- the checks of a frame to be written are sound
 encode_sound : (frame : HartFrame) (preambles room : ℕ) → AreSound (encode_checks frame preambles room)
 encode_sound frame preambles room =
     (needs-sound _ _, (needs-sound _ _, (needs-sound _ _, (needs-sound _ _, (refused_if-sound _ _, tt)))))
@@ -70,35 +70,35 @@ returns-clause-new_devices c given before after other outcome another =
     one_outcome (λ is again. let parts : IdentityParts = grind (arith, common_steps) in grind (arith, is.1.4 parts, again.1.4 parts))
     (λ is why. grind (arith, is.1.3)) (λ why is. grind (arith, is.1.3)) (λ why again. grind arith)
 
--- what an answer says are the same bytes
+-- an answer says one list of bytes
 one_saying : (answer : Option FrameParts) (preambles : ℕ) (bytes other : List ℕ) → IsSaid answer preambles bytes
     → IsSaid answer preambles other → bytes ≡ other
 one_saying None preambles bytes other is again = is ∙ sym again
 one_saying (Some reply) preambles bytes other is again = one_message reply preambles bytes other is again
 
--- an answer is said in one way
+-- an answer is written in one way
 one_said : (answer : Option FrameParts) (preambles : ℕ) (old new newer : List ℕ) (len size : ℕ)
     → IsWritten (IsSaid answer preambles) old new len → IsWritten (IsSaid answer preambles) old newer size
     → (len ≡ size) × (new ≡ newer)
 one_said answer preambles old new newer len size is again =
     let same = one_saying answer preambles is.0 again.0 is.1 again.1 in grind (arith, same)
 
--- and where it is said it has room
+-- an answer that was written has room
 said_fits : (answer : Option FrameParts) (preambles : ℕ) (old new : List ℕ) (len : ℕ) → length new ≡ length old
     → IsWritten (IsSaid answer preambles) old new len → HasNoRoom (IsSaid answer preambles) (length old) → ⊥
 said_fits answer preambles old new len long is none =
     let same = one_saying answer preambles is.0 none.0 is.1 none.1 in grind (arith, common_steps, same)
 
--- of who hears what
+-- for a device that hears a delivery in a process
 module _ (identity : HartIdentity) (process : HartProcess) (heard : List HartChar) (device : HartDevice) where
-  -- who hears what is one
+  -- the state, the process and what is brought are determined by the numbers
   one_hearing : (is again : IsHearing identity process heard device)
       → (is.state ≡ again.state) × (is.measured ≡ again.measured) × (is.brought ≡ again.brought)
   one_hearing is again =
       let brought = deliveries_bring_one-one (parts_of identity) (map char_of heard) is.brought again.brought is.brings again.brings in
       grind (arith, devices_are_kept-one_state (parts_of identity) device is.state again.state is.kept again.kept, brought)
 
-  -- the checks of what it hears
+  -- the checks of what a device hears are sound
   hear_sound : (c : After-bytes_have_one_image_fault) (room : ℕ) → AreSound (hear_checks identity process heard device room)
   hear_sound c room =
       let who : IsSound
@@ -141,7 +141,7 @@ returns-clause-hear c identity process heard before after other old new newer ou
     let same = first_one checks sound why.0 again.0 why.1 again.1 in
     (why.2 ∙ ap (λ (fault : Fault). outcome_of (Err fault)) same ∙ sym again.2, why.3.0 ∙ sym again.3.0, why.3.1 ∙ sym again.3.1))
 
--- the checks of what is accepted
+-- the checks of what a master accepts are sound
 accept_sound : (numbers : HartFrame) (heard : List HartChar) → AreSound (accept_checks numbers heard)
 accept_sound numbers heard = (
   needs-sound _ _,
@@ -170,7 +170,7 @@ accepted_passes numbers heard before after said is =
     let (bits, (few, last)) = is.delivery in
     (address, (expansion, (payload, ((is.request, is.sent.asked), ((is.request, is.sent), (bits, (few, tt)))))))
 
--- what is accepted is one
+-- what a master accepts is determined by the numbers and the delivery
 same_accepted : (numbers : HartFrame) (heard : List HartChar) (before after other : HartFrame) (said tale : Option Reply)
     → Accepts numbers heard before after said → Accepts numbers heard before other tale
     → (said ≡ tale) × (found_in after ≡ found_in other)

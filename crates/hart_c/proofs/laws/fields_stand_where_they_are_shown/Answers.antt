@@ -14,7 +14,7 @@ use Rattle.hart_c.specs.declared.data.HartField.{HartField}
 use Rattle.hart_c.specs.declared.data.HartReading.{HartReading}
 use Rattle.hart_c.proofs.laws.fields_stand_where_they_are_shown.Goals as goal
 
--- the field whose place is shown, and where its bytes are among those of all fields
+-- each shown place is that of a field, and of the bytes of this field among those of all fields
 field_of : (from : ℕ) (fields : List Field) (before : List HartField) (index : ℕ) (shown : HartField) → index < length fields
     → slice_get (written_over (placed from fields) before) index ≡ Some shown
     → (field : Field) × (slice_get fields index ≡ Some field) × (shown.start ≡ from + length (bytes_of (take index fields)))
@@ -26,25 +26,25 @@ field_of from (field ∷ fields) (other ∷ before) zero shown within is = grind
 field_of from (field ∷ fields) (other ∷ before) (suc index) shown within is =
     grind (arith, append_assoc, length-append, field_of (from + length field.bytes) fields before index shown (omega (arith, within)) is)
 
--- its row
+-- each field has its row at the same index, with its name and kind
 row_of : (rows : List Row) (bytes : List ℕ) (index : ℕ) (field : Field) → slice_get (fields_of rows bytes) index ≡ Some field
     → (row : Row) × (slice_get rows index ≡ Some row) × (field.name ≡ row.name) × (field.kind ≡ row.kind)
 row_of [] bytes index field is = cc
 row_of (row ∷ rows) bytes zero field is = (row, refl, grind arith, grind arith)
 row_of (row ∷ rows) bytes (suc index) field is = grind (arith, row_of rows)
 
--- the bytes of all fields are the first
+-- the bytes of all fields are the first bytes of the data
 bytes_first : (rows : List Row) (bytes : List ℕ)
     → bytes_of (fields_of rows bytes) ++ drop (length (bytes_of (fields_of rows bytes))) bytes ≡ bytes
 bytes_first [] bytes = refl
 bytes_first (row ∷ rows) bytes = grind (arith, bytes_first rows, take-append-drop, append_assoc, drop-append-add, length-append)
 
--- a field of them has a width of its kind
+-- each of the fields has a width of its kind
 width_of : (fields : List Field) (index : ℕ) (field : Field) → All HasWidthOfKind fields → slice_get fields index ≡ Some field
     → HasWidthOfKind field
 width_of fields index field wide is = grind (arith, slice_get_cases, wide index field)
 
--- so the place of each index is that of the field of its row, if fields are shown
+-- each place that is shown is that of the field of the row with its index
 stands : (is_reply : Bool) (command n : ℕ) (bytes before : List ℕ) (taken code status : ℕ) (old new : List HartField)
     (reading : HartReading) (index : ℕ) (shown : HartField) (done : Bool) (fields : List Field)
     → fields ≡ (if done then fields_of (rows_for is_reply command) (take n bytes) else [])
@@ -63,7 +63,7 @@ stands is_reply command n bytes before taken code status old new reading index s
     grind (arith, bytes_first rows (take n bytes), take-append-drop n bytes, append_assoc) in
     grind (arith, common_steps, length-append, drop-append_seam, take-append_seam)
 
--- of a request that is read
+-- each place that is shown of a request is that of the field of its row
 of_reading : (command index : ℕ) (bytes : List ℕ) (read : Reading) (old new : List HartField) (reading : HartReading) (shown : HartField)
     → RequestShown command bytes read old new reading → index < reading.count → slice_get new index ≡ Some shown
     → StandsAt false command 0 (request_fields command bytes read) bytes index shown

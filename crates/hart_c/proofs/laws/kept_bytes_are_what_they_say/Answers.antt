@@ -13,13 +13,13 @@ use Rattle.hart_c.specs.Device.{IsKept}
 use Rattle.hart_c.specs.declared.device.HartDevice.{HartDevice}
 use Rattle.hart_c.proofs.laws.kept_bytes_are_what_they_say.Goals as goal
 
--- what stands before the last byte, and that byte
+-- the kept bytes are those before the last one, and the flags in the last one
 last_is : (image front : List ℕ) (len flags : ℕ) → length image ≡ 86 → len ≤ 86 → take len image ≡ front ++ flags ∷ []
     → (0 < len) × (take (len - 1) image ≡ front) × (slice_index image (len - 1) ≡ flags)
 last_is image front len flags long fits written =
     grind (arith, common_steps, take-append_seam front (flags ∷ []), drop-append_seam front (flags ∷ []))
 
--- the bytes that are kept are what stands before their flags, and those
+-- the kept bytes of a device are version, registers and counter, and then the flags
 flagged : (parts : IdentityParts) (device : HartDevice) (state : DeviceState) (is : IsKept parts device state) → length device.image ≡ 86
     → (0 < device.image_len) × (take (device.image_len - 1) device.image
     ≡ is.image.version ∷ (flat_map (bytes_in state.contents) is.image.listed ++ two_bytes state.counter))
@@ -35,7 +35,7 @@ returns-clause-protects c parts device state on long is =
 pub returns-clause-protected : goal.returns-clause-protected
 returns-clause-protected c parts device state long is = rw (flagged parts device state is long).2 (grind arith)
 
--- a list of one byte
+-- a list of one byte is its first byte alone
 one_byte : (xs : List ℕ) → length xs ≡ 1 → xs ≡ slice_index xs 0 ∷ []
 one_byte xs long = grind (arith, common_steps)
 

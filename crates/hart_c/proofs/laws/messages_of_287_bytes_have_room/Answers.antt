@@ -14,16 +14,16 @@ use Rattle.hart_c.specs.declared.identity.HartIdentity.{HartIdentity}
 use Rattle.hart_c.specs.declared.process.HartProcess.{HartProcess}
 use Rattle.hart_c.proofs.laws.messages_of_287_bytes_have_room.Goals as goal
 
--- only want of room has its number
+-- only the fault `NoRoom` has number 12
 no_room : (fault : Fault) → number_of fault ≡ 12 → fault ≡ NoRoom
 no_room fault is = grind arith
 
--- messages are short
+-- a message with at most 20 preamble bytes has at most 287 bytes
 abbrev AreShort : Type 0
 AreShort = (frame : FrameParts) (preambles : ℕ) (message : List ℕ) → preambles ≤ 20 → IsMessage frame preambles message
     → length message ≤ 287
 
--- so a frame has room
+-- every frame has room in 287 bytes
 frame_fits : AreShort → (frame : FrameParts) (preambles room : ℕ) → preambles ≤ 20 → 287 ≤ room
     → HasNoRoom (IsMessage frame preambles) room → ⊥
 frame_fits short frame preambles room few enough (message, is_message, long) =
@@ -33,13 +33,13 @@ written_fits : AreShort → (frame : HartFrame) (preambles room : ℕ) (fault : 
     → IsFirstOf (encode_checks frame preambles room) fault → fault ≡ NoRoom → ⊥
 written_fits short frame preambles room fault enough why none = grind (arith, frame_fits short (frame_in frame) preambles room)
 
--- and so has a reply
+-- every reply has room in 287 bytes
 reply_fits : AreShort → (reply : Option FrameParts) (preambles room : ℕ) → preambles ≤ 20 → 287 ≤ room
     → HasNoRoom (IsSaid reply preambles) room → ⊥
 reply_fits short None preambles room few enough (bytes, silent, long) = grind (arith, silent, long)
 reply_fits short (Some reply) preambles room few enough none = frame_fits short reply preambles room few enough none
 
--- what is heard is refused at the end alone for want of room
+-- with room for 287 bytes, no delivery that a device hears is refused for want of room
 hear_fits : AreShort → (identity : HartIdentity) (process : HartProcess) (heard : List HartChar) (device : HartDevice) (room : ℕ)
     (fault : Fault) → 287 ≤ room → IsFirstOf (hear_checks identity process heard device room) fault → fault ≡ NoRoom → ⊥
 hear_fits short id process heard device room fault enough

@@ -8,7 +8,7 @@ use Rattle.hart_c.specs.declared.fault.Fault.{Fault}
 use Rattle.hart_c.specs.declared.frame.HartFrame.{HartFrame}
 use Rattle.hart_c.proofs.laws.numbers_of_one_frame_are_written_alike.Goals as goal
 
--- numbers of one address are in range alike
+-- numbers of the same address are in range together
 in_range : (is_unique is_other : Bool) (frame other : HartFrame) → address_of is_other other ≡ address_of is_unique frame
     → IsInRange is_unique frame → IsInRange is_other other
 in_range true true frame other same is = grind arith
@@ -16,17 +16,17 @@ in_range true false frame other same is = cc
 in_range false true frame other same is = cc
 in_range false false frame other same is = grind arith
 
--- long enough are the payloads of one frame alike
+-- equal frames have payloads that are long enough together
 is_long : (parts others : FrameParts) → others ≡ parts → IsLongEnough parts.kind parts.payload → IsLongEnough others.kind others.payload
 is_long parts others same = let P : FrameParts → Type 0 = λ these. IsLongEnough these.kind these.payload in subst P (sym same)
 
--- and they have one message
+-- equal frames have the same message
 is_message : (parts others : FrameParts) (preambles : ℕ) → others ≡ parts → {message : List ℕ} → IsMessage parts preambles message
     → IsMessage others preambles message
 is_message parts others preambles same {message} =
     let P : FrameParts → Type 0 = λ these. IsMessage these preambles message in subst P (sym same)
 
--- of numbers of one frame
+-- for two structs of numbers that show the same frame
 module _ (frame other : HartFrame) (same : frame_in other ≡ frame_in frame) (long : other.expansion_len ≡ frame.expansion_len) where
   address : address_of other.is_unique other ≡ address_of frame.is_unique frame
   address = ap (λ (parts : FrameParts). parts.address) same
@@ -40,7 +40,7 @@ module _ (frame other : HartFrame) (same : frame_in other ≡ frame_in frame) (l
   is_frame : IsFrame frame → IsFrame other
   is_frame (is, (few, (enough, end))) = (forth is, (rw long few, (is_long (frame_in frame) (frame_in other) same enough, tt)))
 
-  -- they are refused alike
+  -- two structs of the same frame are refused with the same fault
   refused : (preambles room : ℕ) (fault : Fault) → IsFirstOf (encode_checks frame preambles room) fault
       → IsFirstOf (encode_checks other preambles room) fault
   refused preambles room fault (inl why) = inl (λ is. why.0 (back is), why.1)

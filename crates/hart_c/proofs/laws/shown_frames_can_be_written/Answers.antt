@@ -18,13 +18,13 @@ use Rattle.hart_c.specs.Numbers.{IsTidy, address_of, found_in, frame_in}
 use Rattle.hart_c.specs.declared.frame.HartFrame.{HartFrame}
 use Rattle.hart_c.proofs.laws.shown_frames_can_be_written.Goals as goal
 
--- the address of a body is in range
+-- numbers whose address a body has are in range
 in_range : (is_unique : Bool) (frame : HartFrame) (master : MasterId) (burst : Bool) (bytes : List ℕ)
     → IsAddressBytes master burst (address_of is_unique frame) bytes → IsInRange is_unique frame
 in_range true frame master burst bytes is = grind arith
 in_range false frame master burst bytes is = is.0
 
--- so numbers that show the frame of a body are a frame
+-- numbers that show the frame of a body are a frame that can be written
 shown : (frame : HartFrame) (body : List ℕ) → IsBody (frame_in frame) body → IsTidy frame → IsFrame frame
 shown frame body is tidy =
     (in_range frame.is_unique frame _ _ _ is.checked_part.address_bytes, (tidy.expansion, (is.checked_part.payload_fits, tt)))
@@ -38,7 +38,7 @@ all_have chars from [] are = All-nil HasBody
 all_have chars from (found ∷ later) (first start head others is rest) =
     All-cons HasBody found later (is.stands.body, is.stands.is_body) (all_have chars found.stop later rest)
 
--- and so has one that is shown
+-- a frame that is shown has a body
 has : (frames : List HartFrame) (others : List Found) → All HasBody (map found_in frames ++ others)
     → All (λ frame. HasBody (found_in frame)) frames
 has frames others all index other within = grind (arith, common_steps, all index (found_in other))

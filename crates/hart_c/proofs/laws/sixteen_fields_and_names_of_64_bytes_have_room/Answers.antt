@@ -7,7 +7,7 @@ use Rattle.hart_commands.specs.Fields.{Row, fields_of, text}
 use Rattle.hart_commands.proofs.lemmas.Rows.{of_known}
 use Rattle.hart_c.proofs.laws.sixteen_fields_and_names_of_64_bytes_have_room.Goals as goal
 
--- a name of 64 bytes at most
+-- the name of a row has at most 64 bytes
 abbrev IsShort : Row → Type 0
 IsShort row = length row.name ≤ 64
 

@@ -13,7 +13,7 @@ use Rattle.hart_c.specs.declared.fault.Fault.TheVariants.{NoRequest, WrongAddres
 use Rattle.hart_c.proofs.Checks.{first_before}
 use Rattle.hart_c.proofs.master.sent.Goals as goal
 
--- a request that an idle master takes and sends is awaited
+-- an idle master that takes a request and sends it awaits the reply
 awaited : (address : Address) (request : Request) → may_ask address request ≡ true → hand_sent (hand_submitted Empty address request)
     ≡ Awaiting (record { address = address; request = request; sendings = 1 }) 0
 awaited address request may = grind arith

@@ -8,11 +8,11 @@ use Rattle.hex.proofs.HexLemmas.{decode_of-err, decode_of-odd, decode_sized-odd,
 use Rattle.hart_cli.specs.ImageWord.{IsBadHexWord, no_digit, odd}
 use Rattle.hart_cli.proofs.image_word.decoded.Goals as goal
 
--- a word decodes into room for half as many bytes as if there were more
+-- room for half as many bytes as a word has is enough to decode it
 half_sized : (word : List ℕ) → decode_sized word (length word / 2) ≡ decode_of word
 half_sized word = grind (arith, common_steps, cases_eq, decode_of-odd, decode_sized-odd, decode_sized-twice)
 
--- a word that does not decode for a byte that is no digit is bad hex there
+-- a word that does not decode because of a byte that is no digit has bad hex at that byte
 bad_hex : (word : List ℕ) (place c : ℕ) → decode_of word ≡ Err (InvalidHexCharacter c place) → IsBadHexWord word place
 bad_hex word place c refused = grind (arith, decode_of-err, decode_of-odd, no_digit)
 

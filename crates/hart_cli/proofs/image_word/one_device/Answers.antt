@@ -8,7 +8,7 @@ use Rattle.hart_device.proofs.lemmas.Laws.{images_have_no_fault}
 use Rattle.hart_cli.specs.ImageWord.{IsBadHexWord, IsImageWord}
 use Rattle.hart_cli.proofs.image_word.one_device.Goals as goal
 
--- what makes a word bad hex at a place
+-- a word has bad hex at its end if its length is odd, and otherwise at its first byte that is no digit
 bad_parts : (word : List ℕ) (place : ℕ) → IsBadHexWord word place → ((length word % 2 ≡ 1) × (place ≡ length word))
     ⊎ ((length word % 2 ≡ 0) × (place < length word) × (is_hex_digit (slice_index word place) ≡ false)
     × ((k : ℕ) → k < place → is_hex_digit (slice_index word k) ≡ true))
@@ -16,11 +16,11 @@ bad_parts word _ (IsBadHexWord.odd is) = inl (is, refl)
 bad_parts word place (IsBadHexWord.no_digit _ even below none digits) =
     inr (even, below, none, λ k before. grind (arith, digits k 0, get_or-take, length-take))
 
--- a word is bad hex at one place
+-- a word has bad hex at one place only
 IsBadHexWord-one : (word : List ℕ) (place other : ℕ) → IsBadHexWord word place → IsBadHexWord word other → place ≡ other
 IsBadHexWord-one word place other p q = grind (arith, bad_parts word place p, bad_parts word other q)
 
--- a word that is bad hex is that of no image
+-- a word with bad hex is the word of no image
 bad_is_no_word : (word : List ℕ) (place : ℕ) (bytes : List ℕ) → IsBadHexWord word place → IsImageWord word bytes → ⊥
 bad_is_no_word word place bytes bad writes = grind (arith, All-get_or, decode_of-ok word bytes writes)
 

@@ -1,4 +1,4 @@
--- A scanner that moves past frames, and the lines of them that are kept.
+-- A scanner that moves past frames, and the lines that are kept of these frames.
 use Rattle.std.proofs.Common.{◌≡◌, ◌≤◌, ◌+◌, ◌*◌, ℕ, Bool, false, List, [], ◌∷◌, ◌++◌, length, map, take, drop, ap, append_assoc, arith, length-append}
 use Rattle.std.proofs.Common.{length-drop, refl, sym}
 use Rattle.std.proofs.lemmas.Grind.{common_steps}
@@ -17,24 +17,24 @@ use Rattle.hart_cli.specs.dump.FrameLines.{IsWaiting, GivesAll, KeepsLines, Scan
 use Rattle.hart_cli.specs.text.Items.{ReadsUpTo}
 use Rattle.hart_cli.proofs.lemmas.text.Items.{ReadsUpTo-on}
 
--- whatever it hears later, it moved past the same frames
+-- a scanner that hears more moved past the same frames
 moves_hearing : (a b : Scan) (xs ys : List Character) (given : List Found) → a.finished ≡ false
     → MovesPast (hearing a xs) b given → MovesPast (hearing a (xs ++ ys)) (hearing b ys) given
 moves_hearing a b xs ys given going moves =
     rw append_assoc at (scanners_move_past_the_next_frames-hearing (hearing a xs) b ys given going moves)
 
--- it lets characters go, and takes none back
+-- a scanner that moves past frames lets characters go, and takes none back
 pub moves_on : (old new : Scan) (given : List Found) → MovesPast old new given
     → (new.first + length new.held ≡ old.first + length old.held) × (old.first ≤ new.first)
 moves_on old new given moves =
     (grind (arith, moves.first, moves.held, moves.next.within, length-drop moves.count old.held), omega (arith, moves.first))
 
--- the first of some frames takes up so many characters
+-- the first frame of a list takes up at least 6 characters besides its expansion and payload
 first_long : (chars : List Character) (from : ℕ) (found : Found) (later : List Found) → AreFrames chars from (found ∷ later)
     → from + 6 + length found.frame.expansion + length found.frame.payload ≤ found.stop
 first_long chars from found later are = grind (arith, common_steps)
 
--- and so does a frame that is the next one
+-- the next frame takes up at least 6 characters besides its expansion and payload
 next_long : (n : ℕ) (found : Found) (chars : List Character) (ended : Bool) (frames : List Found) (to : ℕ)
     → found ∷ [] ≡ map (moved n) frames → AreNext chars ended 0 frames to
     → 6 + length found.frame.expansion + length found.frame.payload ≤ to
@@ -45,27 +45,27 @@ next_long n found chars ended (one ∷ others) to same next =
     let stops = next.stops 0 one (omega arith) in
     grind (arith, long, stops)
 
--- a scanner that gives a frame lets so many characters go
+-- a scanner that gives a frame lets go at least 6 characters besides its expansion and payload
 pub gives_long : (old new : Scan) (found : Found) → Gives old new found
     → old.first + 6 + length found.frame.expansion + length found.frame.payload ≤ new.first
 gives_long old new found gives =
     let moves = gives.moves in
     omega (arith, moves.first, next_long old.first found old.held old.finished moves.found moves.count moves.given_are moves.next)
 
--- it holds the last of those that it heard
+-- a scanner holds the last characters that it heard
 holds_last : (chars : List Character) (scan : Scan) (given : List Found) → MovesPast (hearing new_scan chars) scan given
     → (scan.first ≤ length chars) × (drop scan.first chars ≡ scan.held)
 holds_last chars scan given moves =
     let place : scan.first ≡ moves.count = omega (arith, moves.first) in
     (omega (arith, place, moves.next.within), rw (place, moves.held) refl)
 
--- the frames that it moved past come first
+-- the frames that a scanner moved past come first
 pub first_frames : (chars more : List Character) (scan : Scan) (given later : List Found) → MovesPast (hearing new_scan chars) scan given
     → AreFrames (chars ++ more) scan.first later → AreFrames (chars ++ more) 0 (given ++ later)
 first_frames chars more scan given later moves are =
     scanners_move_past_the_next_frames-frames (hearing new_scan chars) scan given later [] more moves refl (λ over. absurd cc) are
 
--- once nothing is decided in what it holds, they are those that are decided
+-- once nothing is decided in what a scanner holds, the frames that it moved past are those decided
 pub are_decided : (chars : List Character) (scan : Scan) (given : List Found) → MovesPast (hearing new_scan chars) scan given
     → IsUndecided scan.held → AreDecided chars given
 are_decided chars scan given moves undecided =
@@ -78,7 +78,7 @@ are_decided chars scan given moves undecided =
       undecided = undecided;
     }
 
--- with those that it moved past after the finish, until it ended, they are all frames
+-- the frames that a scanner moved past, before its finish and after it until it ended, are all frames
 all_frames : (chars : List Character) (scan last after : Scan) (given more : List Found) → MovesPast (hearing new_scan chars) scan given
     → MovesPast (finishing scan) last more → Ends last after → AreFrames chars 0 (given ++ more)
 all_frames chars scan last after given more moves on ends =
@@ -91,26 +91,26 @@ all_frames chars scan last after given more moves on ends =
     (length-take-le scan.first chars within) (λ over. refl) (rw whole none) in
     rw append-nil at (first_frames chars [] scan given more moves (rw append-nil (rw (whole, append-nil) at after_it)))
 
--- a new scanner waits for what it is to hear
+-- a new scanner waits for more
 pub new_waits : IsWaiting new_scan
 new_waits =
     let empty : HasNoFrame [] 0 = λ found stands. grind (arith, ap (λ (cs : List Character). length cs) stands.split, length-append) in
     grind arith
 
--- no line is kept if a scanner lets characters go without a frame
+-- no line is added if a scanner lets characters go without a frame
 pub keeps_no_frame : (old new : Scan) (lines : List ℕ) → MovesPast old new [] → KeepsLines old new lines lines
 keeps_no_frame old new lines moves = grind (arith, common_steps, moves_on)
 
--- nor if it hears nothing
+-- no line is added if a scanner hears nothing
 pub keeps_nothing : (scan : Scan) (lines : List ℕ) → KeepsLines (hearing scan []) scan lines lines
 keeps_nothing scan lines = grind (arith, common_steps)
 
--- lines are kept of some frames and then of others
+-- keeping the lines of some frames and then of later ones keeps the lines of both
 pub keeps_then : (a b c : Scan) (p q r : List ℕ) → KeepsLines a b p q → KeepsLines b c q r → KeepsLines a c p r
 keeps_then a b c p q r one two =
     let moves = scanners_move_past_the_next_frames-onward a b c one.given two.given one.moves two.moves in grind (arith, common_steps)
 
--- lines are kept of what is heard, and then of what is heard later
+-- keeping the lines of what is heard first and then of what is heard later keeps the lines of both
 pub keeps_on : (a b c : Scan) (xs ys : List Character) (p q r : List ℕ) → a.finished ≡ false → b.finished ≡ false
     → KeepsLines (hearing a xs) b p q → KeepsLines (hearing b ys) c q r → KeepsLines (hearing a (xs ++ ys)) c p r
 keeps_on a b c xs ys p q r going on one two =
@@ -122,7 +122,7 @@ keeps_on a b c xs ys p q r going on one two =
     } in
     keeps_then (hearing a (xs ++ ys)) (hearing b ys) c p q r heard two
 
--- what is heard is let go or held, and the lines are kept within its room
+-- what is heard is let go or held, and the lines grow by at most 12 bytes for each character let go
 pub keeps_within : (a b : Scan) (xs : List Character) (p q : List ℕ) → KeepsLines (hearing a xs) b p q
     → (b.first + length b.held ≡ a.first + length a.held + length xs)
     × (length q + 12 * length b.held ≤ length p + 12 * (length a.held + length xs))
@@ -142,7 +142,7 @@ waits_for_more old new p q going few all =
     let waits : Waits all.last new = grind (arith, all.same_finish, all.nothing) in
     grind (arith, moves_on, keeps_then old all.last new p q q all.keeps (keeps_no_frame all.last new q waits.moves))
 
--- once a scanner that was new has ended, the lines that were kept of it are all
+-- once a scanner has ended, the lines kept since it was new are those of all frames
 pub all_lines : (chars : List Character) (scan new : Scan) (text rest : List ℕ) → KeepsLines (hearing new_scan chars) scan [] text
     → GivesAll (finishing scan) new [] rest → AreFrameLines chars (text ++ rest)
 all_lines chars scan new text rest keeps all =

@@ -23,7 +23,7 @@ use Rattle.hart_cli.proofs.lemmas.dump.FrameLines.{keeps_on, are_decided, first_
 use Rattle.hart_cli.proofs.lemmas.text.InputChars.{item_laws}
 use Rattle.hart_cli.proofs.lemmas.input.Decoded.{DecodedUpTo, are_decoded, decoded_step, decodes_all, in_time_before, read_to, stops_in}
 
--- an input was read and scanned up to a rest that is no piece yet, with these lines so far
+-- an input was read and scanned up to a rest where no piece begins yet, with these lines so far
 pub record ScannedUpTo (old new : Stream) (scan : Scan) (end : Option InputEnd) (rest : List ℕ) (read : ℕ) (lines : List ℕ)
     : Type 0 where
   pub input : List ℕ
@@ -32,7 +32,7 @@ pub record ScannedUpTo (old new : Stream) (scan : Scan) (end : Option InputEnd) 
   pub scans : KeepsLines (hearing new_scan chars) scan [] lines
   pub waiting : IsWaiting scan
 
--- a read and what it gave is scanned, and the lines of what was decided before it were written in time
+-- what one read gave is scanned, and the lines of what was decided before that read were written in time
 pub scanned_step : (r r1 r2 w w1 : Stream) (old new : FrameLines) (read : ℕ) (ahead after rest text : List ℕ) (portion : Portion)
     → ScannedUpTo r r1 old.scanner None ahead read text → old.lines ≡ [] → WritesAll w w1 text
     → MayBegin ahead → ReadsAhead r1 r2 ahead after (input_limit - read) portion → length after ≤ most_ahead
@@ -73,7 +73,7 @@ stopped_writing r r2 w w1 w2 scan end rest read text lines scanned wrote in_time
     (are_decoded ReadsUpTo NoPieceBegins item_laws input_limit r r2 end rest read scanned.input scanned.chars scanned.decoded)
     (grind (arith, common_steps)) in_time all fails
 
--- the last step says the fault of an input that is read no further
+-- once an input is read no further, the last step says its fault
 pub scans_all : (r r2 w w1 : Stream) (frames : FrameLines) (end : Option InputEnd) (rest : List ℕ) (read : ℕ) (text : List ℕ)
     (fault : Option CliFault) (scanned : ScannedUpTo r r2 frames.scanner end rest read text) → frames.lines ≡ []
     → WritesAll w w1 text → WroteInTime (IsDecidedText item_decoding AreDecidedLines) scanned.input w w1

@@ -1,11 +1,11 @@
--- What is decided of characters is one list of sightings.
+-- Characters have one list of decided sightings.
 use Rattle.std.proofs.Common.{◌≡◌, ◌-◌, ◌⊎◌, ℕ, List, [], ◌∷◌, ◌++◌, map, ap, inl, inr, refl, arith}
 use Rattle.std.proofs.lemmas.Grind.{common_steps}
 use Rattle.hart_frame.specs.declared.heard.miss.Miss.{Miss}
 use Rattle.hart_frame.specs.declared.heard.miss.Miss.TheVariants.{BadCheck, Faulty}
 use Rattle.hart_frame.specs.heard.Sighting.{Message, Missed, Seen, moved_seen}
 
--- a sighting whose places are counted from a later place on
+-- misses and sightings whose places are counted from place `n` on
 abbrev back_miss : ℕ → Miss → Miss
 back_miss n (Faulty place faults) = Faulty (place - n) faults
 back_miss n (BadCheck place byte fits) = BadCheck (place - n) byte fits
@@ -19,7 +19,7 @@ moved_back : (n : ℕ) (s : Seen) → back n (moved_seen n s) ≡ s
 moved_back n (Message found) = grind (arith, common_steps)
 moved_back n (Missed place miss) = grind (arith, common_steps)
 
--- the first of sightings that are moved
+-- if moved sightings begin with `s`, the sightings begin with `s` moved back
 pub first_moved : (n : ℕ) (all : List Seen) (s : Seen) (later : List Seen) → map (moved_seen n) all ≡ s ∷ later
     → (rest : List Seen) × (all ≡ back n s ∷ rest)
 first_moved n [] s later is = absurd cc
@@ -27,12 +27,12 @@ first_moved n (x ∷ rest) s later is =
     let first : moved_seen n x ≡ s = cc in
     let same : x ≡ back n s = rw (← first, moved_back n x) refl in (rest, ap (λ y. y ∷ rest) same)
 
--- what stands after the same sightings is the same
+-- equal lists with the same beginning have the same rest
 pub cancel : (xs ys zs : List Seen) → xs ++ ys ≡ xs ++ zs → ys ≡ zs
 cancel [] ys zs is = is
 cancel (x ∷ xs) ys zs is = let rest : xs ++ ys ≡ xs ++ zs = cc in cancel xs ys zs rest
 
--- of two beginnings of one list, one goes on from the other
+-- two beginnings of one list are equal, or one continues the other
 pub compare : (xs ys more later : List Seen) → xs ++ more ≡ ys ++ later
     → (xs ≡ ys) ⊎ ((s : Seen) × (rest : List Seen) × (ys ≡ xs ++ s ∷ rest)) ⊎ ((s : Seen) × (rest : List Seen) × (xs ≡ ys ++ s ∷ rest))
 compare [] [] more later is = inl refl

@@ -1,4 +1,4 @@
--- The places that no message holds: which of them have a miss, and the lines of these.
+-- The places outside messages: which of them have a miss, and the lines of these misses.
 use Rattle.std.proofs.Common.{◌≡◌, ◌≢◌, ◌≤◌, ◌<◌, ◌+◌, ◌-◌, ℕ, zero, suc, Bool, true, false, List, [], ◌∷◌, ◌++◌, length, get_or, drop}
 use Rattle.std.proofs.Common.{take, Option, None, Some, refl, append_assoc, arith, length-append, length-drop}
 use Rattle.std.proofs.lemmas.Bool.Decides.{nat_tests}
@@ -28,26 +28,26 @@ use Rattle.hart_cli.specs.explain.Gaps.{IsGap, seen_place}
 use Rattle.hart_cli.specs.explain.Misses.{miss_words}
 use Rattle.hart_cli.specs.explain.Words.{hex_value}
 
--- a place with what a function makes of its miss, if it has one
+-- a place with its miss, changed by a function, if the place has a miss
 abbrev pub told_at : (Miss → Miss) → (ℕ → Option Miss) → ℕ → List Seen
 told_at told f place = option_map_or (λ miss. Missed place (told miss) ∷ []) (f place) []
 
 abbrev pub told_from : (Miss → Miss) → (ℕ → Option Miss) → ℕ → ℕ → List Seen
 told_from told f a n = flat_map (λ place. told_at told f place) (range_with_len a n)
 
--- what stands among places
+-- a miss that is told of `n` places from `a` on stands at one of them, and is made from the miss there
 pub told_is : (told : Miss → Miss) (f : ℕ → Option Miss) (a n place : ℕ) (miss : Miss) → Contains (told_from told f a n) (Missed place miss)
     → (a ≤ place) × (place < a + n) × (option_map told (f place) ≡ Some miss)
 told_is told f a zero place miss has = grind arith
 told_is told f a (suc n) place miss has =
     grind (arith, common_steps, Contains-append_cases, told_is told f (a + 1) n place miss)
 
--- none stands before the first of them
+-- nothing that is told of places from `a` on stands before `a`
 told_after : (told : Miss → Miss) (f : ℕ → Option Miss) (a n : ℕ) (x : Seen) → Contains (told_from told f a n) x → a ≤ seen_place x
 told_after told f a zero x has = grind arith
 told_after told f a (suc n) x has = grind (arith, common_steps, Contains-append_cases, told_after told f (a + 1) n x)
 
--- every place that has something is among them
+-- every place with a miss is among the places that are told
 pub told_has : (told : Miss → Miss) (f : ℕ → Option Miss) (a n place : ℕ) (miss : Miss) → a ≤ place → place < a + n
     → option_map told (f place) ≡ Some miss → Contains (told_from told f a n) (Missed place miss)
 told_has told f a zero place miss from below has = absurd (omega arith)
@@ -60,7 +60,7 @@ told_has told f a (suc n) place miss from below has =
       told_has told f (a + 1) n place miss,
     )
 
--- they stand in the order of their places
+-- what is told of places stands in the order of the places
 pub told_in_order : (told : Miss → Miss) (f : ℕ → Option Miss) (a n : ℕ)
     → AllPairs (λ one later. seen_place one < seen_place later) (told_from told f a n)
 told_in_order told f a zero = λ i j d before within. absurd (omega arith)
@@ -73,14 +73,14 @@ told_in_order told f a (suc n) = elim (f a) as (λ miss. AllPairs (λ one later.
           (told_in_order told f (a + 1) n)
     ]
 
--- the code of a line feed is none of a text
+-- whether a code is not that of a line feed
 abbrev pub no_line_feed : ℕ → Bool
 no_line_feed code = not (code == 10)
 
 pub unbroken-all : (text : List ℕ) → list_all no_line_feed text ≡ true → All (λ code. code ≢ 10) text
 unbroken-all text test = grind (arith, common_steps, AllPass-from_list_all, nat_tests)
 
--- digits are none
+-- putting digits before a text adds no line feed
 unbroken-onto : (k n : ℕ) (text : List ℕ) → list_all no_line_feed text ≡ true → list_all no_line_feed (digits_onto k 10 false n text) ≡ true
 unbroken-onto zero n text test = test
 unbroken-onto (suc k) n text test = grind (arith, nat_tests, unbroken-onto k (n / 10) (digit_glyph false (n % 10) ∷ text))
@@ -89,17 +89,17 @@ pub unbroken-decimal : (n : ℕ) → list_all no_line_feed (decimal n) ≡ true
 unfolding digits
 unbroken-decimal n = unbroken-onto 64 n [] refl
 
--- a digit of a byte is none
+-- a hexadecimal digit is no line feed
 unbroken-digit : (k : ℕ) → no_line_feed (get_or upper_digits k 0) ≡ true
 unbroken-digit k = grind (arith, common_steps, list_all_at no_line_feed upper_digits)
 
--- the words of a miss have none
+-- the words of a miss have no line feed
 pub unbroken-miss_words : (miss : Miss) → list_all no_line_feed (miss_words miss) ≡ true
 unfolding encode_with hex_value
 unbroken-miss_words Burst = refl
 unbroken-miss_words _ = grind (arith, list_all-append, unbroken-decimal, unbroken-digit)
 
--- a frame in some characters is one of those with others before them
+-- a frame in some characters also stands in these characters with others before them
 stands_after : (before chars : List Character) (found : Found) (at : ℕ) → at ≤ length before → StandsIn found chars 0
     → StandsIn (moved (length before) found) (before ++ chars) at
 stands_after before chars found at few stands =
@@ -107,7 +107,7 @@ stands_after before chars found at few stands =
     grind (arith, append_assoc) in
     grind (arith, length-append before stands.prefix)
 
--- a frame in the rest of characters is one of the characters
+-- a frame in the rest of a list of characters is a frame in the list
 pub stands_in_rest : (chars : List Character) (from at : ℕ) (found : Found) → at ≤ from → StandsIn found (drop from chars) 0
     → StandsIn (moved from found) chars at
 stands_in_rest chars from at found before stands =
@@ -121,7 +121,7 @@ no_frame_in_gap chars _ _ (none at without) from stop place gap after below has 
 no_frame_in_gap chars _ _ (first at found later is are) from stop place gap after below has =
     grind (arith, stands_in_rest chars from at has.0, no_frame_in_gap chars found.stop later are from stop place)
 
--- a miss that a function makes is made of a miss
+-- a miss that `told` returns was made from a miss
 own_miss : (told : Miss → Miss) (found : Option Miss) (miss : Miss) → option_map told found ≡ Some miss
     → (own : Miss) × (found ≡ Some own) × (miss ≡ told own)
 own_miss told None miss is = absurd cc
@@ -131,18 +131,18 @@ own_miss told (Some own) miss is = (own, refl, grind arith)
 pub seen_is_miss : (chars : List Character) (place : ℕ) (miss : Miss) → seen_miss chars place ≡ Some miss → miss_of chars place ≡ Some miss
 seen_is_miss chars place miss is = grind arith
 
--- the places of a gap that have a miss
+-- each miss told of a gap is one that is seen in the characters from the gap on
 pub missed_are : (chars : List Character) (from stop place : ℕ) (miss : Miss) → Contains (missed chars from stop) (Missed place miss)
     → (from ≤ place) × (own : Miss) × (seen_miss (drop from chars) (place - from) ≡ Some own) × (miss ≡ miss_in_whole from own)
 missed_are chars from stop place miss has =
     let is = told_is (miss_in_whole from) (λ at. seen_miss (drop from chars) (at - from)) from (stop - from) place miss has in
     let own = own_miss (miss_in_whole from) (seen_miss (drop from chars) (place - from)) miss is.2 in (is.0, own.0, own.1, own.2)
 
--- the miss for one preamble byte alone
+-- the miss of one preamble byte alone is the same in the whole list
 pub whole_one : (from : ℕ) (own miss : Miss) → miss ≡ miss_in_whole from own → own ≡ OnePreamble → miss ≡ OnePreamble
 whole_one from own miss told one = rw (told, one) refl
 
--- where a body may start the miss that is seen is that of the place
+-- where a body may start, the miss that is seen is that of the place
 pub start_is_seen : (chars : List Character) (place : ℕ) → IsStart place chars → seen_miss chars place ≡ miss_of chars place
 start_is_seen chars place start =
     let is : is_start chars place ≡ true = (start_test chars place).1 start in

@@ -8,7 +8,7 @@ use Rattle.hart_frame.specs.heard.Sighting.{AreSightings, IsUndecidedSighting, M
 use Rattle.hart_cli.specs.explain.Telling.{text_from}
 use Rattle.hart_frame.proofs.lemmas.scan.SightingLaws.{all as seen_to_the_end, one as one_list, rest as rest_is_seen, some as some_list}
 
--- places are counted from one place, and then from another
+-- moving a sighting by two numbers moves it by their sum
 twice : (a b : ℕ) (s : Seen) → moved_seen a (moved_seen b s) ≡ moved_seen (a + b) s
 twice a b (Message found) = grind (arith, common_steps)
 twice a b (Missed place miss) = grind (arith, common_steps)
@@ -17,7 +17,7 @@ pub moved_twice : (a b : ℕ) (seen : List Seen) → map (moved_seen a) (map (mo
 moved_twice a b [] = refl
 moved_twice a b (s ∷ seen) = rw (twice a b s, moved_twice a b seen) refl
 
--- or from the front
+-- moving a sighting by 0 leaves it as it is
 unmoved : (s : Seen) → moved_seen 0 s ≡ s
 unmoved (Message found) = grind (arith, common_steps)
 unmoved (Missed place miss) = grind (arith, common_steps)
@@ -50,11 +50,11 @@ undecided_nothing first comes =
     let none = seen_to_the_end [] false [] (λ more later closed are. are) in
     let (later, is) = comes [] [] none in absurd cc
 
--- what is said of sightings, and of others that are counted from a later place on
+-- what is said of sightings and then of later ones is what is said of both in one list
 pub text_on : (first used : ℕ) (seen given : List Seen)
     → text_from first seen ++ text_from (first + used) given ≡ text_from first (seen ++ map (moved_seen used) given)
 text_on first used seen given = rw (map-append, flat_map-append, moved_twice first used given) refl
 
--- nothing comes after the end
+-- characters with nothing after them have the same sightings
 pub at_end : (chars : List Character) (seen : List Seen) → AreSightings (chars ++ []) 0 seen → AreSightings chars 0 seen
 at_end chars seen are = rw append-nil at are

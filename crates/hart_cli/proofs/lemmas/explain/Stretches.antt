@@ -16,7 +16,7 @@ use Rattle.hart_cli.proofs.lemmas.Writes.{FailsToWrite-on, WritesAll-on}
 use Rattle.hart_cli.proofs.lemmas.explain.Telling.{fails_written, hears_long, hears_nothing, hears_written}
 use Rattle.hart_cli.proofs.lemmas.text.Heard.{count, count_chars, count_on, heard_few, heard_laws}
 
--- what was heard after other things
+-- something was heard, and then something more
 pub all_on : (a b c : Telling) (xs ys : List Heard) (w w1 w2 : Stream) → HearsAll a b xs w w1 → HearsAll b c ys w1 w2
     → HearsAll a c (xs ++ ys) w w2
 all_on a b _ xs _ w _ _ h (nothing v) = rw append-nil h
@@ -25,15 +25,15 @@ all_on a b c xs _ w _ _ h (chars now _ ys more w1 u v k one) =
 all_on a b c xs _ w _ _ h (silence now _ ys w1 u v k one none) =
     rw (← append_assoc) (silence now c (xs ++ ys) w u v (all_on a b now xs ys w w1 u h k) one none)
 
--- characters alone
+-- characters were heard, without a silence
 pub all_chars : (a b : Telling) (xs : List Character) (w w1 : Stream) → Hears a b xs false w w1 → HearsAll a b (heard_chars xs) w w1
 all_chars a b xs w w1 h = chars a b [] xs w w w1 (nothing w) h
 
--- a silence alone
+-- a silence was heard, without characters
 pub all_silence : (a b : Telling) (w w1 : Stream) → Hears a b [] true w w1 → b.held ≡ [] → HearsAll a b (Silence ∷ []) w w1
 all_silence a b w w1 h none = silence a b [] w w w1 (nothing w) h none
 
--- what is held after it, and where that begins
+-- what was let go and what is held add up to all that was heard
 pub all_long : (a b : Telling) (xs : List Heard) (w w1 : Stream) → HearsAll a b xs w w1
     → b.first + length b.held ≡ a.first + length a.held + count xs
 all_long a _ _ _ _ (nothing v) = omega arith
@@ -59,13 +59,13 @@ all_wrote a b _ _ _ (silence now _ xs w u v k one none) =
     let (before, wrote) = all_wrote a now xs w u k in
     (before ++ one.adds.written, WritesAll-on w u v before one.adds.written wrote one.adds.wrote)
 
--- and then a write failed
+-- a write failed in some text
 pub all_failed : (a : Telling) (xs : List Heard) (w w2 : Stream) → FailsInAll a xs w w2 → (last : List ℕ) × FailsToWrite w w2 last
 all_failed a xs w w2 k =
     let (before, wrote) = all_wrote a k.now k.passed w k.between k.hears in
     (before ++ _, FailsToWrite-on w k.between w2 before _ wrote k.fails.fails)
 
--- a write failed in what is said of more
+-- a write failed in what is said of the things heard later
 pub fails_after : (a b : Telling) (xs ys : List Heard) (w w1 w2 : Stream) → HearsAll a b xs w w1 → FailsInAll b ys w1 w2
     → FailsInAll a (xs ++ ys) w w2
 fails_after a b xs ys w w1 w2 h k = record {
@@ -114,7 +114,7 @@ stretch_none start text w = record {
   hears = nothing w;
 }
 
--- a write failed in more of it
+-- a write failed in what is said of more of a text
 pub fails_stretch : (start a : Telling) (text : List ℕ) (place : ℕ) (w w1 w2 : Stream) → HearsStretches start a text place w w1
     → FailsInText a (drop place text) w1 w2 → FailsInStretches start text w w2
 fails_stretch start a text place w w1 w2 h k = record {
@@ -134,7 +134,7 @@ fails_stretch start a text place w w1 w2 h k = record {
   });
 }
 
--- in the silence after it, or in what is kept
+-- a write failed at the silence after a part of a text, or in what is kept
 pub fails_silence : (start a : Telling) (text : List ℕ) (place : ℕ) (w w1 w2 : Stream) → HearsStretches start a text place w w1
     → FailsToHear a [] true w1 w2 → FailsInStretches start text w w2
 fails_silence start a text place w w1 w2 h k = record {
@@ -181,7 +181,7 @@ stretch_written start a b text place w w1 w2 h wrote first held quiet = record {
   hears = all_written start a b h.heard w w1 w2 h.hears wrote first held quiet;
 }
 
--- the places of what is held fit in 64 bits, whatever more of the text is heard
+-- what was let go, what is held and the rest of a text are no more than at its start
 pub stretch_fits : (start a : Telling) (text : List ℕ) (place : ℕ) (w w1 : Stream) → HearsStretches start a text place w w1
     → a.first + length a.held + length (drop place text) ≤ start.first + length start.held + length text
 stretch_fits start a text place w w1 h =

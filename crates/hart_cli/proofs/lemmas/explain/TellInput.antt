@@ -43,7 +43,7 @@ hears_part start a b text place len chars w w1 w2 h within reads hears = record 
   hears = hears_then start a b h.chars chars false w w1 w2 h.hears hears;
 }
 
--- a write failed in more of it
+-- a write failed in what is said of more of a text
 pub fails_part : (start a : Telling) (text : List ℕ) (place : ℕ) (chars : List Character) (rest : List ℕ) (w w1 w2 : Stream)
     → HearsText start a text place w w1 → ReadsUpTo (drop place text) chars rest → FailsToHear a chars false w1 w2
     → FailsInText start text w w2
@@ -54,13 +54,13 @@ fails_part start a text place chars rest w w1 w2 h reads k = record {
   fails = fails_later start a h.chars chars false w w1 w2 h.hears k;
 }
 
--- the places of what is held fit in 64 bits, whatever more of the text is heard
+-- what was let go, what is held and the rest of a text are no more than at its start
 pub part_fits : (start a : Telling) (text : List ℕ) (place : ℕ) (w w1 : Stream) → HearsText start a text place w w1
     → a.first + length a.held + length (drop place text) ≤ start.first + length start.held + length text
 part_fits start a text place w w1 h =
     omega (arith, hears_long start a h.chars false w w1 h.hears, ReadsUpTo-few text h.chars (drop place text) h.reads)
 
--- an input was read and told of up to a rest at which nothing begins yet
+-- an input was read and told of up to a rest where nothing begins yet
 pub record ToldUpTo (old new : Stream) (start telling : Telling) (end : Option InputEnd) (rest : List ℕ) (read : ℕ)
     (writer writer_after : Stream) : Type 0 where
   pub input : List ℕ
@@ -88,7 +88,7 @@ told_nothing r w start new waiting = record {
   quiet = new.quiet;
 }
 
--- an input has no more bytes than its limit, and one more with the space that its end stands for
+-- an input with the space that its end stands for has at most one byte more than the limit
 input_within : (input : List ℕ) (ending : Ending) (r r2 : Stream) → ReadsToWithin stream_limit r r2 input ending
     → length (ended_text input ending) ≤ stream_limit + 1
 input_within input Left r r2 (inl reads) = omega (arith, reads.1)
@@ -97,17 +97,17 @@ input_within input (CameTo Ended) r r2 reads = omega (arith, reads.2, length-app
 input_within input (CameTo ReadFailed) r r2 reads = omega (arith, reads.1)
 input_within input (CameTo TooLong) r r2 reads = omega (arith, reads.1)
 
--- what was begun waits for what it is to hear
+-- a new telling waits for more
 pub new_waits : (start : Telling) → IsNew start → IsWaiting start
 new_waits start new = record { undecided = rw new.held undecided_nothing; few = rw new.held (omega arith) }
 
--- what is held of what was heard, and where it begins
+-- what was let go and what is held add up to the characters that were heard
 pub held_within : (start telling : Telling) (heard : List Heard) (w w1 : Stream) → IsNew start → HearsAll start telling heard w w1
     → telling.first + length telling.held ≡ count heard
 held_within start telling heard w w1 new h =
     let none : length start.held ≡ 0 = rw new.held refl in omega (arith, all_long start telling heard w w1 h, new.first, none)
 
--- so it has room in 64 bits for more
+-- twice the number of characters heard, and the length of the rest, add up to at most 2^64
 pub places_fit : (r r1 : Stream) (start telling : Telling) (end : Option InputEnd) (rest : List ℕ) (read : ℕ) (w w1 : Stream)
     → IsNew start → (due : ToldUpTo r r1 start telling end rest read w w1) → read ≤ stream_limit
     → 2 * (telling.first + length telling.held) + length rest ≤ 2 ^ 64
@@ -116,7 +116,7 @@ places_fit r r1 start telling end rest read w w1 new due within =
     let few = heard_few _ due.heard rest due.decoded.reads in
     grind (arith, common_steps)
 
--- what was told by then is decided, and it was written in time
+-- what was told before a read is decided, and was written in time
 told_in_time : (r r1 w w1 : Stream) (start old : Telling) (ahead : List ℕ) (read : ℕ) (bytes : List ℕ) → IsNew start
     → (due : ToldUpTo r r1 start old None ahead read w w1) → MayBegin ahead → length bytes ≤ most_at_once
     → WroteInTime (IsDecidedText heard_decoding IsDecidedExplanation) (due.input ++ bytes) w w1
@@ -125,7 +125,7 @@ told_in_time r r1 w w1 start old ahead read bytes new due may few =
     in_time_before ReadsHeard NothingBegins heard_laws IsDecidedExplanation stream_limit r r1 w w1 ahead read due.input due.heard _ bytes
     due.decoded may few decided.0 decided.1.0
 
--- a read and what it gave is told of, and what was decided before it was written in time
+-- what one read gave is told, and what was decided before that read was written in time
 pub told_step : (r r1 r2 w w1 w2 : Stream) (start old new : Telling) (ahead after : List ℕ) (read place : ℕ) (portion : Portion)
     → IsNew start → ToldUpTo r r1 start old None ahead read w w1 → MayBegin ahead
     → ReadsAhead r1 r2 ahead after (stream_limit - read) portion
@@ -160,7 +160,7 @@ stops_explaining decoding limit r r2 w w1 w2 start now input ending passed chars
     stops_in decoding limit IsExplanationOf IsDecidedExplanation r r2 w w1 w2 input ending (passed ++ heard_chars chars) text last reads
     decoded is in_time fails last_fails
 
--- in a part of what one read gave
+-- a write failed in the explanation of a part of what one read gave
 pub stopped_telling : (r r1 r2 w w1 w2 : Stream) (start old : Telling) (ahead after : List ℕ) (read : ℕ) (portion : Portion) → IsNew start
     → ToldUpTo r r1 start old None ahead read w w1 → MayBegin ahead → ReadsAhead r1 r2 ahead after (stream_limit - read) portion
     → length after ≤ most_ahead → FailsInStretches old after w1 w2
@@ -174,7 +174,7 @@ stopped_telling r r1 r2 w w1 w2 start old ahead after read portion new due may o
     stops_explaining heard_decoding stream_limit r r2 w w1 w2 start all.now (due.input ++ one.bytes) _ all.passed all.chars all.ended
     all.between last new part.0 (rw all.heard_is at part.1) in_time all.hears all.fails last_fails
 
--- the last step says the fault of an input that is read no further
+-- once an input is read no further, the last step says its fault
 pub tells_all : (r r2 w w1 w2 : Stream) (start telling : Telling) (end : Option InputEnd) (rest : List ℕ) (read : ℕ)
     (fault : Option CliFault) → IsNew start → (told : ToldUpTo r r2 start telling end rest read w w2)
     → WroteInTime (IsDecidedText heard_decoding IsDecidedExplanation) told.input w w1 → (text : List ℕ) → WritesAll w1 w2 text
@@ -196,7 +196,7 @@ tells_all r r2 w w1 w2 start telling end rest read fault new told in_time text w
       in_time = in_time_on (IsDecidedText heard_decoding IsDecidedExplanation) told.input w w1 w2 text in_time wrote.0;
     }
 
--- all that was heard is told
+-- once the rest is told, the explanation of all that was heard is written
 pub explains_all : (decoding : Decoding (List Heard)) (limit : ℕ) (r r2 w w1 w2 : Stream) (start telling : Telling)
     (fault : Option CliFault) → IsNew start → TellsAll decoding limit r r2 w w1 start telling fault → TellsRest telling w1 w2
     → (text : List ℕ) × ReadsText decoding limit IsExplanationOf r r2 fault text × WritesAll w w2 text
@@ -214,7 +214,7 @@ explains_all decoding limit r r2 w w1 w2 start telling fault new all k =
       wrote,
     )
 
--- a write failed in the rest
+-- a write failed in the explanation of the rest
 pub stops_at_rest : (decoding : Decoding (List Heard)) (limit : ℕ) (r r2 w w1 w2 : Stream) (start telling : Telling)
     (fault : Option CliFault) → IsNew start → TellsAll decoding limit r r2 w w1 start telling fault
     → FailsToHear telling [] true w1 w2 → StopsWriting decoding limit IsExplanationOf IsDecidedExplanation r r2 w w2

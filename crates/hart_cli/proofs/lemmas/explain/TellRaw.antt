@@ -78,7 +78,7 @@ raw_in_time input bytes few text w w1 decided wrote = record {
   written = rw append-nil wrote.0;
 }
 
--- what one read gave is told of, and what was decided before it was written in time
+-- what one read gave is told, and what was decided before that read was written in time
 pub raw_step : (r r1 r2 w w1 w2 : Stream) (start old new : Telling) (read len : ℕ) (bytes : List ℕ) (end : Option InputEnd)
     → IsNew start → len ≡ length bytes → RawUpTo r r1 start old None read w w1
     → ReadsPortion r1 r2 bytes (raw_limit - read) end → length bytes ≤ most_at_once
@@ -100,7 +100,7 @@ raw_step r r1 r2 w w1 w2 start old new read len bytes end begun long due reads f
       raw_in_time due.input bytes few _ w w1 decided.0 decided.1,
     )
 
--- a write failed in what is said of it
+-- a write failed in what is said of the bytes of one read
 pub raw_stopped : (r r1 r2 w w1 w2 : Stream) (start old : Telling) (read : ℕ) (bytes : List ℕ) (end : Option InputEnd) → IsNew start
     → RawUpTo r r1 start old None read w w1 → ReadsPortion r1 r2 bytes (raw_limit - read) end → length bytes ≤ most_at_once
     → FailsToHear old (faultless bytes) false w1 w2
@@ -115,19 +115,19 @@ raw_stopped r r1 r2 w w1 w2 start old read bytes end new due reads few k =
     (heard_chars (faultless due.input)) (faultless bytes) false w1 _ new (read_to r r2 (due.input ++ bytes) raw_limit end came) (sym same)
     in_time due.hears k k.fails
 
--- the end of a raw input says its fault
+-- a raw input has the fault of its end
 raw_has : (end : InputEnd) (input : List ℕ) → HasRaw input (CameTo end) (heard_chars (faultless input)) (fault_of_end end)
 raw_has Ended input = HasRaw.all (heard_chars (faultless input)) refl
 raw_has ReadFailed input = HasRaw.failure (heard_chars (faultless input)) refl
 raw_has TooLong input = HasRaw.limit (heard_chars (faultless input)) refl
 
--- and none is bad hex
+-- the fault of the end of a raw input is never bad hex
 raw_soon : (end : InputEnd) (input : List ℕ) → StopsSoon 0 input (fault_of_end end)
 raw_soon Ended input = tt
 raw_soon ReadFailed input = tt
 raw_soon TooLong input = tt
 
--- a raw input was told of to its end
+-- a raw input was told of up to its end
 pub raw_tells_all : (r r2 w w1 w2 : Stream) (start telling : Telling) (last : Option InputEnd) (end : InputEnd) (read : ℕ)
     → IsNew start → last ≡ Some end → (told : RawUpTo r r2 start telling last read w w2)
     → WroteInTime (IsDecidedText raw_decoding IsDecidedExplanation) told.input w w1 → (text : List ℕ) → WritesAll w1 w2 text
@@ -155,7 +155,7 @@ raw_tells_all r r2 w w1 w2 start telling last end read new is told in_time text 
   in_time = in_time_on (IsDecidedText raw_decoding IsDecidedExplanation) told.input w w1 w2 text in_time wrote.0;
 }
 
--- then some bytes were read, within the limit
+-- a read that came to no end gave at least one byte, within the limit
 pub raw_more : (r1 r2 : Stream) (bytes : List ℕ) (read : ℕ) (end : Option InputEnd) → ReadsPortion r1 r2 bytes (raw_limit - read) end
     → end ≡ None → (0 < length bytes) × (length bytes ≤ raw_limit - read)
 raw_more r1 r2 bytes read end reads on = let now = rw on at reads in (some_long bytes now.1, now.2)

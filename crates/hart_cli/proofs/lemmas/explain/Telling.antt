@@ -40,7 +40,7 @@ hears_nothing t w = record {
   adds = adds_kept w t.kept t.kept [] (sym (append-nil t.kept));
 }
 
--- what is held after characters were heard, and where it begins
+-- what was let go and what is held add up to all that was heard
 pub hears_long : (a b : Telling) (xs : List Character) (ended : Bool) (w w1 : Stream) → Hears a b xs ended w w1
     → b.first + length b.held ≡ a.first + length a.held + length xs
 hears_long a b xs ended w w1 h =
@@ -48,7 +48,7 @@ hears_long a b xs ended w w1 h =
     let all = length-append (faultless a.held) xs in
     omega (arith, h.within, h.first, held, long_is a.held, long_is b.held, length-drop h.used (faultless a.held ++ xs), all)
 
--- bytes were heard with what was held before them
+-- the characters now held are those held before and those of the new bytes
 same_held : (old mid : Telling) (bytes : List ℕ) → mid.held ≡ old.held ++ bytes
     → faultless mid.held ++ [] ≡ faultless old.held ++ faultless bytes
 same_held old mid bytes held = rw (held, append-nil, map-append) refl
@@ -93,7 +93,7 @@ hears_written old mid new xs ended w w1 w2 h wrote first held quiet = record {
   };
 }
 
--- a write failed in it
+-- a write failed in what is kept
 pub fails_written : (old mid : Telling) (xs : List Character) (ended : Bool) (w w1 w2 : Stream) → Hears old mid xs ended w w1
     → FailsToWrite w1 w2 mid.kept → FailsToHear old xs ended w w2
 fails_written old mid xs ended w w1 w2 h fails = record {
@@ -103,7 +103,7 @@ fails_written old mid xs ended w w1 w2 h fails = record {
   fails = rw h.adds.whole at (FailsToWrite-on w w1 w2 h.adds.written mid.kept h.adds.wrote fails);
 }
 
--- all that was held is told, and was written
+-- all that was held was told and written
 pub rest_told : (old mid : Telling) (w w1 w2 : Stream) → Hears old mid [] true w w1 → mid.held ≡ [] → old.kept ≡ []
     → WritesAll w1 w2 mid.kept → TellsRest old w w2
 rest_told old mid w w1 w2 h none quiet wrote =
@@ -127,13 +127,13 @@ pub finishes : {T : Type 0} (old mid : Telling) (w w1 w2 : Stream) (result : Res
 finishes old mid w w1 w2 (Ok done) h none quiet wrote = rest_told old mid w w1 w2 h none quiet wrote
 finishes old mid w w1 w2 (Err failed) h none quiet fails = fails_written old mid [] true w w1 w2 h fails
 
--- what is held, and more after it
+-- it is the same to drop the used characters before or after more characters are heard
 held_on : (a b : Telling) (xs ys : List Character) (w w1 : Stream) → (h : Hears a b xs false w w1)
     → faultless b.held ++ ys ≡ drop h.used ((faultless a.held ++ xs) ++ ys)
 held_on a b xs ys w w1 h =
     ap (λ chars. chars ++ ys) h.held ∙ sym (drop-append-le h.used (faultless a.held ++ xs) ys h.within)
 
--- sightings of characters and then of more
+-- the sightings of characters and then of more are sightings of both
 sees_on : (a b : Telling) (xs ys : List Character) (ended : Bool) (given : List Seen) (used : ℕ) (w w1 : Stream)
     → (h : Hears a b xs false w w1) → SeesOn (faultless b.held ++ ys) ended 0 given used
     → SeesOn (faultless a.held ++ (xs ++ ys)) ended 0 (h.seen ++ map (moved_seen h.used) given) (h.used + used)
@@ -143,7 +143,7 @@ sees_on a b xs ys ended given used w w1 h on =
     (sees_later (old ++ ys) ended h.used used h.seen given (omega (arith, h.within, length-append old ys))
     (grown old ys ended 0 h.used h.seen h.sees) (rw (held_on a b xs ys w w1 h) at on))
 
--- what is said of them
+-- what is said of sightings and then of later ones is what is said of both in one list
 said_on : (a b : Telling) (xs : List Character) (given : List Seen) (w w1 : Stream) → (h : Hears a b xs false w w1)
     → text_from a.first h.seen ++ text_from b.first given ≡ text_from a.first (h.seen ++ map (moved_seen h.used) given)
 said_on a b xs given w w1 h = rw h.first (text_on a.first h.used h.seen given)
@@ -165,7 +165,7 @@ hears_then a b c xs ys ended w w1 w2 h k =
       adds = rw (said_on a b xs k.seen w w1 h) at (adds_then w w1 w2 a.kept b.kept c.kept _ _ h.adds k.adds);
     }
 
--- a write failed in what is said of the later ones
+-- a write failed in what is said of the later characters
 pub fails_later : (a b : Telling) (xs ys : List Character) (ended : Bool) (w w1 w2 : Stream) → Hears a b xs false w w1
     → FailsToHear b ys ended w1 w2 → FailsToHear a (xs ++ ys) ended w w2
 fails_later a b xs ys ended w w1 w2 h k = record {
@@ -175,19 +175,19 @@ fails_later a b xs ys ended w w1 w2 h k = record {
   fails = rw (said_on a b xs k.seen w w1 h) at (fails_then w w1 w2 a.kept b.kept _ _ h.adds k.fails);
 }
 
--- what comes after bytes that are held
+-- what is heard is the characters of the held bytes, and what comes after them
 heard_is : (held : List ℕ) (after : After) → heard_with held after ≡ faultless held ++ chars_after after
 heard_is held More = sym (append-nil (faultless held))
 heard_is held (Damaged character) = refl
 heard_is held End = sym (append-nil (faultless held))
 
--- the rest of bytes
+-- the characters of the rest of some bytes are the rest of their characters
 rest_is : (held : List ℕ) (used : ℕ) → faultless (drop used held) ≡ drop used (faultless held)
 rest_is held zero = refl
 rest_is [] (suc n) = refl
 rest_is (byte ∷ held) (suc n) = rest_is held n
 
--- what stays of bytes once the sightings are told that are decided
+-- what stays of the held bytes once the decided sightings are told
 stays_held : (held : List ℕ) (after : After) (used : ℕ) → ((after ≡ More → ⊥) → used ≡ length (heard_with held after))
     → faultless (drop used held) ≡ drop used (faultless held ++ chars_after after)
 stays_held held More used all = rw (append-nil (faultless held)) (rest_is held used)
@@ -200,7 +200,7 @@ stays_held held (Damaged character) used all =
     ) refl
 stays_held held End used all = rw (append-nil (faultless held)) (rest_is held used)
 
--- nothing is decided of it
+-- nothing is decided of the bytes that stay
 waits_held : (held : List ℕ) (after : After) (used : ℕ) → ((after ≡ More → ⊥) → used ≡ length (heard_with held after))
     → (after ≡ More → IsUndecidedSighting (faultless (drop used held))) → IsUndecidedSighting (faultless (drop used held))
 waits_held held More used all undecided = undecided refl
@@ -212,14 +212,14 @@ waits_held held End used all undecided =
     let end : used ≡ length (faultless held) = all (λ same. absurd cc) in
     rw (drop_all used held (omega (arith, end, long_is held))) undecided_nothing
 
--- it is short
+-- at most 268 bytes stay
 pub few_stay : (held : List ℕ) (after : After) (used : ℕ) → length (heard_with held after) < used + 269 → length (drop used held) ≤ 268
 few_stay held after used few =
     let long = length-append (faultless held) (chars_after after) in
     let same = long_is held in
     omega (arith, rw (heard_is held after) at few, long, same, length-drop used held)
 
--- the sightings that are decided of what is held were told, and the rest is held
+-- the decided sightings of what was held were told, and the rest is held
 pub told_held : (old new : Telling) (after : After) (used : ℕ) (w w1 : Stream)
     → TellsDecided old.first old.held after used old.kept new.kept w w1 → new.first ≡ old.first + used → new.held ≡ drop used old.held
     → Hears old new (chars_after after) (is_end after) w w1 × IsWaiting new
@@ -239,13 +239,13 @@ told_held old new after used w w1 told first held = (
   },
 )
 
--- a write failed in what is said of them
+-- a write failed in what is said of the decided sightings
 pub fails_held : (old : Telling) (after : After) (w w1 : Stream)
     → FailsToTell old.first (heard_with old.held after) (is_end after) old.kept w w1
     → FailsToHear old (chars_after after) (is_end after) w w1
 fails_held old after w w1 fails = rw (heard_is old.held after) at fails
 
--- the sightings that were told so far, of bytes with what comes after them
+-- the sightings told so far of the held bytes and of what comes after them
 pub record ToldSoFar (first : ℕ) (held : List ℕ) (after : After) (used : ℕ) (kept kept_after : List ℕ) (writer writer_after : Stream)
     : Type 0 where
   pub seen : List Seen
@@ -253,12 +253,12 @@ pub record ToldSoFar (first : ℕ) (held : List ℕ) (after : After) (used : ℕ
   pub within : used ≤ length (heard_with held after)
   pub adds : AddsText writer writer_after kept kept_after (text_from first seen)
 
--- what is said of one sighting more
+-- the text with one more sighting ends with what is said of that sighting
 one_more : (first : ℕ) (seen : List Seen) (next : Seen)
     → text_from first (seen ++ next ∷ []) ≡ text_from first seen ++ seen_text (moved_seen first next)
 one_more first seen next = grind (arith, common_steps, map-append)
 
--- one sighting more was told
+-- one more sighting was told
 pub told_next : (first : ℕ) (held : List ℕ) (after : After) (used to : ℕ) (a b c d : List ℕ) (next : Seen) (w w1 w2 : Stream)
     → ToldSoFar first held after used a b w w1 → SeesOn (heard_with held after) (is_end after) used (next ∷ []) to
     → to ≤ length (heard_with held after) → AddsText w1 w2 b c [] → d ≡ c ++ seen_text (moved_seen first next)
@@ -273,7 +273,7 @@ told_next first held after used to a b c d next w w1 w2 h sees within room added
       adds = rw (one_more first h.seen next) (adds_then w w1 w2 a b d (text_from first h.seen) text h.adds one);
     }
 
--- none is left
+-- no decided sighting is left to tell
 pub told_decided : (first : ℕ) (held : List ℕ) (after : After) (used to : ℕ) (a b : List ℕ) (w w1 : Stream)
     → ToldSoFar first held after used a b w w1 → SeesOn (heard_with held after) (is_end after) used [] to
     → to ≤ length (heard_with held after) → length (heard_with held after) < to + 269
@@ -289,7 +289,7 @@ told_decided first held after used to a b w w1 h sees within few all undecided =
   undecided = undecided;
 }
 
--- a write failed before one sighting more was told
+-- a write failed before one more sighting was told
 pub fails_next : (first : ℕ) (held : List ℕ) (after : After) (used : ℕ) (a b : List ℕ) (w w1 w2 : Stream)
     → ToldSoFar first held after used a b w w1 → FailsToWrite w1 w2 (b ++ [])
     → FailsToTell first (heard_with held after) (is_end after) a w w2
@@ -300,11 +300,11 @@ fails_next first held after used a b w w1 w2 h fails = record {
   fails = rw append-nil at (fails_then w w1 w2 a b (text_from first h.seen) [] h.adds fails);
 }
 
--- the places of a miss are numbers of 64 bits
+-- a miss whose places are below a bound has them below each greater bound
 names_below : (count most : ℕ) (miss : Miss) → count ≤ most → NamesPlacesBelow count miss → NamesPlacesBelow most miss
 names_below count most miss few below = grind (arith, common_steps)
 
--- and so are those of a sighting
+-- the places of a sighting are numbers of 64 bits
 pub fits_from : (first count used : ℕ) (sighting : Sighting) → first + count < 2 ^ 64 → used ≤ count → EndsAt count used sighting
     → FitsFrom first sighting
 fits_from first count used (given.Message view) few within ends =

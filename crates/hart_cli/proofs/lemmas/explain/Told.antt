@@ -1,4 +1,4 @@
--- What was told of what was heard is decided.
+-- What was told is decided by what was heard.
 use Rattle.std.proofs.Common.{◌≡◌, ◌≤◌, ◌+◌, ◌∙◌, ℕ, Bool, false, true, List, [], ◌∷◌, ◌++◌, length, map, drop, refl, sym, ap, arith}
 use Rattle.std.proofs.Common.{append-nil, append_assoc, length-append, length-drop}
 use Rattle.std.proofs.lemmas.Grind.{flat_map-append}
@@ -28,17 +28,17 @@ one_stretch (Silence ∷ heard) = ([], stretches heard, refl)
 one_stretch (HeardChar character ∷ heard) =
     let (first, later, is) = one_stretch heard in (character ∷ first, later, rw is refl)
 
--- nothing comes after nothing
+-- stretches with no characters before them stay the same
 after_nothing : (heard : List Heard) → after_chars [] (stretches heard) ≡ stretches heard
 after_nothing heard = let (first, later, is) = one_stretch heard in rw is refl
 
--- characters after characters
+-- characters put before stretches in two steps can be put there as one list
 after_twice : (xs ys : List Character) (later : List (List Character))
     → after_chars xs (after_chars ys later) ≡ after_chars (xs ++ ys) later
 after_twice xs ys [] = refl
 after_twice xs ys (first ∷ later) = rw append_assoc refl
 
--- characters before what was heard
+-- characters before what was heard are the beginning of its first stretch
 pub stretches_chars : (xs : List Character) (heard : List Heard) → stretches (heard_chars xs ++ heard) ≡ after_chars xs (stretches heard)
 stretches_chars [] heard = sym (after_nothing heard)
 stretches_chars (x ∷ xs) heard =
@@ -69,7 +69,7 @@ some_seen first (chars ∷ later) =
     let (rest, more) = some_seen (first + length chars) later in
     (map (moved_seen first) own ++ rest, (own, are, rest, more, refl))
 
--- stretches after others
+-- the sightings of stretches and then of later ones are those of both in one list
 pub seen_on : (first : ℕ) (xs ys : List (List Character)) (seen later : List Seen) → AreSightingsFrom first xs seen
     → AreSightingsFrom (first + total xs) ys later → AreSightingsFrom first (xs ++ ys) (seen ++ later)
 seen_on first [] ys seen later h k = let same : first + 0 ≡ first = omega arith in rw h (rw same at k)
@@ -77,7 +77,7 @@ seen_on first (chars ∷ xs) ys seen later (own, are, rest, more, is) k =
     let place : first + (length chars + total xs) ≡ first + length chars + total xs = omega arith in
     (own, are, rest ++ later, seen_on (first + length chars) xs ys rest later more (rw place at k), rw (is, append_assoc) refl)
 
--- what was told of what was heard: all of the earlier stretches, and what is decided of the last one, of which the rest is held
+-- what was told: all of the earlier stretches, and what is decided of the last stretch, whose rest is held
 pub record Told (start telling : Telling) (heard : List Heard) (writer writer_after : Stream) : Type 0 where
   pub earlier : List (List Character)
   pub chars : List Character
@@ -92,11 +92,11 @@ pub record Told (start telling : Telling) (heard : List Heard) (writer writer_af
   pub held : faultless telling.held ≡ drop used chars
   pub adds : AddsText writer writer_after start.kept telling.kept (explanation (told ++ map (moved_seen (total earlier)) seen))
 
--- places that are counted from the front
+-- counting from place 0 changes no place
 zero_plus : (n : ℕ) → 0 + n ≡ n
 zero_plus n = omega arith
 
--- what is said of more sightings
+-- what was told and what is said of more sightings is the explanation of all of them
 text_more : (told seen given : List Seen) (first used : ℕ)
     → explanation (told ++ map (moved_seen first) seen) ++ text_from (first + used) given
     ≡ explanation (told ++ map (moved_seen first) (seen ++ map (moved_seen used) given))
@@ -133,7 +133,7 @@ part_sees start a heard w w1 t xs ended given used on =
     sees_later (t.chars ++ xs) ended t.used used t.seen given (omega (arith, t.within, length-append t.chars xs))
     (grown t.chars xs ended 0 t.used t.seen t.sees) (rw rest at on)
 
--- what is said of it comes after what was said before
+-- what is said of more of the last stretch comes after what was said before
 part_adds : (start a b : Telling) (heard : List Heard) (w w1 w2 : Stream) (t : Told start a heard w w1) (given : List Seen)
     → AddsText w1 w2 a.kept b.kept (text_from a.first given)
     → AddsText w w2 start.kept b.kept
@@ -142,7 +142,7 @@ part_adds start a b heard w w1 w2 t given adds =
     rw (text_more t.told t.seen given (total t.earlier) t.used) at
     (adds_then w w1 w2 start.kept a.kept b.kept _ _ t.adds (rw t.first at adds))
 
--- what is held is the rest of it
+-- what is held is the rest of the last stretch
 part_held : (start a : Telling) (heard : List Heard) (w w1 : Stream) (t : Told start a heard w w1) (xs : List Character) (used : ℕ)
     → drop used (faultless a.held ++ xs) ≡ drop (t.used + used) (t.chars ++ xs)
 part_held start a heard w w1 t xs used =
@@ -154,7 +154,7 @@ part_within start a b heard w w1 w2 t xs ended k =
     let held = ap length t.held in
     omega (arith, t.within, k.within, held, length-drop t.used t.chars, length-append (faultless a.held) xs, length-append t.chars xs)
 
--- characters were told of
+-- characters were heard and told
 told_chars : (start a b : Telling) (heard : List Heard) (xs : List Character) (w w1 w2 : Stream) → Told start a heard w w1
     → Hears a b xs false w1 w2 → Told start b (heard ++ heard_chars xs) w w2
 told_chars start a b heard xs w w1 w2 t k = record {
@@ -176,7 +176,7 @@ told_chars start a b heard xs w w1 w2 t k = record {
   adds = part_adds start a b heard w w1 w2 t k.seen k.adds;
 }
 
--- the sightings of a last stretch that has ended come after those of the earlier ones
+-- the sightings of an ended last stretch come after those of the earlier stretches
 ended_seen : (start a : Telling) (heard : List Heard) (w w1 : Stream) (t : Told start a heard w w1) (chars : List Character)
     (seen : List Seen) → AreSightings chars 0 seen
     → AreSightingsFrom 0 (t.earlier ++ chars ∷ []) (t.told ++ map (moved_seen (total t.earlier)) seen)
@@ -184,7 +184,7 @@ ended_seen start a heard w w1 t chars seen are =
     seen_on 0 t.earlier (chars ∷ []) t.told (map (moved_seen (total t.earlier)) seen) t.are_told
     (rw (zero_plus (total t.earlier)) (seen, are, [], refl, sym (append-nil _)))
 
--- a silence was told of
+-- a silence was heard and told
 told_silence : (start a b : Telling) (heard : List Heard) (w w1 w2 : Stream) → Told start a heard w w1 → Hears a b [] true w1 w2
     → b.held ≡ [] → Told start b (heard ++ Silence ∷ []) w w2
 told_silence start a b heard w w1 w2 t k none =
@@ -213,7 +213,7 @@ told_silence start a b heard w w1 w2 t k none =
       adds = rw (append-nil _) (part_adds start a b heard w w1 w2 t k.seen k.adds);
     }
 
--- all that was heard was told of
+-- all that was heard was told, as far as it is decided
 pub tell_all : (start a : Telling) (heard : List Heard) (w w1 : Stream) → IsNew start → HearsAll start a heard w w1
     → Told start a heard w w1
 tell_all start _ _ _ _ new (part.nothing w) = told_none start w new
@@ -245,7 +245,7 @@ told_first start a heard w w1 t = λ more all are.
           ∙ sym (append_assoc t.told begun (added ++ rest)))),
     )
 
--- and nothing more is decided
+-- no sighting after those told is decided
 told_no_more : (start a : Telling) (heard : List Heard) (w w1 : Stream) (t : Told start a heard w w1) → IsWaiting a → (next : Seen)
     → ComeFirst heard ((t.told ++ map (moved_seen (total t.earlier)) t.seen) ++ next ∷ []) → ⊥
 told_no_more start a heard w w1 t waiting next claim =
@@ -271,7 +271,7 @@ told_no_more start a heard w w1 t waiting next claim =
     cancel begun after (next ∷ later) (cancel t.told (begun ++ after) (begun ++ next ∷ later) split) in
     first_moved (first + t.used) all next later (sym (moved_twice first t.used all) ∙ left))
 
--- what was told is the explanation that is decided, and it was written
+-- what was told is the decided explanation, and it was written
 pub told_is_decided : (start a : Telling) (heard : List Heard) (w w1 : Stream) → IsNew start → (t : Told start a heard w w1)
     → IsWaiting a → a.kept ≡ []
     → IsDecidedExplanation heard (explanation (t.told ++ map (moved_seen (total t.earlier)) t.seen))
@@ -326,7 +326,7 @@ fails_in_text start a heard w w1 w2 new t xs ended k =
       rw more (FailsToWrite-longer w w2 (explanation (t.told ++ map (moved_seen first) seen)) (text_from first later) begun),
     )
 
--- the rest was told, and with it all
+-- once the rest is told, the explanation of all that was heard is written
 pub rest_text : (start a : Telling) (heard : List Heard) (w w1 w2 : Stream) → IsNew start → Told start a heard w w1 → IsWaiting a
     → a.kept ≡ [] → TellsRest a w1 w2 → (text : List ℕ) × IsExplanationOf heard text × WritesAll w w2 text
 rest_text start a heard w w1 w2 new t waiting quiet k =

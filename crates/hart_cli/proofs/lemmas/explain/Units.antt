@@ -7,16 +7,16 @@ use Rattle.std.specs.Option.{option_map}
 use Rattle.hart_commands.specs.Fields.{text}
 use Rattle.hart_commands.specs.Units.{UnitRow, unit_name, unit_row, units}
 
--- a name has 45 characters at most
+-- the name of a unit has at most 45 characters
 abbrev IsShort : UnitRow → Type 0
 IsShort row = nat_le (length row.name) 45 ≡ true
 
--- each name has
+-- the name of each unit has at most 45 characters
 all_short : AllByRecursion IsShort units
 unfolding text
 all_short = search rules
 
--- so has the name of the first row with a code
+-- the name of the first row with a code has at most 45 characters
 first_short : (rows : List UnitRow) (code : ℕ) → AllByRecursion IsShort rows → IfSome (find (λ row. row.code == code) rows) IsShort
 first_short [] code all = tt
 first_short (first ∷ rows) code all = let rest = first_short rows code all.1 in grind (arith, common_steps)

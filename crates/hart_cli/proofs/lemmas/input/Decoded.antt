@@ -19,21 +19,21 @@ use Rattle.hart_cli.specs.text.Items.{MayBegin}
 use Rattle.hart_cli.proofs.lemmas.Writes.{in_time_on}
 use Rattle.hart_cli.proofs.lemmas.text.Reads.{Laws, decided_rest}
 
--- one read more
+-- what one more read gave comes after what was read before, within the limit
 pub read_more : (a b c : Stream) (text bytes : List ℕ) (room limit : ℕ) (end : Option InputEnd) → ReadsWell a b text
     → length text + room ≡ limit → ReadsPortion b c bytes room end
     → MatchOption end (ReadsWell a c (text ++ bytes) × (length (text ++ bytes) ≤ limit))
     (λ came. ReadsWithin limit a c (text ++ bytes) came)
 read_more a b c text bytes room limit end h k e = grind (arith, common_steps, Consumes-trans)
 
--- how far an input was read, if it came to its end or not
+-- how far an input was read, whether it came to its end or not
 pub read_to : (old new : Stream) (input : List ℕ) (limit : ℕ) (end : Option InputEnd)
     → MatchOption end (ReadsWell old new input × (length input ≤ limit)) (λ came. ReadsWithin limit old new input came)
     → ReadsToWithin limit old new input (ending_of end)
 read_to old new input limit None h = inl h
 read_to old new input limit (Some end) h = h
 
--- an input was read and decoded up to a rest at whose beginning no piece stands
+-- an input was read and decoded up to a rest that begins with no piece
 pub record DecodedUpTo {Heard : Type 0} (Reads : List ℕ → List Heard → List ℕ → Type 0) (Stops : List ℕ → Type 0)
     (limit : ℕ) (old new : Stream) (end : Option InputEnd) (rest : List ℕ) (read : ℕ)
     (input : List ℕ) (heard : List Heard) : Type 0 where
@@ -51,19 +51,19 @@ ended_long input (Some Ended) = length-append input _
 ended_long input (Some ReadFailed) = refl
 ended_long input (Some TooLong) = refl
 
--- a text of an input with the space that its end stands for
+-- the space that the end of an input stands for comes after its last bytes
 ended_on : (input bytes : List ℕ) (end : Option InputEnd)
     → ended_text (input ++ bytes) (ending_of end) ≡ input ++ ended_text bytes (ending_of end)
 ended_on input bytes end = grind (arith, common_steps, append_assoc)
 
--- the input is read on if a piece may begin in what is left, and it did not come to its end
+-- an input is read on only if it did not come to its end, and a piece may begin in the rest
 pub read_on : (end : Option InputEnd) (rest : List ℕ) (place : ℕ) → IsNextStep end rest place ReadOn → (end ≡ None) × MayBegin rest
 read_on None rest place step = (refl, step)
 read_on (Some Ended) rest place step = absurd step
 read_on (Some ReadFailed) rest place step = absurd step
 read_on (Some TooLong) rest place step = absurd step
 
--- then some bytes were read, within the limit
+-- a read that came to no end gave at least one byte, and no more than there is room for
 pub some_long : (bytes : List ℕ) → bytes ≢ [] → 0 < length bytes
 some_long [] some = absurd (some refl)
 some_long (byte ∷ bytes) some = omega arith
@@ -74,7 +74,7 @@ more_read old new before after room portion one on =
     let reads = rw on at one.reads in
     (omega (arith, one.count, some_long one.bytes reads.1), omega (arith, one.count, reads.2))
 
--- a write failed in the last of the text of what was decoded
+-- a write failed in the last part of the text of what was decoded
 pub stops_in : {Heard : Type 0} (decoding : Decoding Heard) (limit : ℕ) (IsText IsDecided : TextRelation Heard) (r r2 w w1 w2 : Stream)
     (input : List ℕ) (ending : Ending) (heard : Heard) (text last : List ℕ) → ReadsToWithin limit r r2 input ending
     → decoding.Decoded input ending heard → IsText heard text → WroteInTime (IsDecidedText decoding IsDecided) input w w1
@@ -98,7 +98,7 @@ module _ {Heard : Type 0} (Reads : List ℕ → List Heard → List ℕ → Type
   rest_within limit old new end rest read input chars h =
       rw h.count (omega (arith, ended_long input end, laws.shorter _ chars rest h.reads))
 
-  -- what one read gave reads on from what was read before
+  -- what one read gave is decoded after what was read before
   reads_on : (input bytes ahead after rest : List ℕ) (end : Option InputEnd) (chars more : List Heard) → Reads input chars ahead
       → after ≡ ahead ++ ended_text bytes (ending_of end) → Reads after more rest
       → Reads (ended_text (input ++ bytes) (ending_of end)) (chars ++ more) rest
@@ -107,7 +107,7 @@ module _ {Heard : Type 0} (Reads : List ℕ → List Heard → List ℕ → Type
       rw (ended_on input bytes end)
       (laws.on _ _ (ahead ++ ended) _ _ (laws.more _ _ _ ended before) (rw added at reads))
 
-  -- and was read within the limit
+  -- what one read gave was read within the limit
   came_on : (limit : ℕ) (r r1 r2 : Stream) (ahead after : List ℕ) (read : ℕ) (portion : Portion) (input : List ℕ) (chars : List Heard)
       → DecodedUpTo Reads Stops limit r r1 None ahead read input chars → (one : ReadsAhead r1 r2 ahead after (limit - read) portion)
       → MatchOption portion.end (ReadsWell r r2 (input ++ one.bytes) × (length (input ++ one.bytes) ≤ limit))
@@ -115,7 +115,7 @@ module _ {Heard : Type 0} (Reads : List ℕ → List Heard → List ℕ → Type
   came_on limit r r1 r2 ahead after read portion input chars due one =
       read_more r r1 r2 input one.bytes (limit - read) limit portion.end due.came.0 (omega (arith, due.came.1, due.count)) one.reads
 
-  -- after a failed read a piece may begin as it might before
+  -- after a failed read a piece may still begin in the rest
   failed_open : (limit : ℕ) (r r1 r2 : Stream) (ahead after rest : List ℕ) (read : ℕ) (portion : Portion) (input : List ℕ)
       (chars more : List Heard) → DecodedUpTo Reads Stops limit r r1 None ahead read input chars → MayBegin ahead
       → ReadsAhead r1 r2 ahead after (limit - read) portion → Reads after more rest → portion.end ≡ Some ReadFailed → MayBegin rest
@@ -125,7 +125,7 @@ module _ {Heard : Type 0} (Reads : List ℕ → List Heard → List ℕ → Type
       let stay = laws.stays ahead more rest (rw same at reads) due.no_piece in
       rw (← stay.1) may
 
-  -- a read and what it gave is decoded
+  -- what one read gave is decoded
   pub decoded_step : (limit : ℕ) (r r1 r2 : Stream) (ahead after rest : List ℕ) (read : ℕ) (portion : Portion) (input : List ℕ)
       (chars more : List Heard) → DecodedUpTo Reads Stops limit r r1 None ahead read input chars → MayBegin ahead
       → (one : ReadsAhead r1 r2 ahead after (limit - read) portion) → length after ≤ most_ahead → Stops rest
@@ -140,7 +140,7 @@ module _ {Heard : Type 0} (Reads : List ℕ → List Heard → List ℕ → Type
     still_open = failed_open limit r r1 r2 ahead after rest read portion input chars more due may one reads;
   }
 
-  -- and a part of what it gave
+  -- a part of what one read gave is decoded
   pub decoded_part : (limit : ℕ) (r r1 r2 : Stream) (ahead after rest : List ℕ) (read : ℕ) (portion : Portion) (input : List ℕ)
       (chars more : List Heard) → DecodedUpTo Reads Stops limit r r1 None ahead read input chars
       → (one : ReadsAhead r1 r2 ahead after (limit - read) portion) → length after ≤ most_ahead → Reads after more rest
@@ -155,7 +155,7 @@ module _ {Heard : Type 0} (Reads : List ℕ → List Heard → List ℕ → Type
     },
   )
 
-  -- what was decided before it was written in time
+  -- what was decided before a read was written in time
   pub in_time_before : (IsDecided : TextRelation (List Heard)) (limit : ℕ) (r r1 w w1 : Stream) (ahead : List ℕ) (read : ℕ) (input : List ℕ)
       (chars : List Heard) (text bytes : List ℕ) → DecodedUpTo Reads Stops limit r r1 None ahead read input chars → MayBegin ahead
       → length bytes ≤ most_at_once → IsDecided chars text → Appends w.bytes w1.bytes text
@@ -181,7 +181,7 @@ module _ {Heard : Type 0} (Reads : List ℕ → List Heard → List ℕ → Type
       → AreDecodedBy Reads input (ending_of end) chars
   are_decoded limit old new end rest read input chars h = record { rest = rest; reads = h.reads; few = h.few }
 
-  -- an input that is read no further was decoded with its fault, or none
+  -- an input that is read no further was decoded, with its fault if it has one
   decodes_to : (limit : ℕ) (r r2 : Stream) (rest input : List ℕ) (chars : List Heard) (fault : Option CliFault) (ending : Ending)
       → ReadsToWithin limit r r2 input ending → Reads (ended_text input ending) chars rest → length rest ≤ most_ahead
       → HasHeardBy Reads Stops input ending chars fault × StopsSoon most_ahead input fault
@@ -194,7 +194,7 @@ module _ {Heard : Type 0} (Reads : List ℕ → List Heard → List ℕ → Type
     soon = is.1;
   }
 
-  -- its fault is what the last step says
+  -- the fault of an input that is read no further is what the last step says
   decodes_at : (limit : ℕ) (r r2 : Stream) (end : Option InputEnd) (rest : List ℕ) (place read : ℕ) (input : List ℕ)
       (chars : List Heard) (fault : Option CliFault) → DecodedUpTo Reads Stops limit r r2 end rest read input chars
       → place + length rest ≡ length (ended_text input (ending_of end)) → IsNextStep end rest place (Stop fault)
@@ -236,7 +236,7 @@ module _ {Heard : Type 0} (Reads : List ℕ → List Heard → List ℕ → Type
       let same : ended_length end read ≡ length (ended_text input (ending_of end)) = rw h.count (sym (ended_long input end)) in
       decodes_at limit r r2 end rest (ended_length end read - length rest) read input chars fault h (omega (arith, same, within)) step
 
--- only these faults end an input
+-- each fault that an input can have is an outcome once its text was written
 fault_ends : {Heard : Type 0} (Reads : List ℕ → List Heard → List ℕ → Type 0) (Stops : List ℕ → Type 0) (limit : ℕ)
     (IsText IsDecided : TextRelation (List Heard)) (r r' w w' : Stream) (input : List ℕ) (ending : Ending)
     (heard : List Heard) (fault : CliFault) → HasHeardBy Reads Stops input ending heard (Some fault)
@@ -245,7 +245,7 @@ fault_ends : {Heard : Type 0} (Reads : List ℕ → List Heard → List ℕ → 
 fault_ends Reads Stops limit IsText IsDecided r r' w w' input _ _ _ (HasHeardBy.bad_hex _ place bad) wrote = wrote
 fault_ends Reads Stops limit IsText IsDecided r r' w w' input _ _ _ _ wrote = wrote
 
--- an input came to a fault
+-- once the text of an input with a fault was written, the outcome is that fault
 pub ends_with : {Heard : Type 0} (Reads : List ℕ → List Heard → List ℕ → Type 0) (Stops : List ℕ → Type 0) (limit : ℕ)
     (IsText IsDecided : TextRelation (List Heard)) (r r' w w' : Stream) (fault : CliFault) (text : List ℕ)
     → ReadsText (decoding_by Reads Stops) limit IsText r r' (Some fault) text → WritesAll w w' text

@@ -9,7 +9,7 @@ use Rattle.hart_cli.specs.input.LiveInput.{LiveOutcome, ReadsText, TextRelation}
 use Rattle.hart_cli.specs.text.Heard.{Heard, heard_chars}
 use Rattle.hart_cli.specs.stream.Stream.{Stream, WritesAll}
 
--- bytes and more of them
+-- the characters of joined bytes are those of both parts, joined
 pub faultless_on : (xs ys : List ℕ) → faultless (xs ++ ys) ≡ faultless xs ++ faultless ys
 faultless_on xs ys = map-append _ xs ys
 
@@ -20,14 +20,14 @@ one_raw_input input _ _ _ _ _ (HasRaw.all xs h) (HasRaw.all ys k) = (h ∙ sym k
 one_raw_input input _ _ _ _ _ (HasRaw.failure xs h) (HasRaw.failure ys k) = (h ∙ sym k, refl)
 one_raw_input input _ _ _ _ _ (HasRaw.limit xs h) (HasRaw.limit ys k) = (h ∙ sym k, refl)
 
--- they are its bytes
+-- the characters of a raw input are its bytes
 pub raw_chars : (input : List ℕ) (ending : Ending) (heard : List Heard) (fault : Option CliFault)
     → HasRaw input ending heard fault → heard ≡ heard_chars (faultless input)
 raw_chars input _ _ _ (HasRaw.all chars is) = is
 raw_chars input _ _ _ (HasRaw.failure chars is) = is
 raw_chars input _ _ _ (HasRaw.limit chars is) = is
 
--- only these faults end a raw input
+-- each fault that a raw input can have is an outcome once its text was written
 raw_fault_ends : (limit : ℕ) (IsText IsDecided : TextRelation (List Heard)) (r r' w w' : Stream) (input : List ℕ) (ending : Ending)
     (heard : List Heard) (fault : CliFault) → HasRaw input ending heard (Some fault)
     → (text : List ℕ) × ReadsText raw_decoding limit IsText r r' (Some fault) text × WritesAll w w' text
@@ -35,7 +35,7 @@ raw_fault_ends : (limit : ℕ) (IsText IsDecided : TextRelation (List Heard)) (r
 raw_fault_ends limit IsText IsDecided r r' w w' input _ _ _ (HasRaw.failure chars is) wrote = wrote
 raw_fault_ends limit IsText IsDecided r r' w w' input _ _ _ (HasRaw.limit chars is) wrote = wrote
 
--- a raw input came to a fault
+-- once the text of a raw input with a fault was written, the outcome is that fault
 pub raw_ends_with : (limit : ℕ) (IsText IsDecided : TextRelation (List Heard)) (r r' w w' : Stream) (fault : CliFault)
     (text : List ℕ) → ReadsText raw_decoding limit IsText r r' (Some fault) text → WritesAll w w' text
     → LiveOutcome raw_decoding limit IsText IsDecided r r' w w' (Err fault)

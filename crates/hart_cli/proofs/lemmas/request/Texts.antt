@@ -1,4 +1,4 @@
--- The characters of texts that words give.
+-- The characters of texts that are given as words.
 use Rattle.std.proofs.Common.{inl, inr, ◌∙◌, ap, subst, length-append, ◌≡◌, ◌<◌, ◌≤◌, ℕ, Bool, true, ◌++◌, ◌-◌, List, Ok, take, arith}
 use Rattle.std.proofs.Common.{get_or, length, replicate}
 use Rattle.std.proofs.Math.Seq.{get_or-append_right}
@@ -10,7 +10,7 @@ use Rattle.std.proofs.lemmas.List.Sums.{prefix_len-le-length, prefix_len_passes}
 use Rattle.std.specs.List.{prefix_len}
 use Rattle.hart_cli.specs.request.Values.{text_value}
 
--- a character of a padded text is one of the text, or a space
+-- each character of a padded text passes a test that the text and a space pass
 padded_good : (passes : ℕ → Bool) → passes 32 ≡ true → (word : List ℕ) (count k d : ℕ)
     → prefix_len passes word ≡ length word
     → k < length (word ++ replicate count 32) → passes (get_or (word ++ replicate count 32) k d) ≡ true
@@ -23,7 +23,7 @@ padded_good passes space word count k d whole below =
           (omega (arith, length-append word (replicate count 32), length-replicate {A = ℕ} count 32))) ∙ space
     ]
 
--- a text that is given has characters that pass alone
+-- every character of a given text passes
 pub given_good : (passes : ℕ → Bool) → passes 32 ≡ true → (most : ℕ) (word text : List ℕ) → Ok text ≡ text_value passes most word
     → (k d : ℕ) → k < length text → passes (get_or text k d) ≡ true
 given_good passes space most word text is k d below =

@@ -12,7 +12,7 @@ use Rattle.hart_cli.specs.input.Input.{Ending}
 use Rattle.hart_cli.specs.serve.Serve.{HasLines, last_lines}
 use Rattle.hart_cli.specs.serve.Server.{HasNoFeed, IsCut}
 
--- the parts between line feeds are those that a text is cut into
+-- splitting a text at its line feeds gives its parts and its rest
 parts_split : (parts : List (List ℕ)) (rest : List ℕ) → AllByRecursion HasNoFeed parts → HasNoFeed rest
     → slice_split (λ byte. byte == 10) (flat_map (λ part. part ++ 10 ∷ []) parts ++ rest) ≡ parts ++ rest ∷ []
 parts_split [] rest whole free = slice_split_none (λ byte. byte == 10) rest free
@@ -29,7 +29,7 @@ cut_lines text parts rest cut =
     ap lines_of cut.all ∙ (ap (map strip_carriage_return) (parts_split parts rest cut.whole cut.open_end)
     ∙ map-append strip_carriage_return parts (rest ∷ []))
 
--- so it has these lines
+-- a cut text has its parts as lines, and its rest if the ending makes that a line
 pub cut_has_lines : (text : List ℕ) (ending : Ending) (parts : List (List ℕ)) (rest : List ℕ) → IsCut text parts rest
     → HasLines text ending (map strip_carriage_return parts ++ last_lines ending (strip_carriage_return rest))
 cut_has_lines text ending parts rest cut = record {
@@ -39,20 +39,20 @@ cut_has_lines text ending parts rest cut = record {
   all = refl;
 }
 
--- what holds of the parts of two lists holds of all
+-- if no part in two lists has a line feed, none in the joined list has one
 all_parts : (xs ys : List (List ℕ)) → AllByRecursion HasNoFeed xs → AllByRecursion HasNoFeed ys → AllByRecursion HasNoFeed (xs ++ ys)
 all_parts [] ys h k = k
 all_parts (x ∷ xs) ys h k = (h.0, all_parts xs ys h.1 k)
 
--- a text without a line feed is a rest
+-- a text without a line feed is all rest
 pub cut_rest : (rest : List ℕ) → HasNoFeed rest → IsCut rest [] rest
 cut_rest rest free = record { all = refl; whole = tt; open_end = free }
 
--- a part and its line feed are cut into it
+-- a part with a line feed after it is cut into this part alone
 pub cut_part : (part : List ℕ) → HasNoFeed part → IsCut (part ++ 10 ∷ []) (part ∷ []) []
 cut_part part free = record { all = grind (arith, common_steps); whole = (free, tt); open_end = All-nil _ }
 
--- the rest of a text and what comes after it are cut like another text
+-- a text with more after it is cut into its parts and those of its rest with more after it
 pub cut_on : (text more : List ℕ) (parts : List (List ℕ)) (rest : List ℕ) (later : List (List ℕ)) (last : List ℕ)
     → IsCut text parts rest → IsCut (rest ++ more) later last → IsCut (text ++ more) (parts ++ later) last
 cut_on text more parts rest later last h k =
@@ -64,13 +64,13 @@ cut_on text more parts rest later last h k =
       open_end = k.open_end;
     }
 
--- a text has a cut
+-- the parts and the rest into which a text is cut
 pub record Cut (text : List ℕ) : Type 0 where
   pub parts : List (List ℕ)
   pub rest : List ℕ
   pub cut : IsCut text parts rest
 
--- a byte before a text that is cut
+-- a cut text with one more byte before it has a cut
 byte_first : (x : ℕ) (xs : List ℕ) (parts : List (List ℕ)) (rest : List ℕ) (feeds : Bool) → (x == 10) ≡ feeds → IsCut xs parts rest
     → Cut (x ∷ xs)
 byte_first x xs parts rest true is h = record {
@@ -93,7 +93,7 @@ byte_first x xs (part ∷ parts) rest false is h = record {
   };
 }
 
--- each text is cut somehow
+-- each text has a cut
 pub every_cut : (text : List ℕ) → Cut text
 every_cut [] = record { parts = []; rest = []; cut = cut_rest [] (All-nil _) }
 every_cut (x ∷ xs) = let more = every_cut xs in byte_first x xs more.parts more.rest (x == 10) refl more.cut

@@ -33,7 +33,7 @@ pub record ServedUpTo (device : DeviceState) (server : Server) (room : ℕ) (old
   pub serves : ServesParts device parts server.device said
   pub wrote : WritesAll writer writer_after said
 
--- what one read gave was served, and the input came to its end with it
+-- what the last read gave was served, and the input came to its end
 pub served_end : (device : DeviceState) (now next : Server) (room : ℕ) (r r1 r2 w w1 w2 : Stream) (bytes : List ℕ) (end : InputEnd)
     → (h : ServedUpTo device now room r r1 w w1) → ReadsPortion r1 r2 bytes room (Some end) → now.kept ≡ [] → next.kept ≡ []
     → ServesWhole now next (h.rest ++ bytes) w1 w2 → ServesAll device next end r r2 w w2
@@ -71,7 +71,7 @@ served_on device now next room r r1 r2 w w1 w2 bytes h more was quiet k =
       wrote = WritesAll-on w w1 w2 h.said k.said h.wrote (rw same at k.adds.wrote);
     }
 
--- the whole lines before the last bytes of an input were said in time
+-- what is said to the whole lines before the last bytes of an input was written in time
 said_in_time : (device after : DeviceState) (input bytes : List ℕ) (parts : List (List ℕ)) (rest said : List ℕ) (w w1 w2 : Stream)
     → IsCut input parts rest → ServesParts device parts after said → WritesAll w w1 said → length bytes ≤ most_at_once
     → (more : List ℕ) → Appends w1.bytes w2.bytes more → WroteInTime (IsServedSoFar device) (input ++ bytes) w w2
@@ -91,7 +91,7 @@ said_in_time device after input bytes parts rest said w w1 w2 cut serves wrote f
   written = Appends-trans _ _ _ said more wrote.0 written;
 }
 
--- a write failed in what is said to the lines that one read made whole
+-- a write failed in what is said to the lines that one read completed
 pub stops_saying : (device : DeviceState) (now : Server) (room : ℕ) (r r1 r2 w w1 w2 : Stream) (bytes : List ℕ) (end : Option InputEnd)
     → (h : ServedUpTo device now room r r1 w w1) → ReadsPortion r1 r2 bytes room end → length bytes ≤ most_at_once → now.kept ≡ []
     → FailsInParts now.device now.kept (h.rest ++ bytes) w1 w2 → StopsSaying device r r2 w w2
@@ -161,7 +161,7 @@ stops_at_last device after server r r1 w w1 w2 said h serves fails =
           (omega arith) fails.0.prefix fails.0.written);
     }
 
--- the input came to another end: its last line is not served
+-- if the ending leaves no last line, the whole lines are all that is served
 pub serves_whole : (device : DeviceState) (server : Server) (end : InputEnd) (r r1 w w1 : Stream)
     → (h : ServesAll device server end r r1 w w1) → last_lines (CameTo end) (strip_carriage_return h.rest) ≡ []
     → ServesTo device (CameTo end) r r1 w w1

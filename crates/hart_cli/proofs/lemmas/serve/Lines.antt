@@ -12,7 +12,7 @@ use Rattle.hart_cli.proofs.lemmas.text.InputChars.{not_both, one_place}
 use Rattle.hart_cli.proofs.lemmas.text.Items.{NoPieceBegins-nil, one_reading}
 use Rattle.hart_cli.proofs.lemmas.text.MessageLine.{IsMessageLine-one}
 
--- a carriage return at most is stripped
+-- at most one carriage return is stripped
 pub strips_one : (part : List ℕ)
     → (length (strip_carriage_return part) ≤ length part) × (length part ≤ length (strip_carriage_return part) + 1)
 strips_one part = grind (arith, common_steps)
@@ -21,25 +21,25 @@ strips_one part = grind (arith, common_steps)
 pub kept_whole : (part : List ℕ) (most : ℕ) → length (strip_carriage_return (take most part)) + 2 ≤ most → take most part ≡ part
 kept_whole part most few = grind (arith, common_steps, strips_one (take most part))
 
--- a part of an empty line is kept whole
+-- a part whose line is empty is kept whole
 no_more_of : (part : List ℕ) (most : ℕ) → 1 ≤ most → length (strip_carriage_return part) ≡ 0 → take most part ≡ part
 no_more_of part most some none = grind (arith, common_steps, strips_one part)
 
 pub no_more : (part : List ℕ) → strip_carriage_return part ≡ [] → take most_kept part ≡ part
 no_more part none = no_more_of part most_kept (omega arith) (ap length none)
 
--- a part whose kept line is too long has a line that is
+-- a part whose kept line is too long has a line that is too long
 kept_long : (part : List ℕ) (most : ℕ) → most < length (strip_carriage_return (take most part)) + 2
     → most < length (strip_carriage_return part) + 2
 kept_long part most long = grind (arith, common_steps, strips_one part, strips_one (take most part))
 
--- a part that is kept whole is served as what is kept of it
+-- a part that is kept whole is served like its kept bytes
 serves_same : (device after : DeviceState) (part kept said : List ℕ) → kept ≡ part
     → ServesLine device (strip_carriage_return kept) after said
     → ServesLine device (strip_carriage_return part) after said
 serves_same device after part kept said same h = rw same at h
 
--- the kept bytes of a part are served as all of them
+-- each part is served like its kept bytes
 pub serves_kept : (device after : DeviceState) (part said : List ℕ)
     → ServesLine device (strip_carriage_return (take most_kept part)) after said
     → ServesLine device (strip_carriage_return part) after said

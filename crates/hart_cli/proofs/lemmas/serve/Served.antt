@@ -17,7 +17,7 @@ Serves-on _ b c _ ys _ t (nothing _) k = k
 Serves-on a b c _ ys _ t (first _ next _ one lines said text begun h) k =
     rw append_assoc (first a next c one (lines ++ ys) said (text ++ t) begun (Serves-on next b c lines ys text t h k))
 
--- a device says one text to lines
+-- a device says only one text to given lines
 pub one_text : (device a b : DeviceState) (lines : List (List ℕ)) (xs ys : List ℕ) → Serves device lines a xs → Serves device lines b ys
     → (a ≡ b) × (xs ≡ ys)
 one_text _ _ _ _ _ _ (nothing device) (nothing _) = (refl, refl)
@@ -25,7 +25,7 @@ one_text device a b _ _ _ (first _ p _ one lines x s begun h) (first _ q _ _ _ y
     let begin = one_line device p q one x y begun also in
     let more = one_text q a b lines s t (rw begin.0 at h) k in grind arith
 
--- two lists with one more item each
+-- two equal lists have the same last item, and the same items before it
 one_last : (xs ys : List (List ℕ)) (x y : List ℕ) → xs ++ x ∷ [] ≡ ys ++ y ∷ [] → (xs ≡ ys) × (x ≡ y)
 one_last [] [] x y same = grind arith
 one_last [] (y1 ∷ []) x y same = absurd (grind (arith, common_steps))
@@ -46,7 +46,7 @@ last_of : (last : List ℕ) → last ≢ [] → last_lines (CameTo Ended) last �
 last_of [] some = absurd (some refl)
 last_of (byte ∷ more) some = refl
 
--- it is served as what is kept of it
+-- a last line that is not empty is served like its kept bytes
 pub serves_last_line : (device after : DeviceState) (part kept said : List ℕ) → kept ≡ take most_kept part
     → ServesLine device (strip_carriage_return kept) after said → strip_carriage_return kept ≢ []
     → Serves device (last_lines (CameTo Ended) (strip_carriage_return part)) after said
@@ -56,7 +56,7 @@ serves_last_line device after part kept said is served some =
     rw (last_of (strip_carriage_return part) more, ← append-nil said)
     (first device after after (strip_carriage_return part) [] said [] whole (nothing after))
 
--- an empty one is not
+-- an empty last line is not served
 pub serves_no_line : (device : DeviceState) (part kept : List ℕ) → kept ≡ take most_kept part → strip_carriage_return kept ≡ []
     → Serves device (last_lines (CameTo Ended) (strip_carriage_return part)) device []
 serves_no_line device part kept is none =

@@ -18,17 +18,17 @@ use Rattle.hart_cli.proofs.lemmas.serve.Cuts.{cut_on, cut_part, cut_rest, every_
 use Rattle.hart_cli.proofs.lemmas.serve.Lines.{serves_kept}
 use Rattle.hart_cli.proofs.lemmas.serve.Served.{Serves-on}
 
--- the first bytes of a text that goes on from its first bytes
+-- cutting the first of two joined texts to `most` bytes leaves the first `most` bytes of both
 take_more : (most : ℕ) (xs ys : List ℕ) → take most (take most xs ++ ys) ≡ take most (xs ++ ys)
 take_more most xs ys = grind (arith, common_steps, take-append-le)
 
--- the line of one part
+-- a device that serves the line of a part serves the list of that one part
 one_part : (device after : DeviceState) (part said : List ℕ) → ServesLine device (strip_carriage_return part) after said
     → ServesParts device (part ∷ []) after said
 one_part device after part said h =
     rw (← append-nil said) (first device after after (strip_carriage_return part) [] said [] h (nothing after))
 
--- more parts are served
+-- parts are served, and then more parts
 pub parts_on : (a b c : DeviceState) (xs ys : List (List ℕ)) (s t : List ℕ) → ServesParts a xs b s → ServesParts b ys c t
     → ServesParts a (xs ++ ys) c (s ++ t)
 parts_on a b c xs ys s t h k =
@@ -87,7 +87,7 @@ fails_next old now text more w w1 w2 h fails =
       fails = rw append-nil at (fails_then w w1 w2 old.kept now.kept h.said [] h.adds fails);
     }
 
--- the rest was read, in which no part ends
+-- the rest was read, which has no line feed
 pub serves_last : (old now kept : Server) (text piece : List ℕ) (w w1 : Stream) → ServesWhole old now text w w1 → HasNoFeed piece
     → kept.device ≡ now.device → kept.kept ≡ now.kept → kept.part.items ≡ take most_kept (now.part.items ++ piece)
     → kept.part.room ≡ now.part.room → kept.chars.room ≡ now.chars.room → ServesWhole old kept (text ++ piece) w w1
@@ -108,7 +108,7 @@ serves_last old now kept text piece w w1 h free device lines bytes room chars =
       adds = rw lines h.adds;
     }
 
--- what is kept was written at last
+-- what is kept was written at the end
 pub serves_written : (old now quiet : Server) (text : List ℕ) (w w1 w2 : Stream) → old.kept ≡ [] → ServesWhole old now text w w1
     → WritesAll w1 w2 now.kept → quiet.device ≡ now.device → quiet.part ≡ now.part → quiet.chars ≡ now.chars → quiet.kept ≡ []
     → ServesWhole old quiet text w w2
@@ -141,18 +141,18 @@ fails_written old now text w w1 w2 silent h fails =
       fails = rw h.adds.whole at all;
     }
 
--- the lines of a front of a text were served
+-- the lines at the beginning of a text were served
 pub record ServesFront (old now : Server) (part more rest : List ℕ) (w w1 : Stream) : Type 0 where
   pub done : List ℕ
   pub split : more ≡ done ++ rest
   pub whole : ServesWhole old now (part ++ done) w w1
 
--- none of it yet
+-- nothing of a text was served yet
 pub front_none : (server : Server) (part more : List ℕ) (w : Stream) → HasNoFeed part → Keeps server part
     → ServesFront server server part more more w w
 front_none server part more w free keeps = record { done = []; split = refl; whole = serves_none server part w free keeps }
 
--- one more part of it
+-- one more part of a text was served
 pub front_next : {kept next : Server} (serves : ServesPart kept next) (old now : Server) (part more rest piece after : List ℕ)
     (w w1 w2 : Stream) → ServesFront old now part more rest w w1 → BeginsWithPart rest piece after → kept.device ≡ now.device
     → kept.part.items ≡ take most_kept (now.part.items ++ piece) → AddsText w1 w2 now.kept kept.kept []
@@ -163,28 +163,28 @@ front_next {kept} {next} serves old now part more rest piece after w w1 w2 h beg
   whole = rw append_assoc at (serves_next old now kept next (part ++ h.done) piece w w1 w2 h.whole begins.free device bytes adds serves);
 }
 
--- the rest of it, in which no part ends
+-- the rest of a text was read, which has no line feed
 pub front_all : (old now kept : Server) (part more rest : List ℕ) (w w1 : Stream) → ServesFront old now part more rest w w1 → HasNoFeed rest
     → kept.device ≡ now.device → kept.kept ≡ now.kept → kept.part.items ≡ take most_kept (now.part.items ++ rest)
     → kept.part.room ≡ now.part.room → kept.chars.room ≡ now.chars.room → ServesWhole old kept (part ++ more) w w1
 front_all old now kept part more rest w w1 h free device lines bytes room chars =
     rw (h.split, ← append_assoc) (serves_last old now kept (part ++ h.done) rest w w1 h.whole free device lines bytes room chars)
 
--- a write failed before one more part of it
+-- a write failed before one more part of a text was served
 pub front_fails : (old now : Server) (part more rest : List ℕ) (w w1 w2 : Stream) → ServesFront old now part more rest w w1
     → FailsToWrite w1 w2 (now.kept ++ []) → FailsInParts old.device old.kept (part ++ more) w w2
 front_fails old now part more rest w w1 w2 h fails =
     rw (h.split, ← append_assoc) (fails_next old now (part ++ h.done) rest w w1 w2 h.whole fails)
 
--- a call that answers that a write failed
+-- a call that returns an error after a failed write meets `ServesText`
 pub text_fails : {T : Type 0} (old new : Server) (text : List ℕ) (w w1 : Stream) (failed : Failed) (result : Result T Failed)
     → result ≡ Err failed → FailsInParts old.device old.kept text w w1 → ServesText old new text w w1 result
 text_fails old new text w w1 failed result is fails = rw is fails
 
--- the first bytes of a text are no more than are asked for
+-- taking `most` bytes of a text gives at most `most`
 pub take_few : (most : ℕ) (xs ys : List ℕ) → ys ≡ take most xs → length ys ≤ most
 take_few most xs ys is = grind (arith, common_steps)
 
--- no more is kept than may be
+-- at most `most_kept` bytes of a part are kept
 pub keeps_few : (server : Server) (part : List ℕ) → Keeps server part → length server.part.items ≤ most_kept
 keeps_few server part keeps = take_few most_kept part server.part.items keeps.bytes

@@ -1,4 +1,4 @@
--- Texts with silences: a text reads in one way, and what follows a text leaves what was read.
+-- Texts with silences: a text reads in one way, and what follows a text does not change what was read.
 use Rattle.std.proofs.Common.{◌≡◌, ◌+◌, ◌*◌, ◌≤◌, ◌∙◌, ℕ, List, [], ◌∷◌, ◌++◌, length, refl, sym, ap, arith}
 use Rattle.std.proofs.Common.{append_assoc}
 use Rattle.std.proofs.lemmas.Grind.{common_steps}
@@ -14,11 +14,11 @@ use Rattle.hart_cli.proofs.lemmas.text.Reads.{Laws, may_begin-nil}
 pub no_piece_is_silence : (rest : List ℕ) → NoPieceBegins (47 ∷ rest)
 no_piece_is_silence rest p tail h = grind (arith, common_steps)
 
--- characters after others
+-- joined characters are heard as the first ones and then the second ones
 pub chars_on : (xs ys : List Character) → heard_chars (xs ++ ys) ≡ heard_chars xs ++ heard_chars ys
 chars_on xs ys = map-append _ xs ys
 
--- a text reads up to its rest, whatever follows
+-- a text reads in the same way up to its rest, whatever follows
 heard_more : (text : List ℕ) (heard : List Heard) (rest more : List ℕ) → ReadsHeard text heard rest
     → ReadsHeard (text ++ more) heard (rest ++ more)
 heard_more _ _ _ more (items text chars rest r) = items (text ++ more) chars (rest ++ more) (ReadsUpTo-more text chars rest more r)
@@ -26,7 +26,7 @@ heard_more _ _ _ more (silence text chars rest heard last r h) =
     silence (text ++ more) chars (rest ++ more) heard (last ++ more) (ReadsUpTo-more text chars (47 ∷ rest) more r)
     (heard_more rest heard last more h)
 
--- items before what was heard
+-- a text reads as its items, and then as its rest reads
 items_on : (text : List ℕ) (xs : List Character) (rest : List ℕ) (ys : List Heard) (last : List ℕ) → ReadsUpTo text xs rest
     → ReadsHeard rest ys last → ReadsHeard text (heard_chars xs ++ ys) last
 items_on text xs _ _ _ r (items rest chars last k) =
@@ -35,14 +35,14 @@ items_on text xs _ _ _ r (silence rest chars next heard last k h) =
     rw (← append_assoc, ← chars_on xs chars)
     (silence text (xs ++ chars) next heard last (ReadsUpTo-on text xs rest chars (47 ∷ next) r k) h)
 
--- a text reads up to its rest and on
+-- a text reads up to its rest, and then as the rest reads
 pub heard_on : (text : List ℕ) (xs : List Heard) (rest : List ℕ) (ys : List Heard) (last : List ℕ) → ReadsHeard text xs rest
     → ReadsHeard rest ys last → ReadsHeard text (xs ++ ys) last
 heard_on _ _ _ ys last (items text chars rest r) k = items_on text chars rest ys last r k
 heard_on _ _ _ ys last (silence text chars next heard rest r h) k =
     rw append_assoc (silence text chars next (heard ++ ys) last r (heard_on next heard rest ys last h k))
 
--- a reading up to where nothing begins goes on after each other one
+-- a reading that stops where nothing begins continues every other reading of the text
 heard_goes_on : (text : List ℕ) (xs : List Heard) (rest : List ℕ) (ys : List Heard) (last : List ℕ) → ReadsHeard text xs rest
     → ReadsHeard text ys last → NothingBegins last → (between : List Heard) × ReadsHeard rest between last × (ys ≡ xs ++ between)
 heard_goes_on _ _ _ _ _ (items text xs rest r) (items _ ys last k) n =
@@ -91,7 +91,7 @@ count_on [] ys = omega arith
 count_on (HeardChar character ∷ xs) ys = omega (arith, count_on xs ys)
 count_on (Silence ∷ xs) ys = count_on xs ys
 
--- a text has two bytes at least before its rest for each character
+-- a text has at least two bytes before its rest for each character
 pub heard_few : (text : List ℕ) (heard : List Heard) (rest : List ℕ) → ReadsHeard text heard rest
     → 2 * count heard + length rest ≤ length text
 heard_few _ _ _ (items text chars rest r) = omega (arith, ReadsUpTo-few text chars rest r, count_chars chars)
@@ -104,7 +104,7 @@ heard_few _ _ _ (silence text chars next heard last r h) =
       count_chars chars,
     )
 
--- a reading that leaves as much as there was has read nothing
+-- a reading whose rest is as long as the text has read nothing
 heard_still : (text : List ℕ) (heard : List Heard) (rest : List ℕ) → ReadsHeard text heard rest → length rest ≡ length text → rest ≡ text
 heard_still _ _ _ (items text chars rest r) long = item_laws.still text chars rest r long
 heard_still _ _ _ (silence text chars next heard last r h) long =
@@ -114,7 +114,7 @@ heard_still _ _ _ (silence text chars next heard last r h) long =
 heard_none : NothingBegins []
 heard_none = record { no_piece = NoPieceBegins-nil; no_silence = λ begins. let is = begins.1 in absurd cc }
 
--- where nothing may begin nothing does
+-- where nothing can begin, nothing begins whatever follows
 heard_decided : (rest more : List ℕ) → NothingBegins rest → (MayBegin rest → ⊥) → NothingBegins (rest ++ more)
 heard_decided [] more stops none = absurd (none may_begin-nil)
 heard_decided (byte ∷ rest) more stops none = record {
@@ -125,7 +125,7 @@ heard_decided (byte ∷ rest) more stops none = record {
       stops.no_silence (rest, ap (λ n. n ∷ rest) same);
 }
 
--- texts with silences are a way to read texts
+-- reading texts with silences has the laws of a way to read texts
 pub heard_laws : Laws ReadsHeard NothingBegins
 heard_laws = record {
   more = heard_more;

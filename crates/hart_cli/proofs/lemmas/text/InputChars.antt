@@ -9,13 +9,13 @@ use Rattle.hart_cli.proofs.lemmas.text.Items.{NoPieceBegins-nil, ReadsUpTo-few, 
 use Rattle.hart_cli.proofs.lemmas.text.Items.{goes_on, spelling-length, stays}
 use Rattle.hart_cli.proofs.lemmas.text.Reads.{Laws, not_read, one_bad, one_hearing}
 
--- a reading that leaves as much as there was has read nothing
+-- a reading whose rest is as long as the text has read nothing
 still : (text : List ℕ) (chars : List Character) (rest : List ℕ) → ReadsUpTo text chars rest → length rest ≡ length text → rest ≡ text
 still _ _ _ (nothing rest) long = refl
 still _ _ _ (piece text p tail chars rest h r) long =
     absurd (omega (arith, long, ap length h.spelled, length-append (spelling p) tail, spelling-length p, ReadsUpTo-few tail chars rest r))
 
--- items are a way to read texts
+-- reading items has the laws of a way to read texts
 pub item_laws : Laws ReadsUpTo NoPieceBegins
 item_laws = record {
   more = ReadsUpTo-more;
@@ -29,11 +29,11 @@ item_laws = record {
   decided = λ rest more stops none p tail begins. none (record { more = more; piece = p; tail = tail; begins = begins });
 }
 
--- bad hex is at one place, after the same characters
+-- the bad hex of a text is at one place, after one list of characters
 pub one_place : (text : List ℕ) (xs ys : List Character) (p q : ℕ) → HasBadHex text xs p → HasBadHex text ys q → (xs ≡ ys) × (p ≡ q)
 one_place = one_bad ReadsUpTo NoPieceBegins item_laws
 
--- what has bad hex does not read to its end
+-- a text with bad hex does not read to its end
 pub not_both : (text : List ℕ) (xs ys : List Character) (p : ℕ) → ReadsUpTo text xs [] → HasBadHex text ys p → ⊥
 not_both = not_read ReadsUpTo NoPieceBegins item_laws
 

@@ -1,4 +1,4 @@
--- Texts of items: a text reads in one way, and what follows a text leaves what was read.
+-- Texts of items: a text reads in one way, and what follows a text does not change what was read.
 use Rattle.std.proofs.Common.{◌≡◌, ℕ, ◌+◌, ◌<◌, ◌≤◌, List, [], ◌∷◌, ◌++◌, length, drop, Option, refl, ◌*◌, arith, append-nil, append_assoc}
 use Rattle.std.proofs.lemmas.Grind.{common_steps}
 use Rattle.std.specs.Option.{option_to_list}
@@ -14,27 +14,27 @@ BeginsWith-more : (text tail more : List ℕ) (p : Piece) → BeginsWith text p 
 BeginsWith-more text [] more p h = grind (arith, append_assoc)
 BeginsWith-more text (n ∷ tail) more p h = grind (arith, append_assoc)
 
--- a text reads up to its rest, whatever follows
+-- a text reads in the same way up to its rest, whatever follows
 pub ReadsUpTo-more : (text : List ℕ) (chars : List Character) (rest more : List ℕ) → ReadsUpTo text chars rest
     → ReadsUpTo (text ++ more) chars (rest ++ more)
 ReadsUpTo-more _ _ _ more (nothing rest) = nothing (rest ++ more)
 ReadsUpTo-more _ _ _ more (piece text first tail chars rest h r) =
     search (piece, BeginsWith-more, ReadsUpTo-more tail chars rest more r)
 
--- a text reads up to its rest and on
+-- a text reads up to its rest, and then as the rest reads
 pub ReadsUpTo-on : (text : List ℕ) (xs : List Character) (rest : List ℕ) (ys : List Character) (last : List ℕ) → ReadsUpTo text xs rest
     → ReadsUpTo rest ys last → ReadsUpTo text (xs ++ ys) last
 ReadsUpTo-on _ _ _ ys last (nothing rest) k = k
 ReadsUpTo-on _ _ _ ys last (piece text first tail chars rest h r) k =
     search (append_assoc, piece, ReadsUpTo-on tail chars rest ys last r k)
 
--- a reading goes on after a shorter one
+-- a reading continues a shorter one
 pub record GoesOn (xs : List Character) (rest : List ℕ) (ys : List Character) (last : List ℕ) : Type 0 where
   pub between : List Character
   pub reads : ReadsUpTo rest between last
   pub chars : ys ≡ xs ++ between
 
--- a reading up to where no piece begins goes on after each other one
+-- a reading that stops where no piece begins continues every other reading of the text
 pub goes_on : (text : List ℕ) (xs : List Character) (rest : List ℕ) (ys : List Character) (last : List ℕ) → ReadsUpTo text xs rest
     → ReadsUpTo text ys last → NoPieceBegins last → GoesOn xs rest ys last
 goes_on _ _ _ ys last (nothing rest) k n = record { between = ys; reads = k; chars = refl }
@@ -52,7 +52,7 @@ pub one_reading : (text : List ℕ) (xs : List Character) (rest : List ℕ) (ys 
     → ReadsUpTo text ys last → NoPieceBegins rest → NoPieceBegins last → (xs ≡ ys) × (rest ≡ last)
 one_reading text xs rest ys last h k n m = grind (arith, append-nil, goes_on, stays)
 
--- a piece has a length
+-- a piece has at least one byte
 pub spelling-length : (p : Piece) → 0 < length (spelling p)
 spelling-length p = grind (arith, common_steps)
 
@@ -60,13 +60,13 @@ spelling-length p = grind (arith, common_steps)
 pub NoPieceBegins-nil : NoPieceBegins []
 NoPieceBegins-nil p tail h = grind (arith, common_steps)
 
--- a piece is read
+-- a text that begins with a piece reads as the character of that piece, up to the rest
 pub begins_reads : (text : List ℕ) (char : Option Character) (len : ℕ) → BeginsAs text char len
     → (0 < len) × (len ≤ length text) × ReadsUpTo text (option_to_list char) (drop len text)
 begins_reads text char len b =
     let read = piece text b.piece b.tail [] b.tail b.begins (nothing b.tail) in grind (arith, common_steps)
 
--- a text has two bytes at least before its rest for each character
+-- a text has at least two bytes before its rest for each character
 pub ReadsUpTo-few : (text : List ℕ) (chars : List Character) (rest : List ℕ) → ReadsUpTo text chars rest
     → 2 * length chars + length rest ≤ length text
 ReadsUpTo-few _ _ _ (nothing rest) = omega arith

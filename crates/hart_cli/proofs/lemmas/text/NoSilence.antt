@@ -24,7 +24,7 @@ reads_plain _ _ _ (items text chars rest r) none = (chars, refl, r)
 reads_plain _ _ _ (silence text chars rest heard last r h) none =
     let (before, is) = rest_of text chars (47 ∷ rest) r in absurd (none before rest is)
 
--- a byte that is not in a text is not in it with another one after it
+-- a byte that is not in a text is not in it with a different byte after it
 not_after : (last byte : ℕ) → last ≢ byte → (text before rest : List ℕ) → ((p r : List ℕ) → text ≡ p ++ byte ∷ r → ⊥)
     → text ++ last ∷ [] ≡ before ++ byte ∷ rest → ⊥
 not_after last byte differ [] [] rest none is = let same : last ≡ byte = cc in differ same
@@ -37,16 +37,16 @@ not_after last byte differ (x ∷ text) (b ∷ before) rest none is =
     let later : text ++ last ∷ [] ≡ before ++ byte ∷ rest = cc in
     not_after last byte differ text before rest (λ p r e. none (x ∷ p) r (ap (λ ys. x ∷ ys) e)) later
 
--- nor has it a silence with a space after it
+-- a text without a silence has none with a space after it
 no_silence_closed : (text : List ℕ) → HasNoSilence text → HasNoSilence (closed text)
 no_silence_closed text none before rest is = not_after 32 47 (λ same. omega (arith, same)) text before rest none is
 
--- more than something is something
+-- a list that is not empty stays so with more after it
 some_more : (rest more : List ℕ) → rest ≢ [] → rest ++ more ≢ []
 some_more [] more some = absurd (some refl)
 some_more (n ∷ rest) more some = λ is. absurd cc
 
--- bad hex that is decided of it is decided of items
+-- bad hex decided for a text read with silences is decided for the text read as items
 bad_plain : (text : List ℕ) (heard : List Heard) (chars : List Character) (place : ℕ)
     → (k : (more : List ℕ) → HasBadHexBy ReadsHeard NothingBegins (text ++ more) heard place) → (rest : List ℕ)
     → ReadsHeard text heard rest → ReadsUpTo text chars rest → place + length rest ≡ length text → rest ≢ [] → (more : List ℕ)

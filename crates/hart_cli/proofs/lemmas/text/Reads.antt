@@ -1,4 +1,4 @@
--- An input reads in one way, by any way to read texts that has these laws.
+-- An input reads in one way, whichever way to read texts with these laws is used.
 use Rattle.std.proofs.Common.{◌≡◌, ◌≢◌, ◌≤◌, ◌+◌, ◌∙◌, ℕ, List, [], ◌∷◌, ◌++◌, length, Option, Some, refl, sym, ap, arith}
 use Rattle.std.proofs.Common.{append-nil, append_assoc, length-append}
 use Rattle.std.proofs.lemmas.Grind.{common_steps}
@@ -9,8 +9,8 @@ use Rattle.hart_cli.specs.input.Input.{CameTo, Ending, Left}
 use Rattle.hart_cli.specs.text.InputChars.{HasHeardBy, all, bad_hex, decided_bad_hex, failure, limit}
 use Rattle.hart_cli.specs.text.Items.{HasBadHexBy, MayBegin, NoPieceBegins, ReadsSoFarBy, Separator, closed}
 
--- a way to read texts: more text leaves what was read; it goes on from where it came to, and no other way; it stops only where no piece
--- begins, and stays there
+-- the laws of a way to read texts: more text does not change what was read; a reading goes on from its rest, and in one way;
+-- it stops only where no piece begins, and reads nothing there
 pub record Laws {Heard : Type 0} (Reads : List ℕ → List Heard → List ℕ → Type 0) (Stops : List ℕ → Type 0) : Type 0 where
   pub more : (text : List ℕ) (heard : List Heard) (rest more : List ℕ) → Reads text heard rest → Reads (text ++ more) heard (rest ++ more)
   pub on : (text : List ℕ) (xs : List Heard) (rest : List ℕ) (ys : List Heard) (last : List ℕ) → Reads text xs rest → Reads rest ys last
@@ -28,7 +28,7 @@ pub record Laws {Heard : Type 0} (Reads : List ℕ → List Heard → List ℕ �
 pub may_begin-nil : MayBegin []
 may_begin-nil = record { more = 32 ∷ []; piece = Separator 32; tail = []; begins = grind (arith, common_steps) }
 
--- what is more than no beginning of a piece is more than nothing
+-- a rest in which no piece may begin is not empty, whatever follows it
 some_rest : (rest more : List ℕ) → (MayBegin rest → ⊥) → rest ++ more ≢ []
 some_rest [] more none = absurd (none may_begin-nil)
 some_rest (byte ∷ rest) more none = λ is. absurd cc
@@ -43,25 +43,25 @@ module _ {Heard : Type 0} (Reads : List ℕ → List Heard → List ℕ → Type
       let same : xs ++ between ≡ xs = rw (stay.0, append-nil) refl in
       (sym (split ∙ same), stay.1)
 
-  -- bad hex is at one place, after the same things
+  -- the bad hex of a text is at one place, after one list of things heard
   pub one_bad : (text : List ℕ) (xs ys : List Heard) (p q : ℕ) → HasBadHexBy Reads Stops text xs p → HasBadHexBy Reads Stops text ys q
       → (xs ≡ ys) × (p ≡ q)
   one_bad text xs ys p q h k =
       let same = one_way text xs h.rest ys k.rest h.reads k.reads h.no_piece k.no_piece in
       (same.0, omega (arith, h.begins, k.begins, ap length same.1))
 
-  -- what has bad hex does not read to its end
+  -- a text with bad hex does not read to its end
   pub not_read : (text : List ℕ) (xs ys : List Heard) (p : ℕ) → Reads text xs [] → HasBadHexBy Reads Stops text ys p → ⊥
   not_read text xs ys p h k =
       let same = one_way text xs [] ys k.rest h k.reads laws.none k.no_piece in
       k.more (sym same.1)
 
-  -- what has bad hex whatever follows has it as it stands
+  -- a text that has bad hex whatever follows has it if nothing follows
   pub now_bad : (text : List ℕ) (heard : List Heard) (place : ℕ) → ((more : List ℕ) → HasBadHexBy Reads Stops (text ++ more) heard place)
       → HasBadHexBy Reads Stops text heard place
   now_bad text heard place h = rw append-nil at (h [])
 
-  -- what has bad hex that is decided may not go on
+  -- a text in whose rest a piece may begin has no decided bad hex
   not_decided : (text : List ℕ) (xs ys : List Heard) (place : ℕ) → ReadsSoFarBy Reads Stops text xs
       → ((more : List ℕ) → HasBadHexBy Reads Stops (text ++ more) ys place) → ⊥
   not_decided text xs ys place h k =
@@ -91,7 +91,7 @@ module _ {Heard : Type 0} (Reads : List ℕ → List Heard → List ℕ → Type
   one_hearing text _ _ _ _ _ (limit xs h) (limit ys k) =
       ((one_way text xs h.rest ys k.rest h.reads k.reads h.no_piece k.no_piece).0, refl)
 
-  -- an input that came to an end is not heard otherwise than if it had been left
+  -- an input that came to an end is heard as if it had been left
   one_heard : (text : List ℕ) (end : InputEnd) (xs ys : List Heard) (f g : Option CliFault)
       → HasHeardBy Reads Stops text (CameTo end) xs f → HasHeardBy Reads Stops text Left ys g → (xs ≡ ys) × (f ≡ g)
   one_heard text _ _ _ _ _ (all xs h) (decided_bad_hex ys q k) = absurd (not_read (closed text) xs ys q h (k (32 ∷ [])))
@@ -100,19 +100,19 @@ module _ {Heard : Type 0} (Reads : List ℕ → List Heard → List ℕ → Type
   one_heard text _ _ _ _ _ (failure xs h) (decided_bad_hex ys q k) = absurd (not_decided text xs ys q h k)
   one_heard text _ _ _ _ _ (limit xs h) (decided_bad_hex ys q k) = absurd (not_decided text xs ys q h k)
 
-  -- nor is any input
+  -- each input is heard as if it had been left
   pub one_left : (text : List ℕ) (ending : Ending) (xs ys : List Heard) (f g : Option CliFault)
       → HasHeardBy Reads Stops text ending xs f → HasHeardBy Reads Stops text Left ys g → (xs ≡ ys) × (f ≡ g)
   one_left text Left xs ys f g h k = one_hearing text Left xs ys f g h k
   one_left text (CameTo end) xs ys f g h k = one_heard text end xs ys f g h k
 
-  -- bad hex that is decided stays, whatever comes
+  -- decided bad hex stays, whatever follows
   pub left_more : (input more : List ℕ) (heard : List Heard) (fault : Option CliFault) → HasHeardBy Reads Stops input Left heard fault
       → HasHeardBy Reads Stops (input ++ more) Left heard fault
   left_more input more _ _ (decided_bad_hex heard place k) =
       decided_bad_hex heard place (λ later. rw append_assoc (k (more ++ later)))
 
-  -- what an input reads as stays, whatever comes
+  -- what an input reads as comes first in what is heard, whatever follows
   pub grows : (input more : List ℕ) (ending : Ending) (xs ys : List Heard) (fault : Option CliFault) (rest : List ℕ)
       → Reads input xs rest → HasHeardBy Reads Stops (input ++ more) ending ys fault → (between : List Heard) × (ys ≡ xs ++ between)
   grows input more _ xs _ _ rest reads (all ys h) =

@@ -9,7 +9,7 @@ use Rattle.hart_commands.specs.Commands.{seen_command}
 use Rattle.hart_commands.proofs.lemmas.Rows.{find-map}
 use Rattle.hart_commands.proofs.commands.find_row.Goals as goal
 
--- The first row with the number is the first of them that is seen to have it.
+-- The row that the code finds is the first one with the number in the definitions.
 pub returns : goal.returns
 returns c =
     let first : option_map (λ row. row.now) c.find.result ≡ find (λ row. row.number == c.args.command) c.args.rows.now =

@@ -24,7 +24,7 @@ named : AllByRecursion (λ row. IsNamed row.command) commands
 unfolding text
 named = search rules
 
--- of commands that have names of their own, those with the same name have the same number
+-- if each command has a name of its own, commands with the same name have the same number
 names_differ : (number : List ℕ → Option ℕ) (command other : ℕ)
     → IfSome (known command) (λ told. (told.number ≡ command) × (number told.name ≡ Some told.number))
     → IfSome (known other) (λ told. (told.number ≡ other) × (number told.name ≡ Some told.number))

@@ -6,7 +6,7 @@ use Rattle.hart_commands.specs.Fields.{fields_of}
 use Rattle.hart_commands.proofs.lemmas.RequestMade.{begun}
 use Rattle.hart_commands.proofs.laws.read_data_begin_as_written.Goals as goal
 
--- An address without its mode is the first of the two fields.
+-- The data of Command 6 without the mode are the first of its two fields.
 first_field : (written : List ℕ) → length written ≡ 2
     → fields_of (request_rows 6) (take 1 written) ≡ take 1 (fields_of (request_rows 6) written)
 unfolding known

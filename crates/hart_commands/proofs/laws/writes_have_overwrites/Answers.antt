@@ -19,7 +19,7 @@ returns-clause-some_register c (WriteAssembly assembly) write = (Assembly, cc)
 returns-clause-some_register c (WriteLongTag long_tag) write = (LongTag, cc)
 returns-clause-some_register c _ write = cc
 
--- The row of each has a register for each part.
+-- The row of every configuration write has a register for each part of the data.
 pub returns-clause-every_part : goal.returns-clause-every_part
 unfolding written_by
 returns-clause-every_part c (SetPolling address mode) write = refl
@@ -29,7 +29,7 @@ returns-clause-every_part c (WriteAssembly assembly) write = refl
 returns-clause-every_part c (WriteLongTag long_tag) write = refl
 returns-clause-every_part c _ write = cc
 
--- Only a command that writes a register has a part for one.
+-- Only a command that writes a register has a part of its data for a register.
 only : (register : Register) (written : List Register) (parts : List (List ℕ)) → IsSome (part_for register written parts)
     → IsTrue (are_some written)
 only register [] parts some = cc

@@ -10,12 +10,12 @@ use Rattle.hart_device.proofs.image.read_version_1.Goals as goal
 pub returns-then-rest-clause-refused : goal.returns-then-rest-clause-refused
 returns-then-rest-clause-refused c = (registers_of_version_1, refl, λ same. absurd (c.if-rest.true (omega (arith, same))))
 
--- Every register but the long tag stands in the 50 bytes that the registers of version 1 have, whatever follows.
+-- Every register but the long tag stands in the 50 bytes of the registers of version 1, whatever follows.
 stands_before : (prefix others : List ℕ) → length prefix ≡ 50 → (register : Register) → register ≢ LongTag
     → standing_for register (prefix ++ others) ≡ standing_for register prefix
 stands_before prefix others len register differ = grind (arith, common_steps, before_others)
 
--- What the image has for a register is read of the array.
+-- The array holds what the image holds for each register but the long tag.
 is_read : (c : goal.After-ok_or) (register : Register) → register ≢ LongTag
     → standing_for register c.set_long_tag.new.self.bytes ≡ standing_for register c.split_at.result.0.now
 is_read c register differ =

@@ -14,7 +14,7 @@ use Rattle.hart_device.specs.declared.process.Process.{Process}
 use Rattle.hart_device.proofs.lemmas.answer.Effect.{answered_if}
 use Rattle.hart_device.proofs.laws.cold_starts_are_shown_once.Goals as goal
 
--- no effect is one on a cold start bit
+-- no effect changes a cold start bit
 effect_keeps : (master : MasterId) (effect : Effect) (state : DeviceState) → (after master effect state).cold_start ≡ state.cold_start
 effect_keeps master effect state = grind arith
 

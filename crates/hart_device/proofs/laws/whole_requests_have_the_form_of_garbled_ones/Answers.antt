@@ -19,12 +19,12 @@ no_fault : (bit : ℕ) (bytes : List ℕ) → has_fault bit (faultless bytes) �
 no_fault bit [] = refl
 no_fault bit (byte ∷ bytes) = grind (arith, nat_tests, bit_at-zero, no_fault bit bytes)
 
--- they have a bit as often as their bytes
+-- faultless characters have a bit as often as their bytes
 counted : (bit : ℕ) (bytes : List ℕ) → count_by (λ (c : Character). bit_at c.byte bit == 1) (faultless bytes) ≡ bit_count bit bytes
 counted bit [] = refl
 counted bit (byte ∷ bytes) = simp (sum_by-cons, counted bit bytes)
 
--- an even number of them has each bit
+-- of the characters of a whole body, an even number has each bit
 none_odd : (bit : ℕ) (bytes : List ℕ) → bit < 8 → HasEvenParity bytes → is_odd (faultless bytes) bit ≡ false
 none_odd bit bytes small parity = grind (arith, nat_tests, counted bit bytes, parity.even bit small)
 
@@ -32,12 +32,12 @@ none_odd bit bytes small parity = grind (arith, nat_tests, counted bit bytes, pa
 no_communication_faults : (bytes : List ℕ) → HasEvenParity bytes → communication_faults (faultless bytes) ≡ 0
 no_communication_faults bytes parity = simp (no_fault, none_odd, arith)
 
--- its master is named by the top bit of its address
+-- the top bit of an address names the master
 master_named : (master : MasterId) (six_bits : ℕ) → six_bits < 64
     → (if nat_lt (first_byte master false six_bits) 128 then Secondary else Primary) ≡ master
 master_named master six_bits small = grind (arith, nat_tests)
 
--- the form of a request, byte by byte
+-- a request has the form of a garbled one, byte by byte
 pub returns : goal.returns
 returns c identity master command payload body is =
     let bytes = is.checked_part.address_bytes in

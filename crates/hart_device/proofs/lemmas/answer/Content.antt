@@ -33,7 +33,7 @@ use Rattle.hart_commands.specs.declared.register.Register.TheVariants as registe
 use Rattle.hart_commands.specs.declared.request.Request.TheVariants as requested
 
 -- LISTS
--- Things of n bytes each, end to end, are read one by one.
+-- Items of `n` bytes each that are written end to end are read back one by one.
 end_to_end : {X : Type 0} (n : ℕ) (bytes_of : X → List ℕ) (of : List ℕ → X) (Sized : X → Type 0)
     → ((x : X) → Sized x → length (bytes_of x) ≡ n) → ((x : X) → Sized x → of (bytes_of x) ≡ x)
     → (xs : List X) (rest : List ℕ) → All Sized xs
@@ -53,7 +53,7 @@ end_to_end n bytes_of of Sized size back (x ∷ xs) rest all =
     )
 
 -- CONTENTS
--- A content of a command is read again from its bytes.
+-- The content of a command is read again from its bytes.
 abbrev pub IsReadAgain : ℕ → ReplyContent → Type 0
 IsReadAgain command content = content_reading command (content_bytes content) ≡ Some content
 

@@ -1,4 +1,4 @@
--- A delivery brings a device one thing, and the reply to a garbled request is the answer to it.
+-- A delivery brings a device one thing. If that is a garbled request, the reply to it is the answer.
 use Rattle.std.proofs.Common.{◌≡◌, inl, inr, List, [], ◌∷◌, ap, ◌∙◌, refl, Option, None, Some, arith}
 use Rattle.std.proofs.lemmas.Grind.{common_steps}
 use Rattle.std.specs.Option.{MatchOption}
@@ -14,12 +14,12 @@ use Rattle.hart_device.specs.declared.identity_parts.IdentityParts.{IdentityPart
 use Rattle.hart_device.specs.declared.process.Process.{Process}
 use Rattle.hart_device.proofs.lemmas.answer.Garbled.{garbled_decided, garbled_one}
 
--- a delivery brings one thing at most
+-- a delivery brings at most one thing
 pub deliveries_bring_one-one : (identity : IdentityParts) (chars : List Character) (a b : Brought)
     → Brings identity chars a → Brings identity chars b → a ≡ b
 deliveries_bring_one-one identity chars a b p q = grind (arith, common_steps, frames_are_unambiguous-one_list, garbled_one)
 
--- so that every delivery brings something
+-- every delivery brings something, whatever frames it has
 BringsBy-found : (identity : IdentityParts) (chars : List Character) (frames : List Found)
     → (brought : Brought) × BringsBy identity chars frames brought
 BringsBy-found identity chars [] = elim (garbled_decided identity chars) [
@@ -35,7 +35,7 @@ deliveries_bring_one-brings identity chars =
     let frames = every_list_has_frames chars 0 in
     let brings = BringsBy-found identity chars frames.0 in grind (arith, common_steps, frames_are_unambiguous-one_list)
 
--- so the reply to the garbled request of a delivery without a frame is the answer to what that brings
+-- whether an answer is the reply to the garbled request of a delivery, or `None` if there is no such request
 abbrev pub IsGarbledReply : IdentityParts → List Character → Option FrameParts → Type 0
 IsGarbledReply identity chars answer = MatchOption answer ((request : GarbledRequest) → HasGarbled identity chars request → ⊥)
     (λ reply. (request : GarbledRequest) × HasGarbled identity chars request × (reply ≡ garbled_reply identity request))

@@ -1,4 +1,4 @@
--- What a command does to a device, and that its answer begins with its code.
+-- What a command does to a device. Its answer begins with its code.
 use Rattle.std.proofs.Common.{◌≡◌, ◌≢◌, ℕ, arith, slice_get, Bool, true, false, ◌==◌, ◌&&◌, if◌then◌else◌, Option, None, Some, IfSome, Ok}
 use Rattle.std.proofs.Common.{Err, refl}
 use Rattle.std.proofs.lemmas.Bool.Decides.{nat_tests}
@@ -24,24 +24,24 @@ pub refused : (answered : Bool) (code : ℕ) (effect : Effect) → code ≢ 0
     → (if answered && (code == 0) then effect else Nothing) ≡ Nothing
 refused answered code effect not_zero = grind (arith, nat_tests)
 
--- What a frame without effect leaves, if it is answered or not.
+-- A frame without effect changes at most the cold start bit of its master, and only if it is answered.
 pub without_effect : (answered : Bool) (master : MasterId) (effect : Effect) (state : DeviceState) → effect ≡ Nothing
     → (if answered then after_reply master (after master effect state) else state)
     ≡ record state { cold_start = if answered then with_master master false state.cold_start else state.cold_start }
 without_effect answered master effect state nothing = grind arith
 
--- What is carried out of a frame that is answered is what it is judged to ask.
+-- The effect of an answered frame is what the frame is judged to ask.
 pub effect_is_asked : (state : DeviceState) (frame : FrameParts) → is_answered state frame ≡ true
     → effect_of state frame ≡ asked_effect (judged_of state frame)
 effect_is_asked state frame answered = grind (arith, nat_tests)
 
--- A write executes its overwrite.
+-- A write request executes its overwrite.
 pub write_executes : (request : Request) (overwrite : Overwrite) → overwrite_of request ≡ Some overwrite
     → asked_effect (Ok request) ≡ Executes overwrite
 unfolding written_by
 write_executes request overwrite is = grind arith
 
--- An effect is that of an answer with code 0, and is what was asked: only a write executes an overwrite, its own.
+-- An overwrite is executed only with an answer of code 0, and it is that of the write that was asked.
 executes_if : (reading : Reading) (answered : Bool) (code : ℕ) (overwrite : Overwrite)
     → (if answered && (code == 0) then asked_effect reading else Nothing) ≡ Executes overwrite
     → (answered ≡ true) × (code ≡ 0) × (request : Request) × (reading ≡ Ok request) × (overwrite_of request ≡ Some overwrite)
@@ -60,18 +60,18 @@ pub writes_execute_their_overwrite-only : (state : DeviceState) (frame : FramePa
 writes_execute_their_overwrite-only state frame =
     executes_if (reading_of frame) (is_answered state frame) (code_of state frame)
 
--- An overwrite that is executed is a well-made request.
+-- An overwrite that a frame executes is a well-made request.
 pub writes_execute_their_overwrite-well_made : (state : DeviceState) (frame : FrameParts) (overwrite : Overwrite)
     → effect_of state frame ≡ Executes overwrite → IsRequest overwrite
 writes_execute_their_overwrite-well_made state frame overwrite is =
     let write = writes_execute_their_overwrite-only state frame overwrite is in
     grind (arith, requests_have_their_command)
 
--- Code 0 is what the data and the counter say.
+-- A frame has code 0 only if its data and the counter lead to code 0.
 pub code_good : (state : DeviceState) (frame : FrameParts) → code_of state frame ≡ 0 → data_code (reading_of frame) state.counter ≡ 0
 code_good state frame is = grind arith
 
--- A frame that is judged has its code.
+-- What a frame is judged to ask has the code of the frame.
 code_if : (reading : Reading) (counter code : ℕ) → (code ≡ 0 → data_code reading counter ≡ 0)
     → judged_code (if code == 0 then reading else Err code) ≡ code
 code_if reading counter code good = grind (arith, nat_tests)
@@ -79,7 +79,7 @@ code_if reading counter code good = grind (arith, nat_tests)
 judged_has_code : (state : DeviceState) (frame : FrameParts) → judged_code (judged_of state frame) ≡ code_of state frame
 judged_has_code state frame = code_if (reading_of frame) state.counter (code_of state frame) (code_good state frame)
 
--- So what the device replies to it is the reply to what it is judged to ask.
+-- The content of a reply is what is asked if the code is 0, and a refusal otherwise.
 content_judged : (state : DeviceState) (process : Process) (code : ℕ) (reading : Reading)
     → asked_content state process (if code == 0 then reading else Err code)
     ≡ (if code == 0 then asked_content state process reading else Refused)
@@ -96,7 +96,7 @@ pub resets_name_this_counter-only : (state : DeviceState) (frame : FrameParts) �
 resets_name_this_counter-only state frame =
     resets_if (reading_of frame) (is_answered state frame) (code_of state frame) state.counter (code_good state frame)
 
--- No effect changes who the device is, or whether it is protected.
+-- No effect changes the identity of a device, or its write protection.
 pub identity_stays : (answered : Bool) (master : MasterId) (effect : Effect) (state : DeviceState)
     → (if answered then after_reply master (after master effect state) else state).identity ≡ state.identity
 identity_stays answered master effect state = grind arith
@@ -108,7 +108,7 @@ protection_stays answered master effect state = grind arith
 pub none_if : {A : Type 0} (holds : Bool) (answer : A) → (if holds then Some answer else None) ≡ None → holds ≡ false
 none_if holds answer is = grind arith
 
--- An answer is the reply to its frame, whose payload begins with its code.
+-- An answer is a reply to its frame, and its payload begins with the code of the answer.
 pub answered_if : (holds : Bool) (frame reply : FrameParts) (answer : Reply)
     → (if holds then Some (reply_parts frame (reply_payload answer)) else None) ≡ Some reply
     → (holds ≡ true) × (reply ≡ reply_parts frame reply.payload) × (slice_get reply.payload 0 ≡ Some answer.code)

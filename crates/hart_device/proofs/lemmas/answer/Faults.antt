@@ -10,7 +10,7 @@ use Rattle.std.specs.List.{list_any}
 use Rattle.hart_frame.specs.heard.Character.{Character}
 use Rattle.hart_device.specs.answer.Garbled.{has_fault, has_odd_bit}
 
--- a fault is heard where its bit is
+-- a fault is heard if a character has the bit of the fault
 pub fault_found : (chars : List Character) (fault bit : ℕ) → fault ≡ 2 ^ bit
     → list_any (λ character. not (bit_and character.faults fault == 0)) chars ≡ has_fault bit chars
 fault_found [] fault bit is = refl
@@ -21,11 +21,11 @@ fault_found (c ∷ chars) fault bit is =
 abbrev pub count : ℕ → List Character → ℕ
 count bit chars = count_by (λ character. bit_at character.byte bit == 1) chars
 
--- the bits of a check byte
+-- each bit of a check byte says whether an odd number of characters have the bit
 abbrev pub IsCheck : List Character → ℕ → Type 0
 IsCheck chars check = (bit : ℕ) → bit_at check bit ≡ count bit chars % 2
 
--- a check byte is zero unless some bit is odd
+-- a check byte is 0 unless an odd number of characters have some bit
 pub odd_is : (chars : List Character) (check : ℕ) → IsCheck chars check → check < 256 → not (check == 0) ≡ has_odd_bit chars
 odd_is chars check is small = grind (arith, nat_tests, is 0, is 1, is 2, is 3, is 4, is 5, is 6, is 7)
 

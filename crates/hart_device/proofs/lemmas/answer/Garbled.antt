@@ -1,4 +1,4 @@
--- That a list of characters has one garbled request, or none, and that its address is the device's own.
+-- A list of characters has at most one garbled request, and its address is the device's own.
 use Rattle.std.proofs.Common.{nat_lt, if◌then◌else◌, not, ◌≡◌, ℕ, ◌<◌, ◌%◌, ◌⊎◌, ◌↔◌, inl, inr, List, [], ◌∷◌, ◌++◌, All, drop, None, Some}
 use Rattle.std.proofs.Common.{Bool, IsTrue, refl, arith, Option, MatchOption, sym}
 use Rattle.std.proofs.lemmas.Bool.Decides.{nat_tests}
@@ -16,7 +16,7 @@ use Rattle.hart_device.specs.answer.Garbled.{HasGarbled, garbled_request, is_own
 use Rattle.hart_device.specs.declared.answer.garbled.GarbledRequest.{GarbledRequest}
 use Rattle.hart_device.specs.declared.identity_parts.IdentityParts.{IdentityParts}
 
--- what a list has, it has at any first start of it
+-- the garbled request of a list is found at each first start of the list
 pub has_at : (identity : IdentityParts) (chars : List Character) (request : GarbledRequest) (start : ℕ) → IsFirstStart start chars
     → HasGarbled identity chars request → garbled_request identity (drop start chars) ≡ Some request
 has_at identity chars request start first has =
@@ -27,7 +27,7 @@ pub garbled_one : (identity : IdentityParts) (chars : List Character) (request o
 garbled_one identity chars request other p q =
     let same = has_at identity chars request q.start q.first_start p in cc
 
--- a list has the garbled request with which it begins at its first start, or none
+-- whether the result is the garbled request of a list, or `None` if the list has none
 abbrev pub Has : IdentityParts → List Character → Option GarbledRequest → Type 0
 Has identity chars result =
     MatchOption result ((request : GarbledRequest) → HasGarbled identity chars request → ⊥) (HasGarbled identity chars)
@@ -51,7 +51,7 @@ garbled_decided identity chars = elim (first_starts_are_decided-decided chars) [
     go None none = inr none
     go (Some request) has = inl (request, has)
 
--- the bytes of numbers, below the two bits on top of the first, are those of a unique address
+-- each first byte is that of an address with some master bit and burst bit
 first_of : (first : ℕ) → first < 256 → (master : MasterId) × (burst : Bool) × (first ≡ first_byte master burst (first % 64))
 first_of first small = (if nat_lt first 128 then Secondary else Primary, not (nat_lt (first % 128) 64), grind (arith, nat_tests))
 
@@ -65,7 +65,7 @@ pub own_named : (identity : IdentityParts) (master : MasterId) (burst : Bool) (b
     → IsUniqueBytes master burst (own_numbers identity) bytes → IsTrue (is_own_address identity bytes)
 own_named identity master burst bytes is = grind (arith, nat_tests)
 
--- so bytes name the device itself if they are those of its own address, for either master and with any burst bit
+-- bytes name the device itself if they are its own address, for either master and with either burst bit
 pub own_address : (identity : IdentityParts) (bytes : List ℕ) → All (λ byte. byte < 256) bytes
     → IsTrue (is_own_address identity bytes)
     ↔ ((master : MasterId) × (burst : Bool) × IsAddressBytes master burst (Unique (own_numbers identity)) bytes)

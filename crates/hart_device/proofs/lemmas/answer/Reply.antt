@@ -1,4 +1,4 @@
--- What a device replies to a command that is known is read again from its payload.
+-- What a device replies to a known command is read again from its payload.
 use Rattle.std.proofs.Common.{◌≡◌, ℕ, ◌<◌, List, ◌==◌, Some, Ok, Err, refl, subst, arith, Bool, true}
 use Rattle.std.proofs.lemmas.Bool.Decides.{nat_tests}
 use Rattle.std.proofs.lemmas.Grind.{common_steps}
@@ -21,7 +21,7 @@ use Rattle.hart_device.specs.declared.process.Process.{Process}
 use Rattle.hart_device.proofs.lemmas.answer.Content.{content_again}
 use Rattle.hart_device.proofs.lemmas.answer.Effect.{judged_reply, writes_execute_their_overwrite-well_made}
 
--- A frame comes to a well-made request of its command, or to a code from 1 to 127 that refuses it.
+-- A frame is read as a well-made request of its command, or refused with a code from 1 to 127.
 abbrev pub IsJudged : ℕ → Reading → Type 0
 IsJudged command (Ok request) = (command_of request ≡ command) × IsRequest request
 IsJudged command (Err code) = (0 < code) × (code < 128)
@@ -44,7 +44,7 @@ after_valid : (master : MasterId) (effect : Effect) (state : DeviceState)
 after_valid master (Executes overwrite) state made valid = overwrites_are_valid overwrite state.contents (made overwrite refl) valid
 after_valid master _ state made valid = valid
 
--- What a device replies to a command that is known is read as that reply.
+-- The reply of a device to a known command is read as that reply.
 pub reply_read : (state : DeviceState) (process : Process) (frame : FrameParts) → AreValid state.contents → IsProcess process
     → is_known frame.command ≡ true
     → reply_reading frame.command (reply_payload (reply_of state process frame)) ≡ Some (reply_of state process frame)

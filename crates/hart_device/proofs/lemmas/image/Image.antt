@@ -1,4 +1,4 @@
--- What an image says, and that it says one thing.
+-- What an image says, and that it says only that.
 use Rattle.std.proofs.Common.{◌≡◌, ◌≢◌, suc, ℕ, ◌-◌, ◌^◌, ◌<◌, ◌≤◌, ◌⊎◌, inl, inr, refl, sym, ◌∙◌, subst, arith, Bool, true, Some, List, [], ◌∷◌}
 use Rattle.std.proofs.Common.{◌++◌, drop, length, slice_index, Option, IfSome, IfNone, IfOk, IfErr}
 use Rattle.std.proofs.lemmas.Bool.Decides.{nat_tests}
@@ -27,7 +27,7 @@ use Rattle.hart_device.specs.registers.Values.{values_of}
 use Rattle.hart_device.proofs.lemmas.registers.Range.{end_to_end, filled, length_written, written}
 use Rattle.hart_device.proofs.lemmas.registers.Registers.{bytes_in-contents_by, same_contents}
 
--- What holds of the registers of version 1, which are all but the long tag, and of all, holds of those of a version that is known.
+-- What holds of the registers of version 1 and of all registers holds of the registers of every known version.
 by_version : (P : List Register → Type 0) → P registers_of_version_1 → P registers → (version : ℕ) (listed : List Register)
     → registers_of_version version ≡ Some listed → P listed
 by_version P first second version listed known = grind (arith, nat_tests)
@@ -44,7 +44,7 @@ in_version_1 register differs =
     let there = all_registers_are_listed_once-every register in
     (there.0, grind (arith, elements, there.1, there.2), grind (arith, elements, there.1, there.2))
 
--- A register that a version has not is the long tag.
+-- Each register is in the list, or it is the long tag and the tag is in the list.
 abbrev pub HasOrNot : List Register → Type 0
 HasOrNot listed =
     (register : Register) → Contains listed register ⊎ ((register ≡ LongTag) × (Contains listed LongTag → ⊥) × Contains listed Tag)
@@ -56,12 +56,12 @@ listed_or_not = by_version HasOrNot in_first (λ register. inl (all_registers_ar
     in_first LongTag = inr (refl, λ has. no_long_tag LongTag has refl, in_version_1 Tag (λ e. cc))
     in_first r = inl (in_version_1 r (λ e. cc))
 
--- A state has one image of each version.
+-- A state has at most one image of each version.
 pub one_image : (state : DeviceState) (image other : List ℕ) (is : IsImageOf state image) (other_is : IsImageOf state other)
     → is.version ≡ other_is.version → image ≡ other
 one_image state image other is other_is same = cc
 
--- What a device writes is an image of it.
+-- The image that a device writes is an image of its state.
 pub written_is : (state : DeviceState) → AreValid state.contents → state.counter < 2 ^ 16 → IsImageOf state (image_of state)
 written_is state valid counter = record {
   contents = valid;
@@ -73,19 +73,19 @@ written_is state valid counter = record {
   written = refl;
 }
 
--- An image is one of a state whichever cold start bits are set.
+-- An image of a state is also one of the state with other cold start bits.
 pub devices_are_kept_whole-any_cold_start : (state : DeviceState) (image : List ℕ) (cold_start : EachMaster Bool) → IsImageOf state image
     → IsImageOf (record state { cold_start = cold_start }) image
 devices_are_kept_whole-any_cold_start state image cold_start is = grind (arith, common_steps, written)
 
--- What stands for a register in an image that has it is what it holds.
+-- What stands for a register in an image is what the register holds.
 held_in_image : (state : DeviceState) (image : List ℕ) (is : IsImageOf state image) (register : Register) → Contains is.listed register
     → standing_for register (drop 1 image) ≡ bytes_in state.contents register
 held_in_image state image is register there =
     rw is.written (rw there.2 at (written (bytes_in state.contents) [] (image_ending state) is.listed
     (ends_of is.version is.listed is.known) (λ r. (is.contents r).0) there.0 register there.1))
 
--- Registers that stand the same in an array and in the bytes of a version are these bytes.
+-- Two functions that agree on every register of a list give the same bytes for the whole list.
 same_bytes : (f g : Register → List ℕ) (listed : List Register)
     → ((register : Register) → Contains listed register → f register ≡ g register) → flat_map f listed ≡ flat_map g listed
 same_bytes f g [] same = refl
@@ -93,7 +93,7 @@ same_bytes f g (register ∷ later) same =
     let rest = same_bytes f g later (λ r there. same r (suc there.0, omega (arith, there.1), there.2)) in
     grind (arith, same register (0, omega arith, refl), rest)
 
--- What was read of the registers in an array, and of the bytes that end an image, is what the image says.
+-- What was read from the registers in an array, and from the last bytes of an image, is what the image says.
 pub read_is : (version : ℕ) (listed : List Register) → registers_of_version version ≡ Some listed
     → (parts : ImageParts) (array prefix end : List ℕ) → length prefix ≡ sum_by size_of listed
     → ((register : Register) → Contains listed register → standing_for register array ≡ standing_for register prefix)
@@ -122,12 +122,12 @@ pub last_is : (version : ℕ) (prefix end : List ℕ) → length end ≡ 3
 last_is version prefix end three =
     grind (arith, common_steps, elements)
 
--- What stands for a register before the end of some bytes stands for it also if others follow them.
+-- A register that ends within some bytes has the same bytes if others follow.
 pub before_others : (register : Register) (prefix others : List ℕ) → end_of register ≤ length prefix
     → standing_for register (prefix ++ others) ≡ standing_for register prefix
 before_others register prefix others fits = grind (arith, common_steps, between_is, take-append-le)
 
--- A register that is bad in the array, or bad flags in the bytes that end an image, are a bad field.
+-- An image with an invalid register, or with flags that are too great, has a bad field.
 pub bad_field : (version : ℕ) (listed : List Register) → registers_of_version version ≡ Some listed → (array prefix end : List ℕ)
     → length prefix ≡ sum_by size_of listed → length end ≡ 3
     → ((register : Register) → register ≢ LongTag → Contains listed register)
@@ -136,7 +136,7 @@ pub bad_field : (version : ℕ) (listed : List Register) → registers_of_versio
 bad_field version listed known array prefix end long three has whole bad =
     (listed, known, grind (arith, common_steps), grind (arith, has, whole, last_is))
 
--- What is read, if anything, or a fault.
+-- If nothing was read, the fault is the right one; if something was, what is known of it is kept.
 pub refused_or : {A E Bad : Type 0} (P : E → Type 0) (read : Option A) (fault : E) → IfNone read Bad → (Bad → P fault)
     → IfErr (ok_or read fault) P
 refused_or P read fault bad gives = grind (arith, gives)
@@ -145,7 +145,7 @@ pub kept_or : {A E : Type 0} (P Q R S : A → Type 0) (read : Option A) (fault :
     → ((x : A) → P x → Q x → R x → S x) → IfOk (ok_or read fault) S
 kept_or P Q R S read fault p q r gives = grind (arith, gives)
 
--- An image has no fault.
+-- An image of a state has no fault.
 pub images_have_no_fault : (state : DeviceState) (image : List ℕ) (fault : DeviceFault) → IsImageOf state image
     → IsImageFault image fault → ⊥
 images_have_no_fault state [] fault is faulty = let none = is.written in cc
@@ -160,11 +160,11 @@ images_have_no_fault state (version ∷ rest) BadField is (listed, known, len, i
     grind (arith, last, above, is.written)
 images_have_no_fault state (version ∷ rest) _ is faulty = faulty
 
--- Bytes have one fault.
+-- The bytes of an image have at most one fault.
 pub one_fault : (image : List ℕ) (fault other : DeviceFault) → IsImageFault image fault → IsImageFault image other → fault ≡ other
 one_fault image fault other p q = grind (arith, nat_tests)
 
--- An image is of one state.
+-- Two states with the same image, identity and cold start bits are equal.
 pub one_state : (state other : DeviceState) (image : List ℕ) → IsImageOf state image → IsImageOf other image
     → state.identity ≡ other.identity → state.cold_start ≡ other.cold_start → state ≡ other
 one_state state other image is other_is identity cold_start =

@@ -9,12 +9,12 @@ use Rattle.hart_commands.specs.declared.register.Register.{Register}
 use Rattle.hart_commands.specs.declared.register.Register.TheVariants.{Polling}
 use Rattle.hart_device.specs.registers.Ranges.{end_of, standing_for, start_of}
 
--- Each register of a list starts where the one before it ends, and the first at a place.
+-- Whether the first register of a list starts at a place, and each other one where the one before it ends.
 abbrev pub end_to_end : ℕ → List Register → Bool
 end_to_end from [] = true
 end_to_end from (register ∷ later) = (start_of register == from) && end_to_end (end_of register) later
 
--- Ranges that stand end to end fill what they span.
+-- Registers whose ranges stand end to end fill the array from the first one on.
 pub filled : (array : List ℕ) (from : ℕ) (held : List Register) → end_to_end from held ≡ true
     → from + sum_by size_of held ≡ length array → flat_map (λ register. standing_for register array) held ≡ drop from array
 filled array from [] ends spans = grind (arith, common_steps)
@@ -37,12 +37,12 @@ written bytes before after [] ends sizes k d within = absurd (omega arith)
 written bytes before after (register ∷ later) ends sizes k d within =
     grind (arith, common_steps, nat_tests, sizes register, written bytes (before ++ bytes register) after later)
 
--- The first registers and the next one.
+-- The first `place + 1` registers are the first `place` registers and the next one.
 pub next_register : (place : ℕ) → place < length registers
     → take (place + 1) registers ≡ take place registers ++ slice_index_or registers place Polling ∷ []
 next_register place within = grind (arith, common_steps)
 
--- What is written for each register is as long as all of them.
+-- What is written for all registers is as long as their sizes together.
 pub length_written : (bytes : Register → List ℕ) → ((register : Register) → length (bytes register) ≡ size_of register)
     → (held : List Register) → length (flat_map bytes held) ≡ sum_by size_of held
 length_written bytes sizes [] = refl

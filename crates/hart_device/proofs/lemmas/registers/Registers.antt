@@ -1,4 +1,4 @@
--- The registers that lists of overwrites leave.
+-- The registers after lists of overwrites.
 use Rattle.std.proofs.Common.{◌≡◌, ℕ, ◌<◌, zero, suc, ap, arith, Option, unwrap_or, List, [], ◌∷◌, ◌++◌, length}
 use Rattle.std.proofs.lemmas.Grind.{common_steps}
 use Rattle.std.specs.List.{Contains, slice_index_or}
@@ -25,13 +25,13 @@ bytes_in-registers_of overwrites initial = grind (arith, common_steps, bytes_in-
 pub unwrap_or-option_or : {A : Type 0} (a b : Option A) (d : A) → unwrap_or (option_or a b) d ≡ unwrap_or a (unwrap_or b d)
 unwrap_or-option_or a b d = grind arith
 
--- A new overwrite comes last.
+-- A new overwrite at the end is the last one to name its registers.
 pub last_named-append : (overwrites : List Overwrite) (overwrite : Overwrite) (register : Register)
     → last_named (overwrites ++ overwrite ∷ []) register ≡ option_or (named_in overwrite register) (last_named overwrites register)
 last_named-append [] overwrite register = grind arith
 last_named-append (o ∷ os) overwrite register = grind (arith, common_steps, last_named-append os overwrite register)
 
--- One that comes again later changes nothing.
+-- An overwrite that comes again later in the list changes nothing.
 pub last_named-again : (later : List Overwrite) (overwrite : Overwrite) (register : Register) (k : ℕ)
     → k < length later → slice_index_or later k overwrite ≡ overwrite
     → option_or (last_named later register) (named_in overwrite register) ≡ last_named later register

@@ -13,7 +13,7 @@ use Rattle.hart_commands.proofs.lemmas.Laws.{all_registers_are_listed_once-every
 use Rattle.hart_device.specs.registers.Ranges.{contents_in, standing_for}
 use Rattle.hart_device.proofs.lemmas.registers.Registers.{bytes_in-contents_by}
 
--- What is written in a range stays out of every range that lies apart from it.
+-- Writing in a range leaves every range that lies apart from it as it was.
 pub kept_apart : (array bytes : List ℕ) (start end other_start other_end : ℕ) → start ≤ end → end ≤ length array
     → length bytes ≡ end - start → other_start ≤ other_end → (end ≤ other_start) ⊎ (other_end ≤ start)
     → slice_range (put_mid start (end - start) array bytes) other_start other_end ≡ slice_range array other_start other_end
@@ -34,7 +34,7 @@ AreWrittenBefore place given old now = (k : ℕ) → k < length registers
     → standing_for (register_at k) now
     ≡ (if nat_lt k place then given_to given old (register_at k) else standing_for (register_at k) old)
 
--- After one more of them is written, one more stands written.
+-- Once the next register is written, the registers up to it are written.
 pub one_more : (given : Register → Option (List ℕ)) (old now new : List ℕ) (place : ℕ) → place < length registers
     → standing_for (register_at place) new ≡ given_to given old (register_at place)
     → ((other : Register) → other ≢ register_at place → standing_for other new ≡ standing_for other now)
@@ -43,7 +43,7 @@ one_more given old now new place within written others before k k_within =
     let once = all_registers_are_listed_once-once in
     grind (arith, nat_tests, written, once k place Polling, once place k Polling, others (register_at k), before k k_within)
 
--- All of them have been written at the end of the list.
+-- At the end of the list all registers are written.
 pub all_written : (given : Register → Option (List ℕ)) (old now : List ℕ) (place : ℕ) → length registers ≤ place
     → AreWrittenBefore place given old now
     → (register : Register) → bytes_in (contents_in now) register ≡ unwrap_or (given register) (bytes_in (contents_in old) register)

@@ -5,7 +5,7 @@ use Rattle.std.proofs.lemmas.Int.{ints, to_z-of_z, to_z_pos}
 use Rattle.jiff.specs.Words.{IsDate, days_in_month}
 use Rattle.hart_values.specs.hart_date.Calendar.{IsCalendarDay, month_lengths}
 
--- the table of the months is the same
+-- the months have the same lengths in `jiff`
 month_lengths-jiff : (year month : ℕ) → 1 ≤ month → month ≤ 12
     → get_or (month_lengths year) (month - 1) 0 ≡ days_in_month (pos year) month
 month_lengths-jiff year month from to = grind (arith, nat_tests)
@@ -15,11 +15,11 @@ pub IsDate-iff : (y m d : ℤ) (day month year : ℕ) → y ≡ pos year → m �
     → IsDate y m d ↔ IsCalendarDay day month year
 IsDate-iff y m d day month year same_year same_month same_day small = grind (arith, ints, month_lengths-jiff)
 
--- a small number that is passed as a signed byte arrives
+-- a number that fits in a signed byte is unchanged when passed as one
 pub passed_byte : (z : ℤ) (n : ℕ) → FitsSigned w8 (pos n) → z ≡ pos n → to_z w8 (of_z w8 z) ≡ pos n
 passed_byte z n fits e = rw e (to_z-of_z w8 (pos n) fits)
 
--- the year of a byte that is passed in two signed bytes arrives
+-- the year of a byte is unchanged when passed as a signed number of 16 bits
 pub passed_year : (z : ℤ) (year : ℕ) → year < 256 → z ≡ pos year
     → to_z w16 (of_z w16 (pos 1900 +ℤ to_z w16 (of_z w16 z))) ≡ pos (1900 + year)
 passed_year z year small e = grind (arith, ints, to_z_pos)

@@ -20,7 +20,7 @@ tell_bytes-requires-clause-places g c =
     c.args.telling.now c.loop-end.telling c.loop-end.read (take c.read_portion-portion.result.len c.read_portion-portion.new.buffer)
     c.read_portion-portion.result.end c.requires c.loop-end.invariant.told c.read_portion-portion.ensures.reads
 
--- one read gives no more than the buffer has
+-- one read gives no more bytes than the buffer has
 few : (g : Over) (c : After-read_portion-portion g)
     → (length (take c.read_portion-portion.result.len c.read_portion-portion.new.buffer) ≤ most_at_once)
     × (c.read_portion-portion.result.len ≡ length (take c.read_portion-portion.result.len c.read_portion-portion.new.buffer))

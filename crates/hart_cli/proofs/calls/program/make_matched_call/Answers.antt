@@ -13,17 +13,17 @@ use Rattle.hart_cli.specs.program.CommandLine.{call_of, explain_call, message_wo
 use Rattle.hart_cli.specs.program.Program.{HasPreambleCount}
 use Rattle.hart_cli.proofs.calls.program.make_matched_call.Goals as goal
 
--- the number of preamble bytes of the words of `encode` is one that a sender may put
+-- the words of `encode` have a number of preamble bytes that a sender may put
 words_counted : (word : Option Text) (who address command : Option Text) (payload : Text) (words : MessageWords)
     → message_words (option_and_then preambles_of word) who address command payload ≡ Some words → IsPreambleCount words.preambles
 words_counted word who address command payload words h = grind (arith, common_steps, nat_tests)
 
--- so is that of the words of `request`
+-- the words of `request` have a number of preamble bytes that a sender may put
 request_counted : (word : Option Text) (who address command : Option Text) (fields : List Text) (words : RequestWords)
     → request_words (option_and_then preambles_of word) who address command fields ≡ Some words → IsPreambleCount words.preambles
 request_counted word who address command fields words h = grind (arith, common_steps, nat_tests)
 
--- a call of `encode` has the words that the matches give
+-- a call of `encode` has the words that the matches give to `encode`
 words_called : (answer dump explain serve sim encode request : Bool) (image raw : Option Text) (given : Option MessageWords)
     (named : Option RequestWords) (words : MessageWords)
     → (if answer then Some (Answer image) else if dump then Some Dump else if explain then Some (explain_call raw)
@@ -33,7 +33,7 @@ words_called : (answer dump explain serve sim encode request : Bool) (image raw 
     else if request then option_map (λ w. Request w) named else None) ≡ Some (Encode words) → given ≡ Some words
 words_called answer dump explain serve sim encode request image raw given named words h = grind (arith, common_steps)
 
--- and one of `request` those that they give it
+-- a call of `request` has the words that the matches give to `request`
 request_called : (answer dump explain serve sim encode request : Bool) (image raw : Option Text) (given : Option MessageWords)
     (named : Option RequestWords) (words : RequestWords)
     → (if answer then Some (Answer image) else if dump then Some Dump else if explain then Some (explain_call raw)
@@ -43,7 +43,7 @@ request_called : (answer dump explain serve sim encode request : Bool) (image ra
     else if request then option_map (λ w. Request w) named else None) ≡ Some (Request words) → named ≡ Some words
 request_called answer dump explain serve sim encode request image raw given named words h = grind (arith, common_steps)
 
--- a call of `encode` or `request` that words make has a number of preamble bytes that a sender puts
+-- a call of `encode` or `request` has a number of preamble bytes that a sender may put
 call_counted : (met : Option (Text × List Row)) (call : Call) → call_of met ≡ Some call → HasPreambleCount call
 call_counted None call gives = cc
 call_counted (Some found) (Encode words) gives =

@@ -27,11 +27,11 @@ loop-end-init g c = record {
   quiet = c.requires.quiet;
 }
 
--- the first bytes of a buffer
+-- taking `count` bytes of a buffer with at least `count` bytes gives `count`
 len_of : (count : ℕ) (buffer : List ℕ) → count ≤ length buffer → length (take count buffer) ≡ count
 len_of count buffer within = grind (arith, common_steps)
 
--- they are no more than it has
+-- taking bytes of a buffer gives no more than the buffer has
 few_of : (count most : ℕ) (buffer : List ℕ) → length buffer ≡ most → length (take count buffer) ≤ most
 few_of count most buffer len = grind (arith, common_steps)
 

@@ -8,7 +8,7 @@ use Rattle.hart_cli.specs.input.Input.{ReadsPortion}
 use Rattle.hart_cli.specs.stream.Stream.{Stream}
 use Rattle.hart_cli.proofs.input.ahead.read_ahead.Goals as goal
 
--- an end gives no bytes
+-- a read that comes to the end of the input adds a space and no bytes
 ended_ahead : (old new : Stream) (before after buffer : List ℕ) (room : ℕ) (portion : Portion) → portion.end ≡ Some Ended
     → portion.len ≤ length buffer → ReadsPortion old new (take portion.len buffer) room portion.end → after ≡ before ++ 32 ∷ []
     → ReadsAhead old new before after room portion

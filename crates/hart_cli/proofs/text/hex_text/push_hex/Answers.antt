@@ -4,7 +4,7 @@ use Rattle.hex.specs.Hex.{encode_upper, encode_with}
 use Rattle.hex.proofs.HexLemmas.{length-encode_with}
 use Rattle.hart_cli.proofs.text.hex_text.push_hex.Goals as goal
 
--- the digits of bytes and of more bytes
+-- the digits of joined bytes are those of both parts, joined
 encode_upper-append : (bytes more : List ℕ) → encode_upper (bytes ++ more) ≡ encode_upper bytes ++ encode_upper more
 unfolding encode_with
 encode_upper-append [] more = refl

@@ -5,7 +5,7 @@ use Rattle.std.specs.Char.{to_ascii_uppercase}
 use Rattle.hex.specs.Hex.{encode_lower, encode_upper, encode_with, lower_digits}
 use Rattle.hart_cli.proofs.text.hex_text.write_digits.Goals as goal
 
--- lower case digits in upper case
+-- lower case digits turned to upper case are the upper case digits
 upper-encode_lower : (bytes : List ℕ) → map to_ascii_uppercase (encode_lower bytes) ≡ encode_upper bytes
 unfolding encode_with
 upper-encode_lower [] = refl

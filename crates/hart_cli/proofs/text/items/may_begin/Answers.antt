@@ -6,11 +6,11 @@ use Rattle.hart_line.specs.script.Items.{AreDigits, byte_of, Faulty, hex_value}
 use Rattle.hart_cli.specs.text.Items.{BeginsWith, Item, MayBegin, meaning, NoPieceBegins, Piece, spelling}
 use Rattle.hart_cli.proofs.text.items.may_begin.Goals as goal
 
--- what fills the beginning of an item up to an item: `00!02` and a space
+-- what completes the beginning of an item: the rest of `00!02` and a space
 abbrev filling : List ℕ → List ℕ
 filling text = drop (length text) (48 ∷ 48 ∷ 33 ∷ 48 ∷ 50 ∷ 32 ∷ [])
 
--- 16 times a number up to 7, and 2, is fault bits
+-- 16 times a number up to 7, plus 2, is a value of fault bits
 fault_bits : (high : ℕ) → high < 8 → AreFaultBits (16 * high + 2)
 fault_bits high small = record {
   byte = omega arith;
@@ -19,22 +19,22 @@ fault_bits high small = record {
       grind (arith, differs 0 (omega arith), differs 2 (omega arith), differs 3 (omega arith), differs 7 (omega arith));
 }
 
--- a separator that ends within a text begins it whatever followed, and so does an item that ends before its last byte
+-- a text begins with the same piece without what follows, if it holds the separator, or the item and a byte
 stands : (text more tail : List ℕ) (p : Piece) → BeginsWith (text ++ more) p tail → length (spelling p) + length (meaning p) ≤ length text
     → BeginsWith text p (drop (length (spelling p)) text)
 stands text more tail p h within = grind (arith, common_steps)
 
--- an item with fault bits begins, if they are some
+-- a text begins with an item with fault bits if they are fault bits other than 0
 begins_faulty : (text : List ℕ) (x y v w : ℕ) → AreDigits x y → AreDigits v w → byte_of v w ≢ 0 → AreFaultBits (byte_of v w)
     → text ≡ x ∷ y ∷ 33 ∷ v ∷ w ∷ 32 ∷ [] → BeginsWith text (Item (Faulty x y v w)) (32 ∷ [])
 begins_faulty text x y v w d f z a e = grind (arith, common_steps)
 
--- an item with fault bits 02 begins if its digits are digits
+-- a text of two digits, `!02` and a space begins with an item
 begins_filled : (text : List ℕ) (x y : ℕ) → AreDigits x y → text ≡ x ∷ y ∷ 33 ∷ 48 ∷ 50 ∷ 32 ∷ []
     → BeginsWith text (Item (Faulty x y 48 50)) (32 ∷ [])
 begins_filled text x y d e = begins_faulty text x y 48 50 d (refl, refl) (omega arith) (fault_bits 0 (omega arith)) e
 
--- what some bytes complete, these do
+-- if any bytes complete a piece at the beginning of a text, `filling` does
 filled : (text more tail : List ℕ) (p : Piece) → NoPieceBegins text → BeginsWith (text ++ more) p tail
     → NoPieceBegins (text ++ filling text) → ⊥
 filled [] more tail p n h m = m _ _ (begins_filled _ 48 48 (refl, refl) refl)

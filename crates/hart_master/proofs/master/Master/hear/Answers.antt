@@ -10,12 +10,12 @@ use Rattle.hart_master.specs.declared.hand.Hand.{Hand}
 use Rattle.hart_master.proofs.lemmas.Decided.{acceptance_is_decided-by_its_frame}
 use Rattle.hart_master.proofs.master.Master.hear.Goals as goal
 
--- what its one frame brings, a delivery brings
+-- a delivery with one frame brings what that frame brings
 same_brought : (id : MasterId) (hand : Hand) (chars : List Character) (found : Found) (reply : Reply)
     → AreFrames chars 0 (found ∷ []) → FrameBrings id hand found.frame reply ↔ DeliveryBrings id hand chars reply
 same_brought id hand chars found reply alone = grind (arith, acceptance_is_decided-by_its_frame)
 
--- what is heard is the same if the same is brought
+-- the same event is heard if the same replies are brought
 same_heard : (hand : Hand) (P Q : Reply → Type 0) (event : MasterEvent) → ((reply : Reply) → P reply ↔ Q reply)
     → IsHeard hand P event → IsHeard hand Q event
 same_heard hand P Q event same heard = grind arith

@@ -4,7 +4,7 @@ use Rattle.hart_cli.specs.dump.Text.{address_word, burst_word, kind_word, master
 use Rattle.hart_cli.specs.text.Words.{bytes_word, line_of}
 use Rattle.hart_cli.proofs.calls.dump.text.push_frame_line.Goals as goal
 
--- what is added word by word is a line of nine words
+-- nine words that are added one by one make one line
 one_line : (lines before start stop kind master burst address expansion command payload : List ℕ)
     → lines ≡ before ++ (start ++ 32 ∷ []) ++ stop ++ 32 ∷ [] ++ (kind ++ 32 ∷ []) ++ (master ++ 32 ∷ []) ++ burst ++ 32 ∷ []
     ++ address ++ 32 ∷ [] ++ expansion ++ 32 ∷ [] ++ command ++ 32 ∷ [] ++ payload ++ 10 ∷ []

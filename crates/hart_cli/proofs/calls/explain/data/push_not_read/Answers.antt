@@ -3,7 +3,7 @@ use Rattle.hart_cli.specs.explain.Data.{not_read_line}
 use Rattle.hart_cli.specs.explain.Words.{hex_value, said_line}
 use Rattle.hart_cli.proofs.calls.explain.data.push_not_read.Goals as goal
 
--- the line of some bytes
+-- the line of data that were not read, if there is at least one byte
 not_read_line-is : (code : ℕ) (bytes : List ℕ) → false ≡ (length bytes == 0)
     → not_read_line code bytes ≡ said_line (codes "not read (code " ++ decimal code ++ codes ")") (hex_value bytes)
 not_read_line-is code [] some = cc

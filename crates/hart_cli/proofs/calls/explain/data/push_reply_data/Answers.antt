@@ -7,7 +7,7 @@ use Rattle.hart_commands.specs.ReplyData.{reply_reading}
 use Rattle.hart_cli.specs.explain.Data.{ignored_line, replied_lines, reply_lines}
 use Rattle.hart_cli.proofs.calls.explain.data.push_reply_data.Goals as goal
 
--- what is said of the data of a reply, by the length and the first byte of its payload
+-- what is said of the data of a reply depends on the length and the first byte of its payload
 reply_lines-is : (command : ℕ) (payload : List ℕ) → reply_lines command payload ≡ (if nat_lt (length payload) 2 then []
     else if nat_lt 127 (get_or payload 0 0) then ignored_line (drop 2 payload)
     else replied_lines command (drop 2 payload) (reply_reading command payload))

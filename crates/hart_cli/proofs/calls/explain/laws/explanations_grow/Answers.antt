@@ -11,7 +11,7 @@ use Rattle.hart_cli.proofs.lemmas.text.Heard.{chars_on, heard_laws}
 use Rattle.hart_cli.proofs.lemmas.text.Reads.{grows}
 use Rattle.hart_cli.proofs.calls.explain.laws.explanations_grow.Goals as goal
 
--- of what comes first a part does too
+-- if sightings come first, each beginning of them comes first too
 part : (heard : List Heard) (xs ys rest : List Seen) (next : Seen) → ComeFirst heard ys → ys ≡ xs ++ next ∷ rest
     → ComeFirst heard (xs ++ next ∷ [])
 part heard xs ys rest next first longer = λ more all are.

@@ -18,11 +18,11 @@ use Rattle.hart_cli.proofs.lemmas.text.NoSilence.{plain_input}
 use Rattle.hart_cli.proofs.lemmas.text.Reads.{left_more, one_left}
 use Rattle.hart_cli.proofs.calls.explain.laws.explanations_name_the_messages_of_dump.Goals as goal
 
--- characters are one stretch
+-- characters without a silence are one stretch
 alone : (chars : List Character) → stretches (heard_chars chars) ≡ chars ∷ []
 alone chars = rw (append-nil (heard_chars chars), append-nil chars) at (stretches_chars chars [])
 
--- the same characters have the same frames
+-- the frame lines and the explanation of the same characters are of one hearing
 of_one_hearing : (input : List ℕ) (ending : Ending) (xs ys : List Character) (heard : List Heard) (fault : Option CliFault)
     (lines text : List ℕ) → xs ≡ ys → heard ≡ heard_chars ys → AreFrameLines xs lines → IsExplanationOf heard text
     → HasChars input ending ys fault → AreOfOneHearing input ending fault lines text

@@ -18,32 +18,32 @@ use Rattle.hart_frame.proofs.lemmas.heard.Missed.{one_preamble-yes}
 use Rattle.hart_cli.proofs.lemmas.explain.Gaps.{missed_are, seen_is_miss, stands_in_rest}
 use Rattle.hart_cli.proofs.calls.explain.laws.hints_of_explanations_are_right.Goals as goal
 
--- a frame in the rest of characters is one of the characters
+-- a frame in the rest of a list of characters is a frame in the list
 frame_up_to : (chars : List Character) (from start stop place end : ℕ) → HasFrameUpTo (drop from chars) start stop
     → place ≡ from + start → end ≡ from + stop → HasFrameUpTo chars place end
 frame_up_to chars from start stop place end (found, stands, begins, ends) place_is end_is =
     grind (arith, common_steps, stands_in_rest chars from 0 found (omega arith) stands)
 
--- a character in the rest of characters is one of the characters
+-- a character in the rest of a list of characters is a character of the list
 char_in_rest : (chars : List Character) (from at : ℕ) (c : Character) → slice_get (drop from chars) at ≡ Some c
     → slice_get chars (from + at) ≡ Some c
 char_in_rest chars from at c is = grind (arith, common_steps, slice_get_within, slice_get_cases)
 
--- the bytes from a place of the rest of characters on are those of the characters
+-- the bytes from a place in the rest on are those from its place in the whole list on
 bytes_in_rest : (chars : List Character) (from start place : ℕ) → place ≡ from + start
     → bytes_from (drop from chars) start ≡ bytes_from chars place
 bytes_in_rest chars from start place is = grind (arith, common_steps, drop-drop)
 
--- what stands in the way in the rest of characters does so in the characters
+-- what stands in the way in the rest of a list of characters does so in the list
 way_in_rest : (chars : List Character) (from start place : ℕ) (miss : Miss) → place ≡ from + start → from ≤ length chars
     → IsInTheWay (drop from chars) start miss → IsInTheWay chars place (miss_in_whole from miss)
 way_in_rest chars from start place miss is within way = grind (arith, bytes_in_rest chars from start place is, char_in_rest, length-drop)
 
--- a place where a body may start in the rest of characters shows that there is a rest
+-- if a body may start in the rest of a list of characters, that rest is not empty
 rest_is : (chars : List Character) (from start : ℕ) → IsStart start (drop from chars) → from ≤ length chars
 rest_is chars from start is = grind (arith, common_steps, length-drop from chars)
 
--- what is known of a place with a miss, in the rest of characters
+-- what is known of a place with a miss in the rest of a list of characters
 pub record Known (chars : List Character) (from place : ℕ) (miss : Miss) : Type 0 where
   pub small : All (λ character. character.byte < 256) (drop from chars)
   pub placed : place ≡ from + (place - from)
@@ -64,39 +64,39 @@ known chars from stop place miss small has =
       told = told;
     }
 
--- the misses that name a bad check byte
+-- a miss that names a bad check byte in the whole list names it in the rest too
 own_check : (from at byte fits : ℕ) (own : Miss) → BadCheck at byte fits ≡ miss_in_whole from own
     → (start : ℕ) × (own ≡ BadCheck start byte fits) × (at ≡ from + start)
 own_check from at byte fits (BadCheck start b f) is = (start, grind arith, grind arith)
 own_check from at byte fits _ is = absurd cc
 
--- as a character with fault bits
+-- a miss that names a character with fault bits in the whole list names it in the rest too
 own_fault : (from at faults : ℕ) (own : Miss) → Faulty at faults ≡ miss_in_whole from own
     → (start : ℕ) × (own ≡ Faulty start faults) × (at ≡ from + start)
 own_fault from at faults (Faulty start f) is = (start, grind arith, grind arith)
 own_fault from at faults _ is = absurd cc
 
--- as missing characters
+-- a miss that names missing characters in the whole list names as many in the rest
 own_missing : (from count : ℕ) (own : Miss) → Missing count ≡ miss_in_whole from own → own ≡ Missing count
 own_missing from count (Missing n) is = grind arith
 own_missing from count _ is = absurd cc
 
--- as one preamble byte alone
+-- a miss that names one preamble byte alone in the whole list names it in the rest too
 own_one : (from : ℕ) (own : Miss) → OnePreamble ≡ miss_in_whole from own → own ≡ OnePreamble
 own_one from OnePreamble is = refl
 own_one from _ is = absurd cc
 
--- a body that is seen after one preamble byte alone ends before two begin
+-- no two preamble bytes begin in a body that is seen after one preamble byte alone
 alone_is : (chars : List Character) (place : ℕ) → seen_miss chars place ≡ Some OnePreamble → FollowsOnePreamble chars place
     → two_begin_in_body chars place ≡ false
 alone_is chars place seen follows = let one = one_preamble-yes chars place follows in grind (arith, one)
 
--- another miss than that one preamble byte stands alone is told where a body may start
+-- every miss but that of one preamble byte alone is told where a body may start
 started : (start : ℕ) (chars : List Character) (miss : Miss) → IsStart start chars ⊎ (miss ≡ OnePreamble) → miss ≢ OnePreamble
     → IsStart start chars
 started start chars miss either other = grind arith
 
--- a frame that is whole with more bytes after the rest of characters is one after the characters
+-- a frame completed by more bytes after the rest of a list of characters is one after the list
 missing_in_rest : (chars : List Character) (from place count : ℕ) (bytes : List ℕ) → place ≡ from + (place - from)
     → from ≤ length chars
     → (last : ℕ) × IsCheckByte (bytes_from (drop from chars) (place - from) ++ bytes) last
@@ -110,7 +110,7 @@ missing_in_rest chars from place count bytes placed within (last, check, stands)
       (omega (arith, length-drop from chars)),
 )
 
--- a body in the rest of characters is one in the characters
+-- a body in the rest of a list of characters is a body in the list
 body_in_rest : (chars : List Character) (from start place : ℕ) → place ≡ from + start → HasBodyAt (drop from chars) start
     → HasBodyAt chars place
 body_in_rest chars from start place is has = grind (arith, common_steps, drop-drop)

@@ -6,16 +6,16 @@ use Rattle.hart_values.specs.packed_text.Packing.{IsCharacter, IsPacked, IsPacke
 use Rattle.hart_cli.specs.explain.Values.{character, characters_of, unpacked}
 use Rattle.hart_cli.proofs.calls.explain.values.push_characters.Goals as goal
 
--- a character is that of its lowest six bits
+-- a character is determined by its lowest six bits
 character_of : (code : ℕ) → IsCharacter code → character (code % 64) ≡ code
 character_of code is = grind (arith, nat_tests)
 
--- the characters of a packed group
+-- a packed group has the characters that were packed into it
 group_is : (w x y z a b c : ℕ) → IsCharacter w → IsCharacter x → IsCharacter y → IsCharacter z → a < 256 → b < 256 → c < 256
     → IsPackedGroup w x y z a b c → characters_of a b c ≡ w ∷ x ∷ y ∷ z ∷ []
 group_is w x y z a b c p q r s t u v packed = grind (arith, common_steps, character_of)
 
--- the texts of groups after the first
+-- without its first group, a packed text is still packed
 rest_packed : (w x y z a b c : ℕ) (text bytes : List ℕ) → IsPacked (w ∷ x ∷ y ∷ z ∷ text) (a ∷ b ∷ c ∷ bytes) → IsPacked text bytes
 rest_packed w x y z a b c text bytes p = record {
   lengths = omega (arith, p.lengths);
@@ -26,7 +26,7 @@ rest_packed w x y z a b c text bytes p = record {
       grind (arith, get_or-drop 4 (w ∷ x ∷ y ∷ z ∷ text), get_or-drop 3 (a ∷ b ∷ c ∷ bytes));
 }
 
--- a text is what its packed bytes unpack to
+-- packed bytes unpack to the text
 unpacked-is : (text bytes : List ℕ) → IsPacked text bytes → unpacked bytes ≡ text
 unpacked-is [] [] p = refl
 unpacked-is (w ∷ x ∷ y ∷ z ∷ text) (a ∷ b ∷ c ∷ bytes) p =

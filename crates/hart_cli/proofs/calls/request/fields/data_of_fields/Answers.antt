@@ -12,19 +12,19 @@ use Rattle.hart_cli.specs.declared.calls.request.fault.BadField.{BadField}
 use Rattle.hart_cli.specs.request.Fields.{after_bytes, data_of_fields, field_value, is_writable, joined}
 use Rattle.hart_cli.proofs.calls.request.fields.data_of_fields.Goals as goal
 
--- a value is written for the field at each place
+-- a value can be written for the field at each place
 writable_at : (rows : List FieldRow) (k : ℕ) (d : FieldRow) → list_all (λ row. is_writable row.kind row.size) (map seen rows) ≡ true
     → k < length rows → is_writable (get_or rows k d).kind (get_or rows k d).size ≡ true
 writable_at [] k d all below = absurd (omega arith)
 writable_at (row ∷ rows) zero d all below = (and_parts _ _ all).0
 writable_at (row ∷ rows) (suc k) d all below = writable_at rows k d (and_parts _ _ all).1 (omega arith)
 
--- bytes before bytes before others
+-- bytes put before a result in two steps can be put there as one list
 after_after : (xs ys : List ℕ) (rest : Result (List ℕ) BadField) → after_bytes xs (after_bytes ys rest) ≡ after_bytes (xs ++ ys) rest
 after_after xs ys (Ok bytes) = ap (λ bs. Ok bs) (sym (append_assoc xs ys bytes))
 after_after xs ys (Err bad) = refl
 
--- the data from a field on are its bytes and those of the next ones
+-- the data from a field on are its bytes and those of the fields after it
 data_at : (command field : ℕ) (words : List (List ℕ)) (rows : List FieldRow) (k : ℕ) (d : FieldRow) → k < length rows
     → data_of_fields command field words (map seen (drop k rows))
     ≡ joined (field_value command field words (seen (get_or rows k d)))
@@ -34,7 +34,7 @@ data_at command field words rows k d below = at_drop_more (λ rows. data_of_fiel
 pub field_value-requires : goal.field_value-requires
 field_value-requires c = writable_at c.args.rows.now c.loop-field.field _ (and_parts _ _ c.requires).1 (grind (arith, common_steps))
 
--- what a reading past the end would give
+-- the row that a reading past the end would give
 no_row : FieldRow
 no_row = record { name = record { ref_ptr = (0, 0); now = [] }; size = Exactly 0; kind = Bytes }
 

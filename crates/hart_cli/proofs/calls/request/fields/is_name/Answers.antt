@@ -7,7 +7,7 @@ use Rattle.std.specs.Str.{bytes_eq}
 use Rattle.hart_cli.specs.request.Fields.{in_word, name_word}
 use Rattle.hart_cli.proofs.calls.request.fields.is_name.Goals as goal
 
--- a word with another character is not the name
+-- a word with a character that differs from the name is not the name
 differs : (word name : List ℕ) (place : ℕ) → get_or word place 0 ≢ in_word (get_or name place 0) → false ≡ bytes_eq word (name_word name)
 differs word name place h =
     let ne : word ≢ name_word name = λ e. h (ap (λ xs. get_or xs place 0) e ∙ get_or-map in_word name place 0) in

@@ -13,11 +13,11 @@ all_can : AllByRecursion (λ row. are_writable row.command.request ≡ true) com
 unfolding text
 all_can = search rules
 
--- so they can for one that is known
+-- values can be written for the fields of a known command
 can : (command : ℕ) → IfSome (known command) (λ told. (told.number ≡ command) × (are_writable told.request ≡ true))
 can command = of_known (λ told. are_writable told.request ≡ true) command all_can
 
--- and for one that is not known there are no fields
+-- values can be written for the fields of every command number, known or not
 rows_writable : (command : ℕ) → are_writable (request_rows command) ≡ true
 rows_writable command = grind (arith, common_steps, nat_tests, can command)
 

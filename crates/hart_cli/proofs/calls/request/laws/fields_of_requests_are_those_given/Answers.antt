@@ -25,7 +25,7 @@ use Rattle.hart_cli.specs.request.Given.{AreGiven}
 use Rattle.hart_cli.specs.request.Values.{can_have, codes_value, pack, packed, text_value, value_of}
 use Rattle.hart_cli.proofs.calls.request.laws.fields_of_requests_are_those_given.Goals as goal
 
--- a row that takes all that is left is the last, and leaves nothing
+-- whether a row of fixed size can be written, or a row that takes all that is left is the last
 abbrev closes : FieldKind → FieldSize → List Row → Bool
 closes kind (Exactly size) rows = is_writable kind (Exactly size)
 closes kind (AllBut after) [] = after == 0
@@ -35,7 +35,7 @@ abbrev all_close : List Row → Bool
 all_close [] = true
 all_close (row ∷ rows) = closes row.kind row.size rows && all_close rows
 
--- three bytes are packed of each four characters
+-- four characters are packed into three bytes
 length-packed : (groups : ℕ) (text : List ℕ) → length text ≡ 4 * groups → length (packed text) ≡ 3 * groups
 length-packed groups [] h = omega (arith, h)
 length-packed groups (w ∷ x ∷ y ∷ z ∷ text) h =
@@ -44,11 +44,11 @@ length-packed groups (w ∷ []) h = absurd (omega (arith, h))
 length-packed groups (w ∷ x ∷ []) h = absurd (omega (arith, h))
 length-packed groups (w ∷ x ∷ y ∷ []) h = absurd (omega (arith, h))
 
--- a text that is given is as long as its field
+-- a given text is as long as its field
 length-text : (passes : ℕ → Bool) (most : ℕ) (word text : List ℕ) → text_value passes most word ≡ Ok text → length text ≡ most
 length-text passes most word text is = grind (arith, common_steps, nat_tests)
 
--- a packed text is one of a text that is given
+-- packed bytes are those of a given text
 packed_from : (text : Result (List ℕ) FieldFault) (bytes : List ℕ) → pack text ≡ Ok bytes
     → (given : List ℕ) × (text ≡ Ok given) × (bytes ≡ packed given)
 packed_from (Ok given) bytes is = (given, refl, cc)
@@ -64,7 +64,7 @@ length-packed_value size word bytes suits is =
     let packs = length-packed (size / 3) from.0 (omega (arith, most, groups)) in
     omega (arith, packs, groups, ap length from.2)
 
--- the bytes of a value are as many as the field has
+-- a value has as many bytes as its field
 length-value : (kind : FieldKind) (size : ℕ) (word bytes : List ℕ) → is_writable kind (Exactly size) ≡ true
     → value_of kind (Exactly size) word ≡ Ok bytes → length bytes ≡ size
 length-value Bytes size word bytes suits is = grind (arith, common_steps, nat_tests)
@@ -76,7 +76,7 @@ length-value Date size word bytes suits is = grind (arith, common_steps, nat_tes
 length-value Float size word bytes suits is = grind (arith, common_steps, nat_tests)
 length-value Variables size word bytes suits is = grind (arith, common_steps, nat_tests)
 
--- there is one code at least
+-- there is at least one code
 some_codes : (word bytes : List ℕ) → codes_value word ≡ Ok bytes → 0 < length bytes
 some_codes word bytes is = grind (arith, common_steps, nat_tests)
 
@@ -87,28 +87,28 @@ first_field : (name : List ℕ) (kind : FieldKind) (size : ℕ) (rows : List Row
 first_field name kind size rows value rest is =
     grind (arith, common_steps, nat_tests, take_at value rest size is, drop_at value rest size is)
 
--- the only field that takes all that is left
+-- a field that takes all bytes that are left is the only field of them
 last_field : (name : List ℕ) (kind : FieldKind) (value : List ℕ) → 0 < length value
     → fields_of (record { name = name; size = AllBut 0; kind = kind } ∷ []) value ≡ record { name = name; kind = kind; bytes = value } ∷ []
 last_field name kind value is = grind (arith, common_steps, nat_tests)
 
--- data that are given are a value and others
+-- given data are a value and the data after it
 parts : (first rest : Result (List ℕ) BadField) (bytes : List ℕ) → joined first rest ≡ Ok bytes
     → (value : List ℕ) × (later : List ℕ) × (first ≡ Ok value) × (rest ≡ Ok later) × (bytes ≡ value ++ later)
 parts (Ok value) (Ok later) bytes is = (value, later, refl, refl, cc)
 parts (Ok value) (Err bad) bytes is = absurd cc
 parts (Err bad) rest bytes is = absurd cc
 
--- a value that is given is given by a word
+-- a given value is given by a word
 by_word : (command field : ℕ) (words : List (List ℕ)) (row : Row) (value : List ℕ) → field_value command field words row ≡ Ok value
     → (place_for words row < length words) × (value_of row.kind row.size (value_in (get_or words (place_for words row) [])) ≡ Ok value)
 by_word command field words row value is = grind (arith, common_steps, nat_tests)
 
--- data that are given fall into the fields that are given
+-- given data fall into the given fields
 abbrev Falls : List (List ℕ) → List Row → List ℕ → Type 0
 Falls words rows bytes = AreGiven words rows (fields_of rows bytes) × (bytes_of (fields_of rows bytes) ≡ bytes)
 
--- a field before others
+-- if later data fall into their fields, a value before them falls into its field
 more : (words : List (List ℕ)) (name : List ℕ) (kind : FieldKind) (size : FieldSize) (rows : List Row) (value later : List ℕ)
     → closes kind size rows ≡ true
     → place_for words (record { name = name; size = size; kind = kind }) < length words
@@ -157,7 +157,7 @@ can command = of_known (λ told. all_close told.request ≡ true) command all_ca
 rows_close : (command : ℕ) → all_close (request_rows command) ≡ true
 rows_close command = grind (arith, common_steps, nat_tests, can command)
 
--- data that are taken were given
+-- the bytes that are taken are the bytes that were read
 read_inv : (bytes taken_bytes : List ℕ) (reading : Reading) → taken bytes reading ≡ Ok taken_bytes → bytes ≡ taken_bytes
 read_inv bytes taken_bytes (Ok request) is = cc
 read_inv bytes taken_bytes (Err code) is = absurd cc
@@ -176,7 +176,7 @@ known_inv : (known : Bool) (given : Result (List ℕ) BadField) (bad : BadField)
 known_inv true given bad bytes is = is
 known_inv false given bad bytes is = absurd cc
 
--- the data that words give are those of the fields
+-- the data given by words are those of the fields
 data_are : (command : ℕ) (words : List (List ℕ)) (bytes : List ℕ) → payload_of command words ≡ Ok bytes
     → data_of_fields command 0 words (request_rows command) ≡ Ok bytes
 data_are command words bytes is =

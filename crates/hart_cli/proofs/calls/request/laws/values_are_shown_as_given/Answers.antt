@@ -16,18 +16,18 @@ use Rattle.hart_cli.specs.request.Values.{padded, text_value}
 use Rattle.hart_cli.proofs.lemmas.request.Texts.{given_good}
 use Rattle.hart_cli.proofs.calls.request.laws.values_are_shown_as_given.Goals as goal
 
--- the bytes of a number are of one that was read
+-- the bytes of a number are those of a number that was read
 number_from : (size : ℕ) (number : Option ℕ) (bytes : List ℕ) → number_or_fault size number ≡ Ok bytes
     → (read : ℕ) × (number ≡ Some read) × (bytes ≡ number_bytes size read)
 number_from size None bytes is = absurd cc
 number_from size (Some number) bytes is = (number, refl, cc)
 
--- which is that of the digits
+-- the number that was read is that of its digits
 number_read : (greatest number : ℕ) (word : List ℕ) → number_up_to greatest word ≡ Some number
     → (number ≡ digits_value 10 (without_leading_plus word)) × (number ≤ greatest)
 number_read greatest number word is = grind (arith, common_steps, nat_tests)
 
--- and they are one number again
+-- the bytes of a number are read back as that number
 number_back : (size number : ℕ) → number_in (number_bytes size number) ≡ number
 number_back size number = grind (arith, common_steps, nat_tests)
 
@@ -37,17 +37,17 @@ returns-clause-numbers c size word bytes is =
     let read = number_read (greatest_of size) from.0 word from.1 in
     grind (arith, common_steps, number_back size from.0, from.2, read.0)
 
--- a packed text is one of a text that is given
+-- packed bytes are those of a given text
 packed_from : (text : Result (List ℕ) FieldFault) (bytes : List ℕ) → pack text ≡ Ok bytes
     → (given : List ℕ) × (text ≡ Ok given) × (bytes ≡ packed given)
 packed_from (Ok given) bytes is = (given, refl, cc)
 packed_from (Err fault) bytes is = absurd cc
 
--- a character is that of its lowest six bits
+-- a character is determined by its lowest six bits
 character_of : (code : ℕ) → IsCharacter code → character (code % 64) ≡ code
 character_of code is = grind (arith, nat_tests)
 
--- the characters of a packed group
+-- a packed group has the characters that were packed into it
 group_is : (w x y z a b c : ℕ) → IsCharacter w → IsCharacter x → IsCharacter y → IsCharacter z → a < 256 → b < 256 → c < 256
     → IsPackedGroup w x y z a b c → characters_of a b c ≡ w ∷ x ∷ y ∷ z ∷ []
 group_is w x y z a b c p q r s t u v packed = grind (arith, common_steps, character_of)
@@ -58,7 +58,7 @@ group_bytes : (w x y z : ℕ) → (group_number w x y z / 65536 < 256) × (group
     × IsPackedGroup w x y z (group_number w x y z / 65536) (group_number w x y z / 256 % 256) (group_number w x y z % 256)
 group_bytes w x y z = (omega arith, omega arith, omega arith, omega arith)
 
--- a packed text has its characters
+-- a packed text unpacks to its characters
 unpacked_packed : (groups : ℕ) (text : List ℕ) → length text ≡ 4 * groups
     → ((k : ℕ) → k < length text → IsCharacter (get_or text k 0)) → unpacked (packed text) ≡ text
 unpacked_packed groups [] size good = refl
@@ -72,7 +72,7 @@ unpacked_packed groups (w ∷ []) size good = absurd (omega (arith, size))
 unpacked_packed groups (w ∷ x ∷ []) size good = absurd (omega (arith, size))
 unpacked_packed groups (w ∷ x ∷ y ∷ []) size good = absurd (omega (arith, size))
 
--- a text that is given is padded
+-- a given text is the padded word, as long as its field
 padded_is : (passes : ℕ → Bool) (most : ℕ) (word text : List ℕ) → text_value passes most word ≡ Ok text
     → (text ≡ padded most word) × (length text ≡ most)
 padded_is passes most word text is = (grind (arith, common_steps, nat_tests), grind (arith, common_steps, nat_tests))
@@ -85,7 +85,7 @@ returns-clause-packed c size word bytes sizes is =
     let back = unpacked_packed (size / 3) from.0 (grind (arith, pad.1)) (λ k below. grind (arith, nat_tests, good k 0 below)) in
     grind (arith, common_steps, back, from.2, pad.0)
 
--- characters that can be printed are so all
+-- a text is printable if each of its characters is
 all_printable : (text : List ℕ) → ((k d : ℕ) → k < length text → can_have LatinText (get_or text k d) ≡ true)
     → list_all is_printable text ≡ true
 all_printable [] good = refl

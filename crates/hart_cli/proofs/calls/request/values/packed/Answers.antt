@@ -5,11 +5,11 @@ use Rattle.hart_values.specs.packed_text.Packing.{IsPacked, IsPackedGroup}
 use Rattle.hart_cli.specs.request.Values.{packed, packed_group}
 use Rattle.hart_cli.proofs.calls.request.values.packed.Goals as goal
 
--- the bytes of a packed group
+-- a packed group has the bytes that its characters are packed into
 group_is : (w x y z a b c : ℕ) → a < 256 → b < 256 → c < 256 → IsPackedGroup w x y z a b c → a ∷ b ∷ c ∷ [] ≡ packed_group w x y z
 group_is w x y z a b c p q r is = grind arith
 
--- the texts of groups after the first
+-- without its first group, a packed text is still packed
 rest_packed : (w x y z a b c : ℕ) (text bytes : List ℕ) → IsPacked (w ∷ x ∷ y ∷ z ∷ text) (a ∷ b ∷ c ∷ bytes) → IsPacked text bytes
 rest_packed w x y z a b c text bytes p = record {
   lengths = omega (arith, p.lengths);
@@ -20,7 +20,7 @@ rest_packed w x y z a b c text bytes p = record {
       grind (arith, get_or-drop 4 (w ∷ x ∷ y ∷ z ∷ text), get_or-drop 3 (a ∷ b ∷ c ∷ bytes));
 }
 
--- the bytes of a text are its packed form
+-- the bytes that a text is packed into are its packed form
 packed-is : (text bytes : List ℕ) → IsPacked text bytes → bytes ≡ packed text
 packed-is [] [] p = refl
 packed-is (w ∷ x ∷ y ∷ z ∷ text) (a ∷ b ∷ c ∷ bytes) p =

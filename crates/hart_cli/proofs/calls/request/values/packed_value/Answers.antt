@@ -7,7 +7,7 @@ use Rattle.hart_cli.specs.request.Values.{can_have, text_value}
 use Rattle.hart_cli.proofs.lemmas.request.Texts.{given_good}
 use Rattle.hart_cli.proofs.calls.request.values.packed_value.Goals as goal
 
--- the characters of a text that is packed can be packed
+-- every character of a given packed text can be packed
 packable : (most : ℕ) (word text : List ℕ) → Ok text ≡ text_value (can_have PackedText) most word → All IsCharacter text
 packable most word text is =
     let good = given_good (can_have PackedText) refl most word text is in

@@ -11,7 +11,7 @@ use Rattle.hart_cli.specs.declared.calls.request.fault.FieldFault.TheVariants.{B
 use Rattle.hart_cli.specs.request.Values.{can_have, padded, text_value}
 use Rattle.hart_cli.proofs.calls.request.values.text_value.Goals as goal
 
--- as many characters pass as do at the front of those that the field has room for
+-- as many characters pass at the front as stand before the first bad one or the end of the room
 passing : (passes : ℕ → Bool) (most : ℕ) (text : List ℕ) (place : ℕ) → place ≤ most → place ≤ length text
     → ((k : ℕ) → k < place → passes (get_or text k 0) ≡ true)
     → (place < most → place < length text → passes (get_or text place 0) ≡ false) → prefix_len passes (take most text) ≡ place
@@ -20,7 +20,7 @@ passing passes most text place room within good bad =
     (λ k below. grind (arith, get_or-take most text k 0, good k))
     (λ below. grind (arith, common_steps, get_or-take most text place 0, bad))
 
--- a text with a bad character
+-- a text with a bad character is refused, with the place of that character
 bad_is : (passes : ℕ → Bool) (most : ℕ) (text : List ℕ) (place : ℕ) → place < most → place < length text
     → ((k : ℕ) → k < place → passes (get_or text k 0) ≡ true) → passes (get_or text place 0) ≡ false
     → Err (BadCharacter place) ≡ text_value passes most text
@@ -28,14 +28,14 @@ bad_is passes most text place room within good bad =
     let is = passing passes most text place (omega arith) (omega arith) good (λ _ _. bad) in
     grind (arith, common_steps, nat_tests)
 
--- a text that is too long
+-- a text that is too long is refused, with the most characters that the field has room for
 long_is : (passes : ℕ → Bool) (most : ℕ) (text : List ℕ) → most < length text
     → ((k : ℕ) → k < most → passes (get_or text k 0) ≡ true) → Err (TooLong most) ≡ text_value passes most text
 long_is passes most text long good =
     let is = passing passes most text most (omega arith) (omega arith) good (λ less _. absurd (omega arith)) in
     grind (arith, common_steps, nat_tests)
 
--- a text that fits
+-- a text that fits is padded
 fits_is : (passes : ℕ → Bool) (most : ℕ) (text : List ℕ) → length text ≤ most
     → ((k : ℕ) → k < length text → passes (get_or text k 0) ≡ true) → Ok (padded most text) ≡ text_value passes most text
 fits_is passes most text short good =

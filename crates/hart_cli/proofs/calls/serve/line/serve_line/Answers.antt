@@ -7,11 +7,11 @@ use Rattle.hart_cli.specs.serve.Line.{ServesLine, bad_hex, delivery, line_words,
 use Rattle.hart_cli.specs.serve.Server.{HearsText}
 use Rattle.hart_cli.proofs.calls.serve.line.serve_line.Goals as goal
 
--- what stands before the last byte
+-- a line with a space after it, without its last byte, is the line
 front : (text line : List ℕ) (count : ℕ) → text ≡ line ++ 32 ∷ [] → count ≡ length text - 1 → take count text ≡ line
 front text line count is len = grind (arith, common_steps)
 
--- a line that is no word is heard, or has bad hex
+-- a line that is no word is heard as a delivery, or has bad hex
 heard : (device after : DeviceState) (text line said : List ℕ) → text ≡ line ++ 32 ∷ [] → length line ≤ input_limit
     → named_in line_words line ≡ None → HearsText device text after said → ServesLine device line after said
 heard device after text line said is few none (inl h) = delivery h.0 after said few none (rw is at h.1) h.2

@@ -18,7 +18,7 @@ short_at (row ∷ rows) zero all =
     (and_parts (nat_le (length row.name) 40) (suits_size row.kind row.size) (and_parts (is_shown row) (list_all is_shown rows) all).0).0
 short_at (row ∷ rows) (suc k) all = short_at rows k (and_parts (is_shown row) (list_all is_shown rows) all).1
 
--- so is that of the field at each place of a command
+-- the name of the field at each place of a command is short
 name_short : (command field : ℕ) → length (name_at command field) ≤ 40
 name_short command field =
     short_at (request_rows command) field
