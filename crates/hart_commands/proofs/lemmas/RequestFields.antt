@@ -1,4 +1,4 @@
--- The fields of the data of a well-made request are its parts.
+-- The fields of a well-made request's data are the request's parts.
 use Rattle.std.proofs.Common.{◌≡◌, ℕ, ◌<◌, List, [], ◌∷◌, length, refl, arith}
 use Rattle.std.proofs.lemmas.Bool.Decides.{nat_tests}
 use Rattle.std.proofs.lemmas.Grind.{common_steps}

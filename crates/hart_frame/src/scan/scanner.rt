@@ -67,7 +67,7 @@ impl Scanner {
     /// must together be fewer than 2^64.
     ///
     /// The effect is that of [`Scanner::push`] for each of these bytes, with [`Scanner::take`] returning `None` after each but the
-    /// last. If the scanner holds nothing, the bytes are searched without a copy, and only those that it then holds are copied.
+    /// last. An empty scanner searches the bytes in place, and copies only those that it then holds.
     pub fn push_bytes(&mut self, chunk: &[u8]) -> usize
         requires drained { IsTrue self.old.drained }
         requires room { self.old.first + length self.old.held + length chunk.now < 2 ^ 64 }

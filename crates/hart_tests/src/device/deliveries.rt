@@ -100,7 +100,7 @@ fn reply_to_change(place: usize, byte: u8, faults: u8) -> Option<[u8; 16]> {
     }
 }
 
-/// Whether a request with another character at a place leads to what it must. At the spare preamble bytes the change has no effect.
+/// Whether a request with one changed character has the effect that it must. At the spare preamble bytes the change has no effect.
 /// At every later place the read request, which is for a polling address, meets silence, and the write request meets its
 /// communication faults or silence.
 fn is_met_at(exchange: &Exchange, place: usize, byte: u8, faults: u8) -> Result<bool, Fail> {

@@ -14,7 +14,7 @@ const SIX_BITS: u32 = 0x3F;
 /// The bit that packed text drops. A character has this bit set if the next lower bit is clear.
 const DROPPED_BIT: u8 = 0x40;
 
-/// Returns true if packed text has this character.
+/// Returns true if this character can be packed.
 fn is_character(code: u8) -> bool
     ensures { IsTrue result ↔ IsCharacter code }
 {
