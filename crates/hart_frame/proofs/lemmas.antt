@@ -1,4 +1,4 @@
--- Lemmas, in the rooms of the code and the definitions.
+-- Lemmas, arranged like the code and the definitions.
 pub mod wire
 pub mod heard
 pub mod scan

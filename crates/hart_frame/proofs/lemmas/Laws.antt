@@ -1,4 +1,4 @@
--- The laws of bodies, of frames, of scanners, of starts, of damage and of sightings, for the proofs of this crate and of those above.
+-- The laws of bodies, frames, scanners, starts, damage and sightings, for the proofs of this crate and of the crates above it.
 use Rattle.std.proofs.Common.{arith, ◌≡◌, ◌↔◌, ℕ, Bool, IsTrue, List, [], ◌++◌, drop, length, map}
 use Rattle.std.proofs.lemmas.List.{append-nil}
 use Rattle.hart_frame.specs.declared.heard.found.Found.{Found}

@@ -8,16 +8,16 @@ use Rattle.hart_frame.specs.wire.Delimiter.{delimiter_of}
 use Rattle.hart_frame.specs.wire.FrameParts.{FrameParts}
 use Rattle.hart_frame.proofs.lemmas.wire.UnambiguousBodies.{address_type-lt, kind_code-is}
 
--- faultless characters have the bytes that they were made of
+-- The bytes of faultless characters are the bytes of which they were made.
 pub bytes_of-faultless : (bytes : List ℕ) → bytes_of (faultless bytes) ≡ bytes
 bytes_of-faultless [] = refl
 bytes_of-faultless (byte ∷ bytes) = ap (λ (xs : List ℕ). byte ∷ xs) (bytes_of-faultless bytes)
 
--- so their bytes are one list
+-- Bytes with the same faultless characters are the same bytes.
 pub faultless-one : (bytes others : List ℕ) → faultless bytes ≡ faultless others → bytes ≡ others
 faultless-one bytes others same = sym (bytes_of-faultless bytes) ∙ ap bytes_of same ∙ bytes_of-faultless others
 
--- a body begins with its delimiter, which is no preamble byte
+-- A body begins with its delimiter, which is not FF.
 pub head_of : (f : FrameParts) (body : List ℕ) → IsBody f body
     → (others : List ℕ) × (body ≡ delimiter_of f ∷ others) × (delimiter_of f < 255)
 head_of f body is = grind (arith, common_steps, kind_code-is, address_type-lt)

@@ -1,4 +1,4 @@
--- What damage of a message leaves of its frame: the place of the delimiter is the only one where a body can stand.
+-- What damage leaves of a message's frame: a body can stand only at the place of the delimiter.
 use Rattle.std.proofs.Common.{◌≡◌, ◌≢◌, ℕ, zero, suc, ◌+◌, ◌<◌, ◌≤◌, ◌⊎◌, inl, inr, List, [], ◌∷◌, ◌++◌, length, drop, replicate, refl}
 use Rattle.std.proofs.Common.{arith, append_assoc, length-append}
 use Rattle.std.proofs.lemmas.Grind.{common_steps}
@@ -21,21 +21,21 @@ use Rattle.hart_frame.proofs.lemmas.wire.Refusal.{Says, says}
 use Rattle.hart_frame.proofs.lemmas.wire.UnambiguousBodies.{BeginsWithBody-append, bodies_are_unambiguous-no_proper_prefix}
 use Rattle.hart_frame.proofs.lemmas.wire.UnambiguousBodies.{bodies_are_unambiguous-one_frame}
 
--- a faultless character
+-- The character of a byte that is heard without faults.
 abbrev pub clear : ℕ → Character
 clear byte = record { byte = byte; faults = 0 }
 
 -- CHARACTERS THAT ARE HEARD OR MARKED
--- faultless characters are heard
+-- Bytes may all be heard unchanged and without faults.
 pub heard_faultless : (bytes : List ℕ) → AllZip IsHeardOrMarked bytes (faultless bytes)
 heard_faultless [] = tt
 heard_faultless (byte ∷ bytes) = (inl refl, heard_faultless bytes)
 
--- a faultless character is heard as it was sent
+-- A byte that is heard without faults is the byte that was sent.
 pub clear_is : (sent byte : ℕ) → IsHeardOrMarked sent (clear byte) → byte ≡ sent
 clear_is sent byte is = grind arith
 
--- so bytes that are heard without faults were sent at their place
+-- Bytes that are heard in a row without faults were sent at the same place.
 sent_there : (sent bytes : List ℕ) (prefix rest : List Character) → AllZip IsHeardOrMarked sent (prefix ++ faultless bytes ++ rest)
     → (after : List ℕ) × (drop (length prefix) sent ≡ bytes ++ after)
 sent_there sent [] [] rest heard = (sent, refl)
@@ -45,7 +45,7 @@ sent_there [] bytes (character ∷ prefix) rest heard = absurd heard
 sent_there (one ∷ sent) bytes (character ∷ prefix) rest heard = sent_there sent bytes prefix rest heard.1
 
 -- WHERE A FRAME CAN STAND
--- after so many preamble bytes and others, two and another byte stand at the end of the first ones, or after the byte that follows
+-- Two FF before another byte are the last two of the preamble, or begin after the delimiter.
 two_there : (left place head : ℕ) (bytes rest : List ℕ) → delimiter_in bytes ≢ 255 → head ≢ 255
     → drop place (replicate left 255 ++ bytes) ≡ 255 ∷ 255 ∷ head ∷ rest
     → (left < place) ⊎ ((place + 2 ≡ left) × (bytes ≡ head ∷ rest))
@@ -56,7 +56,7 @@ two_there (suc (suc (suc left))) zero head bytes rest one other is = absurd (oth
 two_there zero (suc place) head bytes rest one other is = inl (omega arith)
 two_there (suc left) (suc place) head bytes rest one other is = grind (arith, two_there left place head bytes rest one other is)
 
--- a frame that stands there starts at the delimiter, and its body begins what was sent, or it stands after the delimiter
+-- A frame that is heard starts at the delimiter, and its body is a prefix of the sent one; or it stands after the delimiter.
 pub stood : (left : ℕ) (body : List ℕ) (chars : List Character) (found : Found) (from : ℕ) → delimiter_in body ≢ 255
     → AllZip IsHeardOrMarked (replicate left 255 ++ body) chars → (stands : StandsIn found chars from)
     → (rest : List ℕ) × ((left < length stands.prefix) ⊎ ((length stands.prefix + 2 ≡ left) × (body ≡ stands.body ++ rest)))
@@ -66,7 +66,7 @@ stood left body chars found from delimiter heard stands =
     sent_there (replicate left 255 ++ body) (255 ∷ 255 ∷ stands.body) stands.prefix stands.rest (rw stands.split at heard) in
     grind (arith, two_there left (length stands.prefix) (delimiter_of found.frame) body (others ++ after))
 
--- so it starts at the delimiter if no two preamble bytes are heard after that
+-- If no two FF in a row are heard after the delimiter, a frame that is heard starts at the delimiter.
 stands_there : (left : ℕ) (body : List ℕ) (chars : List Character) (found : Found) (from : ℕ) → delimiter_in body ≢ 255
     → AllZip IsHeardOrMarked (replicate left 255 ++ body) chars → HasNoTwoPreambles (drop (left + 1) chars)
     → (stands : StandsIn found chars from) → (rest : List ℕ) × (length stands.prefix + 2 ≡ left) × (body ≡ stands.body ++ rest)
@@ -76,11 +76,11 @@ stands_there left body chars found from delimiter heard no_two_preambles stands 
     grind (arith, common_steps, stands.split, drop-append-le, append_assoc)
 
 -- MARKED DAMAGE
--- the message's own frame, in its place
+-- The message's own frame, at its place.
 abbrev own : FrameParts → ℕ → List Character → Found
 own frame left chars = record { start = left; stop = length chars; frame = frame }
 
--- a frame that stands there is the message's own
+-- With marked damage, each frame that stands in what is heard is the message's own.
 marked_own : (frame : FrameParts) (preambles : ℕ) (chars : List Character) (damage : IsMarkedDamage frame preambles chars)
     → (found : Found) (from : ℕ) → StandsIn found chars from → found ≡ own frame damage.left chars
 marked_own frame preambles chars damage found from stands =
@@ -91,7 +91,7 @@ marked_own frame preambles chars damage found from stands =
     let long = AllZip-long IsHeardOrMarked (replicate damage.left 255 ++ damage.body) chars damage.heard in
     grind (arith, bodies_are_unambiguous-one_frame found.frame frame stands.body, append-nil, length-append, length-replicate)
 
--- if each frame that stands is one that ends the list, the list has none or that one alone
+-- If only one frame can stand in a list, and it ends the list, the list has no frame or that one alone.
 none_or_own : (chars : List Character) (from : ℕ) (one : Found) → ((found : Found) → StandsIn found chars from → found ≡ one)
     → length chars ≤ one.stop → (frames : List Found) → AreFrames chars from frames
     → AreFrames chars from [] ⊎ AreFrames chars from (one ∷ [])
@@ -108,11 +108,11 @@ AreFrames-marked frame preambles chars damage =
     (λ other stands. marked_own frame preambles chars damage other 0 stands) (omega arith) found.0 found.1
 
 -- CHECK DAMAGE
--- a body gives its delimiter and its length
+-- A body has the delimiter, the byte count and the length that its frame implies.
 says_of : (f : FrameParts) (body : List ℕ) → IsBody f body → Says body f (length body)
 says_of f body is = says body f (length body) (rw (append-nil body) at (BeginsWithBody-append f body [] is))
 
--- a frame that stands there has all of the bytes, and their parity is not even
+-- With check damage no frame is heard, since its body would be all the bytes, and their parity is not even.
 pub AreFrames-check : (frame : FrameParts) (preambles : ℕ) (chars : List Character) → IsCheckDamage frame preambles chars
     → AreFrames chars 0 []
 AreFrames-check frame preambles chars damage = none 0 (λ found stands.

@@ -1,4 +1,4 @@
--- The frames of a delivery, by the first of them.
+-- What the first frames of a delivery say of all its frames.
 use Rattle.std.proofs.Common.{arith, ◌≡◌, List, [], ◌∷◌}
 use Rattle.hart_frame.specs.declared.scan.first.LoneFrame.{LoneFrame}
 use Rattle.hart_frame.specs.declared.heard.found.Found.{Found}
@@ -7,7 +7,7 @@ use Rattle.hart_frame.specs.heard.Delivery.{IsLone, lone_of}
 use Rattle.hart_frame.specs.heard.Frames.{AreFrames, HasNoFrame, IsFirst, none, first}
 use Rattle.hart_frame.proofs.lemmas.heard.UnambiguousFrames.{AreFrames-one}
 
--- what is said of some frames is said of all that a delivery has
+-- Whether a delivery has no frame, one alone or several is what its list of frames says.
 pub only_said : (delivery : List Character) (said : LoneFrame) → IsLone delivery said
     → (frames : List Found) → AreFrames delivery 0 frames → said ≡ lone_of frames
 only_said delivery said are frames others = grind (arith, AreFrames-one)
@@ -19,7 +19,7 @@ pub one_frame : (delivery : List Character) (found : Found) → IsFirst found de
     → AreFrames delivery 0 (found ∷ [])
 one_frame delivery found is_first no_second = first 0 found [] is_first (none found.stop no_second)
 
--- after a second frame come the frames of what follows it
+-- The frames of a delivery are the first one, the second one, and those from the stop of the second on.
 pub several_frames : (delivery : List Character) (found second : Found) (later : List Found) → IsFirst found delivery 0
     → IsFirst second delivery found.stop → AreFrames delivery second.stop later → AreFrames delivery 0 (found ∷ second ∷ later)
 several_frames delivery found second later is_first is_second others =

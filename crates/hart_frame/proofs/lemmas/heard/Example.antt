@@ -1,4 +1,4 @@
--- The request that shows what damage is.
+-- The request that serves as the example of damage.
 use Rattle.std.proofs.Common.{◌⊎◌, ◌≡◌, ℕ, ◌<◌, inl, List, [], ◌∷◌, ◌++◌, length, drop, replicate, refl, ap, arith, length-append, subst}
 use Rattle.std.proofs.lemmas.List.{drop_at, length-replicate}
 use Rattle.std.proofs.lemmas.List.Elements.{All-from_recursion}
@@ -16,7 +16,7 @@ use Rattle.hart_frame.proofs.lemmas.wire.Body.{IsBody-push}
 use Rattle.hart_frame.proofs.lemmas.wire.UnambiguousBodies.{bodies_are_unambiguous-one_body}
 use Rattle.hart_frame.proofs.lemmas.wire.Parity.{IsCheckByte-fold, even-check, fits_at}
 
--- the body that is sent
+-- The body that is sent.
 abbrev request_body : List ℕ
 request_body = 2 ∷ 128 ∷ 0 ∷ 0 ∷ 130 ∷ []
 
@@ -31,7 +31,7 @@ request_is =
     (record { address = 128 ∷ []; address_bytes = (omega arith, refl); parts = refl; expansion_fits = omega arith; payload_fits = tt })
     fits (IsCheckByte-fold checked 130 (fits_at checked fits) refl)
 
--- characters of which none is FF have no two in a row
+-- A character whose byte is below FF; a list of such characters has no two FF in a row.
 abbrev IsOther : Character → Type 0
 IsOther character = character.byte < 255
 
@@ -40,7 +40,7 @@ none_in_row chars others [] rest same = grind (arith, preamble)
 none_in_row [] others (character ∷ prefix) rest same = cc
 none_in_row (character ∷ chars) others (other ∷ prefix) rest same = none_in_row chars others.1 prefix rest (ap (drop 1) same)
 
--- a vertical parity fault
+-- The only bit set in 64 is a fault bit, that of vertical parity.
 parity_bit : (bit : ℕ) → bit < 8 → bit_at 64 bit ≡ 1 → IsFaultBit bit
 parity_bit bit below set =
     let cases : (bit ≡ 0) ⊎ (bit ≡ 1) ⊎ (bit ≡ 2) ⊎ (bit ≡ 3) ⊎ (bit ≡ 4) ⊎ (bit ≡ 5) ⊎ (bit ≡ 6) ⊎ (bit ≡ 7) = grind arith in
@@ -59,7 +59,7 @@ faulty_is_marked = record {
   no_two_preambles = none_in_row _ (grind arith);
 }
 
--- the bytes with another address
+-- The bytes of the body with another address and with this check byte.
 abbrev other_bytes : ℕ → List ℕ
 other_bytes check = 2 ∷ 129 ∷ 0 ∷ 0 ∷ check ∷ []
 
@@ -78,7 +78,7 @@ other_is_check = record {
 pub other_is_not_marked : IsMarkedDamage identity_request 5 other_address → ⊥
 other_is_not_marked damage = grind (arith, AllZip-long, length-append, length-replicate)
 
--- of what is as long as these two preamble bytes are left, and then come the bytes
+-- If 7 bytes are heard, two preamble bytes are left, and then come the bytes that replace the body.
 after_two : (row : List ℕ) → length row ≡ 7 → (damage : IsCheckDamage identity_request 5 (faultless row))
     → (damage.left ≡ 2) × (drop 2 row ≡ damage.heard.0)
 after_two row seven damage =

@@ -1,4 +1,4 @@
--- A frame stands where a body may start and its own stands, and every list of characters has its frames.
+-- A frame stands where a body may start and its own body stands, and every list of characters has its frames.
 use Rattle.std.proofs.Common.{append_assoc, ◌≡◌, ℕ, zero, suc, ◌+◌, ◌≤◌, ◌⊎◌, inl, inr, List, [], ◌∷◌, length, take, drop, arith, ◌++◌}
 use Rattle.std.proofs.Common.{length-append, refl}
 use Rattle.std.proofs.lemmas.Grind.{common_steps}
@@ -18,7 +18,7 @@ use Rattle.hart_frame.proofs.lemmas.heard.Start.{start_test}
 use Rattle.hart_frame.proofs.lemmas.wire.BodiesFound.{body_decided}
 use Rattle.hart_frame.proofs.lemmas.wire.UnambiguousBodies.{BeginsWithBody-append}
 
--- a body that the bytes from a place on begin with stands there
+-- If the bytes from a place on begin with a body, a body stands at that place.
 pub body_at : (chars : List Character) (place : ℕ) (f : FrameParts) (len : ℕ) → BeginsWithBody (bytes_from chars place) f len
     → HasBodyAt chars place
 body_at chars place f len begins =
@@ -32,12 +32,12 @@ body_at chars place f len begins =
       parts = grind (arith, heard_parts, take-append-drop len bytes, regrouped (take len bytes) (drop len bytes) tail);
     }
 
--- and the other way round
+-- If a body stands at a place, the bytes from there on begin with it.
 pub begins_at : (chars : List Character) (place : ℕ) (has : HasBodyAt chars place)
     → BeginsWithBody (bytes_from chars place) has.frame (length has.body)
 begins_at chars place has = grind (arith, faultless_bytes-append, BeginsWithBody-append has.frame has.body (faultless_bytes has.rest))
 
--- a frame stands where its body stands after two preamble bytes
+-- A frame stands where its body stands after two preamble bytes.
 pub frame_up_to : (chars prefix rest : List Character) (body : List ℕ) (f : FrameParts) (place stop : ℕ) → IsBody f body
     → chars ≡ prefix ++ faultless (255 ∷ 255 ∷ body) ++ rest → place ≡ length prefix + 2 → stop ≡ place + length body
     → HasFrameUpTo chars place stop
@@ -45,7 +45,7 @@ frame_up_to chars prefix rest body f place stop is split at to =
     let found : Found = record { start = place; stop = stop; frame = f } in
     let stands : StandsIn found chars 0 = grind (arith, common_steps) in grind (arith, common_steps)
 
--- two preamble bytes right before a start
+-- Two preamble bytes stand right before a start.
 pub record Starts (chars : List Character) (start : ℕ) : Type 0 where
   pub prefix : List Character
   pub at : start ≡ length prefix + 2
@@ -54,7 +54,7 @@ pub record Starts (chars : List Character) (start : ℕ) : Type 0 where
 pub starts : (chars : List Character) (start : ℕ) → IsStart start chars → Starts chars start
 starts chars start is = grind (arith, common_steps, preamble, length-append, drop_at, append_assoc)
 
--- a body where one may start is that of a frame
+-- Where a body may start and a whole body stands, a frame stands.
 pub body_frame : (chars : List Character) (start : ℕ) → IsStart start chars → HasBodyAt chars start → HasFrameAt chars start
 body_frame chars start is has =
     let at = starts chars start is in
@@ -62,7 +62,7 @@ body_frame chars start is has =
     let found = frame_up_to chars at.prefix has.rest has.body has.frame start (start + length has.body) has.is_body split at.at refl in
     (found.0, found.1, found.2)
 
--- and a frame stands where a body may start and its own stands
+-- Where a frame stands, the list splits at its two FF, its body and the rest, so its body stands where a body may start.
 pub parts_of : (chars : List Character) (found : Found) (from : ℕ) (stands : StandsIn found chars from)
     → (chars ≡ (stands.prefix ++ (preamble ∷ preamble ∷ [])) ++ (faultless stands.body ++ stands.rest))
     × (drop found.start chars ≡ faultless stands.body ++ stands.rest)
@@ -83,7 +83,7 @@ pub start_of : (chars : List Character) (found : Found) (from : ℕ) → StandsI
 start_of chars found from stands =
     grind (arith, common_steps, head_of found.frame stands.body stands.is_body, parts_of chars found from stands, append_assoc)
 
--- whether a frame starts at a place
+-- At each place a frame starts, or none does.
 frame_decided : (chars : List Character) (start : ℕ) → HasFrameAt chars start ⊎ (HasFrameAt chars start → ⊥)
 frame_decided chars start =
     let starts : IsStart start chars ⊎ (IsStart start chars → ⊥) = grind (arith, start_test chars start) in
@@ -96,7 +96,7 @@ frame_decided chars start =
       ]
     ]
 
--- the frames from a place on are those from an earlier one on, if each that stands from there on stands from that place on
+-- The frames from `to` on are also those from `from` on, if each frame that stands from `from` on stands from `to` on.
 pub AreFrames-earlier : (chars : List Character) (from to : ℕ) (frames : List Found) → from ≤ to
     → ((found : Found) → StandsIn found chars from → StandsIn found chars to) → AreFrames chars to frames → AreFrames chars from frames
 AreFrames-earlier chars from to frames before skip (none n empty) = AreFrames.none from (λ found stands. empty found (skip found stands))
@@ -127,7 +127,7 @@ frames_found chars (suc fuel) from enough = elim (frame_decided chars (from + 2)
 pub AreFrames-found : (chars : List Character) (from : ℕ) → (frames : List Found) × AreFrames chars from frames
 AreFrames-found chars from = frames_found chars (length chars) from (omega arith)
 
--- the first of the frames of a list
+-- The first of the frames of a list is its first frame.
 pub head_first : (chars : List Character) (from : ℕ) (g : Found) (later : List Found) → AreFrames chars from (g ∷ later)
     → IsFirst g chars from
 head_first chars from g later (first n h others is rest) = is

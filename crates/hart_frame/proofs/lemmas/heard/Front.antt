@@ -13,7 +13,7 @@ use Rattle.hart_frame.specs.private.Miss.{IsOfBytes}
 use Rattle.hart_frame.specs.wire.Layout.{body_length}
 use Rattle.hart_frame.proofs.lemmas.heard.Place.{preamble}
 
--- a faultless character gives its byte, and one with fault bits ends the bytes
+-- A faultless character adds its byte, and a character with fault bits ends the bytes.
 pub faultless_bytes-more : (first : Character) (others : List Character) → first.faults ≡ 0
     → faultless_bytes (first ∷ others) ≡ first.byte ∷ faultless_bytes others
 faultless_bytes-more first others good = grind (arith, nat_tests, take_while-cons (λ (c : Character). c.faults == 0) first others)
@@ -21,17 +21,17 @@ faultless_bytes-more first others good = grind (arith, nat_tests, take_while-con
 pub faultless_bytes-end : (first : Character) (others : List Character) → first.faults ≢ 0 → faultless_bytes (first ∷ others) ≡ []
 faultless_bytes-end first others bad = grind (arith, nat_tests, take_while-cons (λ (c : Character). c.faults == 0) first others)
 
--- they are no more than the characters
+-- There are no more faultless bytes than characters.
 pub length-faultless_bytes : (chars : List Character) → length (faultless_bytes chars) ≤ length chars
 length-faultless_bytes chars = grind (arith, length-map, length-take)
 
--- the bytes of a body that is heard come first
+-- The faultless bytes of a heard body and what follows are the body and then the faultless bytes of what follows.
 pub faultless_bytes-append : (body : List ℕ) (rest : List Character)
     → faultless_bytes (faultless body ++ rest) ≡ body ++ faultless_bytes rest
 faultless_bytes-append [] rest = refl
 faultless_bytes-append (byte ∷ bytes) rest = grind (arith, common_steps, faultless_bytes-more, faultless_bytes-append bytes rest)
 
--- the bytes of so many first characters, which are faultless
+-- The first `count` characters are faultless, and these are their bytes.
 pub record Front (heard : List Character) (count : ℕ) (bytes : List ℕ) : Type 0 where
   pub whole : faultless_bytes heard ≡ bytes ++ faultless_bytes (drop count heard)
   pub long : length bytes ≡ count
@@ -50,29 +50,29 @@ pub Front-all : (heard : List Character) (count most : ℕ) (bytes : List ℕ) �
     → bytes ≡ take most (faultless_bytes heard)
 Front-all heard count most bytes all front = grind (arith, drop_all, append-nil, take_all, take_at)
 
--- what is heard is its faultless bytes, and then what follows
+-- What is heard consists of the characters of its faultless bytes and then what follows them.
 pub heard_parts : (heard : List Character)
     → heard ≡ faultless (faultless_bytes heard) ++ drop (length (faultless_bytes heard)) heard
 heard_parts [] = refl
 heard_parts (c ∷ cs) = grind (arith, faultless_bytes-more c cs, faultless_bytes-end c cs, heard_parts cs)
 
--- a character that follows has fault bits
+-- The character after the faultless bytes, if there is one, has fault bits.
 pub after_faultless : (heard : List Character) (c : Character) → slice_get heard (length (faultless_bytes heard)) ≡ Some c
     → c.faults ≢ 0
 after_faultless [] c is = absurd cc
 after_faultless (x ∷ xs) c is = grind (arith, faultless_bytes-more x xs, faultless_bytes-end x xs, after_faultless xs c)
 
--- the characters of the first faultless bytes
+-- The first characters, up to the first one with fault bits, are those of the first faultless bytes.
 pub take_heard : (heard : List Character) (n : ℕ) → n ≤ length (faultless_bytes heard)
     → take n heard ≡ faultless (take n (faultless_bytes heard))
 take_heard heard n within = grind (arith, heard_parts heard, take-append-le, length-map, take-map)
 
--- each faultless byte is of the character at its place
+-- The character at the place of a faultless byte is this byte without faults.
 pub char_at : (heard : List Character) (i : ℕ) (d : Character) → i < length (faultless_bytes heard)
     → get_or heard i d ≡ record { byte = get_or (faultless_bytes heard) i 0; faults = 0 }
 char_at heard i d below = grind (arith, heard_parts heard, get_or_append_left, get_or-map, length-map)
 
--- the bytes of characters whose bytes fit
+-- If the bytes of all characters are below 256, so are the faultless bytes.
 pub faultless_fit : (heard : List Character) → All (λ c. c.byte < 256) heard → All (λ byte. byte < 256) (faultless_bytes heard)
 faultless_fit heard fit =
     All-from_get_or (λ byte. byte < 256) (faultless_bytes heard) 0
@@ -83,16 +83,16 @@ of_chars chars start fit =
     All-take (λ byte. byte < 256) (body_length (faultless_bytes (drop start chars))) (faultless_bytes (drop start chars))
     (faultless_fit (drop start chars) (All-drop (λ (c : Character). c.byte < 256) start chars fit))
 
--- faultless characters after others, and before a tail
+-- The faultless characters of two joined lists are those of the first and then those of the second, also before a tail.
 pub regrouped : (xs ys : List ℕ) (tail : List Character) → faultless (xs ++ ys) ++ tail ≡ faultless xs ++ (faultless ys ++ tail)
 regrouped xs ys tail = grind (arith, common_steps, map-append, append_assoc)
 
--- the first faultless bytes are no more than what is heard
+-- The first faultless bytes are no more than the characters that are heard.
 pub length-front : (heard : List Character) (most : ℕ) (bytes : List ℕ) → bytes ≡ take most (faultless_bytes heard)
     → length bytes ≤ length heard
 length-front heard most bytes is = grind (arith, length-take, length-faultless_bytes)
 
--- the characters of so many first bytes
+-- The characters of the first faultless bytes are the first characters that are heard.
 pub front_heard : (heard : List Character) (most : ℕ)
     → faultless (take most (faultless_bytes heard)) ≡ take (length (take most (faultless_bytes heard))) heard
 front_heard heard most = grind (arith, common_steps, length-take, take_min, take_heard)

@@ -1,4 +1,4 @@
--- Where a body may start a frame stands or something is missed, and with what is missed put right a frame stands.
+-- Where a body may start, a frame stands or there is a miss, and when the miss is put right a frame stands there.
 use Rattle.std.proofs.Common.{◌≡◌, ◌≢◌, ℕ, fold, bit_xor, ◌+◌, ◌-◌, ◌<◌, ◌⊎◌, List, [], ◌∷◌, ◌++◌, length, take, drop, get_or}
 use Rattle.std.proofs.Common.{set, true, ap, inl, inr, sym, ◌∙◌, None, Option, Some, refl, arith, append_assoc, length-append, ◌↔◌}
 use Rattle.std.proofs.lemmas.Bool.Decides.{nat_tests}
@@ -30,7 +30,7 @@ use Rattle.hart_frame.proofs.lemmas.wire.Parity.{IsCheckByte-fold, fits-is, fits
 use Rattle.hart_frame.proofs.lemmas.wire.Prefix.{HasGoodByteCount-more, good_prefix, length_more}
 use Rattle.hart_frame.proofs.lemmas.wire.Truncated.{Fitted, fitted}
 
--- bytes up to a check byte that fits are a body
+-- The bytes before a check byte, with the check byte that fits them, are a body.
 whole_body : (bytes : List ℕ) → All (λ byte. byte < 256) (take (body_length bytes) bytes) → HasCheckByte bytes
     → Fitted (take (body_length bytes - 1) bytes)
 whole_body bytes fit has =
@@ -51,7 +51,7 @@ heard_body chars start fits has same =
     let begins : BeginsWithBody bytes frame n = grind arith in
     body_at chars start frame n begins
 
--- at a place a body begins, or something of it is missed
+-- At each place a whole body begins, or there is a reason why none does.
 body_or_miss : (chars : List Character) (start : ℕ) → IsOfBytes (drop start chars)
     → HasBodyAt chars start ⊎ (is_some (body_miss start (drop start chars)) ≡ true)
 body_or_miss chars start fit = grind (arith, nat_tests, heard_body chars start fit)
@@ -66,7 +66,7 @@ frame_or_miss place chars fit is =
       miss_of-start chars (drop place chars) place refl is,
     )
 
--- after one preamble byte alone a whole body stands
+-- Where the miss is `OnePreamble`, a whole body stands after a single FF.
 one_stands : (start : ℕ) (chars : List Character) → IsOfBytes (drop start chars) → miss_of chars start ≡ Some OnePreamble
     → FollowsOnePreamble chars start × HasBodyAt chars start
 one_stands start chars fit is = grind (arith, in_the_way start chars OnePreamble fit, body_or_miss chars start fit)
@@ -79,7 +79,7 @@ pub one_alone : (start : ℕ) (chars : List Character) → All (λ c. c.byte < 2
     → (miss_of chars start ≡ Some OnePreamble) ↔ (FollowsOnePreamble chars start × HasBodyAt chars start)
 one_alone start chars fit = (one_stands start chars (of_chars chars start fit), λ both. one_told start chars both.0 both.1)
 
--- what is found is a miss of the place, and a miss of the place is found
+-- A miss that is found is a miss of the place, and each miss of the place is found.
 found_is : (start : ℕ) (chars : List Character) (miss : Miss) → IsOfBytes (drop start chars) → miss_of chars start ≡ Some miss
     → IsMiss chars start miss
 found_is start chars miss fit told = elim (miss_of-some chars start miss told) [
@@ -97,13 +97,13 @@ pub miss_is : (start : ℕ) (chars : List Character) (miss : Miss) → All (λ c
 miss_is start chars miss fit =
     (found_is start chars miss (of_chars chars start fit), is_found start chars miss (λ here. of_chars chars start fit))
 
--- so there is one at most
+-- A place has at most one miss.
 pub one_miss : (start : ℕ) (chars : List Character) (miss other : Miss) → All (λ c. c.byte < 256) chars → IsMiss chars start miss
     → IsMiss chars start other → miss ≡ other
 one_miss start chars miss other fit is again =
     let same = sym ((miss_is start chars miss fit).1 is) ∙ (miss_is start chars other fit).1 again in cc
 
--- and if none is found there is none
+-- A miss that is found is the miss of the place, and if none is found the place has none.
 pub is_told : (chars : List Character) (start : ℕ) (found : Option Miss)
     → (IsStart start chars ⊎ IsSome found → IsOfBytes (drop start chars)) → found ≡ miss_of chars start
     → MatchOption found ((miss : Miss) → IsMiss chars start miss → ⊥) (IsMiss chars start)
@@ -111,7 +111,7 @@ is_told chars start None fit same = λ miss is.
     let found = same ∙ is_found start chars miss (λ here. fit (inl here)) is in cc
 is_told chars start (Some miss) fit same = found_is start chars miss (fit (inr (grind arith))) (sym same)
 
--- with another preamble byte before the one a frame stands there
+-- Where the miss is `OnePreamble`, a frame stands once another FF is inserted.
 pub one_preamble_fits : (start : ℕ) (chars : List Character) → All (λ c. c.byte < 256) chars → miss_of chars start ≡ Some OnePreamble
     → HasFrameAt (insert chars start preamble) (start + 1)
 one_preamble_fits start chars fit is =
@@ -124,7 +124,7 @@ one_preamble_fits start chars fit is =
     (grind arith) refl in
     (found.0, found.1, found.2)
 
--- with the byte that would fit a frame stands there
+-- Where the check byte is wrong, a frame stands once the byte that fits replaces it.
 pub bad_check_fits : (start place byte fits : ℕ) (chars : List Character) → All (λ c. c.byte < 256) chars
     → miss_of chars start ≡ Some (BadCheck place byte fits)
     → HasFrameUpTo (set chars place (record { byte = fits; faults = 0 })) start (place + 1)
@@ -152,7 +152,7 @@ bad_check_fits start place byte fits chars fit is =
     frame_up_to (set chars place c) begins.prefix others (checked ++ last ∷ []) body.0 start (place + 1) body.1 changed begins.at
     (omega (arith, at, long, length-append checked (last ∷ [])))
 
--- with another character in the place of a fault none is said there
+-- Once a faultless character replaces a faulty one, the miss of `start` no longer names its place as faulty.
 pub fault_is_gone : (start place faults byte others : ℕ) (chars : List Character) → miss_of chars start ≡ Some (Faulty place faults)
     → miss_of (set chars place (record { byte = byte; faults = 0 })) start ≢ Some (Faulty place others)
 fault_is_gone start place faults byte others chars is again =
@@ -161,7 +161,7 @@ fault_is_gone start place faults byte others chars is again =
     way_of start (set chars place c) (Faulty place others) (λ place byte fits same. absurd cc) again (λ same. cc) in
     grind (arith, slice_get_within, get_or_from_slice_get, get_or-set_same chars place c preamble, length-set chars place c)
 
--- with the bytes that are missing a frame stands there
+-- Where bytes are missing, a frame stands once that many are appended, the last of them the check byte that fits.
 pub missing_fits : (start count : ℕ) (chars : List Character) (bytes : List ℕ) → All (λ c. c.byte < 256) chars
     → All (λ byte. byte < 256) bytes → miss_of chars start ≡ Some (Missing count) → count ≡ length bytes + 1
     → (last : ℕ) × IsCheckByte (bytes_from chars start ++ bytes) last

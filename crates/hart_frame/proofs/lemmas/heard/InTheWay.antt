@@ -1,4 +1,4 @@
--- A miss where a body may start is what stands in the way there, and comes from the fault with which the bytes there are refused.
+-- Where a body may start, the miss is what stands in the way, and its fault is that with which the bytes are refused.
 use Rattle.std.proofs.Common.{◌≡◌, ◌≢◌, ℕ, ◌+◌, ◌-◌, ◌<◌, ◌⊎◌, List, fold, bit_xor, length, take, ◌↔◌, drop, get_or, None, Some, refl}
 use Rattle.std.proofs.Common.{arith, Option, ◌∙◌}
 use Rattle.std.proofs.lemmas.Bool.Decides.{nat_tests}
@@ -23,7 +23,7 @@ use Rattle.hart_frame.proofs.lemmas.heard.Missed.{miss_of-some, miss_of-start}
 use Rattle.hart_frame.proofs.lemmas.heard.Place.{preamble, rest_at}
 use Rattle.hart_frame.proofs.lemmas.wire.Parity.{IsCheckByte-fold, fits-is, fits_at, odd}
 
--- a byte up to the first character with fault bits is that of the faultless character at its place
+-- Each byte before the first character with fault bits is heard at its place as a faultless character.
 heard_at : (chars : List Character) (start i place : ℕ) → place ≡ start + i → i < length (bytes_from chars start)
     → slice_get chars place ≡ Some (record { byte = get_or (bytes_from chars start) i 0; faults = 0 })
 heard_at chars start i place is below =
@@ -36,7 +36,7 @@ heard_at chars start i place is below =
       get_or-drop,
     )
 
--- where the bytes stop too early: at the end of the list, or at a character with fault bits
+-- The faultless bytes stop at the end of the list or at a character with fault bits.
 stops : (chars : List Character) (start : ℕ) (at_end : Miss) → IsStart start chars
     → (ComeToTheEnd chars start × (slice_get chars (start + length (bytes_from chars start)) ≡ None)
     × (faulty_or (slice_get (drop start chars) (length (bytes_from chars start))) (start + length (bytes_from chars start)) at_end
@@ -57,7 +57,7 @@ stops chars start at_end is =
       length-faultless_bytes (drop start chars),
     )
 
--- the bytes that the check byte covers
+-- The bytes that the check byte covers are below 256.
 covered : (chars : List Character) (start : ℕ) → IsOfBytes (drop start chars)
     → All (λ byte. byte < 256) (take (body_length (bytes_from chars start) - 1) (bytes_from chars start))
 covered chars start fit =
@@ -66,7 +66,7 @@ covered chars start fit =
     let front : take n (take (body_length bytes) bytes) ≡ take n bytes = grind (arith, take-take) in
     rw front at (All-take (λ byte. byte < 256) n (take (body_length bytes) bytes) fit)
 
--- what is said stands in the way
+-- The miss that is found stands in the way.
 said : (chars : List Character) (start : ℕ) (miss : Miss)
     → ((place byte fits : ℕ) → miss ≡ BadCheck place byte fits → IsOfBytes (drop start chars))
     → IsStart start chars → body_miss start (drop start chars) ≡ Some miss → IsInTheWay chars start miss
@@ -78,7 +78,7 @@ said chars start miss fit is told =
     let missing = stops chars start (Missing (body_length bytes - length bytes)) is in
     grind (arith, nat_tests, stops chars start EndsBeforeByteCount is, heard_at chars start n, same (start + n))
 
--- what stands in the way is said
+-- What stands in the way is the miss that is found.
 only : (chars : List Character) (start : ℕ) (miss : Miss) → IsOfBytes (drop start chars) → IsStart start chars
     → IsInTheWay chars start miss → body_miss start (drop start chars) ≡ Some miss
 only chars start (BadCheck place byte fits) fit is way =
@@ -95,13 +95,13 @@ pub in_the_way : (start : ℕ) (chars : List Character) (miss : Miss) → IsOfBy
 in_the_way start chars miss fit is =
     grind (arith, nat_tests, common_steps, miss_of-start chars (drop start chars) start, said, only chars start miss fit is)
 
--- a miss but that of one preamble byte is of a place where a body may start
+-- A miss other than `OnePreamble` belongs to a place where a body may start, and stands in the way there.
 pub way_of : (start : ℕ) (chars : List Character) (miss : Miss)
     → ((place byte fits : ℕ) → miss ≡ BadCheck place byte fits → IsOfBytes (drop start chars)) → miss_of chars start ≡ Some miss
     → miss ≢ OnePreamble → IsStart start chars × IsInTheWay chars start miss
 way_of start chars miss fit is two = grind (arith, miss_of-some chars start miss is, said chars start miss fit)
 
--- a miss has the fault with which the bytes are refused, but that of one preamble byte has none
+-- Each miss other than `OnePreamble` has a fault, with which the bytes are refused.
 has_fault : (miss : Miss) → miss ≢ OnePreamble → (fault : FrameFault) × (fault_of miss ≡ Some fault)
 has_fault miss two = grind arith
 

@@ -13,7 +13,7 @@ use Rattle.hart_frame.proofs.lemmas.heard.Body.{head_of}
 use Rattle.hart_frame.proofs.lemmas.heard.Damage.{heard_faultless, stood}
 use Rattle.hart_frame.proofs.lemmas.heard.Place.{HasNoFrame-end}
 
--- the frame of a message, and where it stands in what is heard
+-- The frame of a message, and where it stands in what is heard.
 abbrev found_in : FrameParts → ℕ → List ℕ → Found
 found_in f preambles bytes = record { start = preambles; stop = length bytes; frame = f }
 

@@ -1,4 +1,4 @@
--- The miss of a place by what stands before it, and that there is none where a frame stands.
+-- The miss of a place, from what stands before it; where a frame stands there is none.
 use Rattle.std.proofs.Common.{refl, ◌≡◌, ℕ, zero, suc, ◌+◌, ◌-◌, ◌<◌, ◌⊎◌, inl, inr, List, [], ◌∷◌, ◌++◌, length, take, drop, true, false}
 use Rattle.std.proofs.Common.{None, Some, arith}
 use Rattle.std.proofs.lemmas.List.{length-take-le, take_more}
@@ -16,12 +16,12 @@ use Rattle.hart_frame.proofs.lemmas.heard.Start.{start_test, tested}
 use Rattle.hart_frame.proofs.lemmas.wire.Parity.{odd}
 use Rattle.hart_frame.proofs.lemmas.wire.Refusal.{says}
 
--- what the miss of a place is where a body may start
+-- Where a body may start, the miss of the place is why no body begins there.
 pub miss_of-start : (chars heard : List Character) (start : ℕ) → heard ≡ drop start chars → IsStart start chars
     → body_miss start heard ≡ miss_of chars start
 miss_of-start chars heard start is starts = grind (arith, start_test chars start)
 
--- which misses there are where a body may start, and after one preamble byte
+-- A miss belongs to a place where a body may start, or it is `OnePreamble` and a whole body stands after a single FF.
 pub miss_of-some : (chars : List Character) (start : ℕ) (miss : Miss) → miss_of chars start ≡ Some miss
     → (IsStart start chars × (body_miss start (drop start chars) ≡ Some miss))
     ⊎ ((miss ≡ OnePreamble) × (follows_one_preamble chars start ≡ true) × (is_some (body_miss start (drop start chars)) ≡ false))
@@ -29,7 +29,7 @@ miss_of-some chars start miss is =
     let cases : (is_start chars start ≡ true) ⊎ (is_start chars start ≡ false) = grind arith in
     elim cases [ inl here ↦ inl ((start_test chars start).0 here, grind arith) | inr not_here ↦ inr (grind arith) ]
 
--- one preamble byte alone, and what stands before it
+-- If exactly one FF stands right before a place, the test says so, and the characters up to the place end with this FF.
 pub one_preamble-yes : (chars : List Character) (place : ℕ) → FollowsOnePreamble chars place → follows_one_preamble chars place ≡ true
 one_preamble-yes chars place one = one
 
@@ -41,7 +41,7 @@ preamble_before chars (suc k) one =
     let within : k < length chars = grind arith in
     grind (arith, take_more chars k preamble, length-take-le)
 
--- nothing is missed where a body stands
+-- Where a whole body stands, nothing is missed.
 pub none_of : (chars : List Character) (start : ℕ) → HasBodyAt chars start → body_miss start (drop start chars) ≡ None
 none_of chars start has =
     grind (
@@ -51,7 +51,7 @@ none_of chars start has =
       odd,
     )
 
--- where a frame stands there is no miss
+-- Where a frame stands there is no miss.
 pub no_miss : (place : ℕ) (chars : List Character) → HasFrameAt chars place → miss_of chars place ≡ None
 no_miss place chars (found, stands, at) =
     let none = none_of chars found.start (body_of chars found 0 stands) in

@@ -1,4 +1,4 @@
--- The frames of the rest of a list are those of the list from its place on, moved by as many places as stand before it.
+-- The frames of the rest of a list, moved by its place, are the frames of the list from that place on.
 use Rattle.std.proofs.Common.{add-zero, ◌≡◌, ℕ, ◌+◌, ◌-◌, ◌<◌, ◌≤◌, ◌⊎◌, inl, inr, List, [], ◌∷◌, ◌++◌, length, map, take, drop, refl}
 use Rattle.std.proofs.Common.{arith, append_assoc, length-append, length-drop, take-append-drop}
 use Rattle.std.proofs.lemmas.Grind.{common_steps}
@@ -11,7 +11,7 @@ use Rattle.hart_frame.proofs.lemmas.heard.FramesFound.{AreFrames-found}
 use Rattle.hart_frame.proofs.lemmas.heard.Place.{HasNoFrame-end}
 use Rattle.hart_frame.proofs.lemmas.heard.UnambiguousFrames.{AreFrames-one}
 
--- what stands in a list stands after others
+-- A frame of a list still stands, moved, when characters are put before and after the list.
 pub stands_after : (prefix cs rest : List Character) (found : Found) (n : ℕ) → length prefix ≡ n → StandsIn found cs 0
     → StandsIn (record { start = n + found.start; stop = n + found.stop; frame = found.frame }) (prefix ++ (cs ++ rest)) n
 stands_after prefix cs rest found n long stands =
@@ -19,12 +19,12 @@ stands_after prefix cs rest found n long stands =
     grind (arith, append_assoc) in
     grind (arith, length-append prefix stands.prefix)
 
--- and what stands after others stands in the list
+-- A frame that stands after a prefix stands, moved back, in the list without the prefix.
 pub stands_in : (prefix cs : List Character) (found : Found) (n : ℕ) → length prefix ≡ n → StandsIn found (prefix ++ cs) n
     → StandsIn (record { start = found.start - n; stop = found.stop - n; frame = found.frame }) cs 0
 stands_in prefix cs found n long stands = grind (arith, length-drop n stands.prefix, drop_at prefix cs n long, append_assoc, drop-append-le)
 
--- the same from any place of the list on
+-- A frame that stands in the rest from some place on stands, moved, in the whole list.
 stands_moved : (before rest : List Character) (found : Found) (n from : ℕ) → length before ≡ n → StandsIn found rest from
     → StandsIn (moved n found) (before ++ rest) (n + from)
 stands_moved before rest found n from long stands = grind (arith, append_assoc, length-append before stands.prefix)
@@ -42,7 +42,7 @@ first_moved before rest found n from long is = record {
   least = λ other there. omega (arith, there.after, there.start, is.least _ (stands_back before rest other n from long there));
 }
 
--- the frames of the rest, counted from its front, stand in the list so many places later
+-- The frames of the rest, moved by the number of characters before it, are frames of the whole list.
 frames_moved : (before rest : List Character) (n : ℕ) (long : length before ≡ n) (from : ℕ) (frames : List Found)
     → AreFrames rest from frames → AreFrames (before ++ rest) (n + from) (map (moved n) frames)
 frames_moved before rest n long from frames (none place empty) =
@@ -51,18 +51,18 @@ frames_moved before rest n long from frames (first place found later is more) =
     AreFrames.first (n + from) (moved n found) (map (moved n) later) (first_moved before rest found n from long is)
     (frames_moved before rest n long found.stop later more)
 
--- moved frames come from the same frames
+-- Frames that are equal after a move were equal before it.
 all_moved_one : (n : ℕ) (xs ys : List Found) → map (moved n) xs ≡ map (moved n) ys → xs ≡ ys
 all_moved_one n [] [] same = refl
 all_moved_one n (x ∷ xs) (y ∷ ys) same = grind (arith, common_steps, all_moved_one n xs ys cc)
 all_moved_one n xs ys same = absurd cc
 
--- from the end of a list on there are no frames
+-- From the end of a list on there are no frames.
 pub frames_none : (chars : List Character) (place : ℕ) (frames : List Found) → length chars ≤ place → AreFrames chars place frames
     → frames ≡ []
 frames_none chars place frames end given_4 = grind (arith, common_steps, HasNoFrame-end)
 
--- the rest of a list gives the frames from its place on
+-- The frames of the rest of a list, moved by its place, are the frames of the list from there on.
 pub rest_frames : (place : ℕ) (chars : List Character) (frames : List Found) → AreFrames (drop place chars) 0 frames
     → AreFrames chars place (map (moved place) frames)
 rest_frames place chars frames are =
@@ -76,7 +76,7 @@ rest_frames place chars frames are =
           (AreFrames.none place (HasNoFrame-end chars place (omega (arith, past))))
     ]
 
--- and those are all frames from that place on
+-- All frames of a list from a place on are moved frames of its rest.
 pub rest_all : (place : ℕ) (chars : List Character) (frames : List Found) → AreFrames chars place frames
     → (own : List Found) × AreFrames (drop place chars) 0 own × (frames ≡ map (moved place) own)
 rest_all place chars frames are = grind (arith, common_steps, AreFrames-found (drop place chars) 0, AreFrames-one, rest_frames)
@@ -86,7 +86,7 @@ pub rest_only : (place : ℕ) (chars : List Character) (frames : List Found) →
 rest_only place chars frames are =
     let (own, is, same) = rest_all place chars (map (moved place) frames) are in rw (all_moved_one place frames own same) is
 
--- frames that are moved twice are moved by the sum, and those that are moved by nothing stay
+-- Moving frames twice moves them by the sum, and moving them by 0 leaves them as they are.
 pub moved_twice : (n m : ℕ) (frames : List Found) → map (moved n) (map (moved m) frames) ≡ map (moved (n + m)) frames
 moved_twice n m [] = refl
 moved_twice n m (found ∷ frames) = grind (arith, moved_twice n m frames)
@@ -95,13 +95,13 @@ pub moved_nowhere : (frames : List Found) → map (moved 0) frames ≡ frames
 moved_nowhere [] = refl
 moved_nowhere (found ∷ frames) = grind (arith, moved_nowhere frames)
 
--- a frame that is moved, and the others, come from a frame and the others
+-- If there are frames after a move, there were frames before it.
 pub some_moved : (n : ℕ) (found : Found) (more frames : List Found) → found ∷ more ≡ map (moved n) frames
     → (one : Found) × (others : List Found) × (frames ≡ one ∷ others)
 some_moved n found more [] same = absurd cc
 some_moved n found more (one ∷ others) same = (one, others, refl)
 
--- and none come from none
+-- If there are no frames after a move, there were none before it.
 pub none_moved : (n : ℕ) (frames : List Found) → [] ≡ map (moved n) frames → frames ≡ []
 none_moved n [] same = refl
 none_moved n (one ∷ others) same = absurd cc

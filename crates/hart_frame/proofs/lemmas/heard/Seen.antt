@@ -1,4 +1,4 @@
--- What is seen of a list from a place on, by what is seen of it from a later one on.
+-- What is seen of a list from a place on, by what is seen of it from a later place on.
 use Rattle.std.proofs.Common.{◌≡◌, ℕ, zero, suc, ◌+◌, ◌-◌, ◌≤◌, List, [], ◌∷◌, ◌++◌, length}
 use Rattle.std.proofs.Common.{◌<◌, drop, true, false, None, inl, arith, append_assoc, refl, sym}
 use Rattle.std.proofs.lemmas.Bool.Decides.{nat_tests}
@@ -18,7 +18,7 @@ use Rattle.hart_frame.specs.heard.Frames.{AreFrames, IsFirst, first, none}
 use Rattle.hart_frame.specs.heard.Place.{StandsIn}
 use Rattle.hart_frame.specs.heard.Sighting.{AreSightings, Message, Missed, Seen, missed, missed_at, sightings}
 
--- from a place to another this is seen, no frame begins, and from there on the list is seen as from the first of them
+-- A list passes to `to` if `given` is seen before it, no frame begins before it, and the same is seen from it as from `from`.
 pub record Passes (chars : List Character) (from to : ℕ) (given : List Seen) : Type 0 where
   pub order : from ≤ to
   pub within : to ≤ length chars
@@ -26,12 +26,12 @@ pub record Passes (chars : List Character) (from to : ℕ) (given : List Seen) :
   pub frames : (found : Found) → StandsIn found chars from → to + 2 ≤ found.start
   pub same : (place : ℕ) → to ≤ place → missed_at chars from place ≡ missed_at chars to place
 
--- numbers in a row are some and then others
+-- A range of numbers is its first part and then the rest.
 range_parts : (a n m : ℕ) → range_with_len a (n + m) ≡ range_with_len a n ++ range_with_len (a + n) m
 range_parts a zero m = grind arith
 range_parts a (suc n) m = let long : suc n + m ≡ suc (n + m) = omega arith in rw long (grind (arith, range_parts (a + 1) n m))
 
--- the places from one on are told alike
+-- If the same is seen from `from` as from `to` at each place, the same is seen at a row of places.
 same_places : (chars : List Character) (from to a k : ℕ) → to ≤ a
     → ((place : ℕ) → to ≤ place → missed_at chars from place ≡ missed_at chars to place)
     → flat_map (λ p. missed_at chars from p) (range_with_len a k) ≡ flat_map (λ p. missed_at chars to p) (range_with_len a k)
@@ -48,7 +48,7 @@ gap_on chars from to stop given passes before =
     let told = passes.told in
     rw (long, parts, flat_map-append, told, same_places chars from to to (stop - to) (omega arith) passes.same) refl
 
--- a frame stands from the later place on
+-- A frame that stands from the earlier place on also stands from the later one on.
 stands_on : (chars : List Character) (from to : ℕ) (given : List Seen) (found : Found) → Passes chars from to given
     → StandsIn found chars from → StandsIn found chars to
 stands_on chars from to given found passes stands =
@@ -64,7 +64,7 @@ first_on chars from to given found passes is = record {
   least = λ other there. is.least other (stands_on chars from to given other passes there);
 }
 
--- the frames are the same
+-- The frames from the later place on are also the frames from the earlier one on.
 frames_on : (chars : List Character) (from to : ℕ) (given : List Seen) (frames : List Found) → Passes chars from to given
     → AreFrames chars to frames → AreFrames chars from frames
 frames_on chars from _ given _ passes (none to empty) =
@@ -72,7 +72,7 @@ frames_on chars from _ given _ passes (none to empty) =
 frames_on chars from _ given _ passes (first to found later is are) =
     AreFrames.first from found later (first_on chars from to given found passes is) are
 
--- and what is seen of them is this, and then what is seen from the later place on
+-- What is seen from the earlier place on is `given` and then what is seen from the later one on.
 seen_on : (chars : List Character) (from to : ℕ) (given : List Seen) (frames : List Found) → Passes chars from to given
     → AreFrames chars to frames → sightings chars from frames ≡ given ++ sightings chars to frames
 seen_on chars from _ given _ passes (none to empty) = gap_on chars from to (length chars) given passes passes.within
@@ -89,7 +89,7 @@ passes_on chars from to given later passes are = record {
   seen_is = rw are.seen_is (sym (seen_on chars from to given are.frames passes are.are_frames));
 }
 
--- a message is seen after places at which nothing is
+-- If no miss is seen before the first frame, its message is seen first, and then what is seen from its stop on.
 pub message_on : (chars : List Character) (from : ℕ) (found : Found) (later : List Seen) → missed chars from found.start ≡ []
     → IsFirst found chars from → AreSightings chars found.stop later → AreSightings chars from (Message found ∷ later)
 message_on chars from found later nothing is are = record {
@@ -98,7 +98,7 @@ message_on chars from found later nothing is are = record {
   seen_is = rw (nothing, are.seen_is) refl;
 }
 
--- nothing is seen at some places in a row
+-- Nothing is seen at a row of places if nothing is seen at each of them.
 none_between : (chars : List Character) (from a k : ℕ) → ((p : ℕ) → a ≤ p → p < a + k → missed_at chars from p ≡ [])
     → flat_map (λ p. missed_at chars from p) (range_with_len a k) ≡ []
 none_between chars from a zero silent = refl
@@ -123,7 +123,7 @@ missed_one chars from start order silent =
     let before = missed_none chars from start silent in
     rw (long, parts, flat_map-append, before, append-nil) refl
 
--- a list passes from a place to another at which it is clean, if nothing is seen between them
+-- A list passes to a clean place with nothing seen if no miss is seen and no frame begins before it.
 pub passes_silent : (chars : List Character) (from used : ℕ) → from ≤ used → used ≤ length chars → NoneSeen chars from used
     → ((found : Found) → StandsIn found chars from → used + 2 ≤ found.start) → IsClean chars from used → Passes chars from used []
 passes_silent chars from used order within silent frames clean = record {
@@ -134,7 +134,7 @@ passes_silent chars from used order within silent frames clean = record {
   same = λ place after. same_from chars from used place order after clean;
 }
 
--- and to the place after a miss
+-- A list passes to the place after a miss if this miss alone is seen and no frame begins before that place.
 pub passes_miss : (chars : List Character) (from start : ℕ) (miss : Miss) → from ≤ start → start < length chars
     → NoneSeen chars from start → missed_at chars from start ≡ Missed start miss ∷ []
     → ((found : Found) → StandsIn found chars from → start + 3 ≤ found.start) → is_preamble_at chars start ≡ false
@@ -148,7 +148,7 @@ passes_miss chars from start miss order within silent is frames other =
       same = λ place after. same_from chars from (start + 1) place (omega (arith, order)) after (inl (λ _. rw back other));
     }
 
--- where a frame stands
+-- Where a frame starts, two FF stand right before the place, another character stands at it, and a whole body begins.
 pub record FrameAt (chars : List Character) (from start : ℕ) : Type 0 where
   pub order : from + 2 ≤ start
   pub within : start < length chars

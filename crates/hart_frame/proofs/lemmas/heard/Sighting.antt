@@ -1,4 +1,4 @@
--- What is seen of the rest of a list, and after a character that is no preamble byte.
+-- What is seen in the rest of a list, and what is seen after a character other than FF.
 use Rattle.std.proofs.Common.{◌≡◌, ℕ, zero, suc, ◌+◌, ◌-◌, ◌<◌, ◌≤◌, Bool, true, false, List, [], ◌∷◌, length, map, drop, Option, None}
 use Rattle.std.proofs.Common.{Some, ◌∙◌, ◌⊎◌, inl, inr, ap, sym, arith, refl, length-drop}
 use Rattle.std.proofs.lemmas.Bool.Decides.{nat_tests}
@@ -20,7 +20,7 @@ use Rattle.hart_frame.proofs.lemmas.heard.Start.{tested}
 use Rattle.hart_frame.specs.heard.Sighting.{Missed, Seen, missed, missed_at, miss_in_whole, moved_seen, seen_miss, sightings}
 use Rattle.hart_frame.specs.heard.Sighting.{two_begin_in_body}
 
--- a place that is told is told so many places later
+-- What is seen at a place of the rest of a list is seen `n` places later in the list.
 told_moved : (n from p : ℕ) (m : Option Miss) → option_map_or (λ miss. Missed (n + p) (miss_in_whole (n + from) miss) ∷ []) m []
     ≡ map (moved_seen n) (option_map_or (λ miss. Missed p (miss_in_whole from miss) ∷ []) m [])
 told_moved n from p None = refl
@@ -45,7 +45,7 @@ missed_moved : (chars : List Character) (n from stop end : ℕ) → end - (n + f
     → missed chars (n + from) end ≡ map (moved_seen n) (missed (drop n chars) from stop)
 missed_moved chars n from stop end same = rw same (places_moved chars n from from (stop - from))
 
--- what is seen of the rest is seen of the list so many places later
+-- What is seen in the rest of a list from a place on is seen in the list `n` places later.
 pub sightings_moved : (chars : List Character) (n from : ℕ) (frames : List Found)
     → sightings chars (n + from) (map (moved n) frames) ≡ map (moved_seen n) (sightings (drop n chars) from frames)
 sightings_moved chars n from [] = missed_moved chars n from (length (drop n chars)) (length chars) (omega (arith, length-drop n chars))
@@ -53,11 +53,11 @@ sightings_moved chars n from (found ∷ later) =
     let gap = missed_moved chars n from found.start (n + found.start) (omega arith) in
     grind (arith, common_steps, map-append, sightings_moved chars n found.stop later)
 
--- the miss of characters that begin at a place, counted from another
+-- The miss of characters at `n + start` is their miss at `start`, with its places moved by `n`.
 pub body_moved : (n start : ℕ) (heard : List Character) → option_map (miss_in_whole n) (body_miss start heard) ≡ body_miss (n + start) heard
 body_moved n start heard = grind (arith, nat_tests)
 
--- whether a faultless FF stands at a place, and right before a place of the rest of a list
+-- A faultless FF stands at a place; `follows_from` says that one stands right before a place that lies after `from`.
 abbrev pub is_preamble_at : List Character → ℕ → Bool
 is_preamble_at chars place = option_map_or is_preamble (slice_get chars place) false
 
@@ -73,8 +73,8 @@ follows_at chars from place (suc k) is =
 follows_is : (chars : List Character) (from place : ℕ) → follows_preamble (drop from chars) (place - from) ≡ follows_from chars from place
 follows_is chars from place = follows_at chars from place (place - from) refl
 
--- the miss that is seen at a place, in places of the whole list, by whether one FF and then a second one stand before it, and whether a
--- character stands there that is none
+-- The miss that is seen at a place, in places of the whole list. It depends on whether one or two FF stand right before the place,
+-- and on whether a character other than FF stands at it.
 abbrev pub whole_miss : List Character → ℕ → Bool → Bool → Bool → Option Miss
 whole_miss chars place one two asked =
     if one then if two then if asked then body_miss place (drop place chars) else None
@@ -88,7 +88,7 @@ pub is_none-map : {A B : Type 0} (f : A → B) (m : Option A) → is_none (optio
 is_none-map f None = refl
 is_none-map f (Some x) = refl
 
--- places in a miss do not say which is told
+-- Renumbering the places in a miss does not change which miss is seen.
 pick : (f : Miss → Miss) (m told : Option Miss) (one two asked crossed : Bool) → option_map f m ≡ told → f OnePreamble ≡ OnePreamble
     → option_map f (if (one && not two) && crossed then None
     else if (one && two) && asked then m else if (one && not two) && is_none m then Some OnePreamble else None)
@@ -111,7 +111,7 @@ miss_is chars from place after =
     (follows_from chars from place) (follows_from chars from (place - 1)) (is_other_at chars place) (two_begin_in_body chars place)
     told refl)
 
--- a place is told by its miss
+-- What is seen at a place: its miss, if it has one.
 abbrev told : ℕ → Option Miss → List Seen
 told place m = option_map_or (λ miss. Missed place miss ∷ []) m []
 
@@ -125,7 +125,7 @@ told_at : (chars : List Character) (from place : ℕ) → from ≤ place → mis
 told_at chars from place after =
     told_is from place (seen_miss (drop from chars) (place - from)) ∙ ap (told place) (miss_is chars from place after)
 
--- so two places from which a list is looked at tell the same of a place if the same stands before it
+-- The second FF before a place matters only if a first one stands right before the place.
 same_miss : (chars : List Character) (place : ℕ) (one two other asked : Bool) → (one ≡ true → two ≡ other)
     → whole_miss chars place one two asked ≡ whole_miss chars place one other asked
 same_miss chars place true two other asked same = rw (same refl) refl
@@ -139,7 +139,7 @@ same_at chars from to place after later one two =
     rw (told_at chars from place after, told_at chars to place later, one)
     (ap (told place) (same_miss chars place (follows_from chars to place) _ _ (is_other_at chars place) two))
 
--- nothing is seen at a place unless a preamble byte stands before it, and another character at it
+-- Nothing is seen at a place without an FF right before it, or without another character at it.
 pub unasked : (chars : List Character) (from place : ℕ) → from ≤ place → follows_from chars from place ≡ false
     → missed_at chars from place ≡ []
 unasked chars from place after not = told_at chars from place after ∙ rw not refl
@@ -164,7 +164,7 @@ pub not_other : (chars : List Character) (from place : ℕ) → from ≤ place �
 not_other chars from place after is = told_at chars from place after ∙ rw (is, no_body chars place is)
     (none_other place (follows_from chars from place) (follows_from chars from (place - 1)))
 
--- after one preamble byte alone it is whether a body stands alone
+-- After a single FF, a miss is seen at a place exactly if a body stands alone there.
 pub after_one-none : (chars : List Character) (from place : ℕ) → from ≤ place → follows_from chars from place ≡ true
     → follows_from chars from (place - 1) ≡ false → stands_alone chars place ≡ false → missed_at chars from place ≡ []
 after_one-none chars from place after follows one alone = told_at chars from place after ∙ rw (follows, one, alone) refl
@@ -174,14 +174,14 @@ pub after_one-miss : (chars : List Character) (from place : ℕ) → from ≤ pl
     → missed_at chars from place ≡ Missed place OnePreamble ∷ []
 after_one-miss chars from place after follows one alone = told_at chars from place after ∙ rw (follows, one, alone) refl
 
--- and after two it is the miss of what begins there
+-- After two FF the miss of what begins at a place is seen there.
 pub after_two-miss : (chars : List Character) (from place : ℕ) (miss : Miss) → from ≤ place → follows_from chars from place ≡ true
     → follows_from chars from (place - 1) ≡ true → is_other_at chars place ≡ true → body_miss place (drop place chars) ≡ Some miss
     → missed_at chars from place ≡ Missed place miss ∷ []
 after_two-miss chars from place miss after follows two other is = told_at chars from place after ∙ rw (follows, two, other, is) refl
 
--- from a place that comes right after a character that is no preamble byte, or at which two stand, or at the end, the list is seen as from
--- an earlier one
+-- A place `used` is clean if it is `from` or no FF stands right before it, if two FF begin there, or if the list ends there. From
+-- a clean place on, the same is seen at each place as from `from`.
 abbrev pub IsClean : List Character → ℕ → ℕ → Type 0
 IsClean chars from used = (from < used → is_preamble_at chars (used - 1) ≡ false)
     ⊎ ((is_preamble_at chars used ≡ true) × (is_preamble_at chars (used + 1) ≡ true))

@@ -12,11 +12,11 @@ use Rattle.hart_frame.specs.heard.Character.{Character}
 use Rattle.hart_frame.specs.heard.Start.{HasNoStart, IsFirstStart, IsStart}
 use Rattle.hart_frame.proofs.lemmas.heard.Place.{preamble}
 
--- two first starts are the same place
+-- A list has at most one first start.
 pub IsFirstStart-one : (place other : ℕ) (chars : List Character) → IsFirstStart place chars → IsFirstStart other chars → place ≡ other
 IsFirstStart-one place other chars p q = omega (arith, p.least other q.start, q.least place p.start)
 
--- the three characters that a start is known by, whatever is read past the end
+-- Two FF stand right before a start and another character at it, whatever `d` is read past the end.
 pub record StartsAt (chars : List Character) (place : ℕ) (d : Character) : Type 0 where
   pub after_two : 2 ≤ place
   pub within : place < length chars
@@ -37,7 +37,7 @@ is_start_from chars place d at =
     let long = length-take-le k chars (omega (arith, at.within)) in
     grind (arith, at.after_two, at.other)
 
--- what stands at a place: a preamble byte, another character, or nothing
+-- At a place stands a faultless FF, another character, or nothing, and the two tests tell which.
 pub tested : (chars : List Character) (k : ℕ)
     → ((option_map_or is_preamble (slice_get chars k) false ≡ true) × (k < length chars) × (get_or chars k preamble ≡ preamble)
     × (option_map_or (λ (c : Character). not (is_preamble c)) (slice_get chars k) false ≡ false))
@@ -47,7 +47,7 @@ pub tested : (chars : List Character) (k : ℕ)
     × (option_map_or (λ (c : Character). not (is_preamble c)) (slice_get chars k) false ≡ false))
 tested chars k = grind (arith, nat_tests, slice_get_cases chars k, slice_get-get_or chars k preamble, preamble)
 
--- the test of a start
+-- The test `is_start` is true exactly at the places where a body may start.
 pub start_test : (chars : List Character) (place : ℕ) → (is_start chars place ≡ true) ↔ IsStart place chars
 start_test chars place =
     grind (
@@ -59,15 +59,15 @@ start_test chars place =
       tested chars place,
     )
 
--- no start lies before a place
+-- No start lies before a place.
 abbrev pub NoneBefore : List Character → ℕ → Type 0
 NoneBefore chars place = (other : ℕ) → IsStart other chars → place ≤ other
 
--- a start before which none lies is the first, and if there is none before the end there is none
+-- A list has no start if none lies before its end.
 pub no_start : (chars : List Character) (place : ℕ) → NoneBefore chars place → length chars ≤ place → HasNoStart chars
 no_start chars place none end other is = omega (arith, none other is, (starts_at chars other preamble is).within, end)
 
--- the first start before a place, or none
+-- A list has a first start, or no start lies before a place.
 first_before : (chars : List Character) (place : ℕ) → ((first : ℕ) × IsFirstStart first chars) ⊎ NoneBefore chars place
 first_before chars zero = inr (λ other is. omega arith)
 first_before chars (suc n) = elim (first_before chars n) [
@@ -78,7 +78,7 @@ first_before chars (suc n) = elim (first_before chars n) [
       elim cases [ inl here ↦ inl (n, record { start = test.0 here; least = none }) | inr not_here ↦ inr (λ place is. grind arith) ]
 ]
 
--- a list has a first start or none
+-- A list has a first start, or it has no start.
 pub first_start_decided : (chars : List Character) → ((first : ℕ) × IsFirstStart first chars) ⊎ HasNoStart chars
 first_start_decided chars = elim (first_before chars (length chars)) [
   | inl found ↦ inl found

@@ -1,4 +1,4 @@
--- The miss of a place by how the bytes there begin.
+-- The miss of a place, from how the bytes there begin.
 use Rattle.std.proofs.Common.{◌≡◌, ℕ, ◌+◌, ◌<◌, ◌≤◌, List, ◌++◌, Option, None, Some, drop, get_or, length, take, ◌∙◌, arith, length-append}
 use Rattle.std.proofs.lemmas.Bool.Decides.{nat_tests}
 use Rattle.std.proofs.lemmas.List.{get_or-take, get_or_append_left, length-take, take_all, take-append-drop, take-append-le, take-take}
@@ -18,14 +18,14 @@ use Rattle.hart_frame.specs.wire.Refusal.{HasCheckByte}
 use Rattle.hart_frame.proofs.lemmas.wire.Parity.{odd}
 use Rattle.hart_frame.proofs.lemmas.wire.Reading.{fold_fits, whole_has}
 
--- the check byte is judged alike whatever follows it
+-- Whether a check byte fits does not depend on the bytes after it.
 same_check : (xs ys : List ℕ) (start : ℕ) → HasCheckByte xs → check_miss (xs ++ ys) start ≡ check_miss xs start
 same_check xs ys start has = grind (arith, get_or_append_left, take-append-le)
 
 checked : (xs ys : List ℕ) (f : Option Character) (fp start : ℕ) → HasCheckByte xs → miss_in (xs ++ ys) f fp start ≡ check_miss xs start
 checked xs ys f fp start has = grind (arith, nat_tests, length-append, get_or_append_left, same_check)
 
--- what is wrong is told, whatever follows
+-- What is wrong with bytes is their miss, whatever follows.
 pub wrong_told : (xs ys : List ℕ) (w : Wrong) (f : Option Character) (fp start : ℕ) → IsWrong xs w
     → miss_in (xs ++ ys) f fp start ≡ Some (wrong_miss w start)
 wrong_told xs ys (BadDelimiter byte) f fp start is = grind (arith, nat_tests, length-append, get_or_append_left)
@@ -33,14 +33,14 @@ wrong_told xs ys (ShortReply len count) f fp start is = grind (arith, nat_tests,
 wrong_told xs ys (BadCheck len byte fits) f fp start is =
     checked xs ys f fp start is.checked ∙ grind (arith, nat_tests, fold_fits xs len byte fits is, is.whole, is.stands, is.differs)
 
--- of a whole body nothing is
+-- Bytes that begin with a whole body have no miss, whatever follows.
 pub whole_told : (xs ys : List ℕ) (layout : Layout) (f : Option Character) (fp start : ℕ) → IsPrefix xs (Whole layout)
     → miss_in (xs ++ ys) f fp start ≡ None
 whole_told xs ys layout f fp start is =
     let has = whole_has xs layout is in
     checked xs ys f fp start has.0 ∙ grind (arith, nat_tests, has, is.1.even, odd xs (layout_length layout) is.1.fits)
 
--- where bytes end too early, what comes after them is, or their end
+-- Where bytes end too early, the miss is the character with fault bits after them, or else says what is missing at the end.
 pub cut_told : (xs : List ℕ) (missing : Option ℕ) (f : Option Character) (fp start : ℕ) → IsPrefix xs (Cut missing)
     → miss_in xs f fp start ≡ Some (faulty_or f fp (cut_miss missing))
 cut_told xs None None fp start is = grind (arith, nat_tests)
@@ -48,11 +48,11 @@ cut_told xs None (Some c) fp start is = grind (arith, nat_tests)
 cut_told xs (Some count) None fp start is = grind (arith, nat_tests)
 cut_told xs (Some count) (Some c) fp start is = grind (arith, nat_tests)
 
--- fewer of the first bytes than so many are all
+-- If the first `n` bytes of a list are fewer than `n`, they are the whole list.
 short_front : (xs : List ℕ) (n : ℕ) → length (take n xs) < n → take n xs ≡ xs
 short_front xs n few = take_all n xs (omega (arith, length-take n xs, few))
 
--- so the miss of what was heard, by how as many of its bytes begin as a body may have
+-- The first `most` faultless bytes that are heard decide the miss, since no body is longer.
 module _ (heard : List Character) (start most : ℕ) (front : List ℕ) (is_front : front ≡ take most (faultless_bytes heard))
     (enough : 267 ≤ most) (fits : (i : ℕ) → get_or front i 0 < 256) where
   joined : front ++ drop most (faultless_bytes heard) ≡ faultless_bytes heard

@@ -1,4 +1,4 @@
--- A list of characters has one first frame at most from a place on, and one list of frames.
+-- From a place on, a list of characters has at most one first frame, and only one list of frames.
 use Rattle.std.proofs.Common.{◌≡◌, ℕ, List, length, refl, arith}
 use Rattle.hart_frame.specs.declared.heard.found.Found.{Found}
 use Rattle.hart_frame.specs.heard.Character.{Character}
@@ -8,7 +8,7 @@ use Rattle.hart_frame.specs.heard.InTheWay.{bytes_from}
 use Rattle.hart_frame.proofs.lemmas.heard.FramesFound.{begins_at, body_of}
 use Rattle.hart_frame.proofs.lemmas.wire.UnambiguousBodies.{bodies_are_unambiguous-one_prefix}
 
--- one frame stands at one place
+-- At most one frame starts at a place.
 StandsIn-one : (f g : Found) (chars : List Character) (m n : ℕ) → StandsIn f chars m → StandsIn g chars n
     → f.start ≡ g.start → f ≡ g
 StandsIn-one f g chars m n p q starts =

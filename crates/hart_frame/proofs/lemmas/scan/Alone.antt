@@ -1,4 +1,4 @@
--- When a whole body ends before two preamble bytes in a row begin.
+-- When no two FF in a row begin in a whole body.
 use Rattle.std.proofs.Common.{◌≡◌, ◌≢◌, ℕ, ◌+◌, ◌-◌, ◌<◌, ◌≤◌, ◌⊎◌, true, false, List, [], ◌∷◌, ◌++◌, length, take, drop, get_or, min, ◌∙◌}
 use Rattle.std.proofs.Common.{add-zero, ap, sym, arith, refl, length-append, length-drop, None, Option}
 use Rattle.std.proofs.lemmas.Bool.Decides.{nat_tests}
@@ -19,7 +19,7 @@ use Rattle.hart_frame.proofs.lemmas.heard.Sighting.{body_moved, is_none-map}
 use Rattle.hart_frame.proofs.lemmas.scan.BodyAt.{bytes_from-heard, drop-heard}
 use Rattle.hart_frame.proofs.lemmas.wire.Prefix.{length_more}
 
--- no bytes hold two preamble bytes in a row, and others do by their first two, or without the first
+-- An empty list has no two FF in a row, and any other list has them at its front or in its rest.
 pub two_none : has_two_preambles [] ≡ false
 unfolding has_two_preambles
 two_none = refl
@@ -29,19 +29,19 @@ unfolding has_two_preambles
 two_step x [] = grind (arith, nat_tests)
 two_step x (y ∷ xs) = refl
 
--- two preamble bytes in a row stay whatever follows
+-- Two FF in a row stay when more bytes follow.
 pub two_more : (xs ys : List ℕ) → has_two_preambles xs ≡ true → has_two_preambles (xs ++ ys) ≡ true
 two_more [] ys two = absurd (grind (arith, two_none))
 two_more (x ∷ []) ys two = absurd (grind (arith, nat_tests, two_step, two_none))
 two_more (x ∷ y ∷ xs) ys two = grind (arith, nat_tests, two_step, two_more (y ∷ xs) ys)
 
--- another one after a last one makes two
+-- If bytes end in FF and another FF follows, two FF stand in a row.
 pub two_last : (xs ys : List ℕ) → get_or xs (length xs - 1) 0 ≡ 255 → has_two_preambles (xs ++ 255 ∷ ys) ≡ true
 two_last [] ys last = absurd (grind arith)
 two_last (x ∷ []) ys last = grind (arith, nat_tests, two_step)
 two_last (x ∷ y ∷ xs) ys last = grind (arith, nat_tests, two_step, two_last (y ∷ xs) ys)
 
--- one more byte makes no two after another last one
+-- After a last byte other than FF, at most one more byte makes no two FF in a row.
 pub two_end : (xs ys : List ℕ) → get_or xs (length xs - 1) 0 ≢ 255 → length ys ≤ 1 → has_two_preambles (xs ++ ys) ≡ has_two_preambles xs
 two_end [] [] last few = refl
 two_end [] (y ∷ []) last few = grind (arith, nat_tests, two_step, two_none)
@@ -50,27 +50,27 @@ two_end (x ∷ []) [] last few = refl
 two_end (x ∷ []) (y ∷ []) last few = grind (arith, nat_tests, two_step, two_none)
 two_end (x ∷ z ∷ xs) ys last few = grind (arith, nat_tests, two_step, two_end (z ∷ xs) ys)
 
--- nor does a byte that is none before it
+-- If neither of two parts has two FF in a row, and the second begins with a byte other than FF, the whole has none.
 pub two_other : (xs ys : List ℕ) (y : ℕ) → y ≢ 255 → has_two_preambles xs ≡ false → has_two_preambles (y ∷ ys) ≡ false
     → has_two_preambles (xs ++ y ∷ ys) ≡ false
 two_other [] ys y other none rest = rest
 two_other (x ∷ []) ys y other none rest = grind (arith, nat_tests, two_step)
 two_other (x ∷ z ∷ xs) ys y other none rest = grind (arith, nat_tests, two_step, two_other (z ∷ xs) ys y)
 
--- a last byte alone makes two only with the one before it
+-- An appended byte makes two FF in a row only with the byte before it.
 pub two_push : (xs : List ℕ) (y : ℕ) → has_two_preambles xs ≡ false → (get_or xs (length xs - 1) 0 ≡ 255 → y ≢ 255)
     → has_two_preambles (xs ++ y ∷ []) ≡ false
 two_push [] y none other = grind (arith, nat_tests, two_step, two_none)
 two_push (x ∷ []) y none other = grind (arith, nat_tests, two_step, two_none)
 two_push (x ∷ z ∷ xs) y none other = grind (arith, nat_tests, two_step, two_push (z ∷ xs) y)
 
--- the bytes of what is heard from a place on, up to a body and one byte more
+-- Whether two FF in a row begin in a body depends on the bytes of the body and one byte more.
 pub two_in : (bytes : List ℕ) (next : List Character) (start n : ℕ) → start ≤ length bytes → body_length (drop start bytes) ≡ n
     → n ≤ length (drop start bytes)
     → two_begin_in_body (faultless bytes ++ next) start ≡ has_two_preambles (take (n + 1) (drop start bytes ++ faultless_bytes next))
 two_in bytes next start n within long whole = grind (arith, nat_tests, bytes_from-heard, length_more)
 
--- a byte follows only if more may come
+-- A faultless byte follows only if more may come.
 more_of : (after : After) (next : List Character) → MayFollow after next → 0 < length (faultless_bytes next) → after ≡ More
 more_of More next follows some = refl
 more_of End next ends some = absurd (omega (arith, rw ends at some))
@@ -81,7 +81,7 @@ end_none : (xs ys : List ℕ) → has_two_preambles xs ≡ false → (0 < length
 end_none xs [] none last = rw (append-nil xs) none
 end_none xs (y ∷ ys) none last = two_end xs (y ∷ []) (last (omega arith)) (omega arith) ∙ none
 
--- whether a whole body stands alone
+-- A whole body of `n` bytes begins at `start`, and the lemmas say whether it stands alone.
 module _ (bytes : List ℕ) (after : After) (start n : ℕ) (within : start ≤ length bytes) (long : body_length (drop start bytes) ≡ n)
     (enough : n ≤ length (drop start bytes)) (whole : Whatever bytes after (HasBodyMiss start None)) where
   part : (ys : List ℕ) → ((n + 1 ≤ length (drop start bytes)) × (take (n + 1) (drop start bytes ++ ys) ≡ take (n + 1) (drop start bytes)))
@@ -98,12 +98,12 @@ module _ (bytes : List ℕ) (after : After) (start n : ℕ) (within : start ≤ 
       → Whatever bytes after (λ chars. stands_alone chars start ≡ true)
   alone none last next follows = grind (arith, nat_tests, two_in bytes next start n within long enough, part, end_none, more_of)
 
--- the bytes of a body that are looked at, and one more
+-- The bytes that are looked at are those of the body and one more, if there is one.
 pub looked_at : (bytes : List ℕ) (start stop : ℕ) → start < stop → stop ≤ length bytes
     → take (min (length bytes) (stop + 1) - start) (drop start bytes) ≡ take (stop - start + 1) (drop start bytes)
 looked_at bytes start stop order within = grind (arith, nat_tests, length-drop, take_all)
 
--- a whole body that ends in a preamble byte at the end may or may not stand alone
+-- A whole body at the end of the bytes, with FF as its last byte and no two FF in a row, may or may not stand alone.
 pub lone_open : (bytes : List ℕ) (start n : ℕ) → start ≤ length bytes → body_length (drop start bytes) ≡ n → n ≡ length (drop start bytes)
     → Whatever bytes More (HasBodyMiss start None) → has_two_preambles (take (n + 1) (drop start bytes)) ≡ false
     → get_or (drop start bytes) (n - 1) 0 ≡ 255 → MayStandAlone bytes start
@@ -126,16 +126,16 @@ lone_open bytes start n within long all whole none last =
       not_alone = grind (arith, nat_tests);
     }
 
--- what the bytes of a whole body say
+-- Bytes without a miss reach their check byte, and it fits.
 pub whole_has : (xs : List ℕ) (f : Option Character) (fp start : ℕ) → miss_in xs f fp start ≡ None
     → HasCheckByte xs × (check_miss xs start ≡ None)
 whole_has xs f fp start is = grind (arith, nat_tests)
 
--- bytes that end too early and become a body with others do so after their end
+-- If bytes that end too early become a body with more bytes, the body ends after them.
 pub whole_past : (xs ys : List ℕ) → IsTruncated xs → HasCheckByte (xs ++ ys) → length xs < body_length (xs ++ ys)
 whole_past xs ys truncated has = grind (arith, length-append, get_or_append_left)
 
--- where a body begins does not matter to whether it is whole
+-- Whether a body is whole does not depend on its place.
 some_moved : (heard : List Character) (start : ℕ) → is_none (body_miss start heard) ≡ is_none (body_miss 0 heard)
 some_moved heard start = ap is_none (sym (rw (add-zero start) at (body_moved start 0 heard)))
     ∙ is_none-map (miss_in_whole start) (body_miss 0 heard)

@@ -24,17 +24,17 @@ use Rattle.hart_frame.proofs.lemmas.heard.Told.{cut_told, whole_told, wrong_told
 use Rattle.hart_frame.proofs.lemmas.scan.Sighted.{heard_few}
 use Rattle.hart_frame.proofs.lemmas.wire.Reading.{wrong_within}
 
--- what is heard from a place on
+-- What is heard from a place on is the bytes from there on, and then what follows.
 pub drop-heard : (bytes : List ℕ) (rest : List Character) (start : ℕ) → start ≤ length bytes
     → drop start (faultless bytes ++ rest) ≡ faultless (drop start bytes) ++ rest
 drop-heard bytes rest start within = grind (arith, drop-append-le, drop-map, length-map)
 
--- the bytes of what is heard from a place on
+-- The faultless bytes heard from a place on are the bytes from there on, and then the faultless bytes that follow.
 pub bytes_from-heard : (bytes : List ℕ) (next : List Character) (start : ℕ) → start ≤ length bytes
     → faultless_bytes (drop start (faultless bytes ++ next)) ≡ drop start bytes ++ faultless_bytes next
 bytes_from-heard bytes next start within = rw (drop-heard bytes next start within) (faultless_bytes-append (drop start bytes) next)
 
--- the miss of what is heard, by its bytes
+-- The miss of what is heard is that of its faultless bytes and the character after them.
 pub miss_more : (xs : List ℕ) (rest : List Character) (start : ℕ) → body_miss start (faultless xs ++ rest)
     ≡ miss_in (xs ++ faultless_bytes rest) (slice_get (faultless xs ++ rest) (length (xs ++ faultless_bytes rest)))
     (start + length (xs ++ faultless_bytes rest)) start
@@ -53,7 +53,7 @@ miss_faulty xs c more start bad =
     grind (arith, length-map, length-append, slice_get-get_or (faultless xs ++ c ∷ more) (length xs) c, get_or_at) in
     rw (all, there) refl
 
--- what is decided by the bytes from a place on is its miss whatever comes
+-- If the bytes from a place on decide the miss there, it is the miss whatever follows.
 whatever : (bytes : List ℕ) (after : After) (start : ℕ) (miss : Option Miss) → start ≤ length bytes
     → ((ys : List ℕ) (f : Option Character) (fp : ℕ) → miss_in (drop start bytes ++ ys) f fp start ≡ miss)
     → Whatever bytes after (HasBodyMiss start miss)
@@ -70,7 +70,7 @@ pub wrong_seen : (bytes : List ℕ) (after : After) (start : ℕ) (w : Wrong) �
 wrong_seen bytes after start w within is =
     whatever bytes after start _ within (λ ys f fp. wrong_told (drop start bytes) ys w f fp start is)
 
--- a place that the miss names is one of what is heard
+-- A place that the miss names lies within what is heard.
 pub wrong_below : (bytes : List ℕ) (after : After) (start : ℕ) (w : Wrong) → start ≤ length bytes → IsWrong (drop start bytes) w
     → NamesPlacesBelow (length (heard_with bytes after)) (wrong_miss w start)
 wrong_below bytes after start (BadDelimiter byte) within is = grind (arith, nat_tests)
@@ -79,7 +79,7 @@ wrong_below bytes after start (BadCheck len byte fits) within is =
     let inside = wrong_within (drop start bytes) (BadCheck len byte fits) is in
     omega (arith, inside, within, length-drop start bytes, heard_few bytes after)
 
--- where bytes end too early, the end or the character after them is the miss
+-- Where bytes end too early, the miss says what is missing at the end, or names the character with fault bits that follows.
 pub cut_ended : (bytes : List ℕ) (start : ℕ) (missing : Option ℕ) → start ≤ length bytes → IsPrefix (drop start bytes) (Cut missing)
     → Whatever bytes End (HasBodyMiss start (Some (cut_miss missing)))
 cut_ended bytes start missing within is next ends =
@@ -94,7 +94,7 @@ cut_damaged bytes c start missing within is next (valid, more, same) =
     (start + length (drop start bytes)) start is in
     rw (same, drop-heard bytes (c ∷ more) start within) (rw place at faulty)
 
--- what has a miss does not stand alone
+-- A body with a miss does not stand alone.
 pub not_alone : (bytes : List ℕ) (after : After) (start : ℕ) (miss : Miss) → Whatever bytes after (HasBodyMiss start (Some miss))
     → Whatever bytes after (λ chars. stands_alone chars start ≡ false)
 not_alone bytes after start miss is next follows = let same = is next follows in grind arith

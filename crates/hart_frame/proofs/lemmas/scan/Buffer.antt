@@ -18,7 +18,7 @@ use Rattle.hart_frame.proofs.lemmas.scan.Candidate.{undecided_open}
 use Rattle.hart_frame.proofs.lemmas.scan.Scan.{moves_none, moves_past}
 use Rattle.hart_frame.proofs.lemmas.scan.Search.{drop_take, take_both}
 
--- a buffer that let its first bytes go
+-- A buffer after it let its first `count` held bytes go.
 abbrev pub passed : Buffer → ℕ → Buffer
 passed b count = record b { from = b.from + count; first = b.first + count; state = Busy }
 
@@ -34,20 +34,20 @@ moves_passed b found state is =
     moves_past (scan_of b) (scan_of new) found.place (grind (arith, length-append, length-map)) (grind (arith, held, held_passed)) refl refl
     (λ place below more ended. rw (held place (omega (arith, below)), append_assoc) (is.none place below more ended))
 
--- what is held without faults
+-- A buffer without a damaged character holds only faultless characters.
 pub held_clear : (b : Buffer) → b.damaged ≡ None → (scan_of b).held ≡ faultless (held_bytes b)
 held_clear b clear = grind (arith, append-nil)
 
--- what a waiting buffer holds is undecided
+-- In what a waiting buffer holds nothing is decided.
 pub undecided_waiting : (b : Buffer) → IsWaiting b → IsUndecided (scan_of b).held
 undecided_waiting b waiting = search (arith, held_clear, undecided_open)
 
--- so nothing is given
+-- A scanner whose buffer waits is drained and gives nothing.
 pub waits : (b : Buffer) (new : Scan) → IsWaiting b → new ≡ record (scan_of b) { drained = true } → Waits (scan_of b) new
 waits b new waiting same =
     rw same (search (arith, common_steps, moves_none, undecided_waiting))
 
--- what is kept of what is held and of a chunk after it
+-- What is kept from a held byte on is the rest of the held bytes, and then the bytes of the chunk up to `stop`.
 pub kept_after : (held chunk bytes new : List ℕ) (from place stop count : ℕ) → from ≤ length bytes → drop from bytes ≡ held
     → count ≡ length held
     → count ≤ stop → place ≤ length held → new ≡ bytes ++ take (stop - count) chunk
@@ -55,7 +55,7 @@ pub kept_after : (held chunk bytes new : List ℕ) (from place stop count : ℕ)
 kept_after held chunk bytes new from place stop count within same long after inside is =
     grind (arith, drop-append-le, drop-drop place from new, take_both held chunk stop)
 
--- what is kept of a chunk alone
+-- What is kept from a byte of the chunk on is the bytes of the chunk up to `stop`.
 pub kept_past : (held chunk bytes new : List ℕ) (from place stop count : ℕ) → from ≡ length bytes → count ≡ length held
     → count ≤ place → place ≤ stop → new ≡ bytes ++ take (stop - count - (place - count)) (drop (place - count) chunk)
     → drop from new ≡ drop place (take stop (held ++ chunk))
@@ -65,6 +65,6 @@ kept_past held chunk bytes new from place stop count end long past order is =
 pub drained_is : (state : State) → IsTrue (is_drained state) → state ≡ Drained
 drained_is state is = grind arith
 
--- a drained buffer waits
+-- A sound buffer that is drained waits.
 pub waits_drained : (b : Buffer) → IsSound b → b.state ≡ Drained → IsWaiting b
 waits_drained b sound is = grind arith

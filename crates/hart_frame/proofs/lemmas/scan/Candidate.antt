@@ -1,4 +1,4 @@
--- What is known of bytes by how they begin.
+-- What is known about bytes from how they begin.
 use Rattle.std.proofs.Common.{◌≡◌, ◌≢◌, ℕ, zero, suc, ◌+◌, ◌<◌, ◌≤◌, inl, inr, List, [], ◌∷◌, ◌++◌, length, take, drop, get_or, refl, sym}
 use Rattle.std.proofs.Common.{ap, ◌∙◌, arith, append_assoc}
 use Rattle.std.proofs.Math.Seq.{take-append-add}
@@ -28,14 +28,14 @@ use Rattle.hart_frame.proofs.lemmas.wire.UnambiguousBodies.{BeginsWithBody-appen
 bytes_of_append : (xs : List ℕ) (tail : List Character) → bytes_of (faultless xs ++ tail) ≡ xs ++ bytes_of tail
 bytes_of_append xs tail = grind (arith, map-append, bytes_of-faultless)
 
--- bytes that begin with another byte than a preamble byte never begin a frame
+-- Bytes that begin with a byte other than FF never begin a frame.
 pub never_first : (x : ℕ) (xs : List ℕ) → x ≢ 255 → NeverBegin (x ∷ xs)
 never_first x xs other more f body rest is same = grind arith
 
 decided : (w : Wrong) → fault_in w ≢ Truncated
 decided w same = grind arith
 
--- nor do those with which something is wrong after two
+-- Bytes with something wrong after the first two never begin a frame.
 pub never_after : (x y : ℕ) (xs : List ℕ) (w : Wrong) → IsWrong xs w → NeverBegin (x ∷ y ∷ xs)
 never_after x y xs w wrong more f body rest is same =
     let after : faultless xs ++ more ≡ faultless body ++ rest = grind arith in
@@ -43,12 +43,12 @@ never_after x y xs w wrong more f body rest is same =
     not_refused (xs ++ bytes_of more) f (length body) (fault_in w) (rw bytes (BeginsWithBody-append f body (bytes_of rest) is))
     (refused_more xs (bytes_of more) (fault_in w) (decided w) (wrong_refused xs w wrong))
 
--- nor do those bytes and others after them
+-- Bytes that never begin a frame still never begin one when more bytes follow.
 pub never_more : (xs ys : List ℕ) → NeverBegin xs → NeverBegin (xs ++ ys)
 never_more xs ys never more f body rest is same =
     never (faultless ys ++ more) f body rest is (grind (arith, append_assoc, map-append))
 
--- what may begin a frame begins none if the end is reached
+-- Bytes that may begin a frame begin none if what follows cannot belong to a frame.
 pub nothing_open : (xs : List ℕ) (tail : List Character) → MayBegin xs → NothingFollows tail → BeginWithNone (faultless xs ++ tail)
 nothing_open xs tail (inl none) ends f body rest is same = grind (arith, preamble)
 nothing_open xs tail (inr (inl one)) ends f body rest is same = grind (arith, preamble)
@@ -57,7 +57,7 @@ nothing_open xs tail (inr (inr (after, two, truncated))) ends f body rest is sam
     grind (arith, append-nil, faultless_bytes-append after tail, faultless_bytes-append body rest, faultless_bytes-end) in
     grind (arith, not_refused after f (length body) Truncated, BeginsWithBody-append f body (faultless_bytes rest) is)
 
--- what may begin a frame is undecided
+-- In bytes that may begin a frame nothing is decided.
 pub undecided_open : (xs : List ℕ) → MayBegin xs → IsUndecided (faultless xs)
 undecided_open (x ∷ y ∷ after) may =
     let xs = x ∷ y ∷ after in
@@ -71,14 +71,14 @@ undecided_open (x ∷ y ∷ after) may =
     )
 undecided_open xs may = inl (λ found stands. grind (arith, StandsIn-within found (faultless xs) 0 stands))
 
--- fewer bytes than so many of a list may begin a frame if two preamble bytes come first, and fewer after them end too early
+-- After two FF, a prefix may begin a frame if the bytes after the two FF end too early.
 pub may_begin_before : (count : ℕ) (xs : List ℕ) → ((fewer : ℕ) → fewer < count → IsTruncated (take fewer xs))
     → MayBeginBefore (2 + count) (255 ∷ 255 ∷ xs)
 may_begin_before count xs truncated zero below = inl refl
 may_begin_before count xs truncated (suc zero) below = inr (inl refl)
 may_begin_before count xs truncated (suc (suc fewer)) below = inr (inr (take fewer xs, refl, truncated fewer (omega (arith, below))))
 
--- how bytes begin of which the first two are preamble bytes
+-- The first two bytes of a list are FF.
 module _ (xs : List ℕ) (long : 2 ≤ length xs) (first : get_or xs 0 0 ≡ 255) (second : get_or xs 1 0 ≡ 255) where
   two : xs ≡ 255 ∷ 255 ∷ drop 2 xs
   two = grind arith
@@ -107,6 +107,6 @@ module _ (xs : List ℕ) (long : 2 ≤ length xs) (first : get_or xs 0 0 ≡ 255
             truncated_check ys fewer has.0 (omega (arith, below, same)) (omega (arith, below, is.0)))),
       )
 
--- bytes of which the second is another
+-- An FF and then a byte other than FF prove that no frame begins.
 pub second_never : (xs : List ℕ) → 2 ≤ length xs → get_or xs 0 0 ≡ 255 → get_or xs 1 0 ≢ 255 → IsCandidate xs (Never 2)
 second_never xs long first other = (long, grind arith, grind arith)

@@ -1,4 +1,4 @@
--- What a chunk is to a scanner that hears it at once, or in parts.
+-- How a scanner hears a chunk, at once or in parts.
 use Rattle.std.proofs.Common.{◌≡◌, ℕ, ◌+◌, ◌-◌, ◌<◌, ◌≤◌, ◌^◌, ◌⊎◌, inl, inr, false, List, [], ◌∷◌, ◌++◌, length, take, Option, None}
 use Rattle.std.proofs.Common.{Some, drop, get_or, refl, ap, subst, ◌∙◌, arith, append_assoc, length-append, length-drop}
 use Rattle.std.proofs.Math.Seq.{take-add}
@@ -22,14 +22,14 @@ use Rattle.hart_frame.proofs.lemmas.scan.Decision.{holds_frame}
 use Rattle.hart_frame.proofs.lemmas.scan.Scan.{moves_hearing, moves_length, moves_then}
 use Rattle.hart_frame.proofs.lemmas.scan.Undecided.{undecided_before, waits_only}
 
--- so many characters of a chunk were heard, and nothing is decided of fewer
+-- A buffer has heard the first `taken` characters of a chunk, and with fewer of them nothing is decided.
 pub record IsHearing (old now : Buffer) (chunk : List Character) (taken : ℕ) : Type 0 where
   pub going : old.finished ≡ false
   pub within : taken ≤ length chunk
   pub moves : MovesPast (hearing (scan_of old) (take taken chunk)) (scan_of now) []
   pub before : (fewer : ℕ) → fewer < taken → IsUndecided ((scan_of old).held ++ take fewer chunk)
 
--- and then some more
+-- A buffer that heard some characters of a chunk, and then a part of the rest, has heard both.
 pub hearing_on : (old now new : Buffer) (chunk rest : List Character) (n r : ℕ) → IsHearing old now chunk n → rest ≡ drop n chunk
     → HearsPart (scan_of now) (scan_of new) rest r → IsHearing old new chunk (n + r)
 hearing_on old now new chunk rest n r so is whole =
@@ -54,25 +54,25 @@ hearing_on old now new chunk rest n r so is whole =
           ];
     }
 
--- up to where a frame stands
+-- A buffer hears a chunk up to the character at which a frame is decided.
 pub hears_until : (old now new : Buffer) (chunk rest : List Character) (n r : ℕ) → IsHearing old now chunk n → IsSound now
     → now.state ≡ Drained → (new.state ≡ Drained → ⊥) → rest ≡ drop n chunk → HearsPart (scan_of now) (scan_of new) rest r
     → Hears (scan_of old) (scan_of new) chunk (n + r)
 hears_until old now new chunk rest n r so sound drained busy is part =
     let on = hearing_on old now new chunk rest n r so is part in grind (arith, common_steps, waits_drained, drained_is)
 
--- or to the end of the chunk
+-- A buffer that is still drained after the last character of a chunk has heard the chunk to its end.
 pub hears_all : (old now : Buffer) (chunk : List Character) (n : ℕ) → IsHearing old now chunk n → IsSound now → now.state ≡ Drained
     → length chunk ≤ n → Hears (scan_of old) (scan_of now) chunk n
 hears_all old now chunk n hears sound drained ended = grind (arith, waits_drained, undecided_waiting)
 
--- so many characters more are let go or held
+-- Hearing `n` characters adds `n` to the number of those that were let go or are held.
 pub heard_length : (a b : Scan) (chunk : List Character) (n : ℕ) → n ≤ length chunk → MovesPast (hearing a (take n chunk)) b []
     → b.first + length b.held ≡ a.first + length a.held + n
 heard_length a b chunk n within moves =
     omega (arith, moves_length (hearing a (take n chunk)) b [] moves, length-append a.held (take n chunk), length-take-le n chunk within)
 
--- where one character was heard, and a peek gave nothing or holds a frame, it stops after that character
+-- A scanner that heard one character stops after it, whether a peek gave nothing or found a frame.
 seen_one : (old : Scan) (mid new : Buffer) (character : Character) (seen : Option Layout) → old.finished ≡ false
     → scan_of mid ≡ hearing old (character ∷ []) → MatchOption seen (GivesNothing (scan_of mid) (scan_of new)) (HoldsWhole mid new)
     → MovesPast (hearing old (character ∷ [])) (scan_of new) [] × StopsAt (scan_of new) 1 1
@@ -84,7 +84,7 @@ seen_one old mid new character (Some layout) going heard given =
     let moves = subst (λ (s : Scan). MovesPast s (scan_of new) []) heard given.moves in
     (moves, inr (given.undrained, holds_frame new layout given.begins))
 
--- so a first part of a chunk is heard
+-- A drained scanner that hears the first character of a chunk hears a part of the chunk.
 pub hears_first : (old mid new : Buffer) (chunk : List Character) (character : Character) (seen : Option Layout)
     → IsSound old → old.state ≡ Drained → 0 < length chunk → character ≡ get_or chunk 0 character
     → scan_of mid ≡ hearing (scan_of old) (character ∷ [])
@@ -97,14 +97,14 @@ hears_first old mid new chunk character seen sound drained some is heard given =
     let none : fewer ≡ 0 = omega (arith, below) in rw (none, append-nil) (undecided_waiting old waiting) in
     grind arith
 
--- there is room for the rest of a chunk
+-- If there was room for a chunk, there is room for the rest of it.
 pub room_left : {X : Type 0} (old now : Buffer) (heard : List Character) (chunk : List X) (n : ℕ) → length heard ≡ length chunk
     → IsHearing old now heard n → old.first + length (scan_of old).held + length chunk < 2 ^ 64
     → now.first + length (scan_of now).held + length (slice_range chunk n (length chunk)) < 2 ^ 64
 room_left old now heard chunk n long hears room =
     grind (arith, length-take-le, length-drop, heard_length (scan_of old) (scan_of now) heard n)
 
--- what is heard of the first of a chunk is a part of it
+-- A scanner that hears some characters of a prefix of a chunk hears a part of the chunk.
 part_heard : (old new : Scan) (chunk part : List Character) (count : ℕ) → part ≡ take (length part) chunk → 0 < length part
     → Hears old new part count → HearsPart old new chunk count
 part_heard old new chunk part count is some hears =
@@ -113,12 +113,12 @@ part_heard old new chunk part count is some hears =
     λ fewer below. rw (← first fewer (omega (arith, below, hears.within))) (hears.before fewer below) in
     grind (arith, common_steps, length-take)
 
--- of bytes as of their characters
+-- A scanner that hears some of the first bytes of a chunk of bytes hears a part of the chunk.
 pub bytes_heard : (old new : Scan) (chunk : List ℕ) (n count : ℕ) → n ≤ length chunk → 0 < n
     → Hears old new (faultless (take n chunk)) count → HearsPart old new (faultless chunk) count
 bytes_heard old new chunk n count within some hears = search (arith, part_heard, take-map, length-map, length-take-le)
 
--- or of its faultless characters
+-- A scanner that hears some of the faultless bytes at the front of a chunk hears a part of the chunk.
 pub stretch_heard : (old new : Scan) (chunk : List Character) (bytes : List ℕ) (most count : ℕ) → bytes ≡ take most (faultless_bytes chunk)
     → 0 < length bytes → Hears old new (faultless bytes) count → HearsPart old new chunk count
 stretch_heard old new chunk bytes most count is some hears =

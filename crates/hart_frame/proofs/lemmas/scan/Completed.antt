@@ -26,7 +26,7 @@ use Rattle.hart_frame.proofs.lemmas.wire.Prefix.{good_prefix, length_more}
 use Rattle.hart_frame.proofs.lemmas.wire.Refusal.{says}
 use Rattle.hart_frame.proofs.lemmas.wire.Truncated.{filled, fitted}
 
--- what a body that stands alone says of bytes and those after them
+-- A body that stands alone reaches its check byte, which fits, and no two FF in a row begin in it.
 pub record SaysAlone (xs ys : List ℕ) : Type 0 where
   pub has : HasCheckByte (xs ++ ys)
   pub check : check_miss (xs ++ ys) 0 ≡ None
@@ -40,7 +40,7 @@ says_alone xs more alone =
     let clear : two_begin_in_body (faultless xs ++ more) 0 ≡ false = grind (arith, nat_tests) in
     record { has = both.0; check = both.1; clear = rw (faultless_bytes-append xs more) at clear }
 
--- bytes that end too early are no body by themselves
+-- Bytes that end too early are no body that stands alone if nothing follows.
 pub not_yet : (xs : List ℕ) → IsTruncated xs → stands_alone (faultless xs ++ []) 0 ≡ false
 not_yet xs truncated = elim (bool_cases (stands_alone (faultless xs ++ []) 0)) [
   | inr not ↦ not
@@ -50,7 +50,7 @@ not_yet xs truncated = elim (bool_cases (stands_alone (faultless xs ++ []) 0)) [
       absurd (omega (arith, past, is.has.1, length-append xs []))
 ]
 
--- nor ever with two preamble bytes in a row, or where a second one has to come
+-- Bytes that end too early never become a body that stands alone if they hold two FF in a row, or lack only a second FF.
 pub never_two : (xs : List ℕ) (more : List Character) → IsTruncated xs → has_two_preambles xs ≡ true
     → stands_alone (faultless xs ++ more) 0 ≡ false
 never_two xs more truncated two = elim (bool_cases (stands_alone (faultless xs ++ more) 0)) [
@@ -92,7 +92,7 @@ never_lacks xs more fit lacks = elim (bool_cases (stands_alone (faultless xs ++ 
       absurd (cc (is.clear, lacks_next xs (faultless_bytes more) fit lacks is.has is.check))
 ]
 
--- bytes 2 and a check byte hold no two preamble bytes in a row
+-- Bytes 2 and then a check byte hold no two FF in a row.
 twos : (k check : ℕ) → has_two_preambles (replicate k 2 ++ check ∷ []) ≡ false
 twos zero check = grind (arith, nat_tests, two_step, two_none)
 twos (suc zero) check = grind (arith, nat_tests, two_step, two_none)
@@ -103,7 +103,7 @@ clear_rest : (xs : List ℕ) (k check : ℕ) → has_two_preambles xs ≡ false
 clear_rest xs zero check clear differs = two_push xs check clear (differs refl)
 clear_rest xs (suc k) check clear differs = two_other xs (replicate k 2 ++ check ∷ []) 2 (omega arith) clear (twos (suc k) check)
 
--- a body stands alone if no two preamble bytes in a row stand in it, and nothing comes after it
+-- A body stands alone if it holds no two FF in a row and nothing follows it.
 body_alone : (chars : List Character) (body : List ℕ) (f : FrameParts) → IsBody f body → chars ≡ faultless body
     → has_two_preambles body ≡ false → stands_alone chars 0 ≡ true
 body_alone chars body f is all clear =
@@ -123,7 +123,7 @@ body_alone chars body f is all clear =
     let none : two_begin_in_body chars 0 ≡ false = rw own clear in
     grind (arith, nat_tests)
 
--- so bytes that end too early may stand alone otherwise
+-- All other bytes that end too early may or may not become a body that stands alone.
 pub may : (xs : List ℕ) (m : ℕ) → All (λ byte. byte < 256) xs → IsTruncated xs → has_two_preambles xs ≡ false → (LacksOnePreamble xs → ⊥)
     → 300 ≤ m → MayStandAlone xs 0
 may xs m fit truncated clear not enough =

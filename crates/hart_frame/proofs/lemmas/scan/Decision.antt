@@ -1,4 +1,4 @@
--- What is decided of a buffer, and what is given then.
+-- What is decided about a buffer, and what it gives then.
 use Rattle.std.proofs.Common.{◌≡◌, ◌≢◌, ℕ, ◌+◌, ◌-◌, ◌↔◌, inl, inr, Bool, IsTrue, List, [], ◌∷◌, ◌++◌, length, take}
 use Rattle.std.proofs.Common.{drop, refl, sym, ◌∙◌, arith, subst, append_assoc, length-append, length-drop}
 use Rattle.std.proofs.lemmas.List.{drop_at, map-append}
@@ -27,7 +27,7 @@ use Rattle.hart_frame.proofs.lemmas.scan.Undecided.{nothing_before}
 use Rattle.hart_frame.proofs.lemmas.wire.BodiesFound.{held_frame}
 use Rattle.hart_frame.proofs.lemmas.wire.Body.{IsBody-whole}
 
--- what is found in what is held, searched to its end
+-- What a search of the held bytes to their end finds is found in what the buffer holds.
 pub held_searched : (b : Buffer) (ended : Bool) (found : Sighting) → IsSound b → (IsTrue ended ↔ IsEnded b)
     → IsSearchedToEnd (held_bytes b) 0 ended found → IsHeldSearched b found
 held_searched b ended found sound over is =
@@ -35,16 +35,16 @@ held_searched b ended found sound over is =
     is.none place (omega arith) below (option_to_list b.damaged ++ more) (grind arith) in
     grind arith
 
--- a buffer that gave the frame that it began with
+-- A buffer after it gave the frame with which it began.
 abbrev released : Buffer → Layout → Buffer
 released b layout = passed b (2 + layout_length layout)
 
--- two preamble bytes and the body come first of what is held
+-- If the held bytes begin with a frame, what is held is two FF, the body, and what is held after the frame is given.
 held_whole : (b : Buffer) (layout : Layout) (whole : IsWhole layout (held_bytes b))
     → (scan_of b).held ≡ faultless (255 ∷ 255 ∷ whole.body) ++ (scan_of (released b layout)).held
 held_whole b layout whole = grind (arith, map-append, append_assoc, held_passed, drop_at)
 
--- a frame that is held is given
+-- A buffer whose held bytes begin with a frame gives this frame as a span.
 pub gives_span : (old b : Buffer) (layout : Layout) → IsSound b → HoldsWhole old b layout
     → GivesSpan old (released b layout)
     (record { at = b.from + 2; layout = layout; start = b.first + 2; stop = b.first + (2 + layout_length layout) })
@@ -56,7 +56,7 @@ gives_span old b layout sound holds =
     (moves_frame (scan_of b) new frame whole.body (held_whole b layout whole) is (omega (arith, whole.whole.exact)) refl) in
     grind (arith, length-append, length-drop b.from b.bytes)
 
--- nothing is given after some characters were let go
+-- A scanner that moves past no frame and then gives nothing gives nothing in both steps together.
 gives_nothing_then : (old mid new : Scan) → MovesPast old mid [] → GivesNothing mid new → GivesNothing old new
 gives_nothing_then old mid new moves (inl waits) =
     inl (record {
@@ -70,7 +70,7 @@ gives_nothing_then old mid new moves (inr ends) =
     let none = nothing_before old mid moves ends.none in
     inr (record { finished = sym moves.finished ∙ ends.finished; none = none; renewed = ends.renewed })
 
--- a whole body is that of a frame
+-- A whole body by a layout is the body of a frame.
 pub frame_of_whole : (layout : Layout) (body : List ℕ) → IsWholeBody layout body → (frame : FrameParts) × IsBody frame body
 frame_of_whole layout body is =
     let exact : body_length body ≡ length body = omega (arith, is.described.command, is.described.count, is.exact) in
@@ -78,7 +78,7 @@ frame_of_whole layout body is =
     let Part : ℕ → Type 0 = λ k. IsCheckedPart frame.frame (take (k - 1) body) in
     (frame.frame, IsBody-whole body frame.frame (omega (arith, exact)) is.fits (subst Part exact frame.part) is.even)
 
--- a buffer that begins with a frame holds it
+-- If the held bytes begin with a frame by a layout, the scanner begins with a frame.
 pub holds_frame : (b : Buffer) (layout : Layout) → IsWhole layout (held_bytes b) → BeginsWithFrame (scan_of b)
 holds_frame b layout whole =
     let body = whole.body in
@@ -89,14 +89,14 @@ holds_frame b layout whole =
     record { prefix = []; body = body; rest = rest; split = split; is_body = is_body; after = omega arith; start = refl; stop = refl } in
     (_, stands, refl)
 
--- nothing is given if nothing is held from a place on, before which no frame begins
+-- A buffer gives nothing if it gives nothing after it lets go of the bytes before the found place.
 pub given_nothing : (b mid : Buffer) (found : Sighting) (new : Scan) → IsHeldSearched b found → mid ≡ passed b found.place
     → GivesNothing (scan_of mid) new → GivesNothing (scan_of b) new
 given_nothing b mid found new is same after =
     let given = subst (λ (m : Buffer). GivesNothing (scan_of m) new) same after in
     gives_nothing_then (scan_of b) (scan_of (passed b found.place)) new (moves_passed b found Busy is) given
 
--- or if what is held from there on may begin one
+-- A buffer gives nothing if the bytes from the found place on may begin a frame.
 pub given_open : (b : Buffer) (found : Sighting) → IsHeldSearched b found → IsHeldOpen b found.place
     → length (held_bytes (passed b found.place)) ≢ 0
     → GivesNothing (scan_of b) (scan_of (record (passed b found.place) { state = Drained }))
@@ -106,7 +106,7 @@ given_open b found is opened some =
     gives_nothing_then (scan_of b) (scan_of mid) (scan_of mid) (moves_passed b found Drained is)
     (inl (waits mid (scan_of mid) waiting refl))
 
--- a frame stands if it begins what is held then
+-- A buffer holds a frame if the bytes from the found place on begin with this frame.
 pub given_stands : (b : Buffer) (found : Sighting) (layout : Layout) → b.state ≡ Busy → IsHeldSearched b found
     → IsWhole layout (drop found.place (held_bytes b)) → HoldsWhole b (record (passed b found.place) { state = Stands layout }) layout
 given_stands b found layout busy is whole = grind (arith, moves_passed b found (Stands layout) is, held_passed)

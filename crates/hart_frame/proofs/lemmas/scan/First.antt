@@ -1,4 +1,4 @@
--- The first frame of a list, by what a scanner gave of it.
+-- The first frame of a list, from what a scanner gives that hears the list.
 use Rattle.std.proofs.Common.{inl, inr, add-zero, ◌≡◌, ℕ, ◌<◌, ◌≤◌, false, Option, Some, None, List, [], ◌∷◌, ◌++◌, length, take, drop}
 use Rattle.std.proofs.Common.{arith, refl, subst}
 use Rattle.std.proofs.Math.Seq.{take-length}
@@ -23,18 +23,18 @@ use Rattle.hart_frame.proofs.lemmas.scan.Decision.{frame_of_whole}
 use Rattle.hart_frame.proofs.lemmas.scan.Scan.{moves_frames, moves_then}
 use Rattle.hart_frame.proofs.lemmas.scan.Undecided.{holds_gives, nothing_before, waits_only}
 
--- what a new scanner moves past
+-- A buffer that stands for a new scanner moves past the same frames as the new scanner.
 moves_new : (chars : List Character) (count : ℕ) (old : Buffer) (mid : Scan) → scan_of old ≡ new_scan
     → MovesPast (hearing (scan_of old) (take count chars)) mid [] → MovesPast (hearing new_scan (take count chars)) mid []
 moves_new chars count old mid is_new moves = subst (λ (s : Scan). MovesPast (hearing s (take count chars)) mid []) is_new moves
 
--- what is given first is the first frame of a list
+-- The first of the frames of a list is its first frame, and it lies within the list.
 first_of : (chars : List Character) (found : Found) (later : List Found) → AreFrames chars 0 (found ∷ later)
     → IsFirst found chars 0 × (found.start < found.stop) × (found.stop ≤ length chars)
 first_of chars found later are =
     let is = head_first chars 0 found later are in grind (arith, StandsIn-within found chars 0 is.stands)
 
--- so a span that is given holds the first frame of a list, if each frame that may be given there is the first of it
+-- A buffer that gives a span holds the first frame of a list, if each frame that it may give there is the first of the list.
 holds_first : (chars : List Character) (old new : Buffer) (span : Span) → GivesSpan old new span
     → ((found : Found) → Gives (scan_of old) (scan_of new) found → (later : List Found) × AreFrames chars 0 (found ∷ later))
     → HoldsFirst new chars span
@@ -51,24 +51,24 @@ holds_first chars old new span gives are =
       first = λ frame body. let given = are (found frame) (gives.given frame body) in (first_of chars (found frame) given.0 given.1).0;
     }
 
--- so a list of which a first frame is held has one
+-- If a span holds the first frame of a list, the list has a first frame, which stops where the span stops.
 pub some_first : (chars : List Character) (buffer : Buffer) (span : Span) → HoldsFirst buffer chars span
     → (found : Found) × IsFirst found chars 0 × (found.stop ≡ span.stop)
 some_first chars buffer span holds =
     let (frame, is) = frame_of_whole span.layout (body_at buffer span) holds.body in (_, holds.first frame is, refl)
 
--- and that is what is copied
+-- The frame that is copied from such a span is the first frame of the list.
 pub first_copied : (chars : List Character) (buffer : Buffer) (span : Span) (found : Found) → HoldsFirst buffer chars span
     → IsBody found.frame (body_at buffer span) → found.start ≡ span.start → found.stop ≡ span.stop → IsFirst found chars 0
 first_copied chars buffer span found holds is start stop = rw (← start, ← stop) at (holds.first found.frame is)
 
--- a list of which none is held has none
+-- If no span is given for a list, the list has no frame.
 pub none_first : (chars : List Character) (buffer : Buffer) (given : Option Span) → is_some given ≡ false
     → MatchOption given (HasNoFrame chars 0) (HoldsFirst buffer chars) → HasNoFrame chars 0
 none_first chars buffer None none is = is
 none_first chars buffer (Some span) none is = absurd cc
 
--- a new scanner that heard a list gives its first frame
+-- If a new scanner hears a list and then gives a span, the span holds the first frame of the list.
 pub first_given : (chars : List Character) (count : ℕ) (old mid new : Buffer) (span : Span) → scan_of old ≡ new_scan
     → Hears (scan_of old) (scan_of mid) chars count → GivesSpan mid new span → HoldsFirst new chars span
 first_given chars count old mid new span is_new hears given =
@@ -83,7 +83,7 @@ first_given chars count old mid new span is_new hears given =
           (moves_frames heard (scan_of new) (found ∷ []) later [] (drop count chars) all refl (λ over. absurd cc) (rw split are)),
     ))
 
--- or it does once it is finished, or there is none
+-- A scanner that heard a whole list and was finished gives the first frame of the list, unless the list has none.
 last_given : (chars : List Character) (waiting : Scan) (old new : Buffer) (given : Option Span)
     → MovesPast (hearing new_scan chars) waiting [] → scan_of old ≡ finishing waiting
     → MatchOption given (GivesNothing (scan_of old) (scan_of new)) (GivesSpan old new)
@@ -106,7 +106,7 @@ last_given chars waiting old new (Some span) moves finished given =
           (rw append-nil (rw parts at after))),
     ))
 
--- as all of it was heard then
+-- If a new scanner gives nothing after it hears a list, it gives the first frame after the finish, unless the list has none.
 pub first_finished : (chars : List Character) (count : ℕ) (start mid waiting old new : Buffer) (given : Option Span)
     → scan_of start ≡ new_scan → Hears (scan_of start) (scan_of mid) chars count
     → GivesNothing (scan_of mid) (scan_of waiting) → scan_of old ≡ finishing (scan_of waiting)
@@ -120,7 +120,7 @@ first_finished chars count start mid waiting old new given is_new hears nothing 
     last_given chars (scan_of waiting) old new given
     (moves_then (hearing new_scan chars) (scan_of mid) (scan_of waiting) [] [] moves waits.moves) finished after
 
--- what stands in the rest of a list stands in the list
+-- The first frame of the rest of a list, moved, is the first frame of the list from there on.
 pub first_later : (chars rest : List Character) (from : ℕ) (found : Found) → from ≤ length chars → rest ≡ drop from chars
     → IsFirst found rest 0 → IsFirst (moved from found) chars from
 first_later chars rest from found within is least =

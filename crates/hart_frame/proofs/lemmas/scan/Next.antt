@@ -1,4 +1,4 @@
--- The next frames of characters: of those from a place on, of a list that grows, of its rest, and of bytes.
+-- The next frames of characters: from a place on, when more characters come, in the rest of a list, and in bytes.
 use Rattle.std.proofs.Common.{◌≡◌, ℕ, ◌+◌, ◌-◌, ◌<◌, ◌≤◌, ◌⊎◌, inl, inr, Bool, false, true, IsTrue, List, [], ◌∷◌, ◌++◌, length, map, drop}
 use Rattle.std.proofs.Common.{append_assoc, arith, length-append, length-drop, refl, subst, sym, ap, ◌∙◌}
 use Rattle.std.proofs.lemmas.List.{append-nil, drop-append-le, drop-drop, drop-map, length-map, length-take-le, map-append, take_at}
@@ -18,16 +18,16 @@ use Rattle.hart_frame.proofs.lemmas.heard.FramesFound.{AreFrames-earlier, AreFra
 use Rattle.hart_frame.proofs.lemmas.heard.Place.{StandsIn-at, StandsIn-from, StandsIn-within, stands_at}
 use Rattle.hart_frame.proofs.lemmas.heard.Rest.{frames_none, moved_twice, rest_all, rest_frames}
 
--- a frame that stops at a place or before it
+-- A frame stops at a place or before it.
 abbrev pub StopsBy : ℕ → Found → Type 0
 StopsBy place found = found.stop ≤ place
 
 -- WHAT THE NEXT FRAMES ARE
--- at a place none come before that place
+-- From a place up to the same place there are no next frames.
 pub next_nothing : (chars : List Character) (ended : Bool) (place : ℕ) → place ≤ length chars → AreNext chars ended place [] place
 next_nothing chars ended place within = grind (arith, All-nil)
 
--- some, and then others
+-- The next frames up to `mid`, and then those from `mid` up to `to`, are the next frames up to `to`.
 pub next_then : (chars : List Character) (ended : Bool) (from mid to : ℕ) (xs ys : List Found) → AreNext chars ended from xs mid
     → AreNext chars ended mid ys to → AreNext chars ended from (xs ++ ys) to
 next_then chars ended from mid to xs ys p q = record {
@@ -38,17 +38,17 @@ next_then chars ended from mid to xs ys p q = record {
       q.stops;
 }
 
--- they stay so if more comes
+-- Next frames stay the next ones when more characters come.
 pub next_grown : (chars piece : List Character) (ended : Bool) (from to : ℕ) (given : List Found) → AreNext chars false from given to
     → AreNext (chars ++ piece) ended from given to
 next_grown chars piece ended from to given next = grind (arith, append_assoc, length-append)
 
--- and if it is said that none comes
+-- Next frames stay the next ones when the characters are known to have ended.
 pub next_ended : (chars : List Character) (ended : Bool) (from to : ℕ) (given : List Found) (closed : Bool)
     → (IsTrue ended → IsTrue closed) → AreNext chars ended from given to → AreNext chars closed from given to
 next_ended chars ended from to given closed says next = grind (arith)
 
--- those of a rest are those of the whole from its place on
+-- The next frames of the rest of a list, moved by its place, are the next ones of the list from that place on.
 pub next_of_rest : (n : ℕ) (chars : List Character) (ended : Bool) (given : List Found) (to : ℕ) → n ≤ length chars
     → AreNext (drop n chars) ended 0 given to → AreNext chars ended n (map (moved n) given) (n + to)
 next_of_rest n chars ended given to within next = record {
@@ -67,12 +67,12 @@ next_of_rest n chars ended given to within next = record {
       (All-weaker (StopsBy to) (λ found. StopsBy (n + to) (moved n found)) (λ found stops. omega (arith, stops)) given next.stops);
 }
 
--- if nothing more comes they lead on in the list itself
+-- The next frames up to `to`, and then the frames from `to` on, are the frames of the list from `from` on.
 pub next_frames : (chars : List Character) (ended : Bool) (from to : ℕ) (given later : List Found) → AreNext chars ended from given to
     → AreFrames chars to later → AreFrames chars from (given ++ later)
 next_frames chars ended from to given later next are = rw append-nil at (next.leads [] later (λ over. refl) (rw append-nil are))
 
--- all frames of a list are the next ones up to its end, if nothing more comes
+-- Each frame of a list stops by its end, so all frames of an ended list are its next ones up to its end.
 all_stop : (chars : List Character) (from : ℕ) (frames : List Found) → AreFrames chars from frames → All (StopsBy (length chars)) frames
 all_stop chars from frames (none place empty) = All-nil (StopsBy (length chars))
 all_stop chars from frames (first place found later is others) =
@@ -82,7 +82,7 @@ all_stop chars from frames (first place found later is others) =
 pub next_whole : (chars : List Character) (given : List Found) → AreFrames chars 0 given → AreNext chars true 0 given (length chars)
 next_whole chars given are = grind (arith, all_stop, append-nil, frames_none)
 
--- where there is one, some characters are used up
+-- A next frame starts two places or more after `from`, has at least one byte, and stops by `to`.
 pub next_some : (chars : List Character) (ended : Bool) (from to : ℕ) (found : Found) (more : List Found)
     → AreNext chars ended from (found ∷ more) to → from + 2 ≤ found.start × (found.start < found.stop) × (found.stop ≤ to)
 next_some chars ended from to found more next =
@@ -92,7 +92,7 @@ next_some chars ended from to found more next =
     (lies.after, lies.some, next.stops 0 found (omega arith))
 
 -- WHERE THEY STAND
--- places are passed at which no frame begins
+-- There are no next frames up to a place if no frame begins before it, whatever follows.
 pub next_none : (chars : List Character) (ended : Bool) (from to : ℕ) → from ≤ to → to ≤ length chars
     → ((place : ℕ) → from ≤ place → place < to → (more : List Character) → (IsTrue ended → more ≡ [])
     → BeginWithNone (drop place chars ++ more)) → AreNext chars ended from [] to
@@ -115,7 +115,7 @@ next_none chars ended from to order within never = record {
   stops = All-nil (StopsBy to);
 }
 
--- and the frame whose body follows two preamble bytes is the next one
+-- A frame whose two preamble bytes and body begin at a place is the next one from there up to its end.
 pub next_one : (chars : List Character) (ended : Bool) (place : ℕ) (f : FrameParts) (body : List ℕ) (rest : List Character)
     → place ≤ length chars → drop place chars ≡ faultless (255 ∷ 255 ∷ body) ++ rest → IsBody f body
     → AreNext chars ended place (record { start = place + 2; stop = place + 2 + length body; frame = f } ∷ []) (place + 2 + length body)
@@ -134,25 +134,25 @@ next_one chars ended place f body rest within parts is =
     }
 
 -- OF BYTES
--- places are passed at which none begins
+-- Bytes have no next frames up to a place if no frame begins before it, whatever follows.
 pub next_to : (bytes : List ℕ) (ended : Bool) (from to : ℕ) → from ≤ to → to ≤ length bytes → NoneBeginThen bytes ended from to
     → AreNext (faultless bytes) ended from [] to
 next_to bytes ended from to order within never =
     next_none (faultless bytes) ended from to order (rw length-map within)
     (λ place since below more closed. rw drop-map (never place since below more (λ over. inl (closed over))))
 
--- the body after two preamble bytes at a place, and what comes after it
+-- Where bytes begin with a frame by a layout, the bytes after its two preamble bytes are its body.
 pub body_at_place : (bytes : List ℕ) (place len : ℕ) (layout : Layout) (whole : IsWhole layout (drop place bytes))
     → len ≡ layout_length layout → slice_range bytes (place + 2) (place + 2 + len) ≡ whole.body
 body_at_place bytes place len layout whole same = grind (arith, drop-drop 2 place bytes, take_at)
 
--- which ends within the bytes
+-- A frame with which the bytes from a place on begin ends within these bytes.
 pub ends_within : (bytes : List ℕ) (place : ℕ) (layout : Layout) → IsWhole layout (drop place bytes)
     → place + 2 + layout_length layout ≤ length bytes
 ends_within bytes place layout whole =
     grind (arith, length-append, length-drop place bytes, whole.whole.exact)
 
--- and is the next one
+-- A frame that stands at a place is the next one if no frame begins before it.
 pub next_past : (bytes : List ℕ) (ended : Bool) (from place len : ℕ) (layout : Layout) (frame : FrameParts)
     → from ≤ place → place ≤ length bytes → NoneBeginThen bytes ended from place → IsWhole layout (drop place bytes)
     → len ≡ layout_length layout → IsBody frame (slice_range bytes (place + 2) (place + 2 + len))

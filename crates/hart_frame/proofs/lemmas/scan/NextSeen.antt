@@ -1,4 +1,4 @@
--- What is next in bytes is what is seen next, whatever comes.
+-- What comes next in bytes is what is seen next, whatever follows the bytes.
 use Rattle.std.proofs.Common.{◌≡◌, ◌≢◌, ℕ, ◌+◌, ◌-◌, ◌<◌, ◌≤◌, ◌⊎◌, inl, inr, true, false, List, [], ◌∷◌, ◌++◌, length, drop, get_or}
 use Rattle.std.proofs.Common.{None, Some, Option, ◌∙◌, ap, sym, arith, refl, append_assoc, length-append, length-drop, take-append-drop}
 use Rattle.std.proofs.lemmas.List.{drop_more, get_or-drop, length-take-le, length-map}
@@ -33,25 +33,25 @@ use Rattle.hart_frame.proofs.lemmas.scan.Sighted.{SilentBefore, bool_cases, foll
 use Rattle.hart_frame.proofs.lemmas.scan.Sighted.{preamble_no, preamble_yes, two_in, two_out}
 use Rattle.hart_frame.proofs.lemmas.wire.Truncated.{truncated_few}
 
--- whatever comes is what may follow
+-- All that is heard is the bytes and then characters that may follow them.
 heard_is : (bytes : List ℕ) (after : After) (more : List Character) → AfterIsValid after → (IsTrue (is_end after) → more ≡ [])
     → (next : List Character) × MayFollow after next × (heard_with bytes after ++ more ≡ faultless bytes ++ next)
 heard_is bytes More more valid closed = (more, tt, refl)
 heard_is bytes (Damaged c) more valid closed = (c ∷ more, (valid, more, refl), append_assoc (faultless bytes) (c ∷ []) more)
 heard_is bytes End more valid closed = (more, closed refl, refl)
 
--- so if a list passes to a place whatever follows, the later sightings are those from there on
+-- If a list passes to `to` whatever follows, what is seen from `from` on is `given` and then what is seen from `to` on.
 pub sees : (bytes : List ℕ) (after : After) (from to : ℕ) (given : List Seen) → AfterIsValid after
     → Whatever bytes after (λ chars. Passes chars from to given) → SeesOn (heard_with bytes after) (is_end after) from given to
 sees bytes after from to given valid passes more later closed are =
     let (next, may, same) = heard_is bytes after more valid closed in
     rw same (passes_on (faultless bytes ++ next) from to given later (passes next may) (rw same at are))
 
--- a number is another or one of the two after it, or a later one
+-- If `a ≤ b`, then `b` is `a`, `a + 1`, `a + 2`, or at least `a + 3`.
 apart : (a b : ℕ) → a ≤ b → (b ≡ a) ⊎ (b ≡ a + 1) ⊎ (b ≡ a + 2) ⊎ (a + 3 ≤ b)
 apart a b order = grind arith
 
--- two preamble bytes stand there, and then the rest
+-- Where two FF stand right before a place, the list consists there of these two and then the bytes from the place on.
 pub two_parts : (bytes : List ℕ) (start : ℕ) → 2 ≤ start → start ≤ length bytes → get_or bytes (start - 2) 0 ≡ 255
     → get_or bytes (start - 1) 0 ≡ 255 → drop (start - 2) bytes ≡ 255 ∷ 255 ∷ drop start bytes
 two_parts bytes start low within first second = grind (arith, drop_more bytes (start - 2) 0, drop_more bytes (start - 1) 0)
@@ -59,7 +59,7 @@ two_parts bytes start low within first second = grind (arith, drop_more bytes (s
 differ : (m : Option Miss) (miss : Miss) → m ≡ None → m ≡ Some miss → ⊥
 differ m miss none some = cc
 
--- where the next place is asked
+-- The place `start` is asked, and nothing is seen at the places asked before it.
 module _ (bytes : List ℕ) (after : After) (next : List Character) (from start : ℕ) (may : MayFollow after next)
     (silent : SilentBefore bytes after from start) (is : IsAsked bytes after from start) where
   within : start ≤ length (heard_with bytes after)
@@ -83,7 +83,7 @@ module _ (bytes : List ℕ) (after : After) (next : List Character) (from start 
   follows : follows_from (faultless bytes ++ next) from start ≡ true
   follows = follows_in bytes after next from start is
 
-  -- a frame that does not stand there stands three places later at least
+  -- A frame that does not start at the asked place starts at least three places later.
   later_frames : ((found : Found) → StandsIn found (faultless bytes ++ next) from → found.start ≡ start → ⊥)
       → (found : Found) → StandsIn found (faultless bytes ++ next) from → start + 3 ≤ found.start
   later_frames not found stands =
@@ -155,7 +155,7 @@ module _ (bytes : List ℕ) (after : After) (next : List Character) (from start 
       let here = no_frame one found stands in
       omega (arith, at, low, here)) (inl clean)
 
-  -- a message is seen there
+  -- A body after two preamble bytes at the asked place is that of a frame that stands there.
   stands_there : (f : FrameParts) (stop : ℕ) → FollowsTwo bytes from start → start ≤ stop → stop ≤ length bytes
       → IsBody f (slice_range bytes start stop)
       → StandsIn (record { start = start; stop = stop; frame = f }) (faultless bytes ++ next) from
@@ -183,7 +183,7 @@ module _ (bytes : List ℕ) (after : After) (next : List Character) (from start 
       message_on chars from found later (missed_none chars from start before)
       (record { stands = stands_there f stop two order fits body; least = λ other stands. starts_late other stands }) are
 
--- where nothing is asked any more: a frame that does not begin before a clean place begins at it or later
+-- Beyond the last asked place: a frame that starts at or after a clean place has its two preamble bytes there or later.
 clean_frames : (chars : List Character) (from used : ℕ) (found : Found) → (from < used → is_preamble_at chars (used - 1) ≡ false)
     → StandsIn found chars from → used ≤ found.start → used + 2 ≤ found.start
 clean_frames chars from used found clean stands low =
@@ -261,12 +261,12 @@ le_or a b = grind arith
 lt_or : (a b : ℕ) → a ≤ b → (a < b) ⊎ (a ≡ b)
 lt_or a b order = grind arith
 
--- what is asked from one place on is asked from each other that lies before it
+-- A place that is asked from `from` on is also asked from any other place before it.
 asked_after : (bytes : List ℕ) (after : After) (from place start : ℕ) → place < start → IsAsked bytes after from start
     → IsAsked bytes after place start
 asked_after bytes after from place start order is = grind arith
 
--- the next place that is asked, up to which nothing is seen
+-- If nothing is seen up to `place`, the next asked place after it is asked from `from` on too, and nothing is seen before it.
 pub next_is : (bytes : List ℕ) (after : After) (from place start : ℕ) → from ≤ place → AreSilent bytes after from place
     → IsNextAsked bytes after place (Some start) → IsAsked bytes after from start × SilentBefore bytes after from start
 next_is bytes after from place start order silent (is, least) = (
@@ -288,7 +288,7 @@ silent_on bytes after from start silent (inl (two, never)) p is order = absurd n
 silent_on bytes after from start silent (inr (one, alone)) p is order =
     elim (lt_or p start order) [ inl early ↦ silent p is early | inr here ↦ rw here (one, alone) ]
 
--- a message is seen, whatever comes
+-- A message at the asked place is seen next, whatever follows.
 pub message_seen : (bytes : List ℕ) (after : After) (from start used : ℕ) (view : FoundView) → AfterIsValid after
     → SilentBefore bytes after from start → IsAsked bytes after from start → FollowsTwo bytes from start
     → IsMessageAt bytes start used view → SeesOn (heard_with bytes after) (is_end after) from (Message (found_of view) ∷ []) used
@@ -298,7 +298,7 @@ message_seen bytes after from start used view valid silent is two at more later 
     (message bytes after next from start may silent is (parts_of view.frame) used later two (omega (arith, at.order)) at.within at.body
     (rw same at are))
 
--- what is open, and a miss, whatever comes
+-- Nothing is seen up to the FF before an open place, and only the miss up to a missed place, whatever follows.
 pub open_seen : (bytes : List ℕ) (after : After) (from start used : ℕ) → SilentBefore bytes after from start
     → IsAsked bytes after from start → IsStandingAt bytes after from start (Open used)
     → Whatever bytes after (λ chars. Passes chars from used [])
@@ -315,13 +315,13 @@ missed_seen bytes after from start miss silent is (inl (two, (wrong, below))) ne
 missed_seen bytes after from start miss silent is (inr (one, (same, alone))) next may =
     rw same (miss_one bytes after next from start may silent is one (alone next may))
 
--- a message stands after two preamble bytes
+-- A message stands only after two preamble bytes.
 pub message_two : (bytes : List ℕ) (after : After) (from start : ℕ) (layout : Layout)
     → IsStandingAt bytes after from start (standing.Message layout) → FollowsTwo bytes from start
 message_two bytes after from start layout (inl (two, body)) = two
 message_two bytes after from start layout (inr (one, never)) = absurd never
 
--- where something is open few bytes are left
+-- Where something is open, fewer than 269 characters are left from `used` on.
 pub open_few : (bytes : List ℕ) (after : After) (place from start used : ℕ) → ((i : ℕ) → get_or bytes i 0 < 256)
     → IsAsked bytes after place start
     → IsStandingAt bytes after from start (Open used) → length (heard_with bytes after) < used + 269

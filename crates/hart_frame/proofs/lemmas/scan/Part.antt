@@ -1,4 +1,4 @@
--- What a part of bytes is to a scanner that searches it together with what it holds.
+-- How a scanner hears a part of a chunk of bytes when it searches the part together with what it holds.
 use Rattle.std.proofs.Common.{◌≡◌, ℕ, ◌+◌, ◌<◌, ◌⊎◌, inl, inr, false, List, ◌++◌, length, take, None, drop, refl, arith, length-append}
 use Rattle.std.proofs.Math.Seq.{take-append-add}
 use Rattle.std.proofs.lemmas.List.{append-nil, map-append, take-map, length-map, length-take-le}
@@ -17,11 +17,11 @@ use Rattle.hart_frame.proofs.lemmas.scan.Decision.{holds_frame}
 use Rattle.hart_frame.proofs.lemmas.scan.Scan.{moves_places}
 use Rattle.hart_frame.proofs.lemmas.scan.Undecided.{undecided_before}
 
--- a scanner that holds the bytes from a place on
+-- A scanner that holds the bytes from a place on.
 abbrev scan_at : List ℕ → ℕ → Scan
 scan_at bytes place = record { first = place; held = faultless (drop place bytes); finished = false; drained = false }
 
--- nothing is decided of bytes of which none begins a frame up to a place, and those from it on may begin one
+-- Nothing is decided in bytes if no frame begins before some place and one may begin at it.
 undecided_from : (xs : List ℕ) → IsOpenFrom xs 0 → IsUndecided (faultless xs)
 undecided_from xs ends =
     undecided_before (scan_at xs 0) (scan_at xs ends.place)
@@ -29,7 +29,7 @@ undecided_from xs ends =
     (λ place below more closed. ends.none place (omega arith) below more))
     (undecided_open (drop ends.place xs) ends.may)
 
--- a buffer that kept what was found in what it held and in a part after it
+-- A buffer searched the held bytes and a part after them, and kept the bytes from the found place up to the last one looked at.
 pub record IsKept (old new : Buffer) (part : List ℕ) (found : Sighting) : Type 0 where
   pub waiting : IsWaiting old
   pub searched : IsSearched (held_bytes old ++ part) 0 (length (held_bytes old) + 1) found
@@ -40,11 +40,11 @@ pub record IsKept (old new : Buffer) (part : List ℕ) (found : Sighting) : Type
   pub state : new.state ≡ state_of found.layout
 
 module _ (old new : Buffer) (part : List ℕ) (found : Sighting) (kept : IsKept old new part found) where
-  -- it stops where nothing more is decided, or where a frame stands
+  -- The scanner stops at the end of the part with nothing decided, or where a frame stands.
   stops_kept : (count : ℕ) → IsSound new → found.decided ≡ length (held_bytes old) + count → StopsAt (scan_of new) count (length part)
   stops_kept count sound counts = grind (arith, length-append, holds_frame, undecided_waiting)
 
-  -- so much of the part was heard
+  -- The scanner heard the first `count` bytes of the part.
   pub hears_kept : (count : ℕ) → IsSound new → found.decided ≡ length (held_bytes old) + count
       → Hears (scan_of old) (scan_of new) (faultless part) count
   hears_kept count sound counts =

@@ -1,4 +1,4 @@
--- What a scanner that lets characters go moves past.
+-- What a scanner moves past when it lets characters go.
 use Rattle.std.proofs.Common.{◌≡◌, ℕ, ◌+◌, ◌<◌, ◌≤◌, false, IsTrue, List, [], ◌∷◌, ◌++◌, length, map, drop, refl, sym, ◌∙◌, arith}
 use Rattle.std.proofs.Common.{append_assoc, length-append, length-drop}
 use Rattle.std.proofs.lemmas.List.{drop-append-le, drop-drop, drop-map, drop_at, length-map, map-append}
@@ -12,11 +12,11 @@ use Rattle.hart_frame.specs.wire.FrameParts.{FrameParts}
 use Rattle.hart_frame.proofs.lemmas.heard.Rest.{moved_twice}
 use Rattle.hart_frame.proofs.lemmas.scan.Next.{next_grown, next_none, next_nothing, next_of_rest, next_one, next_then}
 
--- nothing is let go
+-- A scanner that lets nothing go moves past no frame.
 pub moves_none : (old new : Scan) → new.held ≡ old.held → new.first ≡ old.first → new.finished ≡ old.finished → MovesPast old new []
 moves_none old new held firsts finished = grind (arith, next_nothing)
 
--- it moves past some frames and then past others
+-- A scanner that moves past some frames and then past others moves past them all.
 pub moves_then : (a b c : Scan) (xs ys : List Found) → MovesPast a b xs → MovesPast b c ys → MovesPast a c (xs ++ ys)
 moves_then a b c xs ys p q = record {
   count = p.count + q.count;
@@ -29,7 +29,7 @@ moves_then a b c xs ys p q = record {
   finished = q.finished ∙ p.finished;
 }
 
--- whatever it hears later, it moved past the same frames
+-- A scanner that hears more characters has still moved past the same frames.
 pub moves_hearing : (a b : Scan) (cs : List Character) (given : List Found) → a.finished ≡ false → MovesPast a b given
     → MovesPast (hearing a cs) (hearing b cs) given
 moves_hearing a b cs given going moves = record {
@@ -42,7 +42,7 @@ moves_hearing a b cs given going moves = record {
   finished = moves.finished;
 }
 
--- of all that was heard, whatever was let go before and whatever comes later, they are the next frames
+-- The frames that a scanner moves past are the next ones of all that was heard, whatever was let go before and comes later.
 pub moves_frames : (old new : Scan) (given later : List Found) (past more : List Character) → MovesPast old new given
     → length past ≡ old.first → (IsTrue old.finished → more ≡ []) → AreFrames (past ++ (old.held ++ more)) new.first later
     → AreFrames (past ++ (old.held ++ more)) old.first (given ++ later)
@@ -52,13 +52,13 @@ moves_frames old new given later past more moves long closed frames =
     (omega (arith, long, length-append past old.held)) (rw rest moves.next) in
     let led = next.leads more later closed (rw (append_assoc, ← moves.first) frames) in rw (moves.given_are, ← append_assoc) led
 
--- what is moved past is let go, and the rest is held
+-- Moving past frames does not change how many characters were let go or are held in all.
 pub moves_length : (a b : Scan) (given : List Found) → MovesPast a b given
     → (b.first + length b.held ≡ a.first + length a.held) × (a.first ≤ b.first)
 moves_length a b given moves =
     (grind (arith, moves.first, moves.held, moves.next.within, length-drop moves.count a.held), omega (arith, moves.first))
 
--- characters are let go with which no frame begins
+-- A scanner that lets go of characters at which no frame begins moves past no frame.
 pub moves_past : (old new : Scan) (count : ℕ) → count ≤ length old.held → new.held ≡ drop count old.held → new.first ≡ old.first + count
     → new.finished ≡ old.finished → ((place : ℕ) → place < count → (more : List Character) → (IsTrue old.finished → more ≡ [])
     → BeginWithNone (drop place old.held ++ more)) → MovesPast old new []
@@ -72,7 +72,7 @@ moves_past old new count within held firsts finished never = record {
   finished = finished;
 }
 
--- a frame that begins what is held is given
+-- A scanner that lets go of a frame at the front of what it holds moves past this frame.
 pub moves_frame : (old new : Scan) (f : FrameParts) (body : List ℕ) → old.held ≡ faultless (255 ∷ 255 ∷ body) ++ new.held → IsBody f body
     → new.first ≡ old.first + 2 + length body → new.finished ≡ old.finished
     → MovesPast old new (record { start = old.first + 2; stop = new.first; frame = f } ∷ [])
@@ -86,7 +86,7 @@ moves_frame old new f body held is firsts finished = record {
   finished = finished;
 }
 
--- bytes are let go at whose places no frame begins
+-- A scanner that lets go of bytes at which no frame begins moves past no frame.
 pub moves_places : (old new : Scan) (bytes : List ℕ) (count : ℕ) → old.held ≡ faultless bytes → new.held ≡ faultless (drop count bytes)
     → new.first ≡ old.first + count → new.finished ≡ old.finished → count ≤ length bytes
     → ((place : ℕ) → place < count → (more : List Character) → (IsTrue old.finished → more ≡ [])

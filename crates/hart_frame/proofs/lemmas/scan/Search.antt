@@ -14,27 +14,27 @@ use Rattle.hart_frame.specs.private.Layout.{layout_length}
 use Rattle.hart_frame.proofs.lemmas.scan.Candidate.{may_begin_before, never_after, never_first, never_more}
 use Rattle.hart_frame.proofs.lemmas.wire.Truncated.{truncated_check, truncated_count}
 
--- what lies after a place of the first bytes of a list
+-- Dropping `n` of the first `m` elements of a list leaves the first `m - n` elements from place `n` on.
 pub drop_take : (xs : List ℕ) (n m : ℕ) → n ≤ m → drop n (take m xs) ≡ take (m - n) (drop n xs)
 drop_take xs n m order = ap (λ (k : ℕ). drop n (take k xs)) (let e : m ≡ n + (m - n) = omega (arith, order) in e) ∙ drop-take n (m - n) xs
 
--- more of the first bytes of a list
+-- The first `m` elements of a list are its first `n` and then the `m - n` after them.
 pub take_more : (xs : List ℕ) (n m : ℕ) → n ≤ m → take m xs ≡ take n xs ++ take (m - n) (drop n xs)
 take_more xs n m order = ap (λ (k : ℕ). take k xs) (let e : m ≡ n + (m - n) = omega (arith, order) in e) ∙ take-add n (m - n) xs
 
--- the first bytes of two lists in a row
+-- A prefix of two joined lists that covers the first list is that list and then a prefix of the second.
 pub take_both : (xs ys : List ℕ) (n : ℕ) → length xs ≤ n → take n (xs ++ ys) ≡ xs ++ take (n - length xs) ys
 take_both xs ys n long = grind (arith, take-append-add xs ys (n - length xs))
 
--- where none begins in the first bytes of a list, none begins in more of them
+-- If no frame begins at some places in the first `n` bytes of a list, none begins there in its first `m` bytes.
 pub none_more : (xs : List ℕ) (n m from to : ℕ) → to ≤ n → n ≤ m → m ≤ length xs → NoneBegin (take n xs) from to
     → NoneBegin (take m xs) from to
 none_more xs n m from to within order long none place after before =
     let inside : place ≤ length (take n xs) = omega (arith, before, within, order, long, length-take-le n xs) in
     rw (take_more xs n m order, drop-append-le) (never_more _ _ (none place after before))
 
--- the first bytes of a list, which a search has looked at: at none of the places that it passed a frame begins, and fewer bytes decide
--- nothing
+-- A search at `place` has looked at the first `decided` bytes: in these no frame begins before `place`, and a prefix of at least
+-- `seen` but fewer than `decided` bytes decides nothing.
 pub record IsSearching (bytes : List ℕ) (from seen place decided : ℕ) : Type 0 where
   pub after : from ≤ place
   pub order : place ≤ decided
@@ -44,12 +44,12 @@ pub record IsSearching (bytes : List ℕ) (from seen place decided : ℕ) : Type
   pub none : NoneBegin (take decided bytes) from place
   pub before : IsOpenBefore bytes from seen decided
 
--- what holds of the places up to one, and of those from it on, holds of all
+-- What holds of the places before `mid` and of those from `mid` on holds of them all.
 pub joined : (Of : ℕ → Type 0) (from mid to : ℕ) → ((place : ℕ) → from ≤ place → place < mid → Of place)
     → ((place : ℕ) → mid ≤ place → place < to → Of place) → (place : ℕ) → from ≤ place → place < to → Of place
 joined Of from mid to before after place since below = grind arith
 
--- no frame begins with another byte than a preamble byte, nor with three preamble bytes
+-- No frame begins with a byte other than FF, or with three FF, and 1 to 3 bytes prove this.
 passed_never : (xs : List ℕ) (here : ℕ) → here < length xs → (get_or xs here 0 ≢ 255) ⊎ HasThree xs here
     → (count : ℕ) × IsCandidate (drop here xs) (Never count) × (0 < count) × (count ≤ 3)
 passed_never xs here within (inl other) = (1, grind (arith, drop_more xs here 0, never_first), omega arith, omega arith)
@@ -63,25 +63,25 @@ passed_never xs here within (inr (inside, first, second, third)) =
       omega arith,
     )
 
--- the first of bytes that may begin a frame may
+-- If bytes may begin a frame, so may each prefix of them.
 may_take : (xs : List ℕ) (n : ℕ) → n ≤ length xs → MayBegin xs → MayBegin (take n xs)
 may_take xs zero within may = grind arith
 may_take xs (suc zero) within may = grind arith
 may_take xs (suc (suc n)) within may = grind (arith, length-take-le, truncated_count, truncated_check)
 
--- a whole frame is one if as many bytes are there
+-- If bytes begin with a frame, so does each prefix of them that is long enough for the frame.
 whole_take : (layout : Layout) (xs : List ℕ) (n : ℕ) → (whole : IsWhole layout xs) → 2 + layout_length layout ≤ n → n ≤ length xs
     → IsWhole layout (take n xs)
 whole_take layout xs n whole long within = grind (arith, take_both (255 ∷ 255 ∷ whole.body) whole.rest n)
 
--- and stays one if more bytes follow
+-- If the bytes from a place on begin with a frame, they still do when more bytes follow.
 pub whole_append : (layout : Layout) (xs ys : List ℕ) (place : ℕ) → place ≤ length xs → IsWhole layout (drop place xs)
     → IsWhole layout (drop place (xs ++ ys))
 whole_append layout xs ys place within whole = grind (arith, drop-append-le, append_assoc)
 
--- of one list, from one place on, of which so many bytes were seen
+-- One list is searched from `from` on, and only prefixes of at least `seen` bytes are judged.
 module _ (xs : List ℕ) (from seen : ℕ) where
-  -- a search looks at more bytes if fewer than so many from its place on may begin a frame
+  -- A search also looks at `count` bytes from its place on if each shorter prefix of these may begin a frame.
   searching_more : (place decided count more : ℕ) → IsSearching xs from seen place decided → MayBeginBefore count (drop place xs)
       → count ≤ 269 → place + count ≤ length xs → more ≡ max decided (place + count) → IsSearching xs from seen place more
   searching_more place decided count more searching may few within is =
@@ -96,7 +96,7 @@ module _ (xs : List ℕ) (from seen : ℕ) where
       }) in
       let stays = none more (omega arith) (omega arith) in grind arith
 
-  -- a search goes on after a place at which no frame begins, as so many bytes show
+  -- If `count` bytes prove that no frame begins at the place of a search, the search goes on right after that place.
   searching_never : (place decided count more : ℕ) → IsSearching xs from seen place decided → IsCandidate (drop place xs) (Never count)
       → 0 < count → count ≤ 269 → more ≡ max decided (place + count) → IsSearching xs from seen (place + 1) more
   searching_never place decided count more searching never some few is =
@@ -108,7 +108,7 @@ module _ (xs : List ℕ) (from seen : ℕ) where
       (λ k late early. let same : k ≡ place = omega arith in rw same here) in
       grind arith
 
-  -- a search comes to a later place if no frame begins at those before it, and only so many bytes more are needed for that
+  -- A search moves past places with no FF or with three FF in a row, and looks at no more than 2 bytes after them.
   searching_run : (place decided count start : ℕ) → start ≡ place + count → IsSearching xs from seen place decided → start ≤ length xs
       → ((here : ℕ) → place ≤ here → here < start → (get_or xs here 0 ≢ 255) ⊎ HasThree xs here)
       → (needed : ℕ) × IsSearching xs from seen start needed × (decided ≤ needed) × (needed ≤ max decided (start + 2))
@@ -122,7 +122,7 @@ module _ (xs : List ℕ) (from seen : ℕ) where
       let next : start ≡ here + 1 = omega arith in
       (more, rw (← next) at (searching_never here needed size more on never some (omega arith) refl), omega arith, omega arith)
 
-  -- after a candidate that begins none the search goes on
+  -- A search goes on after the next candidate if no frame begins there.
   pub searching_on : (place decided start count more : ℕ) → IsSearching xs from seen place decided → IsNextCandidate xs place start
       → IsCandidate (slice_range xs start (length xs)) (Never count) → (2 ≤ count) × (count ≤ 269)
       → more ≡ max decided (start + count) → IsSearching xs from seen (start + 1) more
@@ -132,7 +132,7 @@ module _ (xs : List ℕ) (from seen : ℕ) where
       searching_never start needed count more on (rw (take_rest xs start) at never) (omega (arith, some)) few
       (omega (arith, is, least, most, some))
 
-  -- the search ends where the list ends, or where a frame may begin that has more bytes
+  -- A search ends at a place from which the bytes left, if any, may begin a frame.
   pub searched_open : (place decided start : ℕ) → IsSearching xs from seen place decided → place ≤ start → start ≤ length xs
       → ((here : ℕ) → place ≤ here → here < start → (get_or xs here 0 ≢ 255) ⊎ HasThree xs here)
       → MayBegin (drop start xs) → length xs < start + 269
@@ -144,7 +144,7 @@ module _ (xs : List ℕ) (from seen : ℕ) where
       (omega (arith, on.within)) in
       grind arith
 
-  -- or where a frame stands
+  -- A search ends at a place where a frame stands.
   pub searched_stands : (place decided start more : ℕ) (layout : Layout) → IsSearching xs from seen place decided
       → IsNextCandidate xs place start → IsCandidate (slice_range xs start (length xs)) (Whole layout) → layout_length layout ≤ 267
       → more ≡ max decided (start + 2 + layout_length layout)

@@ -1,4 +1,4 @@
--- What is next in bytes, as what is seen of the characters that are heard.
+-- What comes next in bytes, and what is seen in the characters that are heard.
 use Rattle.std.proofs.Common.{◌≡◌, ◌≢◌, ℕ, ◌-◌, ◌<◌, ◌≤◌, ◌⊎◌, inl, inr, Bool, true, false, List, ◌++◌, length, get_or}
 use Rattle.std.proofs.Common.{arith, refl, length-append}
 use Rattle.std.proofs.lemmas.Bool.Decides.{nat_tests}
@@ -15,16 +15,16 @@ use Rattle.hart_frame.proofs.lemmas.heard.Seen.{NoneSeen, frame_at}
 use Rattle.hart_frame.proofs.lemmas.heard.Sighting.{after_one-none, follows_from, is_other_at, is_preamble_at, not_other, unasked}
 use Rattle.hart_frame.proofs.lemmas.heard.Start.{tested}
 
--- the characters of bytes
+-- Each byte is heard at its place as a faultless character.
 chars_at : (bytes : List ℕ) (next : List Character) (i : ℕ) (d : Character) → i < length bytes
     → get_or (faultless bytes ++ next) i d ≡ record { byte = get_or bytes i 0; faults = 0 }
 chars_at bytes next i d below = grind (arith, get_or_append_left, get_or-map, length-map)
 
--- the bytes are some of the characters that are known
+-- There are no more bytes than known characters.
 pub heard_few : (bytes : List ℕ) (after : After) → length bytes ≤ length (heard_with bytes after)
 heard_few bytes after = grind (arith, length-append, length-map)
 
--- those are heard, and none after the bytes is a preamble byte
+-- All known characters are heard, and none of them after the bytes is a faultless FF.
 pub record Known (bytes : List ℕ) (after : After) (next : List Character) : Type 0 where
   pub within : length (heard_with bytes after) ≤ length (faultless bytes ++ next)
   pub none : (i : ℕ) → length bytes ≤ i → i < length (heard_with bytes after) → is_preamble_at (faultless bytes ++ next) i ≡ false
@@ -41,7 +41,7 @@ known bytes _ next follows = record {
   none = λ i low high. absurd (grind (arith, length-map));
 }
 
--- a preamble byte is one of the bytes
+-- Among the known characters a faultless FF is heard exactly where a byte FF stands.
 pub preamble_yes : (bytes : List ℕ) (next : List Character) (i : ℕ) → i < length bytes → get_or bytes i 0 ≡ 255
     → is_preamble_at (faultless bytes ++ next) i ≡ true
 preamble_yes bytes next i below is = grind (arith, nat_tests, chars_at, length-append, length-map, tested)
@@ -69,7 +69,7 @@ other_yes bytes after next i follows within other =
     let long = (known bytes after next follows).within in
     grind (arith, nat_tests, tested (faultless bytes ++ next) i, preamble_no bytes after next i follows within other)
 
--- a place that is asked in the characters is asked in the bytes
+-- A place that is asked in the characters is asked in the bytes.
 pub asked : (bytes : List ℕ) (after : After) (next : List Character) (from place : ℕ) → MayFollow after next
     → place < length (heard_with bytes after) → follows_from (faultless bytes ++ next) from place ≡ true
     → is_other_at (faultless bytes ++ next) place ≡ true → IsAsked bytes after from place
@@ -83,7 +83,7 @@ pub two_out : (bytes : List ℕ) (next : List Character) (from place : ℕ) → 
     → follows_from (faultless bytes ++ next) from (place - 1) ≡ true
 two_out bytes next from place within (order, is) = grind (arith, nat_tests, preamble_yes, within)
 
--- a place that is asked in the bytes is asked in the characters
+-- A place that is asked in the bytes is asked in the characters.
 pub follows_in : (bytes : List ℕ) (after : After) (next : List Character) (from place : ℕ) → IsAsked bytes after from place
     → follows_from (faultless bytes ++ next) from place ≡ true
 follows_in bytes after next from place is = grind (arith, nat_tests, preamble_yes)
@@ -92,11 +92,11 @@ pub bool_cases : (b : Bool) → (b ≡ true) ⊎ (b ≡ false)
 bool_cases true = inl refl
 bool_cases false = inr refl
 
--- the places that are asked in the bytes before a place, and are silent
+-- Nothing is seen at the asked places before `to`.
 abbrev pub SilentBefore : List ℕ → After → ℕ → ℕ → Type 0
 SilentBefore bytes after from to = (place : ℕ) → IsAsked bytes after from place → place < to → IsSilent bytes after from place
 
--- whatever follows, nothing is seen before a place, and no frame stands there
+-- Whatever follows, nothing is seen before a place, and no frame stands there.
 module _ (bytes : List ℕ) (after : After) (next : List Character) (from to : ℕ) (may : MayFollow after next)
     (silent : SilentBefore bytes after from to) (within : to ≤ length (heard_with bytes after)) where
   pub none_seen : NoneSeen (faultless bytes ++ next) from to

@@ -1,4 +1,4 @@
--- Sightings that are given one after another are all of a list, and a list has one list of sightings.
+-- The sightings given one after another are all sightings of a list, and a list has only one list of sightings.
 use Rattle.std.proofs.Common.{◌≡◌, ◌≤◌, ℕ, Bool, false, List, [], ◌++◌, length, drop, map, ap, sym, arith, refl, append_assoc}
 use Rattle.std.proofs.lemmas.List.{append-nil, drop-append-le}
 use Rattle.std.specs.Prelude.{IsTrue}

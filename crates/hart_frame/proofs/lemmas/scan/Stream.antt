@@ -1,4 +1,4 @@
--- The frames given since a scanner was new are the next ones of what was pushed, and all of them after the finish.
+-- The frames given since a scanner was new are the next ones of what was pushed, and after the finish all of them.
 use Rattle.std.proofs.Common.{◌≡◌, ◌+◌, Bool, true, false, IsTrue, ℕ, List, [], ◌∷◌, ◌++◌, length, map, drop, refl, sym, arith, length-drop}
 use Rattle.std.proofs.lemmas.List.{append-nil, drop-append-le, drop-drop}
 use Rattle.hart_frame.specs.declared.heard.found.Found.{Found}
@@ -12,7 +12,7 @@ use Rattle.hart_frame.proofs.lemmas.heard.Rest.{rest_frames}
 use Rattle.hart_frame.proofs.lemmas.heard.UnambiguousFrames.{AreFrames-one}
 use Rattle.hart_frame.proofs.lemmas.scan.Next.{next_ended, next_frames, next_grown, next_nothing, next_of_rest, next_then}
 
--- the frames given so far are the next ones of the characters pushed so far, up to the first that is held, and the rest of those is held
+-- The frames given so far are the next ones of what was pushed, up to the first held character, and the rest of it is held.
 pub record IsStreamed (past : List Character) (scan : Scan) (given : List Found) : Type 0 where
   pub next : AreNext past scan.finished 0 given scan.first
   pub held : drop scan.first past ≡ scan.held
@@ -34,7 +34,7 @@ streamed_taken past old new given found streamed moves =
       held = rw (moves.first, moves.held, ← streamed.held) (sym (drop-drop moves.count old.first past));
     }
 
--- so it is after every history
+-- Every history of a scanner is streamed in this way.
 pub streamed : (past : List Character) (scan : Scan) (given : List Found) → IsHistory past scan given → IsStreamed past scan given
 streamed past scan given begin = record { next = next_nothing [] false 0 (omega arith); held = refl }
 streamed past scan given (push before old frames character history going) =
@@ -54,24 +54,24 @@ pub history_next : (past : List Character) (scan : Scan) (given : List Found) �
     → AreNext past scan.finished 0 given scan.first
 history_next past scan given history = (streamed past scan given history).next
 
--- what is held is what was pushed from its place on
+-- What a scanner holds is what was pushed from the place of the first held character on.
 pub history_held : (past : List Character) (scan : Scan) (given : List Found) → IsHistory past scan given
     → drop scan.first past ≡ scan.held
 history_held past scan given history = (streamed past scan given history).held
 
--- the frames given so far are the first ones
+-- The frames given so far are the first frames of all that is heard.
 pub history_first : (past more : List Character) (scan : Scan) (given frames : List Found) → IsHistory past scan given
     → (IsTrue scan.finished → more ≡ []) → AreFrames (past ++ more) 0 frames → (later : List Found) × (frames ≡ given ++ later)
 history_first past more scan given frames history ended are =
     grind (arith, AreFrames-found (past ++ more) scan.first, AreFrames-one, history_next past scan given history)
 
--- what was pushed was let go or is held
+-- The characters that were let go and those that are held are as many as were pushed.
 pub history_length : (past : List Character) (scan : Scan) (given : List Found) → IsHistory past scan given
     → scan.first + length scan.held ≡ length past
 history_length past scan given history =
     let is = streamed past scan given history in grind (arith, is.held, is.next.within, length-drop scan.first past)
 
--- after the end they are all
+-- After the end, the given frames are all frames of what was pushed.
 pub history_all : (past : List Character) (given : List Found) → IsWholeHistory past given → AreFrames past 0 given
 history_all past given whole =
     let last = whole.last in
@@ -80,7 +80,7 @@ history_all past given whole =
     let none = rest_frames last.first past [] (AreFrames.none 0 nothing) in
     rw append-nil at (next_frames past last.finished 0 last.first given [] is.next none)
 
--- the frames to come are those of what is left, and of what is still to come
+-- After the next frames come the frames of the characters that are left and of those still to come.
 pub next_rest : (chars more : List Character) (ended : Bool) (given later : List Found) (to : ℕ) → AreNext chars ended 0 given to
     → (IsTrue ended → more ≡ []) → AreFrames (drop to chars ++ more) 0 later → AreFrames (chars ++ more) 0 (given ++ map (moved to) later)
 next_rest chars more ended given later to next closed are = grind (arith, next, rest_frames, drop-append-le to chars more next.within)

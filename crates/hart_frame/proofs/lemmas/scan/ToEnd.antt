@@ -10,7 +10,7 @@ use Rattle.hart_frame.specs.private.Search.{IsSearched, NoneBeginThen}
 use Rattle.hart_frame.proofs.lemmas.scan.Candidate.{nothing_open}
 use Rattle.hart_frame.proofs.lemmas.scan.Search.{joined, none_more, whole_append}
 
--- what is found in a list from a place on: before it no frame begins, and from there on one stands, or may begin
+-- No frame begins in a list from `first` up to the found place, and at that place one stands or may begin.
 pub record IsLookedAt (bytes : List ℕ) (first : ℕ) (ended : Bool) (found : Sighting) : Type 0 where
   pub after : first ≤ found.place
   pub within : found.place ≤ length bytes
@@ -18,7 +18,7 @@ pub record IsLookedAt (bytes : List ℕ) (first : ℕ) (ended : Bool) (found : S
   pub stands : MatchOption found.layout ((length bytes < found.place + 269) × MayBegin (drop found.place bytes))
       (λ layout. IsWhole layout (drop found.place bytes))
 
--- a search finds it from a place on up to which no frame begins
+-- A search from `from` on finds such a place if no frame begins from `first` up to `from`.
 pub looked_from : (bytes : List ℕ) (first from : ℕ) (ended : Bool) (found : Sighting) → first ≤ from → NoneBeginThen bytes ended first from
     → IsSearched bytes from from found → IsLookedAt bytes first ended found
 looked_from bytes first from ended found after before is =
@@ -28,7 +28,7 @@ looked_from bytes first from ended found after before is =
     joined _ first from found.place before (λ place late below next closed. all place late below next) in
     grind (arith, common_steps, whole_append, take-append-drop found.decided bytes, length-take-le found.decided bytes)
 
--- what may begin a frame begins none if nothing can follow
+-- If nothing can follow, no frame begins where one might have begun, and the search goes on after that place.
 pub looked_on : (bytes : List ℕ) (first : ℕ) (ended : Bool) (old new : Sighting) → IsTrue ended → IsLookedAt bytes first ended old
     → old.layout ≡ None → IsSearched bytes (old.place + 1) (old.place + 1) new → IsLookedAt bytes first ended new
 looked_on bytes first ended old new over looked none searched =

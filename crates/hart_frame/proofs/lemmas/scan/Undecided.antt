@@ -1,4 +1,4 @@
--- What a scanner keeps of what it is to decide.
+-- What stays undecided when a scanner passes some characters.
 use Rattle.std.proofs.Common.{◌≡◌, ℕ, ◌+◌, ◌<◌, ◌≤◌, inl, inr, false, List, [], ◌∷◌, ◌++◌, length, take, refl, sym, arith}
 use Rattle.std.proofs.Common.{append_assoc, length-append}
 use Rattle.std.proofs.lemmas.List.{length-take-le, take-append-drop}
@@ -15,18 +15,18 @@ use Rattle.hart_frame.proofs.lemmas.heard.Rest.{none_moved, some_moved, stands_i
 use Rattle.hart_frame.proofs.lemmas.scan.Next.{next_frames, next_some}
 use Rattle.hart_frame.proofs.lemmas.scan.Scan.{moves_length}
 
--- where a list has the same frames from two places on, one stands from the second on that starts no later than one from the first on
+-- If a list has the same frames from two places on, then for each frame from the first on one from the second starts no later.
 same_first : (chars : List Character) (from to : ℕ) (frames : List Found) (found : Found) → AreFrames chars from frames
     → AreFrames chars to frames → StandsIn found chars from → (g : Found) × StandsIn g chars to × (g.start ≤ found.start)
 same_first chars from to [] found (none n empty) new stands = absurd (empty found stands)
 same_first chars from to (g ∷ later) found old new stands =
     (g, (head_first chars to g later new).stands, (head_first chars from g later old).least found stands)
 
--- what is held then are the last of the characters that were held
+-- What was held is the characters that were passed, and then what is held now.
 held_parts : (s t : Scan) → (moves : MovesPast s t []) → s.held ≡ take moves.count s.held ++ t.held
 held_parts s t moves = rw moves.held (sym (take-append-drop moves.count s.held))
 
--- if a frame stands in what was held before some characters were passed, one that starts no later stands in what is held then
+-- If a frame stands in what was held, one that starts no later stands in what is held after some characters are passed.
 still_stands : (s t : Scan) (moves : MovesPast s t []) (found : Found) → StandsIn found s.held 0
     → (g : Found) × StandsIn g t.held 0 × (moves.count + g.start ≤ found.start)
 still_stands s t moves found stands =
@@ -38,11 +38,11 @@ still_stands s t moves found stands =
     let front = length-take-le n s.held moves.next.within in
     (_, stands_in (take n s.held) t.held g n front (rw (← held_parts s t moves) there), omega (arith, early, after))
 
--- what holds no frame after some characters are passed held none before
+-- If no frame is held after some characters are passed, none was held before.
 pub nothing_before : (s t : Scan) → MovesPast s t [] → HasNoFrame t.held 0 → HasNoFrame s.held 0
 nothing_before s t moves empty found stands = let there = still_stands s t moves found stands in empty there.0 there.1
 
--- what is undecided after some characters are passed was undecided before
+-- If nothing is decided after some characters are passed, nothing was decided before.
 pub undecided_before : (s t : Scan) → MovesPast s t [] → IsUndecided t.held → IsUndecided s.held
 undecided_before s t moves (inl empty) = inl (nothing_before s t moves empty)
 undecided_before s t moves (inr (place, opened, before)) =
@@ -58,7 +58,7 @@ undecided_before s t moves (inr (place, opened, before)) =
           omega (arith, before there.0 there.1, there.2, opened.start, length-append (take moves.count s.held) opened.prefix, front),
     )
 
--- a scanner whose characters begin with a frame gives one
+-- A scanner that gives nothing does not begin with a frame.
 pub holds_gives : (old new : Scan) → BeginsWithFrame old → GivesNothing old new → ⊥
 holds_gives old new (found, stands, start) (inl waits) =
     elim (undecided_before old new waits.moves waits.undecided) [
@@ -67,11 +67,11 @@ holds_gives old new (found, stands, start) (inl waits) =
     ]
 holds_gives old new (found, stands, start) (inr ends) = ends.none found stands
 
--- nothing is given before the finish
+-- A scanner that is not finished and gives nothing waits.
 pub waits_only : (old new : Scan) → old.finished ≡ false → GivesNothing old new → Waits old new
 waits_only old new going nothing = grind arith
 
--- a scanner that gives a frame holds less after it
+-- A scanner holds fewer characters after it gives a frame.
 pub gives_onward : (old new : Scan) (found : Found) → Gives old new found → length new.held < length old.held
 gives_onward old new found gives =
     let moves = gives.moves in

@@ -1,4 +1,4 @@
--- What is not decided: with some characters after it another sighting comes first than with others.
+-- No sighting is decided if different characters may follow, and with these different sightings come first.
 use Rattle.std.proofs.Common.{◌≡◌, ◌≢◌, ℕ, zero, suc, ◌+◌, ◌-◌, ◌<◌, ◌≤◌, ◌⊎◌, inl, inr, List, [], ◌∷◌, ◌++◌, length, drop, get_or}
 use Rattle.std.proofs.Common.{None, Some, Option, ◌∙◌, ap, sym, arith, refl, length-drop}
 use Rattle.std.proofs.lemmas.List.{append-nil, drop_more, get_or-drop, length-map}
@@ -33,12 +33,12 @@ use Rattle.hart_frame.proofs.lemmas.wire.Reading.{truncated_cut}
 use Rattle.hart_frame.proofs.lemmas.scan.NextSeen.{miss_one, miss_two, two_parts}
 use Rattle.hart_frame.proofs.lemmas.scan.Sighted.{SilentBefore, late, none_seen, preamble_yes}
 
--- bytes that end too early have a miss at the end
+-- Bytes that end too early have a miss if nothing follows them.
 truncated_miss : (xs : List ℕ) (fp start : ℕ) → IsTruncated xs → (miss : Miss) × (miss_in xs None fp start ≡ Some miss)
 truncated_miss xs fp start truncated =
     let (missing, is) = truncated_cut xs truncated in (_, cut_told xs missing None fp start is)
 
--- after two preamble bytes, what may become a body
+-- After two FF stand bytes that end too early for a body.
 module _ (rest : List ℕ) (fit : All (λ byte. byte < 256) rest) (truncated : IsTruncated rest) (some : 0 < length rest) where
   bytes : List ℕ
   bytes = 255 ∷ 255 ∷ rest
@@ -82,7 +82,7 @@ module _ (rest : List ℕ) (fit : All (λ byte. byte < 256) rest) (truncated : I
       (record { stands = stands; least = λ other stands. omega (arith, at, first_frame other stands) }) are_after) in
       cc (one.1, two.1)
 
--- where nothing is seen at a place, no miss of it comes first
+-- At a place one miss or nothing is seen, so where nothing is seen no miss of that place comes first.
 form : (m : Option Miss) (from place : ℕ)
     → (option_map_or (λ miss. Missed place (miss_in_whole from miss) ∷ []) m [] ≡ [])
     ⊎ ((miss : Miss) × (option_map_or (λ miss. Missed place (miss_in_whole from miss) ∷ []) m [] ≡ Missed place miss ∷ []))
@@ -107,7 +107,7 @@ not_one chars [] later miss none is = not_first chars 0 (length chars - 0) [] la
 not_one chars (found ∷ frames) later miss none is =
     not_first chars 0 (found.start - 0) (Message found ∷ sightings chars found.stop frames) later miss none (λ same. cc) is
 
--- after one preamble byte alone, what may stand alone
+-- After a single FF stand bytes that may or may not become a body that stands alone.
 module _ (rest : List ℕ) (some : 0 < length rest) (other : get_or rest 0 0 ≢ 255) (may : MayStandAlone (255 ∷ rest) 1) where
   asked_one : IsAsked (255 ∷ rest) More 0 1
   asked_one = grind (arith, length-map)
@@ -130,7 +130,7 @@ module _ (rest : List ℕ) (some : 0 < length rest) (other : get_or rest 0 0 ≢
       let same : first ≡ Missed 1 OnePreamble = cc (one.1) in
       not_one chars frames two.0 OnePreamble none (rw same at two.1)
 
--- a few preamble bytes
+-- In at most two FF no sighting is decided.
 pub undecided_few : (bytes : List ℕ) → length bytes ≤ 2 → ((i : ℕ) → i < length bytes → get_or bytes i 0 ≡ 255)
     → IsUndecidedSighting (faultless bytes)
 undecided_few bytes few preambles first always =
@@ -147,7 +147,7 @@ undecided_few bytes few preambles first always =
     let none = always [] [] are in
     cc (none.1)
 
--- what is left of bytes in which nothing is open
+-- No sighting is decided in what is left after the bytes are used up.
 pub undecided_used : (bytes : List ℕ) (from used : ℕ) → IsUsed bytes from used → IsUndecidedSighting (faultless (drop used bytes))
 undecided_used bytes from used (low, inl (all, other)) =
     undecided_few (drop used bytes) (omega (arith, length-drop used bytes, all))
@@ -160,7 +160,7 @@ undecided_used bytes from used (low, inr (inr (last, one, two))) =
     let long = length-drop used bytes in
     let here : (i ≡ 0) ⊎ (i ≡ 1) = grind arith in grind (arith, get_or-drop))
 
--- what is left where something is open
+-- No sighting is decided in what is left where something is open.
 pub open_undecided : (bytes : List ℕ) (after : After) (place from start used : ℕ) → All (λ byte. byte < 256) bytes
     → IsAsked bytes after place start → after ≡ More → IsStandingAt bytes after from start (Open used)
     → IsUndecidedSighting (faultless (drop used bytes))

@@ -1,4 +1,4 @@
--- Whether bytes begin with a body is decided.
+-- Each list of bytes begins with a body, or begins with none.
 use Rattle.std.proofs.Common.{◌≡◌, ℕ, fold, bit_xor, ◌+◌, ◌-◌, ◌*◌, ◌/◌, ◌%◌, ◌<◌, ◌≤◌, ◌⊎◌, inl, inr, Bool, List, [], ◌∷◌}
 use Rattle.std.proofs.Common.{length, take, get_or, ltb, ◌∙◌, arith}
 use Rattle.std.proofs.lemmas.Bool.Decides.{nat_tests}
@@ -24,16 +24,16 @@ use Rattle.hart_frame.proofs.lemmas.wire.Layout.{IsCheckedPart-in, length-slice_
 use Rattle.hart_frame.proofs.lemmas.wire.Parity.{IsCheckByte-fold, check-even, even-check, fits_at}
 use Rattle.hart_frame.proofs.lemmas.wire.Refusal.{has_check, says}
 
--- the first so many bytes fit
+-- The first `n` bytes of a list are below 256.
 abbrev pub Fit : List ℕ → ℕ → Type 0
 Fit bytes n = (k : ℕ) → k < n → get_or bytes k 0 < 256
 
--- what the first byte of an address holds
+-- Each byte is the first byte of an address, with some master, some burst bit and its six low bits.
 first_byte_read : (byte : ℕ) → byte < 256 → (master : MasterId) × (burst : Bool) × (byte ≡ first_byte master burst (byte % 64))
 first_byte_read byte below =
     let bits : (byte / 64 ≡ 0) ⊎ (byte / 64 ≡ 1) ⊎ (byte / 64 ≡ 2) ⊎ (byte / 64 ≡ 3) = grind arith in grind arith
 
--- one byte, or five, hold an address
+-- Bytes are the address bytes of some master, burst bit and address.
 abbrev HeldAddress : List ℕ → Type 0
 HeldAddress bytes = (master : MasterId) × (burst : Bool) × (address : Address) × IsAddressBytes master burst address bytes
 
@@ -46,12 +46,12 @@ held_address (a ∷ b ∷ c ∷ d ∷ e ∷ []) _ fit _ _ =
     (master, burst, address, grind (arith, fit 1, fit 2, fit 3, fit 4))
 held_address bytes form fit either long = absurd (omega (arith, either, long))
 
--- a byte count that is not refused makes a payload that is long enough
+-- A payload with a good byte count is long enough.
 pub long_enough : (kind : FrameKind) (payload : List ℕ) (byte count : ℕ) → kind_code kind ≡ byte % 8 → length payload ≡ count
     → (byte % 8 ≡ 2) ⊎ (2 ≤ count) → IsLongEnough kind payload
 long_enough kind payload byte count is long good = grind arith
 
--- bytes that go on to their check byte hold a frame
+-- The bytes before the check byte are the checked part of a frame.
 pub record HeldFrame (bytes : List ℕ) : Type 0 where
   pub frame : FrameParts
   pub part : IsCheckedPart frame (take (body_length bytes - 1) bytes)
@@ -77,25 +77,25 @@ held_frame bytes fits whole =
     } in
     record { frame = frame; part = grind (arith, long_enough, length-slice_range bytes (j + 2), IsCheckedPart-in bytes layout frame) }
 
--- bytes begin with some body
+-- Bytes begin with the body of some frame.
 abbrev pub BodyAhead : List ℕ → Type 0
 BodyAhead bytes = (frame : FrameParts) × (len : ℕ) × BeginsWithBody bytes frame len
 
--- bytes up to a check byte of even parity are a body
+-- Bytes that reach their check byte and have even parity up to it begin with a body.
 whole_body : (bytes : List ℕ) → HasCheckByte bytes → All (λ byte. byte < 256) (take (body_length bytes) bytes)
     → HasEvenParity (take (body_length bytes) bytes) → BodyAhead bytes
 whole_body bytes whole fit even =
     let held = held_frame bytes (λ k below. grind (arith, All-get_or, get_or-take, length-take-le)) whole in
     (held.frame, body_length bytes, grind (arith, IsBody-whole, take-take, length-take-le))
 
--- whether all bytes fit
+-- All bytes are below 256, or not all of them are.
 fit_decided : (bytes : List ℕ) → All (λ byte. byte < 256) bytes ⊎ (All (λ byte. byte < 256) bytes → ⊥)
 fit_decided bytes =
     let run = prefix_len (λ byte. ltb byte 256) bytes in
     let cases : (run < length bytes) ⊎ (length bytes ≤ run) = grind arith in
     grind (arith, nat_tests, prefix_len_passes (λ byte. ltb byte 256) bytes, prefix_len_stops (λ byte. ltb byte 256) bytes 0)
 
--- whether bytes begin with a body
+-- Bytes begin with a body, or they begin with none.
 pub body_decided : (bytes : List ℕ) → BodyAhead bytes ⊎ HasNoBody bytes
 body_decided bytes =
     let prefix = take (body_length bytes) bytes in

@@ -9,12 +9,12 @@ use Rattle.hart_frame.specs.wire.FrameParts.{FrameParts}
 use Rattle.hart_frame.specs.wire.Parity.{IsCheckByte, HasEvenParity}
 use Rattle.hart_frame.proofs.lemmas.wire.Parity.{HasEvenParity-push}
 
--- a check byte after the checked part makes a body
+-- The checked part of a frame, with its check byte, is a body.
 pub IsBody-push : (frame : FrameParts) (checked : List ℕ) (check : ℕ) → IsCheckedPart frame checked
     → All (λ byte. byte < 256) checked → IsCheckByte checked check → IsBody frame (checked ++ check ∷ [])
 IsBody-push frame checked check part fits check_byte = grind (arith, common_steps, All-push, HasEvenParity-push)
 
--- bytes of even parity, all but the last of which are what the check byte covers, are a body
+-- Bytes of even parity are a body if all of them but the last are the checked part of a frame.
 pub IsBody-whole : (bytes : List ℕ) (frame : FrameParts) → 1 ≤ length bytes → All (λ byte. byte < 256) bytes
     → IsCheckedPart frame (take (length bytes - 1) bytes) → HasEvenParity bytes → IsBody frame bytes
 IsBody-whole bytes frame some fits part even = grind (arith, take_all, take_more bytes (length bytes - 1) 0)

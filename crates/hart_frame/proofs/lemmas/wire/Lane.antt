@@ -1,4 +1,4 @@
--- An exclusive or lane by lane, and of all lanes at the end, is that of all bytes.
+-- The exclusive or taken lane by lane, and then over all lanes, is that of all bytes.
 use Rattle.std.proofs.Common.{◌≡◌, ℕ, zero, suc, ◌+◌, ◌*◌, ◌/◌, ◌<◌, ◌≤◌, List, [], ◌∷◌, refl, arith, fold, bit_xor, take, drop}
 use Rattle.std.proofs.Common.{length, get_or, mul_comm, take-add, take-append-drop}
 use Rattle.std.proofs.lemmas.Grind.{common_steps}
@@ -12,16 +12,16 @@ use Rattle.std.specs.Simd.Lanes.{zip2, fold_l}
 use Rattle.hart_frame.specs.wire.Parity.{IsCheckByte}
 use Rattle.hart_frame.proofs.lemmas.wire.Parity.{IsCheckByte-fold}
 
--- the exclusive or of some bytes
+-- The exclusive or of bytes.
 abbrev pub xor_of : List ℕ → ℕ
 xor_of bytes = fold bit_xor 0 bytes
 
--- a byte of the start can come last
+-- A byte that an exclusive or takes in at the start can be taken in at the end instead.
 fold_moved : (start byte : ℕ) (bytes : List ℕ) → fold bit_xor (bit_xor start byte) bytes ≡ bit_xor (fold bit_xor start bytes) byte
 fold_moved start byte [] = refl
 fold_moved start byte (first ∷ bytes) = grind (arith, common_steps, bit_xor, xor_comm, fold_moved (bit_xor start first) byte bytes)
 
--- lane by lane
+-- The exclusive or of two equally long lists combined element by element is that of both lists, one after the other.
 fold-zip2 : (start : ℕ) (xs ys : List ℕ) → length xs ≡ length ys
     → fold bit_xor start (zip2 bit_xor xs ys) ≡ fold bit_xor (fold bit_xor start xs) ys
 fold-zip2 start [] [] same = refl
@@ -29,14 +29,14 @@ fold-zip2 start (x ∷ xs) (y ∷ ys) same =
     grind (arith, common_steps, bit_xor, xor_comm, fold_moved (bit_xor start x) y xs, fold-zip2 (bit_xor start (bit_xor x y)) xs ys)
 fold-zip2 start xs ys same = absurd (omega arith)
 
--- a chunk is the elements from its place on
+-- The chunk at an index consists of the `n` elements from `n * index` on.
 first_chunks-at : {X : Type 0} (n count index : ℕ) (xs : List X) → index < count
     → slice_index_or (first_chunks n count xs) index [] ≡ take n (drop (n * index) xs)
 first_chunks-at n (suc count) zero xs below = grind arith
 first_chunks-at n (suc count) (suc index) xs below = grind (arith, drop-drop, first_chunks-at n count index (drop n xs))
 first_chunks-at n count index xs below = absurd (omega arith)
 
--- one more block of so many
+-- After one more block, the lanes have the exclusive or of the bytes up to the end of this block.
 pub xor_of-block : (width index : ℕ) (bytes lanes : List ℕ) (chunks : List (List ℕ))
     → chunks ≡ first_chunks width (length bytes / width) bytes → index < length bytes / width → width * index + width ≤ length bytes
     → length lanes ≡ width → xor_of lanes ≡ xor_of (take (width * index) bytes)
@@ -44,7 +44,7 @@ pub xor_of-block : (width index : ℕ) (bytes lanes : List ℕ) (chunks : List (
 xor_of-block width index bytes lanes chunks is below within full before =
     grind (arith, first_chunks-at, length-chunk, fold-zip2, fold-append, take-add)
 
--- the rest after the blocks
+-- The exclusive or of the lanes and of the bytes after the blocks is the check byte of all bytes.
 pub IsCheckByte-rest : (width index : ℕ) (bytes lanes rest : List ℕ) (check : ℕ) → ((i : ℕ) → get_or bytes i 0 < 256)
     → xor_of lanes ≡ xor_of (take (width * index) bytes) → length bytes / width ≡ index → rest ≡ drop (length bytes / width * width) bytes
     → check ≡ fold bit_xor (fold_l bit_xor 0 lanes) rest → IsCheckByte bytes check

@@ -1,4 +1,4 @@
--- The parts that a layout cuts out of bytes are, joined again, the bytes.
+-- The parts into which a layout cuts bytes, joined again, are the bytes.
 use Rattle.hart_frame.specs.wire.Delimiter.{delimiter_of}
 use Rattle.std.proofs.Common.{◌≡◌, ℕ, ◌+◌, ◌-◌, ◌<◌, ◌≤◌, List, ◌∷◌, ◌++◌, length, take, drop, get_or, arith, length-drop}
 use Rattle.std.proofs.Math.Seq.{take-add}
@@ -12,21 +12,21 @@ use Rattle.hart_frame.specs.private.Layout.{Describes}
 use Rattle.hart_frame.specs.wire.Layout.{body_length}
 use Rattle.hart_frame.specs.wire.Refusal.{HasCheckByte}
 
--- a range and the next range are one range
+-- A range and the range right after it together are one range.
 slice_range-join : (xs : List ℕ) (a b c : ℕ) → a ≤ b → b ≤ c → slice_range xs a b ++ slice_range xs b c ≡ slice_range xs a c
 slice_range-join xs a b c ab bc = grind (arith, take-add (b - a) (c - b) (drop a xs), drop-drop (b - a) a xs)
 
--- a range is its first element and the rest
+-- A range is its first element and then the rest.
 slice_range-first : (xs : List ℕ) (a c : ℕ) → a < c → a < length xs → get_or xs a 0 ∷ slice_range xs (a + 1) c ≡ slice_range xs a c
 slice_range-first xs a c ac within = grind (arith, drop_more xs a 0, take-add 1 (c - (a + 1)) (drop a xs))
 
--- a prefix of some bytes: one byte, a range, a range, two bytes, and a range
+-- A prefix of a list of bytes is one byte, two ranges, two bytes and a third range, one after another.
 cut : (xs : List ℕ) (i j k : ℕ) → 1 ≤ i → i ≤ j → j + 2 ≤ k → k ≤ length xs
     → take k xs ≡ get_or xs 0 0 ∷ slice_range xs 1 i ++ slice_range xs i j ++ get_or xs j 0 ∷ get_or xs (j + 1) 0 ∷ slice_range xs (j + 2) k
 cut xs i j k low middle high within =
     grind (arith, slice_range-join xs 1, slice_range-first xs 0 k, slice_range-first xs j k, slice_range-first xs (j + 1) k)
 
--- what stands in the bytes where the layout says
+-- The parts of a frame stand in the bytes where the layout says.
 pub record StandsByLayout (bytes : List ℕ) (layout : Layout) (frame : FrameParts) : Type 0 where
   pub kind : frame.kind ≡ layout.kind
   pub address : IsAddressBytes frame.master frame.burst frame.address (slice_range bytes 1 layout.address_end)
@@ -35,11 +35,11 @@ pub record StandsByLayout (bytes : List ℕ) (layout : Layout) (frame : FramePar
   pub payload : frame.payload ≡ slice_range bytes (layout.command_place + 2) (layout.command_place + 2 + layout.byte_count)
   pub payload_fits : IsLongEnough frame.kind frame.payload
 
--- how long a range is
+-- The length of a range is the difference of its ends.
 pub length-slice_range : (xs : List ℕ) (a b : ℕ) → a ≤ b → b ≤ length xs → length (slice_range xs a b) ≡ b - a
 length-slice_range xs a b ab within = length-take-le (b - a) (drop a xs) (omega (arith, length-drop a xs))
 
--- what stands in the bytes by their layout is what the check byte covers
+-- If the parts of a frame stand in bytes where the layout says, the bytes before the check byte are its checked part.
 pub IsCheckedPart-in : (bytes : List ℕ) (layout : Layout) (frame : FrameParts) → Describes layout bytes → HasCheckByte bytes
     → StandsByLayout bytes layout frame → IsCheckedPart frame (take (body_length bytes - 1) bytes)
 IsCheckedPart-in bytes layout frame describes whole stands =

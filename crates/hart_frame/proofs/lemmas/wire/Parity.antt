@@ -1,4 +1,4 @@
--- The exclusive or of bytes has a bit if an odd number of them have it.
+-- A bit of the exclusive or of bytes is set exactly if it is set in an odd number of them.
 use Rattle.std.proofs.Common.{◌≡◌, ◌≢◌, ℕ, ◌+◌, ◌-◌, ◌%◌, ◌<◌, ◌≤◌, List, [], ◌∷◌, ◌++◌, fold, bit_xor, drop, get_or, length, suc, take}
 use Rattle.std.proofs.Common.{arith}
 use Rattle.std.proofs.lemmas.Bool.Decides.{nat_tests}
@@ -13,23 +13,23 @@ use Rattle.std.specs.Int.Bits.{xor_assoc, xor_self, xor_zero_r}
 use Rattle.std.specs.List.{All}
 use Rattle.hart_frame.specs.wire.Parity.{bit_count, IsCheckByte, HasEvenParity}
 
--- every element of bytes is a byte, and so is 0 past their end
+-- Each element of a list of bytes is below 256, and so is the 0 that is read past its end.
 pub fits_at : (bytes : List ℕ) → All (λ byte. byte < 256) bytes → (i : ℕ) → get_or bytes i 0 < 256
 fits_at bytes fit i = grind (arith, All-get_or, get_or_past)
 
 pub fits_drop : (bytes : List ℕ) (n : ℕ) → ((i : ℕ) → get_or bytes i 0 < 256) → (i : ℕ) → get_or (drop n bytes) i 0 < 256
 fits_drop bytes n fits i = grind (arith, get_or-drop, fits (n + i))
 
--- a last byte counts after the others
+-- An appended byte adds its bit to the bit count of the bytes before it.
 bit_count-push : (bit byte : ℕ) (bytes : List ℕ) → bit_count bit (bytes ++ byte ∷ []) ≡ bit_count bit bytes + bit_at byte bit
 bit_count-push bit byte bytes = grind (arith, sum_by_push, nat_tests, bit_at-lt)
 
--- the bit of an exclusive or is the parity of the count
+-- A bit of an exclusive or is the parity of the bit count, with the start counted too.
 xor_parity : (bytes : List ℕ) (start bit : ℕ) → bit_at (fold bit_xor start bytes) bit ≡ (bit_at start bit + bit_count bit bytes) % 2
 xor_parity [] start bit = omega (arith, bit_at-lt start bit)
 xor_parity (byte ∷ bytes) start bit = grind (arith, common_steps, xor_parity bytes (bit_xor start byte) bit, bit_at_xor, bit_at-lt byte bit)
 
--- an exclusive or of bytes is a byte
+-- The exclusive or of bytes is below 256.
 xor_fits : (bytes : List ℕ) (start : ℕ) → start < 256 → ((i : ℕ) → get_or bytes i 0 < 256) → fold bit_xor start bytes < 256
 xor_fits [] start first each = first
 xor_fits (byte ∷ bytes) start first each =
@@ -39,39 +39,39 @@ pub IsCheckByte-fold : (bytes : List ℕ) (check : ℕ) → ((i : ℕ) → get_o
     → IsCheckByte bytes check
 IsCheckByte-fold bytes check each e = grind (arith, xor_fits, xor_parity, bit_at-zero)
 
--- bytes and their check byte have even parity
+-- Bytes and their check byte together have even parity.
 pub HasEvenParity-push : (bytes : List ℕ) (check : ℕ) → IsCheckByte bytes check → HasEvenParity (bytes ++ check ∷ [])
 HasEvenParity-push bytes check is = record { even = λ bit below. omega (arith, bit_count-push bit check bytes, is.odd bit below) }
 
--- the check byte of bytes with even parity is 0
+-- The check byte of bytes with even parity is 0.
 pub check-even : (bytes : List ℕ) (check : ℕ) → IsCheckByte bytes check → HasEvenParity bytes → check ≡ 0
 check-even bytes check is even = grind (arith, same_from_bits_below, bit_at-zero)
 
--- bytes whose check byte is 0 have even parity
+-- Bytes whose check byte is 0 have even parity.
 pub even-check : (bytes : List ℕ) → IsCheckByte bytes 0 → HasEvenParity bytes
 even-check bytes is = grind (arith, bit_at-zero)
 
--- the last of bytes of even parity is the exclusive or of those before it
+-- If bytes have even parity, the last one is the exclusive or of those before it.
 pub even-is : (bytes : List ℕ) (check : ℕ) → ((i : ℕ) → get_or bytes i 0 < 256) → check < 256 → HasEvenParity (bytes ++ check ∷ [])
     → check ≡ fold bit_xor 0 bytes
 even-is bytes check each small even =
     same_from_bits_below 8 check (fold bit_xor 0 bytes) small (xor_fits bytes 0 (omega arith) each)
     (λ bit below. grind (arith, bit_count-push, xor_parity, bit_at-zero, bit_at-lt check bit, even.even bit below))
 
--- the check byte that fits
+-- The check byte of bytes is their exclusive or.
 pub fits-is : (bytes : List ℕ) (fits : ℕ) → All (λ byte. byte < 256) bytes → IsCheckByte bytes fits → fits ≡ fold bit_xor 0 bytes
 fits-is bytes fits fit is = even-is bytes fits (fits_at bytes fit) is.byte (HasEvenParity-push bytes fits is)
 
--- by the last of some bytes the exclusive or of all gives that of those before it
+-- The exclusive or of all bytes, with the last one applied again, is that of the bytes before it.
 pub before_last : (bytes : List ℕ) (n : ℕ) → n + 1 ≡ length bytes
     → bit_xor (fold bit_xor 0 bytes) (get_or bytes n 0) ≡ fold bit_xor 0 (take n bytes)
 before_last bytes n all = grind (arith, take_all, take_more bytes n 0, fold-append, xor_assoc, xor_self, xor_zero_r)
 
--- an exclusive or with a number that is not 0 changes it
+-- An exclusive or with a number other than 0 changes a number.
 pub changed : (c a : ℕ) → c ≢ 0 → a ≢ bit_xor c a
 changed c a some same = grind (arith, xor_assoc c a a, xor_self a, xor_zero_r c)
 
--- a last byte that does not fit to those before it makes the parity odd
+-- If the last byte is not the exclusive or of those before it, the parity is not even.
 pub odd : (bytes : List ℕ) (len : ℕ) → All (λ byte. byte < 256) (take len bytes) → 0 < len → len ≤ length bytes
     → get_or bytes (len - 1) 0 ≢ fold bit_xor 0 (take (len - 1) bytes) → HasEvenParity (take len bytes) → ⊥
 odd bytes len fit some within differ even =

@@ -14,11 +14,11 @@ length_more xs ys within = grind (arith, get_or_append_left)
 pub HasGoodByteCount-more : (xs ys : List ℕ) → HasGoodByteCount xs → HasGoodByteCount (xs ++ ys)
 HasGoodByteCount-more xs ys has = grind (arith, length-append, get_or_append_left)
 
--- what is refused, and not for its end, is refused whatever follows
+-- Bytes that are refused with a fault other than `Truncated` are refused with it whatever follows.
 pub refused_more : (xs ys : List ℕ) (fault : FrameFault) → fault ≢ Truncated → IsRefusedWith xs fault → IsRefusedWith (xs ++ ys) fault
 refused_more xs ys fault decided refused = grind (arith, length-append, get_or_append_left, length_more, take-append-le)
 
--- what a list says, its prefix says
+-- What a list says of its check byte and its layout, a prefix that is long enough says too.
 pub HasCheckByte-prefix : (xs ys : List ℕ) → HasCheckByte (xs ++ ys) → body_length (xs ++ ys) ≤ length xs
     → HasCheckByte xs × (body_length (xs ++ ys) ≡ body_length xs)
 HasCheckByte-prefix xs ys has long = grind (arith, get_or_append_left)
@@ -27,7 +27,7 @@ pub Describes-prefix : (layout : Layout) (xs ys : List ℕ) → Describes layout
     → Describes layout xs
 Describes-prefix layout xs ys is within = grind (arith, get_or_append_left)
 
--- what is said up to the check byte is said by the bytes before it
+-- A prefix that reaches a good byte count has the same byte count, and so the same length of the body.
 pub good_prefix : (bytes : List ℕ) (n : ℕ) → HasCheckByte bytes → byte_count_place bytes < n → n ≤ length bytes
     → HasGoodByteCount (take n bytes) × (body_length (take n bytes) ≡ body_length bytes)
 good_prefix bytes n has after within = grind (arith, get_or-take, length-take-le)

@@ -17,13 +17,13 @@ use Rattle.hart_frame.proofs.lemmas.wire.Parity.{IsCheckByte-fold, before_last, 
 use Rattle.hart_frame.proofs.lemmas.wire.Prefix.{Describes-prefix, HasCheckByte-prefix, HasGoodByteCount-more, good_prefix, length_more}
 use Rattle.hart_frame.proofs.lemmas.wire.Truncated.{truncated_check, truncated_count}
 
--- the first bytes of a list that go up to its check byte
+-- The first `len` bytes of a list end with its check byte, and a layout describes them.
 record IsCut (layout : Layout) (xs : List ℕ) (len : ℕ) : Type 0 where
   pub described : Describes layout (take len xs)
   pub checked : HasCheckByte (take len xs)
   pub exact : layout_length layout ≡ length (take len xs)
 
--- where a layout describes bytes that reach to their check byte
+-- A layout describes bytes that reach their check byte.
 module _ (layout : Layout) (xs : List ℕ) (len check : ℕ) (has : HasCheckByte xs) (is : Describes layout xs)
     (same : len ≡ layout_length layout) (within : len ≤ length xs) (checks : IsCheckByte (take len xs) check)
     (fits : (i : ℕ) → get_or xs i 0 < 256) where
@@ -33,7 +33,7 @@ module _ (layout : Layout) (xs : List ℕ) (len check : ℕ) (has : HasCheckByte
   are_bytes : All (λ byte. byte < 256) (take len xs)
   are_bytes = All-from_get_or (λ byte. byte < 256) (take len xs) 0 (λ i below. grind (arith, get_or-take, length-take, fits i))
 
-  -- they begin with a whole one if its parity is even
+  -- If the parity of these bytes is even, they begin with a whole body.
   pub whole_prefix : check ≡ 0 → IsPrefix xs (Whole layout)
   whole_prefix even = grind (arith, cut_off, are_bytes, even-check)
 
@@ -46,7 +46,7 @@ module _ (layout : Layout) (xs : List ℕ) (len check : ℕ) (has : HasCheckByte
       let front : take (len - 1) (take len xs) ≡ take (len - 1) xs = grind (arith, take-take) in
       rw (← last, all, before, front) refl
 
-  -- and with one that is refused for its check byte if it is odd
+  -- If the parity of these bytes is not even, their check byte does not fit.
   pub odd_prefix : check ≢ 0 → HasBadCheck xs len (get_or xs (len - 1) 0) (bit_xor check (get_or xs (len - 1) 0))
   odd_prefix other = record {
     checked = has;
@@ -57,25 +57,25 @@ module _ (layout : Layout) (xs : List ℕ) (len check : ℕ) (has : HasCheckByte
     are_bytes = are_bytes;
   }
 
--- what fits there
+-- The check byte that would fit is the exclusive or of the bytes before it.
 pub fold_fits : (xs : List ℕ) (len byte fits : ℕ) → HasBadCheck xs len byte fits → fits ≡ fold bit_xor 0 (take (len - 1) xs)
 fold_fits xs len byte fits is =
     let front : take (len - 1) (take len xs) ≡ take (len - 1) xs = grind (arith, take-take) in
     fits-is (take (len - 1) xs) fits (rw front at (All-take (λ byte. byte < 256) (len - 1) (take len xs) is.are_bytes)) is.fitting
 
--- some of the bytes show what is wrong
+-- It takes at least one byte, and at most all of them, to show what is wrong.
 pub wrong_within : (xs : List ℕ) (w : Wrong) → IsWrong xs w → (0 < shown_by w) × (shown_by w ≤ length xs)
 wrong_within xs (BadDelimiter byte) is = grind arith
 wrong_within xs (ShortReply len count) is = grind arith
 wrong_within xs (BadCheck len byte fits) is = grind (arith, is.whole, is.checked)
 
--- no more than a body has
+-- It takes at most 267 bytes to show what is wrong.
 pub wrong_few : (xs : List ℕ) (w : Wrong) → ((i : ℕ) → get_or xs i 0 < 256) → IsWrong xs w → shown_by w ≤ 267
 wrong_few xs (BadDelimiter byte) fits is = omega arith
 wrong_few xs (ShortReply len count) fits is = grind (arith, fits 0)
 wrong_few xs (BadCheck len byte fit) fits is = grind (arith, fits 0, fits (byte_count_place xs), is.whole)
 
--- they alone do
+-- The bytes that show what is wrong show it without the bytes after them.
 pub wrong_shown : (xs : List ℕ) (w : Wrong) → IsWrong xs w → IsWrong (take (shown_by w) xs) w
 wrong_shown xs (BadDelimiter byte) is = grind (arith, length-take-le, get_or-take)
 wrong_shown xs (ShortReply len count) is = grind (arith, length-take-le, get_or-take)
@@ -93,7 +93,7 @@ wrong_shown xs (BadCheck len byte fits) is =
       are_bytes = rw all is.are_bytes;
     }
 
--- and fewer may still become a body
+-- Fewer bytes than show what is wrong end too early for a body.
 pub wrong_fewer : (xs : List ℕ) (w : Wrong) → IsWrong xs w → (fewer : ℕ) → fewer < shown_by w → IsTruncated (take fewer xs)
 wrong_fewer xs (BadDelimiter byte) is fewer below = inl (grind (arith, length-take))
 wrong_fewer xs (ShortReply len count) is fewer below =
@@ -101,7 +101,7 @@ wrong_fewer xs (ShortReply len count) is fewer below =
 wrong_fewer xs (BadCheck len byte fits) is fewer below =
     truncated_check xs fewer is.checked.0 (omega (arith, below, is.whole)) (omega (arith, below, is.whole, is.checked.1))
 
--- they are refused for it
+-- Bytes with something wrong are refused with the fault for it.
 pub wrong_refused : (xs : List ℕ) (w : Wrong) → IsWrong xs w → IsRefusedWith xs (fault_in w)
 wrong_refused xs (BadDelimiter byte) is = is.0
 wrong_refused xs (ShortReply len count) is = is.0
@@ -111,7 +111,7 @@ wrong_refused xs (BadCheck len byte fits) is =
     let odd = odd xs len is.are_bytes (omega (arith, is.whole)) (omega (arith, is.whole, is.checked.1)) differs in
     (is.checked, rw is.whole at odd)
 
--- what ends too early, and that all that does is one of the two
+-- Bytes end too early exactly if `Cut` says how they begin.
 pub cut_truncated : (xs : List ℕ) (missing : Option ℕ) → IsPrefix xs (Cut missing) → IsTruncated xs
 cut_truncated xs None is = is.0
 cut_truncated xs (Some count) is = inr (inr (is.0, omega (arith, is.1, is.2)))
@@ -122,7 +122,7 @@ truncated_cut xs (inr (inl (has, early))) = (None, (inr (inl (has, early)), λ c
 truncated_cut xs (inr (inr (good, early))) =
     (Some (body_length xs - length xs), (good, omega (arith, early), omega (arith, early)))
 
--- bytes that begin with a whole body go on to its check byte
+-- Bytes that begin with a whole body reach its check byte, and its length is that of its layout and at most 267.
 pub whole_has : (xs : List ℕ) (layout : Layout) → IsPrefix xs (Whole layout)
     → HasCheckByte xs × (body_length xs ≡ layout_length layout) × (layout_length layout ≤ 267)
 whole_has xs layout (within, is) =

@@ -1,4 +1,4 @@
--- What begins with a body is not refused, and what is decoded is that body.
+-- Bytes that begin with a body are not refused, and that body is decoded.
 use Rattle.std.proofs.Common.{◌≡◌, ℕ, ◌+◌, ◌*◌, ◌≤◌, List, [], ◌∷◌, ◌++◌, length, take, drop, sym, ◌∙◌, arith}
 use Rattle.std.proofs.Common.{append_assoc, length-append, Result, Ok, Err}
 use Rattle.std.proofs.lemmas.Grind.{common_steps}
@@ -13,7 +13,7 @@ use Rattle.hart_frame.specs.wire.Refusal.{HasCheckByte, IsRefusedWith, IsDelimit
 use Rattle.hart_frame.proofs.lemmas.wire.UnambiguousBodies.{address_type-lt, bodies_are_unambiguous-one_prefix, kind_code-is}
 use Rattle.hart_frame.proofs.lemmas.wire.UnambiguousBodies.{length-address, spread}
 
--- what a list that begins with a frame's body says of it
+-- A list that begins with a frame's body has the delimiter, the byte count and the length that the frame implies.
 pub record Says (bytes : List ℕ) (f : FrameParts) (len : ℕ) : Type 0 where
   pub delimiter : delimiter_in bytes ≡ delimiter_of f
   pub place : byte_count_place bytes ≡ 3 + 4 * address_type f.address + length f.expansion
@@ -21,7 +21,7 @@ pub record Says (bytes : List ℕ) (f : FrameParts) (len : ℕ) : Type 0 where
   pub whole : len ≡ body_length bytes
   pub within : len ≤ length bytes
 
--- the delimiter of a frame with at most 3 expansion bytes is one of this profile
+-- The delimiter of a frame with at most 3 expansion bytes is one of this profile.
 pub IsDelimiter-of : (f : FrameParts) → length f.expansion ≤ 3 → IsDelimiter (delimiter_of f)
 IsDelimiter-of f few = grind (arith, kind_code-is, address_type-lt)
 
@@ -33,16 +33,16 @@ says bytes f len begins =
     let place : length prefix ≡ byte_count_place bytes = grind (arith, length-append, address_type-lt, kind_code-is, length-address) in
     search (arith, common_steps, get_or_at, length-take-le, length-append, length-address, address_type-lt)
 
--- a list that begins with a body goes on to its check byte
+-- A list that begins with a body reaches its check byte.
 pub has_check : (bytes : List ℕ) (f : FrameParts) (len : ℕ) → BeginsWithBody bytes f len → HasCheckByte bytes
 has_check bytes f len begins = grind (arith, says bytes f len begins, IsDelimiter-of, address_type-lt f.address)
 
--- so it is refused with no fault
+-- A list that begins with a body is refused with no fault.
 pub not_refused : (bytes : List ℕ) (f : FrameParts) (len : ℕ) (fault : FrameFault)
     → BeginsWithBody bytes f len → IsRefusedWith bytes fault → ⊥
 not_refused bytes f len fault begins refused = grind (arith, says bytes f len begins, has_check bytes f len begins)
 
--- what is decoded is the body that the bytes begin with
+-- The body with which the bytes begin is what is decoded.
 pub only : (bytes : List ℕ) (result : Result (FrameParts × ℕ) FrameFault)
     → IfOk result (λ found. BeginsWithBody bytes found.0 found.1) → IfErr result (IsRefusedWith bytes)
     → (f : FrameParts) (len : ℕ) → BeginsWithBody bytes f len → result ≡ Ok (f, len)

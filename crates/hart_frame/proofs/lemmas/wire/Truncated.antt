@@ -1,4 +1,4 @@
--- Bytes that end too early are those that can become a body.
+-- The bytes that end too early for a body are those that can become one.
 use Rattle.std.proofs.Common.{◌≡◌, ℕ, fold, bit_xor, ◌+◌, ◌-◌, ◌<◌, ◌≤◌, List, [], ◌∷◌, ◌++◌, length, take, drop}
 use Rattle.std.proofs.Common.{get_or, replicate, refl, arith, length-append}
 use Rattle.std.proofs.Math.Seq.{take-append_seam}
@@ -16,11 +16,11 @@ use Rattle.hart_frame.proofs.lemmas.wire.Parity.{IsCheckByte-fold, fits_at}
 use Rattle.hart_frame.proofs.lemmas.wire.Prefix.{HasGoodByteCount-more, length_more}
 use Rattle.hart_frame.proofs.lemmas.wire.Refusal.{has_check, says}
 
--- bytes that lack only their check byte are a body with it
+-- Bytes are a body once their exclusive or is appended.
 abbrev pub Fitted : List ℕ → Type 0
 Fitted bytes = (frame : FrameParts) × IsBody frame (bytes ++ fold bit_xor 0 bytes ∷ [])
 
--- bytes that go on to a check byte lack only the right one before it
+-- The bytes before a check byte are a body once the check byte that fits is appended.
 completed : (whole bytes : List ℕ) → All (λ byte. byte < 256) whole → HasCheckByte whole → take (body_length whole - 1) whole ≡ bytes
     → Fitted bytes
 completed whole bytes fit has is =
@@ -35,13 +35,13 @@ fitted bytes fit good last =
     let len = length_more bytes (0 ∷ []) good.0.1 in
     completed (bytes ++ 0 ∷ []) bytes fits (grind (arith, HasGoodByteCount-more, length-append)) (grind (arith, take_at))
 
--- bytes that end too early go on to a check byte if many bytes 2 follow: 2 is the delimiter of an STX, and a good byte count
+-- Bytes that end too early reach a check byte if 300 bytes 2 follow: 2 is the delimiter of an STX, and a good byte count.
 pub filled : (bytes : List ℕ) (more : ℕ) → All (λ byte. byte < 256) bytes → IsTruncated bytes → 300 ≤ more
     → HasCheckByte (bytes ++ replicate more 2) × (length bytes < body_length (bytes ++ replicate more 2))
 filled bytes more fit truncated enough =
     grind (arith, fits_at, get_or_append_left, get_or-append_right, get_or-replicate, length-append, length-replicate)
 
--- so they can become a body
+-- Bytes that end too early can become a body.
 pub CanBecomeBody-truncated : (bytes : List ℕ) → All (λ byte. byte < 256) bytes → IsTruncated bytes → CanBecomeBody bytes
 CanBecomeBody-truncated bytes fit truncated =
     let twos : List ℕ = replicate 300 2 in
@@ -56,23 +56,23 @@ CanBecomeBody-truncated bytes fit truncated =
     grind (arith, take-append-drop (length bytes) body, take_all (length body) body) in
     record { rest = drop (length bytes) body; frame = frame; count = length body; begins = begun }
 
--- fewer bytes than go up to a byte count end too early
+-- A prefix that ends before the byte count ends too early, if the delimiter is good.
 pub truncated_count : (xs : List ℕ) (fewer : ℕ) → HasDelimiter xs → fewer ≤ byte_count_place xs → fewer ≤ length xs
     → IsTruncated (take fewer xs)
 truncated_count xs fewer has before within = grind (arith, length-take-le, get_or-take)
 
--- and so do fewer than go up to a check byte
+-- A prefix that ends before the end of the check byte ends too early, if the byte count is good.
 pub truncated_check : (xs : List ℕ) (fewer : ℕ) → HasGoodByteCount xs → fewer < body_length xs → fewer ≤ length xs
     → IsTruncated (take fewer xs)
 truncated_check xs fewer has before within = grind (arith, length-take-le, truncated_count, get_or-take)
 
--- what can become a body and is none ends too early
+-- Bytes that can become a body and begin with none end too early.
 pub IsTruncated-only : (bytes : List ℕ) → CanBecomeBody bytes → HasNoBody bytes → IsTruncated bytes
 IsTruncated-only bytes can none =
     let said = says (bytes ++ can.rest) can.frame can.count can.begins in
     let has = has_check (bytes ++ can.rest) can.frame can.count can.begins in
     grind (arith, length-append bytes can.rest, get_or_append_left, take-append-le can.count bytes can.rest, none can.frame can.count)
 
--- bytes that end too early are few
+-- Bytes that end too early are fewer than 267.
 pub truncated_few : (xs : List ℕ) → ((i : ℕ) → get_or xs i 0 < 256) → IsTruncated xs → length xs < 267
 truncated_few xs fits truncated = grind (arith, fits 0, fits (byte_count_place xs))

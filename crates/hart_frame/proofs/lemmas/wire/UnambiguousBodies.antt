@@ -1,4 +1,4 @@
--- A list of bytes begins with one body at most, and that body has one frame at most.
+-- A list of bytes begins with at most one body, and that body has at most one frame.
 use Rattle.std.proofs.Common.{◌≡◌, ℕ, ◌+◌, ◌*◌, ◌<◌, Bool, List, [], ◌∷◌, ◌++◌, fold, bit_xor, length, take, drop, refl, arith}
 use Rattle.std.proofs.Common.{append_assoc, length-append}
 use Rattle.std.proofs.Math.Seq.{drop-append_seam, take-append_seam}
@@ -14,13 +14,13 @@ use Rattle.hart_frame.specs.wire.Delimiter.{delimiter_of, kind_code, address_typ
 use Rattle.hart_frame.specs.wire.FrameParts.{FrameParts}
 use Rattle.hart_frame.proofs.lemmas.wire.Parity.{even-is, fits_at}
 
--- prefixes of one length split equal lists alike
+-- Prefixes of the same length split equal lists into equal parts.
 same_parts : (prefix other back rest : List ℕ) → length prefix ≡ length other → prefix ++ back ≡ other ++ rest
     → (prefix ≡ other) × (back ≡ rest)
 same_parts prefix other back rest lengths whole =
     grind (arith, take-append_seam prefix back, take-append_seam other rest, drop-append_seam prefix back, drop-append_seam other rest)
 
--- a kind's code is 2 or 6
+-- The code of a kind is 2 or 6.
 pub kind_code-is : (k : FrameKind) → (c : ℕ) × (c < 2) × (kind_code k ≡ 4 * c + 2)
 kind_code-is Stx = (0, omega arith, refl)
 kind_code-is Ack = (1, omega arith, refl)
@@ -28,18 +28,18 @@ kind_code-is Ack = (1, omega arith, refl)
 pub address_type-lt : (a : Address) → address_type a < 2
 address_type-lt a = grind arith
 
--- the address type says how long the address bytes are
+-- The address type determines the number of address bytes.
 pub length-address : (m : MasterId) (b : Bool) (a : Address) (bytes : List ℕ) → IsAddressBytes m b a bytes
     → length bytes ≡ 1 + 4 * address_type a
 length-address m b a bytes is = grind arith
 
--- a body and what follows it, part by part
+-- A body and what follows it are these parts, one after another.
 pub spread : (f : FrameParts) (body rest : List ℕ) (is : IsBody f body)
     → body ++ rest
     ≡ delimiter_of f ∷ (is.checked_part.address ++ (f.expansion ++ (f.command ∷ length f.payload ∷ (f.payload ++ (is.check ∷ rest)))))
 spread f body rest is = rw (is.parts, is.checked_part.parts) (simp append_assoc)
 
--- the same body of the same frame, and the same rest
+-- If two bodies, each with a rest after it, are equal lists, then their frames, the bodies and the rests are equal.
 same_bodies : (f g : FrameParts) (body other rest more : List ℕ) → IsBody f body → IsBody g other → body ++ rest ≡ other ++ more
     → (f ≡ g) × (body ≡ other) × (rest ≡ more)
 same_bodies f g body other rest more p q whole = grind (arith, spread f body rest p, spread g other more q, same_parts)
@@ -57,7 +57,7 @@ bodies_are_unambiguous-one_prefix f g bytes m n p q =
     let same = same_bodies f g (take m bytes) (take n bytes) (drop m bytes) (drop n bytes) in
     grind (arith, same, take-append-drop, length-take-le m bytes, length-take-le n bytes)
 
--- the check byte of a body is the exclusive or of the bytes before it
+-- The check byte of a body is the exclusive or of the bytes before it.
 check_is : (f : FrameParts) (body : List ℕ) (is : IsBody f body) → is.check ≡ fold bit_xor 0 is.checked
 check_is f body is =
     let fits = fits_at (is.checked ++ is.check ∷ []) (rw is.parts at is.bytes_fit) in
@@ -67,6 +67,6 @@ pub bodies_are_unambiguous-one_body : (f : FrameParts) (bytes others : List ℕ)
 bodies_are_unambiguous-one_body f bytes others p q =
     grind (arith, check_is f bytes p, check_is f others q, address_bytes_are_unambiguous-one_list f.master f.burst f.address)
 
--- a body is the prefix of any list that begins with it
+-- A list that consists of a body and a rest begins with that body.
 pub BeginsWithBody-append : (f : FrameParts) (body rest : List ℕ) → IsBody f body → BeginsWithBody (body ++ rest) f (length body)
 BeginsWithBody-append f body rest is = grind (arith, length-append, take_at)

@@ -7,7 +7,7 @@ use Rattle.hart_frame.specs.private.Miss.{IsOfBytes}
 use Rattle.hart_frame.proofs.lemmas.heard.Start.{start_test, tested}
 use Rattle.hart_frame.proofs.heard.miss.why_none.Goals as goal
 
--- there is no miss past the end
+-- Past the end of a list there is no miss.
 none_past : (chars : List Character) (start : ℕ) → length chars < start → miss_of chars start ≡ None
 none_past chars zero past = refl
 none_past chars (suc k) past = grind (arith, tested chars (suc k), tested chars k)

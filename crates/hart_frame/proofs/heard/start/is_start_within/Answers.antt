@@ -7,7 +7,7 @@ use Rattle.hart_frame.proofs.lemmas.heard.Place.{preamble}
 use Rattle.hart_frame.proofs.lemmas.heard.Start.{is_start_from, starts_at}
 use Rattle.hart_frame.proofs.heard.start.is_start_within.Goals as goal
 
--- the test that characters are not the same
+-- Whether two characters differ.
 abbrev differ : Character → Character → Bool
 differ a b = not (nat_eq a.byte b.byte && nat_eq a.faults b.faults)
 
@@ -20,11 +20,11 @@ differ-yes a b e same = grind (arith, nat_tests)
 differ-not : (a b : Character) (answer : Bool) → differ a b ≡ answer → a ≢ b → answer ≡ true
 differ-not a b answer e other = grind (arith, differ-no)
 
--- what is known of a value that is there
+-- If any value that is found equals `y`, and `x` is found, then `x` equals `y`.
 of_some : (found : Option Character) (x y : Character) → found ≡ Some x → IfSome found (λ character. character ≡ y) → x ≡ y
 of_some found x y is known = grind arith
 
--- an element is read with any default
+-- An element within a list is the same with any default.
 get_or-other : (chars : List Character) (i : ℕ) (x d : Character) → i < length chars → x ≡ get_or chars i x → get_or chars i d ≡ x
 get_or-other chars i x d within is = get_or_default chars i d x within ∙ sym is
 

@@ -4,7 +4,7 @@ use Rattle.hart_frame.specs.heard.Frames.{IsFirst}
 use Rattle.hart_frame.proofs.lemmas.scan.First.{first_copied, first_later, no_later}
 use Rattle.hart_frame.proofs.scan.first.first_frame.Goals as goal
 
--- the frame that is copied is the first of the rest
+-- The frame that is copied is the first frame of the rest.
 is_first : (c : goal.After-found_at-found) → IsFirst c.found_at-found.result c.in_ok-get.field-0.now 0
 is_first c =
     let copied = c.found_at-found in

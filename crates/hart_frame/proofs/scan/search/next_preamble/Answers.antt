@@ -4,7 +4,7 @@ use Rattle.std.proofs.lemmas.List.{get_or-drop, length-take-le, take_rest}
 use Rattle.memchr.specs.Find.{Nowhere, Passes, is_byte}
 use Rattle.hart_frame.proofs.scan.search.next_preamble.Goals as goal
 
--- where no byte of the rest is a preamble byte, none of the list is
+-- If the first `count` bytes of the rest of a list are not FF, the same bytes of the list are not FF.
 others : (bytes : List ℕ) (from count : ℕ) → Nowhere (Passes (is_byte 255) (take (length bytes - from) (drop from bytes))) 0 count
     → count ≤ length (take (length bytes - from) (drop from bytes))
     → (place : ℕ) → from ≤ place → place < from + count → slice_index bytes place ≢ 255

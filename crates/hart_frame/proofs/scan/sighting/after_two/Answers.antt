@@ -19,7 +19,7 @@ returns-in-Wrong c =
       wrong_below c.args.bytes.now c.args.after.now c.args.start c.in-Wrong.wrong c.requires.within is,
     )
 
--- a damaged character after bytes that end too early is the miss
+-- A damaged character after bytes that end too early is the miss.
 damaged_two : (bytes : List ℕ) (after : After) (start faults : ℕ) (missing : Option ℕ) → start ≤ length bytes
     → IsPrefix (drop start bytes) (Cut missing) → (c : Character) × (after ≡ Damaged c) × (faults ≡ c.faults)
     → IsAfterTwo bytes after start (Missed (Faulty (length bytes) faults))

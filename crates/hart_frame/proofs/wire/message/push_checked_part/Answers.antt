@@ -1,7 +1,7 @@
 use Rattle.std.proofs.Common.{length, ap, arith, append_assoc, length-append, rules}
 use Rattle.hart_frame.proofs.wire.message.push_checked_part.Goals as goal
 
--- each part fits after those before it, by their lengths
+-- Each part fits after the parts before it, as their lengths show.
 pub extend_from_slice-requires : goal.extend_from_slice-requires
 extend_from_slice-requires g c = grind (arith, length-append)
 

@@ -7,17 +7,17 @@ use Rattle.std.specs.Int.{bit_at}
 use Rattle.hart_frame.specs.heard.Character.{IsFaultBit, AreFaultBits}
 use Rattle.hart_frame.proofs.heard.character.Char.new.Goals as goal
 
--- the bits that are not set in 141 are the fault bits
+-- Each bit of a byte that is not set in 141 is a fault bit.
 fault_bit : (bit : ℕ) → bit < 8 → bit_at 141 bit ≡ 0 → IsFaultBit bit
 fault_bit bit below e =
     let cases : (bit ≡ 0) ⊎ (bit ≡ 1) ⊎ (bit ≡ 2) ⊎ (bit ≡ 3) ⊎ (bit ≡ 4) ⊎ (bit ≡ 5) ⊎ (bit ≡ 6) ⊎ (bit ≡ 7) = grind arith in
     grind arith
 
--- and no fault bit is set in it
+-- No fault bit is set in 141.
 not_set : (bit : ℕ) → IsFaultBit bit → bit_at 141 bit ≡ 0
 not_set bit is = grind arith
 
--- a byte with none of the other bits is fault bits
+-- A byte in which none of the bits of 141 is set has only fault bits.
 AreFaultBits-from : (faults : ℕ) → faults < 256 → bit_and faults 141 ≡ 0 → AreFaultBits faults
 AreFaultBits-from faults small none = record {
   byte = small;
@@ -26,7 +26,7 @@ AreFaultBits-from faults small none = record {
       fault_bit bit below (omega (arith, joined, set));
 }
 
--- and fault bits have none of the others
+-- In fault bits none of the bits of 141 is set.
 none_other : (faults : ℕ) → AreFaultBits faults → bit_and faults 141 ≡ 0
 none_other faults are =
     same_from_bits_below 8 (bit_and faults 141) 0 (omega (arith, and_le_l faults 141, are.byte)) (omega arith) (

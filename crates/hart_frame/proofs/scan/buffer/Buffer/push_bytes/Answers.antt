@@ -6,7 +6,7 @@ use Rattle.hart_frame.specs.heard.Character.{faultless}
 use Rattle.hart_frame.proofs.lemmas.scan.Chunk.{hearing_on, hears_all, hears_until}
 use Rattle.hart_frame.proofs.scan.buffer.Buffer.push_bytes.Goals as goal
 
--- the characters of the rest of a chunk are the rest of its characters
+-- The faultless characters of the rest of a chunk are the rest of the chunk's characters.
 rest_of : (chunk : List ℕ) (n : ℕ) → faultless (slice_range chunk n (length chunk)) ≡ drop n (faultless chunk)
 rest_of chunk n = grind (arith, take_rest, drop-map)
 
