@@ -84,7 +84,6 @@ fn next_candidate(bytes: &[u8], from: usize) -> Option<usize>
 }
 
 /// Returns the place of the first preamble byte from `from` on, or the place after the last byte if there is none.
-#[inline(always)]
 pub(crate) fn next_preamble(bytes: &[u8], from: usize) -> usize
     requires { from ≤ length bytes.now }
     ensures after { from ≤ result }

@@ -18,7 +18,6 @@ pub fn check_byte(bytes: &[u8]) -> u8
 }
 
 /// Like [`check_byte`], but takes four bytes at a time if there are fewer than 32, as in most bodies.
-#[inline(always)]
 pub(crate) fn body_check(bytes: &[u8]) -> u8
     ensures { IsCheckByte bytes.now result }
 {
