@@ -63,7 +63,7 @@ static const struct data_row data_rows[] = {
      1,
      "00 40 20 41 BC 00 00 07",
      {2, 7, 0, 0x40, HART_OK},
-     {{2, 1, HART_NUMBER}, {3, 4, HART_FLOAT}, UNTOUCHED}},
+     {{2, 1, HART_UNIT_CODE}, {3, 4, HART_FLOAT}, UNTOUCHED}},
     {true, 1, "05 40 20", {0, 2, 5, 0x40, HART_OK}, {UNTOUCHED, UNTOUCHED, UNTOUCHED}},
     {true, 1, "00 40 20", {0, 0, 0, 0, HART_NO_REPLY}, {UNTOUCHED, UNTOUCHED, UNTOUCHED}},
     {true,
