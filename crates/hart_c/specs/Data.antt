@@ -3,7 +3,8 @@ use Rattle.std.specs.Prelude.{◌≡◌, ◌<◌, ◌≤◌, ◌⊎◌, ◌++◌
 use Rattle.std.specs.Prelude.{Option, None, Some, option_map, [], ◌∷◌, take, Ok, Err}
 use Rattle.hart_commands.specs.ReplyData.{reply_payload, reply_reading}
 use Rattle.hart_commands.specs.RequestData.{Reading, request_data, request_reading}
-use Rattle.hart_commands.specs.declared.fields.FieldKind.TheVariants.{Bytes, Date, Float, LatinText, Number, PackedText, UnitCode, Variables}
+use Rattle.hart_commands.specs.declared.fields.FieldKind.TheVariants.{Bytes, Date, Float, LatinText, Number, PackedText, UnitCode}
+use Rattle.hart_commands.specs.declared.fields.FieldKind.TheVariants.{Variables}
 use Rattle.hart_commands.specs.{Commands.reply_rows, Commands.request_rows, declared.fields.FieldKind.FieldKind, declared.reply.Reply.Reply}
 use Rattle.hart_commands.specs.{FieldWidths.IsWidthOf, Fields.Field, Fields.Row, Fields.bytes_of, Fields.fields_of, Parts.content_bytes}
 use Rattle.hart_c.specs.declared.{data.HartField.HartField, data.HartReading.HartReading, fault.HartOutcome.HartOutcome}

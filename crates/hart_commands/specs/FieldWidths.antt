@@ -2,7 +2,8 @@
 use Rattle.std.specs.Prelude.{◌≡◌, ◌*◌, ◌<◌, ◌≤◌, ◌⊎◌, ℕ, length}
 use Rattle.hart_commands.specs.Fields.{Field}
 use Rattle.hart_commands.specs.declared.fields.FieldKind.{FieldKind}
-use Rattle.hart_commands.specs.declared.fields.FieldKind.TheVariants.{Bytes, Number, UnitCode, PackedText, LatinText, Date, Float, Variables}
+use Rattle.hart_commands.specs.declared.fields.FieldKind.TheVariants.{Bytes, Number, UnitCode, PackedText, LatinText, Date, Float}
+use Rattle.hart_commands.specs.declared.fields.FieldKind.TheVariants.{Variables}
 
 -- A number has 1 or 2 bytes, a unit code 1, a date 3 and a float 4. A packed text of 8, 16 or 32 characters has 6, 12 or 24 bytes,
 -- and a text in ISO Latin-1 has 32. There are 1 to 8 device variables of 8 bytes each. A field of plain bytes has at least 1.

@@ -1,11 +1,13 @@
 -- The words of the value of a field, by the kind of the field (own profile).
-use Rattle.std.specs.Prelude.{◌+◌, ◌*◌, ◌/◌, ◌%◌, ◌==◌, ◌&&◌, ◌||◌, nat_le, nat_lt, if◌then◌else◌, ◌++◌, [], ◌∷◌, ℕ, Bool, true, List, Option, None, Some}
+use Rattle.std.specs.Prelude.{◌+◌, ◌*◌, ◌/◌, ◌%◌, ◌==◌, ◌&&◌, ◌||◌, nat_le, nat_lt, if◌then◌else◌, ◌++◌, [], ◌∷◌, ℕ, Bool, true, List}
+use Rattle.std.specs.Prelude.{Option, None, Some}
 use Rattle.std.specs.Prelude.{codes, decimal, encode_utf8_all, length, slice_index, slice_range}
 use Rattle.std.specs.List.{fold, join_by, list_all}
 use Rattle.std.specs.Simd.{first_chunks}
 use Rattle.hart_values.specs.hart_date.Calendar.{is_date}
 use Rattle.hart_commands.specs.declared.fields.FieldKind.{FieldKind}
-use Rattle.hart_commands.specs.declared.fields.FieldKind.TheVariants.{Bytes, Number, UnitCode, PackedText, LatinText, Date, Float, Variables}
+use Rattle.hart_commands.specs.declared.fields.FieldKind.TheVariants.{Bytes, Number, UnitCode, PackedText, LatinText, Date, Float}
+use Rattle.hart_commands.specs.declared.fields.FieldKind.TheVariants.{Variables}
 use Rattle.hart_commands.specs.Units.{unit_name}
 use Rattle.hart_cli.specs.explain.Words.{hex_value}
 

@@ -10,7 +10,8 @@ use Rattle.clap.specs.declared.builder.value_parser.ValueParser.TheVariants.{Sig
 use Rattle.hart_cli.specs.encode.MessageWords.{MessageWords}
 use Rattle.hart_cli.specs.request.RequestWords.{RequestWords}
 use Rattle.hart_cli.specs.declared.calls.program.command_line.Call.{Call}
-use Rattle.hart_cli.specs.declared.calls.program.command_line.Call.TheVariants.{Answer, Dump, Encode, Explain, ExplainRaw, Request, Serve, Sim}
+use Rattle.hart_cli.specs.declared.calls.program.command_line.Call.TheVariants.{Answer, Dump, Encode, Explain, ExplainRaw, Request, Serve}
+use Rattle.hart_cli.specs.declared.calls.program.command_line.Call.TheVariants.{Sim}
 
 -- The rule of a required word with this name.
 abbrev pub required_rule : Text → Rule

@@ -14,7 +14,8 @@ use Rattle.hart_cli.specs.sim.Sim.{SimOutcome}
 use Rattle.hart_cli.specs.stream.Stream.{Stream, WritesUnlessFailed}
 use Rattle.hart_cli.specs.declared.fault.CliFault.{CliFault}
 use Rattle.hart_cli.specs.declared.calls.program.command_line.Call.{Call}
-use Rattle.hart_cli.specs.declared.calls.program.command_line.Call.TheVariants.{Answer, Dump, Encode, Explain, ExplainRaw, Request, Serve, Sim}
+use Rattle.hart_cli.specs.declared.calls.program.command_line.Call.TheVariants.{Answer, Dump, Encode, Explain, ExplainRaw, Request, Serve}
+use Rattle.hart_cli.specs.declared.calls.program.command_line.Call.TheVariants.{Sim}
 
 -- A call with this result had an outcome of its own kind on the reader and the writer. Calls of `encode` and `request` leave the
 -- reader as it was.

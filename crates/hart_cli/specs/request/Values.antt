@@ -9,7 +9,8 @@ use Rattle.std.specs.Str.Parse.{digits_value, without_leading_plus}
 use Rattle.jiff.specs.Words.{parse_date}
 use Rattle.hart_values.specs.hart_date.Calendar.{not_set}
 use Rattle.hart_commands.specs.declared.fields.FieldKind.{FieldKind}
-use Rattle.hart_commands.specs.declared.fields.FieldKind.TheVariants.{Bytes, Number, UnitCode, PackedText, LatinText, Date, Float, Variables}
+use Rattle.hart_commands.specs.declared.fields.FieldKind.TheVariants.{Bytes, Number, UnitCode, PackedText, LatinText, Date, Float}
+use Rattle.hart_commands.specs.declared.fields.FieldKind.TheVariants.{Variables}
 use Rattle.hart_commands.specs.declared.fields.FieldSize.{FieldSize}
 use Rattle.hart_commands.specs.declared.fields.FieldSize.TheVariants.{Exactly, AllBut}
 use Rattle.hart_line.specs.script.Words.{data_of}

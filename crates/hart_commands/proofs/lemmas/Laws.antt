@@ -1,5 +1,6 @@
 -- The laws of requests, of replies, of fields, of registers and of overwrites, for the proofs of this crate and of those above.
-use Rattle.std.proofs.Common.{arith, ◌≡◌, ◌≢◌, ℕ, AllPairs, Contains, IsSome, IsTrue, List, [], ◌∷◌, ◌++◌, Ok, Some, length, take, refl, lit<, rules}
+use Rattle.std.proofs.Common.{arith, ◌≡◌, ◌≢◌, ℕ, AllPairs, Contains, IsSome, IsTrue, List, [], ◌∷◌, ◌++◌, Ok, Some, length, take, refl}
+use Rattle.std.proofs.Common.{lit<, rules}
 use Rattle.std.proofs.Common.{ap, append-nil}
 use Rattle.std.proofs.lemmas.Grind.{common_steps}
 use Rattle.hart_commands.specs.Commands.{reply_rows, request_rows, written_by}

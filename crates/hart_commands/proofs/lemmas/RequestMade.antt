@@ -1,5 +1,6 @@
 -- What is read from data: a well-made request of the command whose data come first, or a code that refuses them.
-use Rattle.std.proofs.Common.{◌≡◌, ◌↔◌, ℕ, Bool, true, false, ◌<◌, ◌≤◌, ◌⊎◌, All, List, [], ◌++◌, get_or, take, drop, length, Ok, Err, refl, arith}
+use Rattle.std.proofs.Common.{◌≡◌, ◌↔◌, ℕ, Bool, true, false, ◌<◌, ◌≤◌, ◌⊎◌, All, List, [], ◌++◌, get_or, take, drop, length, Ok, Err}
+use Rattle.std.proofs.Common.{refl, arith}
 use Rattle.std.proofs.Common.{append_assoc, eqb, length-drop, length-take-le}
 use Rattle.std.proofs.Math.Seq.{take-add}
 use Rattle.std.proofs.lemmas.Bool.Decides.{nat_tests}

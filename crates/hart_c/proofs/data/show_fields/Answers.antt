@@ -1,4 +1,5 @@
-use Rattle.std.proofs.Common.{◌≡◌, ◌<◌, ◌+◌, ℕ, List, ◌∷◌, ◌++◌, drop, take, map, get_or, length, slice_set, Some, append_assoc, arith, length-append, sym}
+use Rattle.std.proofs.Common.{◌≡◌, ◌<◌, ◌+◌, ℕ, List, ◌∷◌, ◌++◌, drop, take, map, get_or, length, slice_set, Some, append_assoc, arith}
+use Rattle.std.proofs.Common.{length-append, sym}
 use Rattle.std.proofs.lemmas.Grind.{common_steps}
 use Rattle.std.proofs.lemmas.List.{drop-set-lt, take_more_set}
 use Rattle.hart_commands.specs.Fields.{Field, fields_of, seen, split}

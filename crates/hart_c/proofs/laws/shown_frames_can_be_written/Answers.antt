@@ -1,4 +1,5 @@
-use Rattle.std.proofs.Common.{◌≡◌, Bool, true, false, inl, inr, ℕ, List, Ok, Option, None, Some, [], ◌∷◌, ◌++◌, All, arith, map, refl, subst, sym, take}
+use Rattle.std.proofs.Common.{◌≡◌, Bool, true, false, inl, inr, ℕ, List, Ok, Option, None, Some, [], ◌∷◌, ◌++◌, All, arith, map, refl}
+use Rattle.std.proofs.Common.{subst, sym, take}
 use Rattle.std.proofs.lemmas.Grind.{common_steps}
 use Rattle.std.proofs.lemmas.List.Elements.{All-cons, All-head, All-nil}
 use Rattle.hart_values.specs.address.AddressBytes.{IsAddressBytes}

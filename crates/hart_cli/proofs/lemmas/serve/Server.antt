@@ -1,5 +1,6 @@
 -- A server that serves the lines of a text, part by part.
-use Rattle.std.proofs.Common.{◌≡◌, ◌≤◌, ◌==◌, ℕ, false, List, [], ◌∷◌, ◌++◌, length, map, take, Result, Err, refl, sym, ◌∙◌, ap, append_assoc, append-nil, arith}
+use Rattle.std.proofs.Common.{◌≡◌, ◌≤◌, ◌==◌, ℕ, false, List, [], ◌∷◌, ◌++◌, length, map, take, Result, Err, refl, sym, ◌∙◌, ap}
+use Rattle.std.proofs.Common.{append_assoc, append-nil, arith}
 use Rattle.std.proofs.lemmas.Grind.{common_steps}
 use Rattle.std.proofs.lemmas.List.{map-append, take-append-le}
 use Rattle.std.proofs.lemmas.List.Elements.{All-append}
@@ -9,7 +10,8 @@ use Rattle.hart_cli.specs.declared.calls.serve.server.Server.{Server}
 use Rattle.hart_cli.specs.declared.stream.Failed.{Failed}
 use Rattle.hart_cli.specs.serve.Line.{ServesLine}
 use Rattle.hart_cli.specs.serve.Serve.{first, nothing}
-use Rattle.hart_cli.specs.serve.Server.{BeginsWithPart, FailsInParts, HasNoFeed, Keeps, ServesPart, ServesParts, ServesText, ServesWhole, most_kept}
+use Rattle.hart_cli.specs.serve.Server.{BeginsWithPart, FailsInParts, HasNoFeed, Keeps, ServesPart, ServesParts, ServesText, ServesWhole}
+use Rattle.hart_cli.specs.serve.Server.{most_kept}
 use Rattle.hart_cli.specs.stream.Kept.{AddsText}
 use Rattle.hart_cli.specs.stream.Stream.{FailsToWrite, Stream, WritesAll}
 use Rattle.hart_cli.proofs.lemmas.Kept.{adds_kept, adds_then, fails_then}

@@ -6,10 +6,12 @@ use Rattle.std.specs.Str.{bytes_eq}
 use Rattle.clap.specs.Words.{Row, Text, all_of, first_of, subcommand_rows_of}
 use Rattle.hart_frame.specs.wire.Message.{IsPreambleCount}
 use Rattle.hart_cli.specs.declared.calls.program.command_line.Call.{Call}
-use Rattle.hart_cli.specs.declared.calls.program.command_line.Call.TheVariants.{Answer, Dump, Encode, Explain, ExplainRaw, Request, Serve, Sim}
+use Rattle.hart_cli.specs.declared.calls.program.command_line.Call.TheVariants.{Answer, Dump, Encode, Explain, ExplainRaw, Request, Serve}
+use Rattle.hart_cli.specs.declared.calls.program.command_line.Call.TheVariants.{Sim}
 use Rattle.hart_cli.specs.encode.MessageWords.{MessageWords}
 use Rattle.hart_cli.specs.request.RequestWords.{RequestWords}
-use Rattle.hart_cli.specs.program.CommandLine.{call_of, explain_call, message_words, preambles_of, request_words, request_words_of, words_of}
+use Rattle.hart_cli.specs.program.CommandLine.{call_of, explain_call, message_words, preambles_of, request_words, request_words_of}
+use Rattle.hart_cli.specs.program.CommandLine.{words_of}
 use Rattle.hart_cli.specs.program.Program.{HasPreambleCount}
 use Rattle.hart_cli.proofs.calls.program.make_matched_call.Goals as goal
 
@@ -52,7 +54,8 @@ call_counted (Some found) (Encode words) gives =
     (first_of (codes "COMMAND") found.1) (unwrap_or (first_of (codes "DATA") found.1) []) words
     (words_called
     (bytes_eq found.0 (codes "answer")) (bytes_eq found.0 (codes "dump")) (bytes_eq found.0 (codes "explain"))
-    (bytes_eq found.0 (codes "serve")) (bytes_eq found.0 (codes "sim")) (bytes_eq found.0 (codes "encode")) (bytes_eq found.0 (codes "request"))
+    (bytes_eq found.0 (codes "serve")) (bytes_eq found.0 (codes "sim")) (bytes_eq found.0 (codes "encode"))
+    (bytes_eq found.0 (codes "request"))
     (first_of (codes "image") found.1) (first_of (codes "raw") found.1) (words_of found.1) (request_words_of found.1) words gives)
 call_counted (Some found) (Request words) gives =
     request_counted
@@ -60,7 +63,8 @@ call_counted (Some found) (Request words) gives =
     (first_of (codes "COMMAND") found.1) (unwrap_or (all_of (codes "FIELD") found.1) []) words
     (request_called
     (bytes_eq found.0 (codes "answer")) (bytes_eq found.0 (codes "dump")) (bytes_eq found.0 (codes "explain"))
-    (bytes_eq found.0 (codes "serve")) (bytes_eq found.0 (codes "sim")) (bytes_eq found.0 (codes "encode")) (bytes_eq found.0 (codes "request"))
+    (bytes_eq found.0 (codes "serve")) (bytes_eq found.0 (codes "sim")) (bytes_eq found.0 (codes "encode"))
+    (bytes_eq found.0 (codes "request"))
     (first_of (codes "image") found.1) (first_of (codes "raw") found.1) (words_of found.1) (request_words_of found.1) words gives)
 call_counted (Some found) (Answer image) gives = tt
 call_counted (Some found) Dump gives = tt

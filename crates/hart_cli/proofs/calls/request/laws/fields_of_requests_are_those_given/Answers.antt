@@ -10,7 +10,8 @@ use Rattle.std.specs.Str.{chars}
 use Rattle.hart_commands.specs.Commands.{command_name, commands, known, request_rows}
 use Rattle.hart_commands.specs.Fields.{Row, bytes_of, fields_of, text}
 use Rattle.hart_commands.specs.declared.fields.FieldKind.{FieldKind}
-use Rattle.hart_commands.specs.declared.fields.FieldKind.TheVariants.{Bytes, Number, UnitCode, PackedText, LatinText, Date, Float, Variables}
+use Rattle.hart_commands.specs.declared.fields.FieldKind.TheVariants.{Bytes, Number, UnitCode, PackedText, LatinText, Date, Float}
+use Rattle.hart_commands.specs.declared.fields.FieldKind.TheVariants.{Variables}
 use Rattle.hart_commands.specs.declared.fields.FieldSize.{FieldSize}
 use Rattle.hart_commands.specs.declared.fields.FieldSize.TheVariants.{AllBut, Exactly}
 use Rattle.hart_commands.proofs.lemmas.Rows.{of_known}

@@ -2,7 +2,8 @@ use Rattle.std.proofs.Common.{take, ◌∙◌, arith, take-add, length-drop, len
 use Rattle.std.proofs.lemmas.Grind.{common_steps}
 use Rattle.std.proofs.lemmas.List.{length-map, take_rest}
 use Rattle.hart_frame.specs.heard.Character.{faultless}
-use Rattle.hart_cli.proofs.lemmas.dump.FrameLines.{keeps_no_frame, keeps_nothing, keeps_on, keeps_then, keeps_within, waits_for_more, moves_on}
+use Rattle.hart_cli.proofs.lemmas.dump.FrameLines.{keeps_no_frame, keeps_nothing, keeps_on, keeps_then, keeps_within, waits_for_more}
+use Rattle.hart_cli.proofs.lemmas.dump.FrameLines.{moves_on}
 use Rattle.hart_cli.proofs.calls.dump.frame_lines.FrameLines.scan_chunk.Goals as goal
 
 pub loop-taken-init : goal.loop-taken-init
