@@ -63,6 +63,8 @@ def of_pages():
     yield from of_rows(WIRE)
     yield from (Case(new_device(), call.text) for call in worked.CALLS if call.words == ["dump"] and not call.fault and not call.goes_on)
     yield from of_rows(FORMATS)
+    served = (line for call in worked.CALLS if call.words == ["serve"] for line in call.text.split("\n"))
+    yield from (Case(new_device(), line) for line in served if is_heard(line))
     yield from (Case(new_device(), heard) for heard, _, fault in worked.DUMPED if not fault)
     yield from (Case(new_device(), heard) for heard, _ in worked.HEARD.findall(explain.EXAMPLES))
 
