@@ -25,7 +25,7 @@ PREFIX ?= /usr/local
 N ?= 10000
 PROGRAM := crates/hart
 TESTS := crates/hart_tests/out/hart_tests_tests
-GUIDE := docs/GUIDE.md docs/COMMANDS.md docs/WIRE.md docs/FORMATS.md docs/explained.txt docs/vectors.tsv
+GUIDE := docs/GUIDE.md docs/COMMANDS.md docs/WIRE.md docs/FORMATS.md docs/explained.txt docs/worked.txt docs/vectors.tsv
 SOURCES := crates.txt $(shell find crates -name out -prune -o \( -name '*.rt' -o -name '*.antt' \) -print)
 
 .PHONY: all quick check test mistakes mistakes-table runs refused-growths streams examples vectors manual held-view links library library-examples fuzz bench install install-library clean

@@ -10,14 +10,14 @@ from fuzz.device import COMMUNICATION_FAULTS, GREATEST_POLLING, LONGITUDINAL_PAR
 from fuzz.frames import BROADCAST, Frame, Polling, Unique, frames_of
 
 DOCS = pathlib.Path(__file__).parents[1] / "docs"
-PAGES = "".join((DOCS / name).read_text(encoding="utf-8") for name in ("WIRE.md", "FORMATS.md"))
+WIRE, FORMATS = ((DOCS / name).read_text(encoding="utf-8") for name in ("WIRE.md", "FORMATS.md"))
 PREAMBLES = 5
 FAULT_BITS = (0x40, 0x20, 0x10, 0x02)
 ALL_FAULT_BITS = sum(FAULT_BITS)
 COUNTER_BYTES = 2
 
 # The words Q and A of the rows of garbled requests in docs/WIRE.md; a row of what is heard; and a cell that can be a reply.
-WORDS = {word: digits for word, digits in re.findall(r"\b([QA]) (?:stands )?for\s+`([0-9A-F ]+)`", PAGES)}
+WORDS = {word: digits for word, digits in re.findall(r"\b([QA]) (?:stands )?for\s+`([0-9A-F ]+)`", WIRE)}
 ROW = re.compile(r"^\| ((?:Q )?`[0-9A-F! ]+`) \| (.+?) \|", re.MULTILINE)
 CODE_CELL = re.compile(r"(?:[QA] )?`[0-9A-F! ]+`")
 
@@ -47,9 +47,9 @@ def is_heard(text):
         return False
 
 
-def of_rows():
-    """The rows of docs/WIRE.md and docs/FORMATS.md that begin with what is heard."""
-    for heard, reply in ROW.findall(PAGES):
+def of_rows(page):
+    """The rows of a page that begin with what is heard."""
+    for heard, reply in ROW.findall(page):
         if is_heard(cell_text(heard)):
             known = cell_text(reply) if CODE_CELL.fullmatch(reply) else "" if reply == "silence" else None
             yield Case(new_device(), cell_text(heard), known)
@@ -60,7 +60,11 @@ def of_pages():
     yield from (Case(new_device(), heard, reply) for heard, reply in worked.ANSWERED)
     for image, heard, reply in worked.ANSWERED_FROM:
         yield Case(image.upper(), heard, reply)
-    yield from of_rows()
+    yield from of_rows(WIRE)
+    yield from (Case(new_device(), call.text) for call in worked.CALLS if call.words == ["dump"] and not call.fault and not call.goes_on)
+    yield from of_rows(FORMATS)
+    served = (line for call in worked.CALLS if call.words == ["serve"] for line in call.text.split("\n"))
+    yield from (Case(new_device(), line) for line in served if is_heard(line))
     yield from (Case(new_device(), heard) for heard, _, fault in worked.DUMPED if not fault)
     yield from (Case(new_device(), heard) for heard, _ in worked.HEARD.findall(explain.EXAMPLES))
 

@@ -94,6 +94,10 @@ def agree(shown, wanted):
 
 def worked_cases():
     """Each worked call with what it is given and how it ends."""
+    for call in worked.CALLS:
+        if not call.goes_on:
+            ends = texts.failed(call.fault, call.written.encode()) if call.fault else texts.done(call.written.encode())
+            yield call.words[0], given_of(call.words[1:], call.text), ends
     for name, cases in (("dump", worked.DUMPED), ("explain", worked.EXPLAINED)):
         for text, lines, fault in cases:
             yield name, given_of([], text), texts.failed(fault, lines.encode()) if fault else texts.done(lines.encode())

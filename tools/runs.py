@@ -1,5 +1,5 @@
 #!/usr/bin/env python3
-"""Runs the built program on the rows in tools/rows.
+"""Runs the built program on the rows in tools/rows, and on the calls of docs/worked.txt.
 
 Each run is the program itself, on streams that tools/cut_streams.c cuts short or lets fail as the check says. A run is held to its
 status, its output and its errors, and to the number of its reads or writes where the check counts them.
@@ -16,6 +16,7 @@ from typing import NamedTuple
 
 sys.dont_write_bytecode = True
 
+from fuzz import worked  # noqa: E402
 from rows import answer, dump, encode, explain, images, items, request, serve, sim, words  # noqa: E402
 
 DONE, FAULT, NO_CALL = 0, 1, 2
@@ -53,6 +54,9 @@ WITHOUT_END = (
 
 # Sizes of inputs, of which the last is the largest that is taken.
 SIZES = (255, 256, 1000, 1001, 4095, 4096, 4097, 65_536, INPUT_LIMIT)
+
+# A character with fault bits and a message, which follow an input that may go on.
+LATER = "00!40 FF FF 02 80 00 00 82 "
 
 # How often a master writes, each time in a turn of its own.
 WRITES = (1, 32, 33, 64, 65, 128, 129, 255, 256, 257, 300)
@@ -309,6 +313,24 @@ def lines_are_written_before_more_is_read(runner):
             runner.hold(is_named, [word], f"at write {write} on {text}: {run}")
 
 
+def worked_calls_end_as_shown(runner):
+    for call in (call for call in worked.CALLS if not call.goes_on):
+        fault = f"{call.fault}\n" if call.fault else ""
+        run = runner.run(call.words, call.text, most_written=1)
+        runner.hold(run.gave(FAULT if fault else DONE, call.written, fault), call.words, f"on {call.text!r}: {run}")
+
+
+def worked_calls_write_before_they_read_on(runner):
+    for call in (call for call in worked.CALLS if call.goes_on):
+        # The first read gives just the worked input. What comes later has a line of its own.
+        size = len(call.text)
+        text = call.text + LATER + " " * size
+        first, second = (runner.run(call.words, text, most_read=size, failed_output=write) for write in (0, 1))
+        ended = second.gave(FAULT, call.written, f"{call.fault}\n") and second.reads == 1
+        read_on = second.reads > 1 and call.written == (second.output.decode() if first.reads == 1 else "")
+        runner.hold(ended if call.fault else read_on, call.words, f"after {call.text!r}: {first}, {second}")
+
+
 def nothing_is_read_after_the_end(runner):
     for word, rows in (("dump", dump.READS), ("explain", explain.READS)):
         for text, after, most_read, fault, reads, writes, wanted in rows:
@@ -356,6 +378,8 @@ CHECKS = (
     words_of_any_length_are_read,
     a_failed_write_of_errors_leaves_the_status,
     lines_are_written_before_more_is_read,
+    worked_calls_end_as_shown,
+    worked_calls_write_before_they_read_on,
     nothing_is_read_after_the_end,
     inputs_are_read_up_to_the_limit,
     lines_go_out_together,

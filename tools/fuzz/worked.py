@@ -1,6 +1,8 @@
 """Worked messages and scripts, against which the model is held before it judges anything."""
 
 import re
+import shlex
+from typing import NamedTuple
 
 from .commands import PAGE
 from .explain import EXAMPLES
@@ -30,28 +32,41 @@ TWO_WRITTEN = WRITTEN + "S 20 8237420A1B2C13030A0B0CD7\nD 5 8637420A1B2C13050040
 
 IDENTIFIED = "request of the primary master to the device at polling address 0, Command 0, read unique identifier"
 
+# How wide the names of the parts in docs/worked.txt are.
+NAME_WIDTH = 9
+
+
+class Call(NamedTuple):
+    """A call of docs/worked.txt: its words, what it reads, what it writes, its fault or "", and whether more input may follow."""
+
+    words: list
+    text: str
+    written: str
+    fault: str
+    goes_on: bool
+
+
+def calls():
+    """The calls of docs/worked.txt."""
+    for block in PAGE.with_name("worked.txt").read_text(encoding="utf-8").split("\n\n"):
+        parts, name = {}, ""
+        for line in block.splitlines():
+            if not line.startswith("#"):
+                name = line[:NAME_WIDTH].strip() or name
+                parts[name] = f"{parts[name]}\n{line[NAME_WIDTH:]}" if name in parts else line[NAME_WIDTH:]
+        if parts:
+            words, fault, so_far = shlex.split(parts.pop("call")), parts.pop("fault", ""), parts.pop("so far", "")
+            written = parts["output"] + "\n" if parts.get("output") else ""
+            yield Call(words, parts.get("input", so_far[1:-1]), written, fault, so_far != "")
+
+
+CALLS = tuple(calls())
+
 # The input of `hart dump`, its lines, and its fault.
 DUMPED = (
-    ("FF FF 02 80 00 00 82 FF FF 02 00 00 00 02", "2 7 STX P 0 @0 - 0 -\n9 14 STX S 0 @0 - 0 -\n", ""),
-    ("FF FF 02 80 7D 00 FF FF 02 00 00 00 02", "2 7 STX P 0 @0 - 125 -\n", ""),
-    ("FF FF!40 02 80 00 00 82", "", ""),
-    (INSIDE, "15 20 STX P 0 @0 - 0 -\n", ""),
     (INSIDE + " 00" * 246, "15 20 STX P 0 @0 - 0 -\n", ""),
-    ("FF FF 82 B7 42 0A 1B 2C 13 03 01 23 45 3D", "2 14 STX P 0 37420A1B2C - 19 012345\n", ""),
-    ("FF FF 86 77 42 0A 1B 2C 13 05 00 40 01 23 45 BF", "2 16 ACK S 1 37420A1B2C - 19 0040012345\n", ""),
-    ("FF FF 82 80 00 00 00 00 0B 06 41 53 50 B7 1C 31 D7", "2 17 STX P 0 all - 11 415350B71C31\n", ""),
-    ("FF FF 82 80 00 00 00 00 15 20" + LONG_TAG + "37", f"2 43 STX P 0 all - 21 {LONG_TAG}\n", ""),
-    ("FF FF 22 BF 55 00 00 C8", "2 8 STX P 0 @63 55 0 -\n", ""),
     ("FF" * 20 + "E2800000000000000000FF" + "00" * 255 + "9D", "20 287 STX P 0 all 000000 0 " + "00" * 255 + "\n", ""),
     ("FF FF 06 80 00 01 00 87", "", ""),
-    ("FF FF 0G", "", "bad hex at 6"),
-    ("FF FF 02 80 00 00 82 8", "2 7 STX P 0 @0 - 0 -\n", "bad hex at 21"),
-    ("02!08", "", "bad hex at 0"),
-    ("82!8", "", "bad hex at 0"),
-    ("82!0", "", "bad hex at 0"),
-    ("FF!40!40", "", "bad hex at 5"),
-    ("82 !40", "", "bad hex at 3"),
-    ("F F", "", "bad hex at 0"),
 )
 
 # What is said, as the pages show it: lines after the first are indented by nine spaces, continued lines by eight more.
@@ -79,9 +94,6 @@ EXPLAINED = (
     *((heard, said_text(said), "") for heard, said in HEARD.findall(EXAMPLES)),
     *((request + reply, said_text(said), "") for request, reply, said in ON_PAGE if said),
     *((request + reply, said_text(said), "") for request, reply, said in SAID_OF_BOTH.findall(EXAMPLES)),
-    ("FF FF!40 02 80 00 00 82", "", ""),
-    ("FF FF 02 80 00 00 82 FF FF 06 80 0G", f"2-7: {IDENTIFIED}\n9: no message: it ends before its byte count\n", "bad hex at 33"),
-    ("FF FF", "", ""),
     ("FF 02 80 00 00 82", "1: no message: only one 0xFF stands before it\n", ""),
     ("FF!40 FF 02 80 00 00 82", "2: no message: only one 0xFF stands before it\n", ""),
     ("FF FF FF!40 02 80 00 00 82", "2: no message: the character at 2 has the fault bits 0x40\n", ""),
