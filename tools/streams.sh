@@ -77,15 +77,15 @@ begins() {
     exec 3>"$work/heard" 4<"$work/lines"
 }
 
-# Gives a text to the hart that runs: it has to write this line, though it could read on.
+# Gives a text to the hart that runs: it has to write this line, or these lines, though it could read on.
 says_at_once() {
     printf '%s' "$1" >&3
-    line=$(timeout 60 head -n 1 <&4) || true
-    if [ "$line" != "$2" ]; then
-        echo "hart $word: '$line' at '$1' on an open pipe, but '$2' is wanted" >&2
+    lines=$(timeout 60 head -n "$(printf '%s\n' "$2" | wc -l)" <&4) || true
+    if [ "$lines" != "$2" ]; then
+        echo "hart $word: '$lines' at '$1' on an open pipe, but '$2' is wanted" >&2
         exit 1
     fi
-    echo "hart $word: wrote '$line' on an open pipe"
+    echo "hart $word: wrote '$lines' on an open pipe"
 }
 
 # The hart that runs has to end at this place of bad hex, though it could read on.
@@ -115,11 +115,13 @@ identify='request of the primary master to the device at polling address 0, Comm
 begins explain
 says_at_once 'FF FF 02 80 00 00 82 ' "2-7: $identify"
 printf 'FF02000000' >&3
-says_at_once '02 ' '8: no message: only one 0xFF stands before it'
+says_at_once '02 ' '8: no message: only one 0xFF stands before it
+    seems: request of the secondary master to the device at polling address 0, Command 0, read unique identifier'
 printf 'FF82B7420A1B2C13FFFFFF02800000' >&3
 says_at_once '82 ' "24-29: $identify"
 printf 'FFFF82B7420A1B2C13' >&3
-says_at_once '00!40 ' '31: no message: the character at 38 has the fault bits 0x40'
+says_at_once '00!40 ' '31: no message: the character at 38 has the fault bits 0x40
+    seems: request of the primary master to device 37420A1B2C, Command 19, write final assembly number'
 ends_at_bad_hex 91
 
 # A serving device answers each line with a line before it reads on, and stays the same device all the time.

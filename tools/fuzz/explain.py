@@ -66,9 +66,22 @@ def command_text(command):
     return f"Command {command}" + (f", {COMMANDS[command].name}" if command in COMMANDS else "")
 
 
+def header_text(frame):
+    """Who says a frame to whom, and its command."""
+    return f"{who_text(frame)}, {command_text(frame.command)}"
+
+
 def message_line(found):
     """The line of a message."""
-    return f"{found.start}-{found.stop}: {who_text(found.frame)}, {command_text(found.frame.command)}"
+    return f"{found.start}-{found.stop}: {header_text(found.frame)}"
+
+
+def miss_lines(heard, begin, end):
+    """The lines of the misses between `begin` and `end`."""
+    for line, header in missed(heard, begin, end):
+        yield line
+        if header is not None:
+            yield f"    seems: {header_text(header)}"
 
 
 def names_text(names, byte):
@@ -152,11 +165,11 @@ def explained_lines(heard):
     """The lines of what is said of some characters."""
     begin = 0
     for found in frames_of(heard):
-        yield from missed(heard, begin, found.start)
+        yield from miss_lines(heard, begin, found.start)
         yield message_line(found)
         yield from (f"    {name}: {value}" for name, value in said(found.frame))
         begin = found.stop
-    yield from missed(heard, begin, len(heard))
+    yield from miss_lines(heard, begin, len(heard))
 
 
 def explained(heard):

@@ -1,6 +1,6 @@
 """Why no message stands at a place at which one seems to start, as `hart explain` says it."""
 
-from .frames import KIND_BITS, LEAST_ACK_PAYLOAD, PREAMBLE, is_delimiter, parity
+from .frames import KINDS, LEAST_ACK_PAYLOAD, PREAMBLE, Frame, is_delimiter, parity, read_address
 
 BURST_BITS = 1
 
@@ -50,13 +50,21 @@ def judge_delimiter(byte):
         raise Wrong(f"0x{byte:02X} is no delimiter of this profile")
 
 
-def walk_body(walk):
-    """Goes on to the end of a whole body."""
+def walk_header(walk):
+    """Goes on to the place after the command. Returns a frame of what comes before it, without a payload."""
     delimiter, = walk.take(1, early_end)
     judge_delimiter(delimiter)
-    walk.take((5 if delimiter & 0x80 else 1) + (delimiter >> 5 & 3), early_end)
-    _, count = walk.take(2, early_end)
-    if delimiter & 7 == KIND_BITS["ACK"] and count < LEAST_ACK_PAYLOAD:
+    master, burst, address = read_address(walk.take(5 if delimiter & 0x80 else 1, early_end))
+    expansion = walk.take(delimiter >> 5 & 3, early_end)
+    command, = walk.take(1, early_end)
+    return Frame(KINDS[delimiter & 7], master, burst, address, expansion, command, b"")
+
+
+def walk_body(walk):
+    """Goes on to the end of a whole body."""
+    header = walk_header(walk)
+    count, = walk.take(1, early_end)
+    if header.kind == "ACK" and count < LEAST_ACK_PAYLOAD:
         raise Wrong(f"it is a reply, and its byte count {count} is below 2")
     walk.take(count + 1, later_end)
     last, fits = walk.bytes[-1], parity(walk.bytes[:-1])
@@ -73,6 +81,14 @@ def wrong_from(heard, place):
     return None
 
 
+def header_from(heard, place):
+    """The header that is heard from a place on, as a frame; None if it is not whole."""
+    try:
+        return walk_header(Walk(heard, place))
+    except Wrong:
+        return None
+
+
 def stands_alone(heard, place):
     """Whether a whole body stands at a place, and no two `FF` in a row begin in it, not even with its last character."""
     walk = Walk(heard, place)
@@ -84,7 +100,8 @@ def stands_alone(heard, place):
 
 
 def missed(heard, begin, end):
-    """The lines of the misses between `begin`, where a message stopped, and `end`. What stands before `begin` does not count."""
+    """The misses between `begin`, where a message stopped, and `end`: the line of each, and the header that is heard there, None if it
+    is not whole. What stands before `begin` does not count."""
     for place in range(begin + 1, end):
         if heard[place - 1] != PREAMBLE or heard[place] == PREAMBLE:
             continue
@@ -92,4 +109,4 @@ def missed(heard, begin, end):
         if place - 2 < begin or heard[place - 2] != PREAMBLE:
             reason = "only one 0xFF stands before it" if stands_alone(heard, place) else None
         if reason is not None:
-            yield f"{place}: no message: {reason}"
+            yield f"{place}: no message: {reason}", header_from(heard, place)

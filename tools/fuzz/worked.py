@@ -31,6 +31,7 @@ TWO_MASTERS = SUBMIT_WRITE + "submit S 37420A1B2C 19 0A0B0C\nturn P ok lost\ntur
 TWO_WRITTEN = WRITTEN + "S 20 8237420A1B2C13030A0B0CD7\nD 5 8637420A1B2C130500400A0B0C95\n"
 
 IDENTIFIED = "request of the primary master to the device at polling address 0, Command 0, read unique identifier"
+IDENTITY_REPLY = "reply of the device at polling address 0 to the primary master, Command 0, read unique identifier"
 
 # How wide the names of the parts in docs/worked.txt are.
 NAME_WIDTH = 9
@@ -94,13 +95,13 @@ EXPLAINED = (
     *((heard, said_text(said), "") for heard, said in HEARD.findall(EXAMPLES)),
     *((request + reply, said_text(said), "") for request, reply, said in ON_PAGE if said),
     *((request + reply, said_text(said), "") for request, reply, said in SAID_OF_BOTH.findall(EXAMPLES)),
-    ("FF 02 80 00 00 82", "1: no message: only one 0xFF stands before it\n", ""),
-    ("FF!40 FF 02 80 00 00 82", "2: no message: only one 0xFF stands before it\n", ""),
+    ("FF 02 80 00 00 82", f"1: no message: only one 0xFF stands before it\n    seems: {IDENTIFIED}\n", ""),
+    ("FF!40 FF 02 80 00 00 82", f"2: no message: only one 0xFF stands before it\n    seems: {IDENTIFIED}\n", ""),
     ("FF FF FF!40 02 80 00 00 82", "2: no message: the character at 2 has the fault bits 0x40\n", ""),
     ("FF FF 01 80!40 00 00 81", "2: no message: it is a burst message, which is not read\n", ""),
-    ("FF FF 26 80 55 00 00!20", "2: no message: the character at 6 has the fault bits 0x20\n", ""),
-    ("FF FF 26 80 55 00 00 00!20", "2: no message: it is a reply, and its byte count 0 is below 2\n", ""),
-    ("FF FF 02 80 00 00", "2: no message: it lacks 1 character, its check byte\n", ""),
+    ("FF FF 26 80 55 00 00!20", f"2: no message: the character at 6 has the fault bits 0x20\n    seems: {IDENTITY_REPLY}\n", ""),
+    ("FF FF 26 80 55 00 00 00!20", f"2: no message: it is a reply, and its byte count 0 is below 2\n    seems: {IDENTITY_REPLY}\n", ""),
+    ("FF FF 02 80 00 00", f"2: no message: it lacks 1 character, its check byte\n    seems: {IDENTIFIED}\n", ""),
     ("FF FF 02 80 00 00 82 8", f"2-7: {IDENTIFIED}\n", "bad hex at 21"),
 )
 

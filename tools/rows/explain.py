@@ -5,7 +5,9 @@ import operator
 
 from fuzz.units import unit_text
 
-IDENTIFY = "2-7: request of the primary master to the device at polling address 0, Command 0, read unique identifier\n"
+IDENTIFY_HEADER = "request of the primary master to the device at polling address 0, Command 0, read unique identifier\n"
+IDENTIFY = f"2-7: {IDENTIFY_HEADER}"
+SEEMS_IDENTIFY = f"    seems: {IDENTIFY_HEADER}"
 
 REPLY_WITH_UNIT = bytes.fromhex("86B7420A1B2C01070000")
 VALUE = bytes.fromhex("41C80000")
@@ -33,6 +35,56 @@ EACH_UNIT = (
     b"".join(with_unit(code) for code in CODES).hex(" ").upper(),
     "".join(said_with_unit(code, code * len(with_unit(0))) for code in CODES),
     "",
+)
+
+SEEMS_WRITE = "    seems: request of the primary master to device 37420A1B2C, Command 19, write final assembly number\n"
+
+# What was heard, why no message stands at 2, and the line of its header, if that was heard.
+SEEN_HEADERS = (
+    # Cut right before and right after the command, by the end or by a fault.
+    ("FF FF 82 B7 42 0A 1B 2C", "it ends before its byte count", ""),
+    ("FF FF 82 B7 42 0A 1B 2C 13", "it ends before its byte count", SEEMS_WRITE),
+    ("FF FF 82 B7 42 0A 1B 2C 13!40", "the character at 8 has the fault bits 0x40", ""),
+    ("FF FF 82 B7 42 0A 1B 2C 13 03!40", "the character at 9 has the fault bits 0x40", SEEMS_WRITE),
+    ("FF FF 02 80", "it ends before its byte count", ""),
+    ("FF FF 02!40 80 00 00 82", "the character at 2 has the fault bits 0x40", ""),
+    ("FF FF 82 B7 42 0A!20 1B 2C 13 03 01 23 45 3D", "the character at 5 has the fault bits 0x20", ""),
+    # The command stands after the expansion bytes.
+    ("FF FF 62 80 01 02 03", "it ends before its byte count", ""),
+    (
+        "FF FF 62 80 01 02 03 21",
+        "it ends before its byte count",
+        "    seems: request of the primary master to the device at polling address 0, Command 33\n",
+    ),
+    (
+        "FF FF A6 77 42 0A 1B 2C 55 13 01",
+        "it is a reply, and its byte count 1 is below 2",
+        "    seems: reply of device 37420A1B2C to the secondary master, Command 19, write final assembly number\n",
+    ),
+    # Replies, broadcast and polling addresses.
+    (
+        "FF FF 86 A6 06 12 34 56 03 02 00 41!40",
+        "the character at 11 has the fault bits 0x40",
+        "    seems: reply of device 2606123456 to the primary master, Command 3, read dynamic variables and loop current\n",
+    ),
+    (
+        "FF FF 86 00 00 00 00 00 0B 02 00",
+        "it lacks 2 characters, the last of them its check byte",
+        "    seems: reply of one of all devices to the secondary master, Command 11, read unique identifier associated with tag\n",
+    ),
+    (
+        "FF FF 82 80 00 00 00 00 15 20 20",
+        "it lacks 32 characters, the last of them its check byte",
+        "    seems: request of the primary master to all devices, Command 21, read unique identifier associated with long tag\n",
+    ),
+    (
+        "FF FF 06 7F FF 02 00 00 00",
+        "the check byte is 0x00 at 8, and 0x84 would fit",
+        "    seems: reply of the device at polling address 63 to the secondary master, Command 255\n",
+    ),
+    # No delimiter of this profile has a header.
+    ("FF FF 81 B7 42 0A 1B 2C 13 03 01 23 45 3E", "it is a burst message, which is not read", ""),
+    ("FF FF 8A B7 42 0A 1B 2C 13 03 01 23 45 35", "0x8A is no delimiter of this profile", ""),
 )
 
 # What was heard, what is said of it, and the line of its fault, if it has one.
@@ -118,7 +170,8 @@ ROWS = (
     (
         "FF FF 02 80 7D 00 FF FF 02 00 00 00 02",
         "2-7: request of the primary master to the device at polling address 0, Command 125\n"
-        "8: no message: only one 0xFF stands before it\n",
+        "8: no message: only one 0xFF stands before it\n"
+        "    seems: request of the secondary master to the device at polling address 0, Command 0, read unique identifier\n",
         "",
     ),
     # The message lies in what would be a whole body after one preamble byte.
@@ -127,10 +180,12 @@ ROWS = (
         "11-16: request of the primary master to the device at polling address 0, Command 0, read unique identifier\n",
         "",
     ),
-    ("FF FF 02 80 00 00 83", "2: no message: the check byte is 0x83 at 6, and 0x82 would fit\n", ""),
+    ("FF FF 02 80 00 00 83", "2: no message: the check byte is 0x83 at 6, and 0x82 would fit\n" + SEEMS_IDENTIFY, ""),
+    *((heard, f"2: no message: {reason}\n{seems}", "") for heard, reason, seems in SEEN_HEADERS),
     (
         "55 FF FF 82 B7 42 0A 1B 2C 13 FF FF FF FF FF FF 02 80 00 00 82",
         "3: no message: it lacks 246 characters, the last of them its check byte\n"
+        "    seems: request of the primary master to device 37420A1B2C, Command 19, write final assembly number\n"
         "16-21: request of the primary master to the device at polling address 0, Command 0, read unique identifier\n",
         "",
     ),
@@ -143,18 +198,19 @@ ROWS = (
     # The line fell silent: what was heard before is explained as ended, and places go on counting.
     ("/", "", ""),
     ("FF FF 02 80 00 00 82/", IDENTIFY, ""),
-    ("FF FF 02 80 00/00 82", "2: no message: it ends before its byte count\n", ""),
-    ("FF FF/02 80 00 00 82 FF/FF 02 80 00 00 82", "9: no message: only one 0xFF stands before it\n", ""),
+    ("FF FF 02 80/00 00 82", "2: no message: it ends before its byte count\n", ""),
+    ("FF FF 02 80 00/00 82", "2: no message: it ends before its byte count\n" + SEEMS_IDENTIFY, ""),
+    ("FF FF/02 80 00 00 82 FF/FF 02 80 00 00 82", "9: no message: only one 0xFF stands before it\n" + SEEMS_IDENTIFY, ""),
     (
         "FF FF 82 B7 42 / FF FF 02 80 00 00 82 / FF FF 02 80 00 00 83",
         "2: no message: it ends before its byte count\n"
         "7-12: request of the primary master to the device at polling address 0, Command 0, read unique identifier\n"
-        "14: no message: the check byte is 0x83 at 18, and 0x82 would fit\n",
+        "14: no message: the check byte is 0x83 at 18, and 0x82 would fit\n" + SEEMS_IDENTIFY,
         "",
     ),
-    ("FF FF 02 80 00/0/", "2: no message: it ends before its byte count\n", "bad hex at 15\n"),
+    ("FF FF 02 80 00/0/", "2: no message: it ends before its byte count\n" + SEEMS_IDENTIFY, "bad hex at 15\n"),
     ("FF FF 02!/", "", "bad hex at 6\n"),
-    ("FF FF 02 80 00 00 82!08", "2: no message: it lacks 1 character, its check byte\n", "bad hex at 18\n"),
+    ("FF FF 02 80 00 00 82!08", "2: no message: it lacks 1 character, its check byte\n" + SEEMS_IDENTIFY, "bad hex at 18\n"),
     ("FF FF 0G", "", "bad hex at 6\n"),
     ("02!08", "", "bad hex at 0\n"),
     EACH_UNIT,
@@ -165,7 +221,7 @@ ROWS = (
 FAILED_READS = (
     ("", "", "read fault\n"),
     ("FF FF 02 80 00 00 82 ", IDENTIFY, "read fault\n"),
-    ("FF FF 02 80 00 00 82", "2: no message: it lacks 1 character, its check byte\n", "read fault\n"),
+    ("FF FF 02 80 00 00 82", "2: no message: it lacks 1 character, its check byte\n" + SEEMS_IDENTIFY, "read fault\n"),
     ("FF FF 02 80 00 00 82 G", IDENTIFY, "bad hex at 21\n"),
     ("FF FF 02 80 00 00 82 8", IDENTIFY, "read fault\n"),
     ("FF FF 02 80 00 00 82/8", IDENTIFY, "read fault\n"),
@@ -177,10 +233,10 @@ RAW_ROWS = (
     (b"\xFF\xFF\x02\x80\x00\x00\x82", IDENTIFY, ""),
     (
         b"FF FF 02 80 00 00 82\n\xFF\xFF\x02\x80\x00\x00\x83",
-        "23: no message: the check byte is 0x83 at 27, and 0x82 would fit\n",
+        "23: no message: the check byte is 0x83 at 27, and 0x82 would fit\n" + SEEMS_IDENTIFY,
         "",
     ),
-    (b"\xFF\xFF\x02\x80\x00\x00", "2: no message: it lacks 1 character, its check byte\n", ""),
+    (b"\xFF\xFF\x02\x80\x00\x00", "2: no message: it lacks 1 character, its check byte\n" + SEEMS_IDENTIFY, ""),
     (b"0G!@/\xFF\xFF\x20", "7: no message: 0x20 is no delimiter\n", ""),
 )
 
@@ -188,10 +244,10 @@ RAW_ROWS = (
 RAW_FAILED_READS = (
     (b"", "", "read fault\n"),
     (b"\xFF\xFF\x02\x80\x00\x00\x82", IDENTIFY, "read fault\n"),
-    (b"\xFF\xFF\x02\x80\x00\x00", "2: no message: it lacks 1 character, its check byte\n", "read fault\n"),
+    (b"\xFF\xFF\x02\x80\x00\x00", "2: no message: it lacks 1 character, its check byte\n" + SEEMS_IDENTIFY, "read fault\n"),
 )
 
-ONE_PREAMBLE = "8: no message: only one 0xFF stands before it\n"
+ONE_PREAMBLE = "8: no message: only one 0xFF stands before it\n" + SEEMS_IDENTIFY
 
 # Two messages, the second with one preamble byte alone. What follows the last digits of an item makes it whole.
 MESSAGES = "FF FF 02 80 00 00 82 FF 02 80 00 00 82 "
@@ -220,7 +276,7 @@ READS = (
     (MESSAGES, "end", 1, "", 40, 2, IDENTIFY + ONE_PREAMBLE),
     (MESSAGES, "end", None, "", 2, 1, IDENTIFY + ONE_PREAMBLE),
     # The end decides what is open.
-    ("FF FF 02 80 00 00 ", "end", 1, "", 19, 1, "2: no message: it lacks 1 character, its check byte\n"),
+    ("FF FF 02 80 00 00 ", "end", 1, "", 19, 1, "2: no message: it lacks 1 character, its check byte\n" + SEEMS_IDENTIFY),
     ("FF FF 02 80 00 00 82 8G FF FF 02 00 00 00 02 ", "end", 1, "bad hex at 21\n", 23, 1, IDENTIFY),
     ("FF 82!08 FF", "end", 1, "bad hex at 3\n", 8, 0, ""),
 )

@@ -65,10 +65,13 @@ BROKEN_OFF = (
 BEGUN = "FFFF82B7420A1B2C7D0F "
 
 
+BEGUN_HEADER = "    seems: request of the primary master to device 37420A1B2C, Command 125\n"
+
+
 def said_of(read):
     """What `hart explain` says of that message, with these items as the first of those that it lacks."""
     chars = read.split()
     for number, item in enumerate(chars):
         if "!" in item:
-            return f"2: no message: the character at {10 + number} has the fault bits 0x{item[3:]}\n"
-    return f"2: no message: it lacks {16 - len(chars)} characters, the last of them its check byte\n"
+            return f"2: no message: the character at {10 + number} has the fault bits 0x{item[3:]}\n{BEGUN_HEADER}"
+    return f"2: no message: it lacks {16 - len(chars)} characters, the last of them its check byte\n{BEGUN_HEADER}"

@@ -4,6 +4,7 @@ pub mod Parity
 pub mod Delimiter
 pub mod Body
 pub mod Layout
+pub mod Header
 pub mod Refusal
 pub mod Message
 pub mod FaultNumbers

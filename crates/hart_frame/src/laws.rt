@@ -1,7 +1,7 @@
 //! Laws about the definitions alone, for readers and for the crates above.
 //!
-//! - Of frames and bytes: [`bodies_are_unambiguous`], [`bytes_have_one_fault`], [`messages_are_short`],
-//!   [`truncated_bytes_can_become_a_body`], [`open_places_can_begin_a_frame`], [`frames_are_unambiguous`],
+//! - Of frames and bytes: [`bodies_are_unambiguous`], [`headers_are_those_of_frames`], [`bytes_have_one_fault`],
+//!   [`messages_are_short`], [`truncated_bytes_can_become_a_body`], [`open_places_can_begin_a_frame`], [`frames_are_unambiguous`],
 //!   [`every_list_has_frames`], [`messages_have_their_frame_alone`].
 //! - Of starts, misses and damage: [`first_starts_are_decided`], [`every_start_has_a_frame_or_a_miss`], [`misses_are_in_the_way`],
 //!   [`misses_say_what_is_wrong`], [`misses_are_faults`], [`damaged_messages_have_no_other_frame`], [`damage_by_example`].
@@ -12,14 +12,16 @@
 //!   [`next_in_bytes`](crate::next_in_bytes), [`next_frames_are_all`].
 //! - Of messages and misses: [`sightings_are_unambiguous`], [`the_rest_has_the_later_sightings`]; and with
 //!   [`next_sighting`](crate::next_sighting), [`next_sightings_are_all`].
-ghost use Rattle.std.specs.Prelude.{◌≡◌, ◌<◌, ◌≤◌, ◌↔◌, List, ℕ, [], ◌∷◌, ◌++◌, length, drop, map, All};
+ghost use Rattle.std.specs.Prelude.{◌≡◌, ◌<◌, ◌≤◌, ◌↔◌, List, ℕ, [], ◌∷◌, ◌++◌, Some, length, drop, map, All, IsSome};
 ghost use Rattle.hart_frame.specs.wire.FrameParts.{FrameParts};
 ghost use Rattle.hart_frame.specs.wire.Body.{IsBody, BeginsWithBody, CanBecomeBody, HasNoBody};
 ghost use Rattle.hart_frame.specs.heard.Character.{Character, faultless};
 ghost use Rattle.hart_frame.specs.heard.Frames.{AreFrames, IsFirst, moved};
+ghost use Rattle.hart_frame.specs.wire.Header.{HeaderParts, header_in, header_of};
+ghost use Rattle.hart_frame.specs.wire.Layout.{command_place};
 ghost use Rattle.hart_frame.specs.wire.Message.{IsMessage};
 ghost use Rattle.hart_frame.specs.heard.Place.{IsOpen, StandsIn};
-ghost use Rattle.hart_frame.specs.wire.Refusal.{IsRefusedWith, IsTruncated};
+ghost use Rattle.hart_frame.specs.wire.Refusal.{HasDelimiter, IsRefusedWith, IsTruncated};
 ghost use Rattle.hart_frame.specs.declared.wire.fault.FrameFault.{FrameFault};
 ghost use Rattle.hart_frame.specs.declared.heard.found.Found.{Found};
 
@@ -48,6 +50,16 @@ pub fn bodies_are_unambiguous()
         → BeginsWithBody bytes f m → BeginsWithBody bytes g n → (f ≡ g) × (m ≡ n) }
     ensures whatever_follows { (f : FrameParts) (body rest : List ℕ)
         → IsBody f body → BeginsWithBody (body ++ rest) f (length body) }
+{}
+
+/// Bytes have a header exactly if they begin with a delimiter of this profile and reach the command. Bytes that begin with a body
+/// have the header of its frame. A header stays whatever follows. So if the bytes become a body, its frame has this header.
+pub fn headers_are_those_of_frames()
+    ensures exactly { (bytes : List ℕ) → IsSome (header_in bytes) ↔ (HasDelimiter bytes × (command_place bytes < length bytes)) }
+    ensures body { (bytes : List ℕ) (frame : FrameParts) (len : ℕ)
+        → BeginsWithBody bytes frame len → header_in bytes ≡ Some (header_of frame) }
+    ensures stays { (bytes more : List ℕ) (header : HeaderParts)
+        → header_in bytes ≡ Some header → header_in (bytes ++ more) ≡ Some header }
 {}
 
 /// A body has at most 267 bytes, and a message with at most 20 preamble bytes has at most 287 bytes.

@@ -40,6 +40,7 @@ pub use wire::body::{Body, decode};
 pub use wire::delimiter::{UNIQUE_COMMAND_PLACE, UNIQUE_REQUEST};
 pub use wire::fault::FrameFault;
 pub use wire::frame::{Expansion, Frame};
+pub use wire::header::Header;
 pub use wire::kind::FrameKind;
 pub use wire::layout::unique_request_len;
 pub use wire::message::{LEAST_PREAMBLES, MOST_PREAMBLES, Message, encode, is_preamble_count};

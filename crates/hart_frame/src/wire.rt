@@ -4,6 +4,7 @@ pub mod body;
 pub mod delimiter;
 pub mod fault;
 pub mod frame;
+pub mod header;
 pub mod kind;
 pub mod layout;
 pub mod message;

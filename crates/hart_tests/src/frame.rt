@@ -1,3 +1,4 @@
+mod header;
 mod line;
 mod sighting;
 mod start;

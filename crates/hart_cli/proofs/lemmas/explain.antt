@@ -2,6 +2,8 @@
 pub mod Fields
 pub mod Units
 pub mod Gaps
+pub mod Header
+pub mod Seems
 pub mod Sightings
 pub mod Decided
 pub mod Telling

@@ -4,13 +4,14 @@ use Rattle.std.specs.List.{flat_map}
 use Rattle.hart_frame.specs.heard.Character.{Character}
 use Rattle.hart_frame.specs.heard.Sighting.{AreSightings, Message, Missed, Seen, moved_seen}
 use Rattle.hart_cli.specs.explain.Message.{paragraph}
-use Rattle.hart_cli.specs.explain.Misses.{miss_line}
+use Rattle.hart_cli.specs.explain.Misses.{miss_line, seems_line}
 use Rattle.hart_cli.specs.text.Heard.{Heard, stretches}
 
--- The text of a sighting is the paragraph of a message, or the line of a place that has no message.
+-- The text of a sighting is the paragraph of a message, or the line of a place that has no message. A second line says what that
+-- message seems to be, if its header was heard.
 abbrev pub seen_text : Seen → List ℕ
 seen_text (Message found) = paragraph found
-seen_text (Missed place miss) = miss_line place miss
+seen_text (Missed place miss header) = miss_line place miss ++ seems_line header
 
 -- The text of sightings is the text of each, in their order.
 abbrev pub explanation : List Seen → List ℕ

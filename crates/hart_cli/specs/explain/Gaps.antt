@@ -13,7 +13,7 @@ IsGap chars place (found ∷ later) from stop = ((from ≡ place) × (stop ≡ f
 -- The place of a sighting.
 abbrev pub seen_place : Seen → ℕ
 seen_place (Message found) = found.start
-seen_place (Missed place miss) = place
+seen_place (Missed place miss header) = place
 
 -- A text is one line if it ends with a line feed and has no other.
 pub record IsOneLine (text : List ℕ) : Type 0 where

@@ -1,23 +1,18 @@
 -- What `hart explain` says of a message (own profile).
 use Rattle.std.specs.Prelude.{◌++◌, [], ◌∷◌, ℕ, Bool, false, true, List, codes, decimal}
 use Rattle.hart_frame.specs.declared.heard.found.Found.{Found}
-use Rattle.hart_commands.specs.Commands.{command_name}
 use Rattle.hart_frame.specs.declared.wire.kind.FrameKind.{FrameKind}
 use Rattle.hart_frame.specs.declared.wire.kind.FrameKind.TheVariants.{Stx, Ack}
 use Rattle.hart_cli.specs.explain.Data.{reply_lines, request_lines}
 use Rattle.hart_cli.specs.explain.Status.{status_lines}
-use Rattle.hart_cli.specs.explain.Words.{bytes_line, named_number, said_line, who_words}
+use Rattle.hart_frame.specs.wire.Header.{header_of}
+use Rattle.hart_cli.specs.explain.Words.{bytes_line, header_words, said_line}
 
--- The words of a command are its number in decimal and, if it is known, its name.
-abbrev pub command_words : ℕ → List ℕ
-command_words command = codes "Command " ++ named_number command (command_name command)
-
--- The line of a message has the place of its delimiter and the place after its check byte, in decimal, who speaks to whom, the
--- command, and a line feed.
+-- The line of a message has the place of its delimiter and the place after its check byte, in decimal, the words of its header, and
+-- a line feed.
 abbrev pub message_line : Found → List ℕ
 message_line found =
-    decimal found.start ++ codes "-" ++ decimal found.stop ++ codes ": "
-    ++ who_words found.frame.kind found.frame.master found.frame.address ++ codes ", " ++ command_words found.frame.command ++ 10 ∷ []
+    decimal found.start ++ codes "-" ++ decimal found.stop ++ codes ": " ++ header_words (header_of found.frame) ++ 10 ∷ []
 
 -- A burst bit that is set has a line.
 abbrev pub burst_line : Bool → List ℕ

@@ -1,9 +1,10 @@
 -- What `hart explain` says of places at which no message stands, though one seems to start there (own profile).
-use Rattle.std.specs.Prelude.{◌==◌, if◌then◌else◌, ◌++◌, [], ◌∷◌, ℕ, List, codes, decimal}
+use Rattle.std.specs.Prelude.{◌==◌, if◌then◌else◌, ◌++◌, [], ◌∷◌, ℕ, List, Option, None, Some, codes, decimal}
 use Rattle.hart_frame.specs.declared.heard.miss.Miss.{Miss}
 use Rattle.hart_frame.specs.declared.heard.miss.Miss.TheVariants.{Faulty, Burst, BadDelimiter, EndsBeforeByteCount, ShortReply, Missing}
 use Rattle.hart_frame.specs.declared.heard.miss.Miss.TheVariants.{BadCheck, OnePreamble}
-use Rattle.hart_cli.specs.explain.Words.{hex_value}
+use Rattle.hart_frame.specs.wire.Header.{HeaderParts}
+use Rattle.hart_cli.specs.explain.Words.{header_words, hex_value, said_line}
 
 -- One byte in hex.
 abbrev pub byte_value : ℕ → List ℕ
@@ -31,3 +32,8 @@ miss_words OnePreamble = codes "only one 0xFF stands before it"
 -- The line of a miss has the place where a message seems to start, in decimal, the words of the miss, and a line feed.
 abbrev pub miss_line : ℕ → Miss → List ℕ
 miss_line place miss = decimal place ++ codes ": no message: " ++ miss_words miss ++ 10 ∷ []
+
+-- The header that was heard at a missed place has a line that says what the message seems to be.
+abbrev pub seems_line : Option HeaderParts → List ℕ
+seems_line None = []
+seems_line (Some header) = said_line (codes "seems") (header_words header)

@@ -25,7 +25,7 @@ use Rattle.hart_cli.specs.text.Items.{ReadsUpTo}
 -- The places of a sighting, and those that its miss names, are numbers of 64 bits when counted from a first place on.
 abbrev pub FitsFrom : ℕ → Sighting → Type 0
 FitsFrom first (given.Message view) = (first + view.start < 2 ^ 64) × (first + view.stop < 2 ^ 64)
-FitsFrom first (given.Missed place miss) = (first + place < 2 ^ 64) × NamesPlacesBelow (2 ^ 64 - first) miss
+FitsFrom first (given.Missed place miss header) = (first + place < 2 ^ 64) × NamesPlacesBelow (2 ^ 64 - first) miss
 
 -- The next sighting in bytes, and in what comes after them, is what is seen of them between two places, `from` and `used`. If there
 -- is a sighting, `used` is beyond `from`. If there is none, all bytes are used that no longer decide anything.

@@ -1,12 +1,14 @@
--- The words of `hart explain` for bytes, for numbers with names and for who speaks to whom, and its lines (own profile).
+-- The words of `hart explain` for bytes, for numbers with names, for who speaks to whom and for headers, and its lines (own profile).
 use Rattle.std.specs.Prelude.{◌==◌, ◌&&◌, if◌then◌else◌, ◌++◌, [], ◌∷◌, ℕ, List, Option, None, Some, codes, decimal}
 use Rattle.hex.specs.Hex.{encode_upper}
+use Rattle.hart_commands.specs.Commands.{command_name}
 use Rattle.hart_values.specs.declared.address.Address.{Address}
 use Rattle.hart_values.specs.declared.address.Address.TheVariants.{Polling, Unique}
 use Rattle.hart_values.specs.declared.master_id.MasterId.{MasterId}
 use Rattle.hart_values.specs.declared.master_id.MasterId.TheVariants.{Primary, Secondary}
 use Rattle.hart_frame.specs.declared.wire.kind.FrameKind.{FrameKind}
 use Rattle.hart_frame.specs.declared.wire.kind.FrameKind.TheVariants.{Stx, Ack}
+use Rattle.hart_frame.specs.wire.Header.{HeaderParts}
 use Rattle.hart_cli.specs.text.DeviceDigits.{device_digits}
 
 -- A line of what a message says has four spaces, a name, a colon, a space, a value and a line feed.
@@ -48,3 +50,11 @@ device_words broadcast (Unique numbers) =
 abbrev pub who_words : FrameKind → MasterId → Address → List ℕ
 who_words Stx master address = codes "request of " ++ master_words master ++ codes " to " ++ device_words (codes "all devices") address
 who_words Ack master address = codes "reply of " ++ device_words (codes "one of all devices") address ++ codes " to " ++ master_words master
+
+-- The words of a command are its number in decimal and, if it is known, its name.
+abbrev pub command_words : ℕ → List ℕ
+command_words command = codes "Command " ++ named_number command (command_name command)
+
+-- The words of a header say who speaks to whom, and the command.
+abbrev pub header_words : HeaderParts → List ℕ
+header_words header = who_words header.kind header.master header.address ++ codes ", " ++ command_words header.command

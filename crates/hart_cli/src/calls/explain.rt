@@ -30,7 +30,7 @@ mod words;
 const RAW_LIMIT: usize = usize::MAX - 1;
 
 /// Reads what was heard on a line as hex items, and writes in words what each message says. Where a message only seems to start, it
-/// writes why none stands there. It writes all this as soon as it is decided.
+/// writes why none stands there, and what it seems to be, if its header was heard. It writes all this as soon as it is decided.
 ///
 /// An item `/` says that the line fell silent: what was heard before it is explained as ended, and no message crosses it.
 ///

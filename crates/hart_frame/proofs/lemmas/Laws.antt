@@ -34,6 +34,8 @@ pub use Rattle.hart_frame.proofs.lemmas.scan.SightingLaws.{all as next_sightings
 pub use Rattle.hart_frame.proofs.lemmas.scan.SightingLaws.{onward as next_sightings_are_all-onward, rest_all as next_sightings_are_all-rest}
 pub use Rattle.hart_frame.proofs.lemmas.scan.SightingLaws.{one as sightings_are_unambiguous-one, some as sightings_are_unambiguous-some}
 pub use Rattle.hart_frame.proofs.lemmas.scan.SightingLaws.{rest as the_rest_has_the_later_sightings}
+pub use Rattle.hart_frame.proofs.lemmas.wire.Header.{headers_are_those_of_frames-body, headers_are_those_of_frames-exactly}
+pub use Rattle.hart_frame.proofs.lemmas.wire.Header.{headers_are_those_of_frames-stays}
 pub use Rattle.hart_frame.proofs.lemmas.wire.UnambiguousBodies.{bodies_are_unambiguous-no_proper_prefix, bodies_are_unambiguous-one_body}
 pub use Rattle.hart_frame.proofs.lemmas.wire.UnambiguousBodies.{bodies_are_unambiguous-one_frame, bodies_are_unambiguous-one_prefix}
 

@@ -9,3 +9,4 @@ pub mod Refusal
 pub mod BodiesFound
 pub mod Truncated
 pub mod Reading
+pub mod Header

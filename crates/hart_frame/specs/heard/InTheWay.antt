@@ -1,12 +1,12 @@
 -- Why no frame stands where one seems to start: what stands in the way of a body there (HCF_SPEC-081; own profile).
-use Rattle.std.specs.Prelude.{◌≡◌, ◌≢◌, ◌⊎◌, ◌<◌, ◌+◌, ◌-◌, ◌%◌, ℕ, IsTrue, List, ◌++◌, Option, None, Some, drop, length, slice_get, take}
+use Rattle.std.specs.Prelude.{◌≡◌, ◌≢◌, ◌⊎◌, ◌<◌, ◌+◌, ◌-◌, ◌/◌, ◌%◌, ℕ, List, [], ◌∷◌, ◌++◌, Option, None, Some, drop, length, slice_get}
+use Rattle.std.specs.Prelude.{take}
 use Rattle.hart_frame.specs.heard.Character.{Character, faultless, faultless_bytes}
 use Rattle.hart_frame.specs.wire.Body.{IsBody}
 use Rattle.hart_frame.specs.wire.FrameParts.{FrameParts}
 use Rattle.hart_frame.specs.wire.Layout.{body_length, byte_count_in, delimiter_in}
 use Rattle.hart_frame.specs.wire.Parity.{IsCheckByte}
 use Rattle.hart_frame.specs.wire.Refusal.{HasByteCount, HasCheckByte, HasGoodByteCount, IsDelimiter, IsTruncated}
-use Rattle.hart_frame.specs.heard.Miss.{follows_one_preamble, is_burst_delimiter}
 use Rattle.hart_frame.specs.heard.Start.{IsStart}
 use Rattle.hart_frame.specs.declared.wire.fault.FrameFault.{FrameFault}
 use Rattle.hart_frame.specs.declared.wire.fault.FrameFault.TheVariants.{Truncated}
@@ -26,6 +26,10 @@ HasFaultsAt chars place faults = (faults ≢ 0) × (byte : ℕ) × (slice_get ch
 abbrev pub ComeToTheEnd : List Character → ℕ → Type 0
 ComeToTheEnd chars place = place + length (bytes_from chars place) ≡ length chars
 
+-- A burst message begins with a delimiter whose bits 4 and 3 are zero, and whose bits 2 to 0 are 1.
+abbrev pub IsBurstDelimiter : ℕ → Type 0
+IsBurstDelimiter byte = (byte / 8 % 4 ≡ 0) × (byte % 8 ≡ 1)
+
 -- What stands in the way of a body at a place where one may start. A character with fault bits ends the bytes there too early; or
 -- they begin with the delimiter of a burst message, or with another byte that is no delimiter; or all that was heard ends before
 -- the byte count; or a reply has a byte count below 2; or all that was heard ends `count` characters before the end of the check
@@ -33,10 +37,10 @@ ComeToTheEnd chars place = place + length (bytes_from chars place) ≡ length ch
 abbrev pub IsInTheWay : List Character → ℕ → Miss → Type 0
 IsInTheWay chars start (Faulty place faults) =
     IsTruncated (bytes_from chars start) × (place ≡ start + length (bytes_from chars start)) × HasFaultsAt chars place faults
-IsInTheWay chars start Burst = (0 < length (bytes_from chars start)) × IsTrue (is_burst_delimiter (delimiter_in (bytes_from chars start)))
+IsInTheWay chars start Burst = (0 < length (bytes_from chars start)) × IsBurstDelimiter (delimiter_in (bytes_from chars start))
 IsInTheWay chars start (BadDelimiter byte) =
     (0 < length (bytes_from chars start)) × (delimiter_in (bytes_from chars start) ≡ byte)
-    × (IsDelimiter byte → ⊥) × (IsTrue (is_burst_delimiter byte) → ⊥)
+    × (IsDelimiter byte → ⊥) × (IsBurstDelimiter byte → ⊥)
 IsInTheWay chars start EndsBeforeByteCount =
     IsTruncated (bytes_from chars start) × (HasByteCount (bytes_from chars start) → ⊥) × ComeToTheEnd chars start
 IsInTheWay chars start (ShortReply byte_count) =
@@ -60,8 +64,12 @@ pub record HasBodyAt (chars : List Character) (place : ℕ) : Type 0 where
   pub parts : drop place chars ≡ faultless body ++ rest
 
 -- Exactly one faultless preamble byte FF stands right before a place: no other stands right before that one.
-abbrev pub FollowsOnePreamble : List Character → ℕ → Type 0
-FollowsOnePreamble chars place = IsTrue (follows_one_preamble chars place)
+pub record FollowsOnePreamble (chars : List Character) (place : ℕ) : Type 0 where
+  pub prefix : List Character
+  pub rest : List Character
+  pub split : chars ≡ prefix ++ faultless (255 ∷ []) ++ rest
+  pub place_is : place ≡ length prefix + 1
+  pub alone : (earlier : List Character) → prefix ≢ earlier ++ faultless (255 ∷ [])
 
 -- A miss of a place is why no frame stands there. Where a body may start, the miss is what stands in its way. Where a whole body
 -- stands right after a single faultless FF, the miss is `OnePreamble`. Any other place has no miss.

@@ -1,9 +1,10 @@
 -- The miss of a place, found step by step (HCF_SPEC-081; own profile). The law `misses_are_in_the_way` says that `IsMiss` of
 -- InTheWay allows just this miss. The texts of `explain` and the sightings of a list use it.
-use Rattle.std.specs.Prelude.{◌+◌, ◌-◌, ◌/◌, ◌%◌, ◌==◌, ◌&&◌, ◌||◌, not, nat_le, nat_lt, if◌then◌else◌, ℕ, zero, suc, Bool, false}
+use Rattle.std.specs.Prelude.{◌+◌, ◌-◌, ◌/◌, ◌%◌, ◌==◌, ◌&&◌, not, nat_le, nat_lt, if◌then◌else◌, ℕ, zero, suc, Bool, false}
 use Rattle.std.specs.Prelude.{List, Option, None, Some, drop, fold, is_none, length, slice_get, slice_index, take, bit_xor}
 use Rattle.std.specs.Option.{option_map_or}
 use Rattle.hart_frame.specs.heard.Character.{Character, faultless_bytes}
+use Rattle.hart_frame.specs.wire.Delimiter.{is_delimiter}
 use Rattle.hart_frame.specs.wire.Layout.{body_length, byte_count_in, byte_count_place, delimiter_in}
 use Rattle.hart_frame.specs.declared.heard.miss.Miss.{Miss}
 use Rattle.hart_frame.specs.declared.heard.miss.Miss.TheVariants.{Faulty, Burst, BadDelimiter, EndsBeforeByteCount, ShortReply, Missing}
@@ -12,10 +13,6 @@ use Rattle.hart_frame.specs.declared.heard.miss.Miss.TheVariants.{BadCheck, OneP
 -- The delimiter of a burst message has bits 4 and 3 zero, and 1 in bits 2 to 0.
 abbrev pub is_burst_delimiter : ℕ → Bool
 is_burst_delimiter byte = (byte / 8 % 4 == 0) && (byte % 8 == 1)
-
--- A delimiter of this profile has bits 4 and 3 zero, and in bits 2 to 0 the kind of an STX or of an ACK.
-abbrev pub is_delimiter : ℕ → Bool
-is_delimiter byte = (byte / 8 % 4 == 0) && ((byte % 8 == 2) || (byte % 8 == 6))
 
 -- Why a first byte is no delimiter of this profile: it is the delimiter of a burst message, or some other byte.
 abbrev pub delimiter_miss : ℕ → Miss

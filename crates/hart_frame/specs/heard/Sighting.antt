@@ -7,15 +7,16 @@ use Rattle.hart_frame.specs.heard.Character.{Character}
 use Rattle.hart_frame.specs.heard.Frames.{AreFrames, moved}
 use Rattle.hart_frame.specs.heard.InTheWay.{bytes_from}
 use Rattle.hart_frame.specs.heard.Miss.{follows_one_preamble, miss_of}
+use Rattle.hart_frame.specs.wire.Header.{HeaderParts, header_in}
 use Rattle.hart_frame.specs.wire.Layout.{body_length}
 use Rattle.hart_frame.specs.declared.heard.found.Found.{Found}
 use Rattle.hart_frame.specs.declared.heard.miss.Miss.{Miss}
 use Rattle.hart_frame.specs.declared.heard.miss.Miss.TheVariants.{BadCheck, Faulty}
 
--- A message, or a place where one seems to start but none stands, with the reason.
+-- A message, or a place where one seems to start but none stands, with the reason and with the header that is heard there, if any.
 pub data Seen : Type 0 where
   Message : (found : Found) → Seen
-  Missed : (place : ℕ) (miss : Miss) → Seen
+  Missed : (place : ℕ) (miss : Miss) (header : Option HeaderParts) → Seen
 
 -- A miss of the list that begins at `from`, with its place counted in the whole list.
 abbrev pub miss_in_whole : ℕ → Miss → Miss
@@ -26,7 +27,7 @@ miss_in_whole from miss = miss
 -- A sighting, moved: the same one, with its places increased by `places`.
 abbrev pub moved_seen : ℕ → Seen → Seen
 moved_seen places (Message found) = Message (moved places found)
-moved_seen places (Missed place miss) = Missed (places + place) (miss_in_whole places miss)
+moved_seen places (Missed place miss header) = Missed (places + place) (miss_in_whole places miss) header
 
 -- Two preamble bytes FF stand in a row in some bytes: a byte and the one right after it are both FF.
 unfoldable pub has_two_preambles : List ℕ → Bool
@@ -42,12 +43,18 @@ abbrev pub seen_miss : List Character → ℕ → Option Miss
 seen_miss chars place =
     if follows_one_preamble chars place && two_begin_in_body chars place then None else miss_of chars place
 
--- A place and the miss that is seen there, if any. Characters before `from`, the end of the last message, do not count.
+-- The header that is heard at a place is that with which the faultless bytes from there on begin, if they have one.
+abbrev pub header_at : List Character → ℕ → Option HeaderParts
+header_at chars place = header_in (bytes_from chars place)
+
+-- A place, the miss that is seen there, if any, and the header that is heard there. Characters before `from`, the end of the last
+-- message, do not count.
 abbrev pub missed_at : List Character → ℕ → ℕ → List Seen
 missed_at chars from place =
-    option_map_or (λ miss. Missed place (miss_in_whole from miss) ∷ []) (seen_miss (drop from chars) (place - from)) []
+    option_map_or (λ miss. Missed place (miss_in_whole from miss) (header_at chars place) ∷ [])
+    (seen_miss (drop from chars) (place - from)) []
 
--- The places in a gap between messages where a miss is seen, in order, each with its miss.
+-- The places in a gap between messages where a miss is seen, in order, each with its miss and its header.
 abbrev pub missed : List Character → (from stop : ℕ) → List Seen
 missed chars from stop = flat_map (λ place. missed_at chars from place) (range_with_len from (stop - from))
 

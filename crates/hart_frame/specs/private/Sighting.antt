@@ -3,11 +3,12 @@ use Rattle.std.specs.Prelude.{◌≡◌, ◌≢◌, ◌<◌, ◌≤◌, ◌+◌,
 use Rattle.std.specs.Prelude.{None, Some, drop, is_none, length, slice_index}
 use Rattle.hart_frame.specs.heard.Character.{Character, faultless}
 use Rattle.hart_frame.specs.heard.Miss.{body_miss}
-use Rattle.hart_frame.specs.heard.Sighting.{two_begin_in_body}
+use Rattle.hart_frame.specs.heard.Sighting.{header_at, two_begin_in_body}
 use Rattle.hart_frame.specs.private.Prefix.{IsPrefix}
 use Rattle.hart_frame.specs.wire.View.{parts_of}
 use Rattle.hart_frame.specs.wire.Body.{IsBody}
 use Rattle.std.specs.List.{slice_range}
+use Rattle.hart_frame.specs.wire.Header.{header_in}
 use Rattle.hart_frame.specs.wire.Layout.{body_length}
 use Rattle.hart_frame.specs.wire.Parity.{IsCheckByte}
 use Rattle.hart_frame.specs.wire.Refusal.{HasGoodByteCount, IsTruncated}
@@ -50,6 +51,10 @@ Whatever bytes after holds = (next : List Character) → MayFollow after next �
 abbrev pub HasBodyMiss : ℕ → Option Miss → List Character → Type 0
 HasBodyMiss start miss chars = body_miss start (drop start chars) ≡ miss
 
+-- The header that is heard at a place is that of the bytes.
+abbrev pub KeepsHeader : List ℕ → ℕ → List Character → Type 0
+KeepsHeader bytes start chars = header_at chars start ≡ header_in (drop start bytes)
+
 -- A whole body stands at a place, and no two FF in a row begin in it.
 abbrev pub stands_alone : List Character → ℕ → Bool
 stands_alone chars start = is_none (body_miss start (drop start chars)) && not (two_begin_in_body chars start)
@@ -77,15 +82,17 @@ IsAfterOne bytes after start (Open used) =
 IsAfterOne bytes after start (standing.Message layout) = ⊥
 IsAfterOne bytes after start (standing.Missed miss) =
     (miss ≡ OnePreamble) × Whatever bytes after (λ chars. stands_alone chars start ≡ true)
+    × Whatever bytes after (KeepsHeader bytes start)
 
 -- What stands at a place right after two preamble bytes: bytes that may become a body, so nothing is decided; or a message; or a
--- miss.
+-- miss. What follows does not change the header of a miss, here and after a single preamble byte.
 abbrev pub IsAfterTwo : List ℕ → After → ℕ → Standing → Type 0
 IsAfterTwo bytes after start Nothing = ⊥
 IsAfterTwo bytes after start (Open used) = (after ≡ More) × (used + 2 ≡ start) × IsTruncated (drop start bytes)
 IsAfterTwo bytes after start (standing.Message layout) = IsPrefix (drop start bytes) (Whole layout)
 IsAfterTwo bytes after start (standing.Missed miss) =
     Whatever bytes after (HasBodyMiss start (Some miss)) × NamesPlacesBelow (length (heard_with bytes after)) miss
+    × Whatever bytes after (KeepsHeader bytes start)
 
 -- Two preamble bytes stand right before an asked place, both at or after `from`.
 abbrev pub FollowsTwo : List ℕ → ℕ → ℕ → Type 0

@@ -1,8 +1,9 @@
 -- What is promised of the next message or miss in bytes in memory (own profile).
-use Rattle.std.specs.Prelude.{◌≡◌, ◌≢◌, ◌<◌, ℕ, Bool, true, false, ⊤, List, [], ◌∷◌, ◌++◌, Option, None, Some}
+use Rattle.std.specs.Prelude.{◌≡◌, ◌≢◌, ◌<◌, ℕ, Bool, true, false, ⊤, List, [], ◌∷◌, ◌++◌, Option, None, Some, option_map}
 use Rattle.hart_frame.specs.heard.Character.{Character, faultless}
 use Rattle.hart_frame.specs.heard.Sighting.{Message, Missed, Seen}
 use Rattle.hart_frame.specs.scan.View.{found_of}
+use Rattle.hart_frame.specs.wire.Header.{header_parts}
 use Rattle.hart_frame.specs.declared.heard.miss.Miss.{Miss}
 use Rattle.hart_frame.specs.declared.heard.miss.Miss.TheVariants.{BadCheck, Faulty}
 use Rattle.hart_frame.specs.declared.scan.sighting.After.{After}
@@ -30,7 +31,7 @@ AfterIsValid _ = ⊤
 -- What a sighting in memory shows.
 abbrev pub seen_of : Sighting → Seen
 seen_of (given.Message view) = Message (found_of view)
-seen_of (given.Missed place miss) = Missed place miss
+seen_of (given.Missed place miss header) = Missed place miss (option_map header_parts header)
 
 -- The list of what a sighting shows, empty without one.
 abbrev pub sightings_of : Option Sighting → List Seen
@@ -47,4 +48,4 @@ NamesPlacesBelow count _ = ⊤
 -- only places below `count`.
 abbrev pub EndsAt : ℕ → ℕ → Sighting → Type 0
 EndsAt count used (given.Message view) = (view.start < view.stop) × (view.stop ≡ used)
-EndsAt count used (given.Missed place miss) = (place < used) × NamesPlacesBelow count miss
+EndsAt count used (given.Missed place miss header) = (place < used) × NamesPlacesBelow count miss

@@ -1,5 +1,5 @@
 -- The first byte of a body (HCF_SPEC-081).
-use Rattle.std.specs.Prelude.{ℕ, ◌+◌, ◌*◌, length}
+use Rattle.std.specs.Prelude.{ℕ, ◌+◌, ◌*◌, ◌/◌, ◌%◌, ◌==◌, ◌&&◌, ◌||◌, Bool, length}
 use Rattle.hart_values.specs.declared.address.Address.{Address}
 use Rattle.hart_values.specs.declared.address.Address.TheVariants.{Polling, Unique}
 use Rattle.hart_frame.specs.declared.wire.kind.FrameKind.{FrameKind}
@@ -20,3 +20,7 @@ address_type (Unique numbers) = 1
 -- layer, which is 0 here, and bits 2 to 0 the kind of frame.
 abbrev pub delimiter_of : FrameParts → ℕ
 delimiter_of frame = 128 * address_type frame.address + 32 * length frame.expansion + kind_code frame.kind
+
+-- A delimiter of this profile has bits 4 and 3 zero, and in bits 2 to 0 the kind of an STX or of an ACK.
+abbrev pub is_delimiter : ℕ → Bool
+is_delimiter byte = (byte / 8 % 4 == 0) && ((byte % 8 == 2) || (byte % 8 == 6))

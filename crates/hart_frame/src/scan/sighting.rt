@@ -1,17 +1,19 @@
 //! The next message in bytes that were heard, or the next place where one seems to start but none stands.
 ghost use Rattle.std.specs.Prelude.{None, Some, ◌≡◌, ◌↔◌, ◌<◌, ◌≤◌, ◌+◌, ◌-◌, ◌^◌, ◌++◌, [], ℕ, Bool, List, false, IfSome};
-ghost use Rattle.std.specs.Prelude.{IsTrue, drop, length, map, take};
+ghost use Rattle.std.specs.Prelude.{IsTrue, Option, drop, length, map, option_map, take};
 ghost use Rattle.hart_frame.specs.heard.Character.{Character, faultless};
 ghost use Rattle.hart_frame.specs.heard.Sighting.{AreSightings, IsUndecidedSighting, Seen, SeesOn, has_two_preambles, moved_seen};
 ghost use Rattle.hart_frame.specs.private.Prefix.{IsPrefix, IsWholeBody};
 ghost use Rattle.hart_frame.specs.scan.Sighting.{AfterIsValid, EndsAt, heard_with, is_end, sightings_of};
 ghost use Rattle.hart_frame.specs.private.Sighting.{HasBodyMiss, IsAfterOne, IsAfterTwo, IsAsked, IsNextAsked, IsMessageAt, IsPassed};
 ghost use Rattle.hart_frame.specs.private.Sighting.{IsStandingAt, LacksOnePreamble, MayStandAlone, Whatever, stands_alone};
+ghost use Rattle.hart_frame.specs.wire.Header.{header_in, header_parts};
 ghost use Rattle.hart_frame.specs.wire.Layout.{body_length};
 ghost use Rattle.hart_frame.specs.private.Layout.{layout_length};
 ghost use Rattle.hart_frame.specs.declared.scan.sighting.After.TheVariants.{More};
 ghost use Rattle.hart_frame.specs.declared.scan.sighting.Sighting.TheVariants.{Message, Missed};
 ghost use Rattle.hart_frame.specs.declared.scan.view.FoundView.{FoundView};
+ghost use Rattle.hart_frame.specs.declared.wire.header.Header.{Header};
 ghost use Rattle.hart_frame.specs.declared.wire.prefix.Prefix.TheVariants.{Cut};
 
 use crate::heard::miss::{cut_miss, wrong_miss};
@@ -20,7 +22,7 @@ use crate::wire::layout::Layout;
 use crate::wire::message::PREAMBLE;
 use crate::wire::parity::check_byte;
 use crate::wire::prefix::{Prefix, prefix_of};
-use crate::{Char, FoundView, FrameView, Miss};
+use crate::{Char, FoundView, FrameView, Header, Miss};
 
 /// What comes after bytes that were heard without faults.
 #[derive(Clone, Copy, Debug, PartialEq, Eq)]
@@ -38,8 +40,13 @@ pub enum After {
 pub enum Sighting<'a> {
     /// A message, whose frame lies where it was found.
     Message(FoundView<'a>),
-    /// Why no frame stands at this place.
-    Missed { place: usize, miss: Miss },
+    /// Why no frame stands at this place. The header is that of the faultless bytes from there on, if they begin with a delimiter of
+    /// this profile and reach the command.
+    Missed {
+        place: usize,
+        miss: Miss,
+        header: Option<Header>,
+    },
 }
 
 /// The next sighting in bytes.
@@ -81,7 +88,7 @@ pub fn next_sighting(bytes: &[u8], after: After, from: usize) -> NextSighting<'_
             Standing::Nothing => place = start,
             Standing::Open(used) => return none_decided(used),
             Standing::Message(layout) => return message_at(bytes, start, layout),
-            Standing::Missed(miss) => return missed(start, miss),
+            Standing::Missed(miss) => return missed(bytes, start, miss),
         }
     }
     none_decided(passed(bytes, &after, from))
@@ -97,13 +104,20 @@ fn none_decided<'a>(used: usize) -> NextSighting<'a>
     }
 }
 
-/// Returns the miss of a place.
-fn missed<'a>(place: usize, miss: Miss) -> NextSighting<'a>
-    requires { place < 2 ^ 64 - 1 }
-    ensures { result ≡ record { sighting = Some (Missed place miss); used = place + 1 } }
+/// Returns the miss of a place, with the header of the bytes from there on.
+fn missed<'a>(bytes: &[u8], place: usize, miss: Miss) -> NextSighting<'a>
+    requires within { place ≤ length bytes.now }
+    requires places { length bytes.now < 2 ^ 64 - 1 }
+    ensures miss { (header : Option Header) × (result.sighting ≡ Some (Missed place miss header))
+        × (option_map header_parts header ≡ header_in (drop place bytes.now)) }
+    ensures used { result.used ≡ place + 1 }
 {
     NextSighting {
-        sighting: Some(Sighting::Missed { place, miss }),
+        sighting: Some(Sighting::Missed {
+            place,
+            miss,
+            header: Header::read(&bytes[place..]),
+        }),
         used: place + 1,
     }
 }

@@ -41,11 +41,25 @@ pub(crate) struct Delimiter {
 }
 
 impl Delimiter {
-    /// Returns the place of the byte count: after the delimiter, the address bytes, the expansion bytes and the command.
+    /// Returns the place after the address bytes.
+    pub(crate) fn address_end(self) -> usize
+        ensures { result ≡ 1 + self.address_len }
+    {
+        1 + usize::from(self.address_len)
+    }
+
+    /// Returns the place of the command: after the delimiter, the address bytes and the expansion bytes.
+    pub(crate) fn command_place(self) -> usize
+        ensures { result ≡ 1 + self.address_len + self.expansion_len }
+    {
+        1 + usize::from(self.address_len) + usize::from(self.expansion_len)
+    }
+
+    /// Returns the place of the byte count, right after the command.
     pub(crate) fn byte_count_place(self) -> usize
         ensures { result ≡ 2 + self.address_len + self.expansion_len }
     {
-        2 + usize::from(self.address_len) + usize::from(self.expansion_len)
+        self.command_place() + 1
     }
 
     /// Returns the layout of a body with this delimiter and byte count, or `None` if the count is too low: the payload of an ACK

@@ -159,7 +159,8 @@ const EXPLAINED: &[Row] = &[
     (IDENTIFY, IDENTIFY_SAID, NONE),
     (
         "FF FF 02 80 00 00 83",
-        "2: no message: the check byte is 0x83 at 6, and 0x82 would fit\n",
+        "2: no message: the check byte is 0x83 at 6, and 0x82 would fit\n    seems: request of the primary \
+        master to the device at polling address 0, Command 0, read unique identifier\n",
         NONE,
     ),
     (
@@ -170,7 +171,8 @@ const EXPLAINED: &[Row] = &[
     ),
     (
         "FF 02 80 00 00 82",
-        "1: no message: only one 0xFF stands before it\n",
+        "1: no message: only one 0xFF stands before it\n    seems: request of the primary master \
+        to the device at polling address 0, Command 0, read unique identifier\n",
         NONE,
     ),
     // The message lies in what would be a whole body after one preamble byte.
@@ -189,7 +191,8 @@ const EXPLAINED: &[Row] = &[
     ),
     (
         "FF FF 02 80 00 00/82",
-        "2: no message: it lacks 1 character, its check byte\n",
+        "2: no message: it lacks 1 character, its check byte\n    seems: request of the primary master \
+        to the device at polling address 0, Command 0, read unique identifier\n",
         NONE,
     ),
     (

@@ -58,7 +58,16 @@ const FAILED_READS: &[(Call, &str, Lines)] = &[
         &[
             (0, ""),
             (9, "2: no message: it ends before its byte count\n"),
-            (18, "2: no message: it lacks 1 character, its check byte\n"),
+            (
+                15,
+                "2: no message: it ends before its byte count\n    seems: request of the primary \
+                master to the device at polling address 0, Command 0, read unique identifier\n",
+            ),
+            (
+                18,
+                "2: no message: it lacks 1 character, its check byte\n    seems: request of the primary \
+                master to the device at polling address 0, Command 0, read unique identifier\n",
+            ),
             (21, IDENTIFY_SAID),
         ],
     ),

@@ -148,7 +148,7 @@ fn placed(first: usize, sighting: &Sighting) -> Option<Seen> {
                 found.stop.checked_add(first)?,
             ))
         }
-        Sighting::Missed { place, miss } => {
+        Sighting::Missed { place, miss, .. } => {
             Some(Seen::Missed(place.checked_add(first)?, moved(*miss, first)?))
         }
     }
@@ -171,7 +171,7 @@ fn moved(miss: Miss, places: usize) -> Option<Miss> {
 }
 
 /// Returns the next sighting from `from` on; `None` if `from` lies past the bytes, they are too many, or the damage has no fault.
-fn next_of(bytes: &[u8], after: After, from: usize) -> Option<NextSighting<'_>> {
+pub fn next_of(bytes: &[u8], after: After, from: usize) -> Option<NextSighting<'_>> {
     if from > bytes.len() || bytes.len() > MOST_BYTES {
         return None;
     }

@@ -13,11 +13,11 @@ back_miss n miss = miss
 
 abbrev pub back : ℕ → Seen → Seen
 back n (Message found) = Message (record { start = found.start - n; stop = found.stop - n; frame = found.frame })
-back n (Missed place miss) = Missed (place - n) (back_miss n miss)
+back n (Missed place miss header) = Missed (place - n) (back_miss n miss) header
 
 moved_back : (n : ℕ) (s : Seen) → back n (moved_seen n s) ≡ s
 moved_back n (Message found) = grind (arith, common_steps)
-moved_back n (Missed place miss) = grind (arith, common_steps)
+moved_back n (Missed place miss header) = grind (arith, common_steps)
 
 -- if moved sightings begin with `s`, the sightings begin with `s` moved back
 pub first_moved : (n : ℕ) (all : List Seen) (s : Seen) (later : List Seen) → map (moved_seen n) all ≡ s ∷ later

@@ -1,6 +1,6 @@
 -- The places outside messages: which of them have a miss, and the lines of these misses.
 use Rattle.std.proofs.Common.{◌≡◌, ◌≢◌, ◌≤◌, ◌<◌, ◌+◌, ◌-◌, ℕ, zero, suc, Bool, true, false, List, [], ◌∷◌, ◌++◌, length, get_or, drop}
-use Rattle.std.proofs.Common.{take, Option, None, Some, refl, append_assoc, arith, length-append, length-drop}
+use Rattle.std.proofs.Common.{take, Option, None, Some, refl, sym, append_assoc, arith, length-append, length-drop}
 use Rattle.std.proofs.lemmas.Bool.Decides.{nat_tests}
 use Rattle.std.proofs.lemmas.Grind.{common_steps}
 use Rattle.std.proofs.lemmas.List.{take-append-drop}
@@ -23,54 +23,57 @@ use Rattle.hart_frame.specs.heard.Miss.{follows_one_preamble, is_start, miss_of}
 use Rattle.hart_frame.specs.heard.Place.{StandsIn}
 use Rattle.hart_frame.specs.heard.Start.{IsStart}
 use Rattle.hart_frame.proofs.lemmas.heard.Start.{start_test}
-use Rattle.hart_frame.specs.heard.Sighting.{Missed, Seen, miss_in_whole, missed, seen_miss}
+use Rattle.hart_frame.specs.heard.Sighting.{Missed, Seen, header_at, miss_in_whole, missed, seen_miss}
+use Rattle.hart_frame.specs.wire.Header.{HeaderParts}
 use Rattle.hart_cli.specs.explain.Gaps.{IsGap, seen_place}
 use Rattle.hart_cli.specs.explain.Misses.{miss_words}
 use Rattle.hart_cli.specs.explain.Words.{hex_value}
 
--- a place with its miss, changed by a function, if the place has a miss
-abbrev pub told_at : (Miss → Miss) → (ℕ → Option Miss) → ℕ → List Seen
-told_at told f place = option_map_or (λ miss. Missed place (told miss) ∷ []) (f place) []
+-- a place with its miss, changed by a function, and with its header, if the place has a miss
+abbrev pub told_at : (Miss → Miss) → (ℕ → Option Miss) → (ℕ → Option HeaderParts) → ℕ → List Seen
+told_at told f h place = option_map_or (λ miss. Missed place (told miss) (h place) ∷ []) (f place) []
 
-abbrev pub told_from : (Miss → Miss) → (ℕ → Option Miss) → ℕ → ℕ → List Seen
-told_from told f a n = flat_map (λ place. told_at told f place) (range_with_len a n)
+abbrev pub told_from : (Miss → Miss) → (ℕ → Option Miss) → (ℕ → Option HeaderParts) → ℕ → ℕ → List Seen
+told_from told f h a n = flat_map (λ place. told_at told f h place) (range_with_len a n)
 
 -- a miss that is told of `n` places from `a` on stands at one of them, and is made from the miss there
-pub told_is : (told : Miss → Miss) (f : ℕ → Option Miss) (a n place : ℕ) (miss : Miss) → Contains (told_from told f a n) (Missed place miss)
-    → (a ≤ place) × (place < a + n) × (option_map told (f place) ≡ Some miss)
-told_is told f a zero place miss has = grind arith
-told_is told f a (suc n) place miss has =
-    grind (arith, common_steps, Contains-append_cases, told_is told f (a + 1) n place miss)
+pub told_is : (told : Miss → Miss) (f : ℕ → Option Miss) (h : ℕ → Option HeaderParts) (a n place : ℕ) (miss : Miss)
+    (header : Option HeaderParts) → Contains (told_from told f h a n) (Missed place miss header)
+    → (a ≤ place) × (place < a + n) × (option_map told (f place) ≡ Some miss) × (header ≡ h place)
+told_is told f h a zero place miss header has = grind arith
+told_is told f h a (suc n) place miss header has =
+    grind (arith, common_steps, Contains-append_cases, told_is told f h (a + 1) n place miss header)
 
 -- nothing that is told of places from `a` on stands before `a`
-told_after : (told : Miss → Miss) (f : ℕ → Option Miss) (a n : ℕ) (x : Seen) → Contains (told_from told f a n) x → a ≤ seen_place x
-told_after told f a zero x has = grind arith
-told_after told f a (suc n) x has = grind (arith, common_steps, Contains-append_cases, told_after told f (a + 1) n x)
+told_after : (told : Miss → Miss) (f : ℕ → Option Miss) (h : ℕ → Option HeaderParts) (a n : ℕ) (x : Seen)
+    → Contains (told_from told f h a n) x → a ≤ seen_place x
+told_after told f h a zero x has = grind arith
+told_after told f h a (suc n) x has = grind (arith, common_steps, Contains-append_cases, told_after told f h (a + 1) n x)
 
 -- every place with a miss is among the places that are told
-pub told_has : (told : Miss → Miss) (f : ℕ → Option Miss) (a n place : ℕ) (miss : Miss) → a ≤ place → place < a + n
-    → option_map told (f place) ≡ Some miss → Contains (told_from told f a n) (Missed place miss)
-told_has told f a zero place miss from below has = absurd (omega arith)
-told_has told f a (suc n) place miss from below has =
+pub told_has : (told : Miss → Miss) (f : ℕ → Option Miss) (h : ℕ → Option HeaderParts) (a n place : ℕ) (miss : Miss) → a ≤ place
+    → place < a + n → option_map told (f place) ≡ Some miss → Contains (told_from told f h a n) (Missed place miss (h place))
+told_has told f h a zero place miss from below has = absurd (omega arith)
+told_has told f h a (suc n) place miss from below has =
     grind (
       arith,
       Contains-append_right,
       Contains-append_left,
-      Contains-get_or (told_at told f a) 0 (Missed place miss),
-      told_has told f (a + 1) n place miss,
+      Contains-get_or (told_at told f h a) 0 (Missed place miss (h place)),
+      told_has told f h (a + 1) n place miss,
     )
 
 -- what is told of places stands in the order of the places
-pub told_in_order : (told : Miss → Miss) (f : ℕ → Option Miss) (a n : ℕ)
-    → AllPairs (λ one later. seen_place one < seen_place later) (told_from told f a n)
-told_in_order told f a zero = λ i j d before within. absurd (omega arith)
-told_in_order told f a (suc n) = elim (f a) as (λ miss. AllPairs (λ one later. seen_place one < seen_place later)
-    (option_map_or (λ m. Missed a (told m) ∷ []) miss [] ++ told_from told f (a + 1) n)) [
-      | None ↦ told_in_order told f (a + 1) n
+pub told_in_order : (told : Miss → Miss) (f : ℕ → Option Miss) (h : ℕ → Option HeaderParts) (a n : ℕ)
+    → AllPairs (λ one later. seen_place one < seen_place later) (told_from told f h a n)
+told_in_order told f h a zero = λ i j d before within. absurd (omega arith)
+told_in_order told f h a (suc n) = elim (f a) as (λ miss. AllPairs (λ one later. seen_place one < seen_place later)
+    (option_map_or (λ m. Missed a (told m) (h a) ∷ []) miss [] ++ told_from told f h (a + 1) n)) [
+      | None ↦ told_in_order told f h (a + 1) n
       | Some m ↦
-          AllPairs-cons (λ one later. seen_place one < seen_place later) (Missed a (told m)) (told_from told f (a + 1) n)
-          (λ k d within. omega (arith, told_after told f (a + 1) n _ (Contains-get_or (told_from told f (a + 1) n) k d within)))
-          (told_in_order told f (a + 1) n)
+          AllPairs-cons (λ one later. seen_place one < seen_place later) (Missed a (told m) (h a)) (told_from told f h (a + 1) n)
+          (λ k d within. omega (arith, told_after told f h (a + 1) n _ (Contains-get_or (told_from told f h (a + 1) n) k d within)))
+          (told_in_order told f h (a + 1) n)
     ]
 
 -- whether a code is not that of a line feed
@@ -90,7 +93,7 @@ unfolding digits
 unbroken-decimal n = unbroken-onto 64 n [] refl
 
 -- a hexadecimal digit is no line feed
-unbroken-digit : (k : ℕ) → no_line_feed (get_or upper_digits k 0) ≡ true
+pub unbroken-digit : (k : ℕ) → no_line_feed (get_or upper_digits k 0) ≡ true
 unbroken-digit k = grind (arith, common_steps, list_all_at no_line_feed upper_digits)
 
 -- the words of a miss have no line feed
@@ -132,11 +135,20 @@ pub seen_is_miss : (chars : List Character) (place : ℕ) (miss : Miss) → seen
 seen_is_miss chars place miss is = grind arith
 
 -- each miss told of a gap is one that is seen in the characters from the gap on
-pub missed_are : (chars : List Character) (from stop place : ℕ) (miss : Miss) → Contains (missed chars from stop) (Missed place miss)
+pub missed_are : (chars : List Character) (from stop place : ℕ) (miss : Miss) (header : Option HeaderParts)
+    → Contains (missed chars from stop) (Missed place miss header)
     → (from ≤ place) × (own : Miss) × (seen_miss (drop from chars) (place - from) ≡ Some own) × (miss ≡ miss_in_whole from own)
-missed_are chars from stop place miss has =
-    let is = told_is (miss_in_whole from) (λ at. seen_miss (drop from chars) (at - from)) from (stop - from) place miss has in
+missed_are chars from stop place miss header has =
+    let is = told_is (miss_in_whole from) (λ at. seen_miss (drop from chars) (at - from)) (header_at chars) from (stop - from) place miss
+    header has in
     let own = own_miss (miss_in_whole from) (seen_miss (drop from chars) (place - from)) miss is.2 in (is.0, own.0, own.1, own.2)
+
+-- the header that is told with a miss is the one that is heard at its place
+pub missed_header : (chars : List Character) (from stop place : ℕ) (miss : Miss) (header : Option HeaderParts)
+    → Contains (missed chars from stop) (Missed place miss header) → header_at chars place ≡ header
+missed_header chars from stop place miss header has =
+    let is = told_is (miss_in_whole from) (λ at. seen_miss (drop from chars) (at - from)) (header_at chars) from (stop - from) place miss
+    header has in sym is.3
 
 -- the miss of one preamble byte alone is the same in the whole list
 pub whole_one : (from : ℕ) (own miss : Miss) → miss ≡ miss_in_whole from own → own ≡ OnePreamble → miss ≡ OnePreamble

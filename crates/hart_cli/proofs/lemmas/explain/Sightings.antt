@@ -11,7 +11,7 @@ use Rattle.hart_frame.proofs.lemmas.scan.SightingLaws.{all as seen_to_the_end, o
 -- moving a sighting by two numbers moves it by their sum
 twice : (a b : ℕ) (s : Seen) → moved_seen a (moved_seen b s) ≡ moved_seen (a + b) s
 twice a b (Message found) = grind (arith, common_steps)
-twice a b (Missed place miss) = grind (arith, common_steps)
+twice a b (Missed place miss header) = grind (arith, common_steps)
 
 pub moved_twice : (a b : ℕ) (seen : List Seen) → map (moved_seen a) (map (moved_seen b) seen) ≡ map (moved_seen (a + b)) seen
 moved_twice a b [] = refl
@@ -20,7 +20,7 @@ moved_twice a b (s ∷ seen) = rw (twice a b s, moved_twice a b seen) refl
 -- moving a sighting by 0 leaves it as it is
 unmoved : (s : Seen) → moved_seen 0 s ≡ s
 unmoved (Message found) = grind (arith, common_steps)
-unmoved (Missed place miss) = grind (arith, common_steps)
+unmoved (Missed place miss header) = grind (arith, common_steps)
 
 pub moved_none : (seen : List Seen) → map (moved_seen 0) seen ≡ seen
 moved_none [] = refl

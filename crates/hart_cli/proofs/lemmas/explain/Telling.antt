@@ -309,5 +309,5 @@ pub fits_from : (first count used : ℕ) (sighting : Sighting) → first + count
     → FitsFrom first sighting
 fits_from first count used (given.Message view) few within ends =
     (omega (arith, few, within, ends.0, ends.1), omega (arith, few, within, ends.1))
-fits_from first count used (given.Missed place miss) few within ends =
+fits_from first count used (given.Missed place miss header) few within ends =
     (omega (arith, few, within, ends.0), names_below count (2 ^ 64 - first) miss (omega (arith, few)) ends.1)

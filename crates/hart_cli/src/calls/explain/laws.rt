@@ -1,16 +1,18 @@
 //! What an explanation says, and what it does not say.
 ghost use Rattle.std.specs.Prelude.{◌≡◌, ◌+◌, ◌-◌, ◌<◌, ◌≤◌, ◌↔◌, ◌⊎◌, ◌++◌, ◌∷◌, [], ℕ, false, List, All, AllPairs, Contains, IsSome};
 ghost use Rattle.std.specs.Prelude.{Option, Some};
-ghost use Rattle.std.specs.Prelude.{drop, length, option_map, set};
+ghost use Rattle.std.specs.Prelude.{drop, length, option_map, set, take};
 ghost use Rattle.hart_frame.specs.heard.Character.{Character, faultless};
 ghost use Rattle.hart_frame.specs.heard.Frames.{AreFrames};
 ghost use Rattle.hart_frame.specs.heard.InTheWay.{FollowsOnePreamble, HasBodyAt, HasFaultsAt, IsInTheWay, bytes_from};
-ghost use Rattle.hart_frame.specs.heard.Place.{HasFrameUpTo};
-ghost use Rattle.hart_frame.specs.heard.Sighting.{Missed, miss_in_whole, missed, seen_miss, sightings, two_begin_in_body};
+ghost use Rattle.hart_frame.specs.heard.Place.{HasFrameUpTo, StandsIn};
+ghost use Rattle.hart_frame.specs.heard.Sighting.{Missed, header_at, miss_in_whole, missed, seen_miss, sightings, two_begin_in_body};
 ghost use Rattle.hart_frame.specs.heard.Start.{IsStart};
 ghost use Rattle.hart_frame.specs.declared.heard.found.Found.{Found};
 ghost use Rattle.hart_frame.specs.declared.heard.miss.Miss.{Miss};
 ghost use Rattle.hart_frame.specs.declared.heard.miss.Miss.TheVariants.{BadCheck, Faulty, Missing, OnePreamble};
+ghost use Rattle.hart_frame.specs.wire.Header.{HeaderParts, header_of};
+ghost use Rattle.hart_frame.specs.wire.Layout.{command_place};
 ghost use Rattle.hart_frame.specs.wire.Parity.{IsCheckByte};
 ghost use Rattle.hart_cli.specs.declared.fault.CliFault.{CliFault};
 ghost use Rattle.hart_cli.specs.dump.Dump.{IsDump};
@@ -19,7 +21,7 @@ ghost use Rattle.hart_cli.specs.explain.Explain.{IsExplanation, IsRawExplanation
 ghost use Rattle.hart_cli.specs.explain.Explanation.{IsDecidedExplanation, IsExplanationOf, explanation};
 ghost use Rattle.hart_cli.specs.explain.Gaps.{IsGap, IsOneLine, seen_place};
 ghost use Rattle.hart_cli.specs.explain.Message.{paragraph};
-ghost use Rattle.hart_cli.specs.explain.Misses.{miss_line};
+ghost use Rattle.hart_cli.specs.explain.Misses.{miss_line, seems_line};
 ghost use Rattle.hart_cli.specs.input.Input.{Ending, Left};
 ghost use Rattle.hart_cli.specs.input.Decoding.{heard_decoding, raw_decoding};
 ghost use Rattle.hart_cli.specs.input.LiveInput.{IsDecidedText};
@@ -60,24 +62,27 @@ pub fn explanations_name_the_messages_of_dump()
 
 /// An explanation is what is said of the places before the first message, that message's paragraph, and what is said after it.
 ///
-/// A gap between messages has one line for each place where the definition has a miss, in the order of the places. Let the list be
-/// the characters from the end of the last message on. Each place of the gap where a body may start in it has a line. Any other
-/// place has one only if it comes after one preamble byte alone.
+/// A gap between messages has one line for each place where the definition has a miss, in the order of the places. After it comes a
+/// second line if a header is heard at the place. Let the list be the characters from the end of the last message on. Each place of
+/// the gap where a body may start in it has a line. Any other place has one only if it comes after one preamble byte alone.
 pub fn every_start_outside_messages_has_one_line()
     ensures by_message { (chars : List Character) (from : ℕ) (found : Found) (later : List Found)
         → explanation (sightings chars from (found ∷ later))
         ≡ explanation (missed chars from found.start) ++ paragraph found ++ explanation (sightings chars found.stop later) }
     ensures one_line { (place : ℕ) (miss : Miss) → IsOneLine (miss_line place miss) }
+    ensures second_line { (header : HeaderParts) → IsOneLine (seems_line (Some header)) }
     ensures in_order { (chars : List Character) (from stop : ℕ)
         → AllPairs (λ told later. seen_place told < seen_place later) (missed chars from stop) }
-    ensures exactly { (chars : List Character) (from stop place : ℕ) (miss : Miss) → Contains (missed chars from stop) (Missed place miss)
+    ensures exactly { (chars : List Character) (from stop place : ℕ) (miss : Miss) (header : Option HeaderParts)
+        → Contains (missed chars from stop) (Missed place miss header)
         ↔ ((from ≤ place) × (place < stop)
-        × (option_map (miss_in_whole from) (seen_miss (drop from chars) (place - from)) ≡ Some miss)) }
+        × (option_map (miss_in_whole from) (seen_miss (drop from chars) (place - from)) ≡ Some miss)
+        × (header ≡ header_at chars place)) }
     ensures every_start { (chars : List Character) (frames : List Found) (from stop place : ℕ)
         → All (λ character. character.byte < 256) chars → AreFrames chars 0 frames → IsGap chars 0 frames from stop
         → from ≤ place → place < stop → IsStart (place - from) (drop from chars) → IsSome (seen_miss (drop from chars) (place - from)) }
-    ensures only_there { (chars : List Character) (from stop place : ℕ) (miss : Miss)
-        → Contains (missed chars from stop) (Missed place miss) → IsStart (place - from) (drop from chars) ⊎ (miss ≡ OnePreamble) }
+    ensures only_there { (chars : List Character) (from stop place : ℕ) (miss : Miss) (header : Option HeaderParts)
+        → Contains (missed chars from stop) (Missed place miss header) → IsStart (place - from) (drop from chars) ⊎ (miss ≡ OnePreamble) }
 {
     every_start_has_a_frame_or_a_miss();
 }
@@ -88,25 +93,34 @@ pub fn every_start_outside_messages_has_one_line()
 /// way in the whole input. If the byte that would fit replaces the check byte, a frame stands at the line's place and ends with
 /// that byte. The character at the place told has the fault bits told. If the missing characters come, any bytes and then their
 /// check byte, a frame stands at the line's place and ends with them. If a line says that only one `FF` stands before its place,
-/// just one stands right before it in the list. A whole body stands at that place, and ends before two `FF` in a row begin.
+/// just one stands right before it in the list. A whole body stands at that place, and ends before two `FF` in a row begin. If the
+/// characters up to the command stay and others follow them, a frame that stands at the place has the header that the second line says.
 pub fn hints_of_explanations_are_right()
-    ensures in_the_way { (chars : List Character) (from stop place : ℕ) (miss : Miss) → All (λ character. character.byte < 256) chars
-        → Contains (missed chars from stop) (Missed place miss) → IsStart (place - from) (drop from chars)
+    ensures in_the_way { (chars : List Character) (from stop place : ℕ) (miss : Miss) (header : Option HeaderParts)
+        → All (λ character. character.byte < 256) chars
+        → Contains (missed chars from stop) (Missed place miss header) → IsStart (place - from) (drop from chars)
         → IsInTheWay chars place miss }
-    ensures fits { (chars : List Character) (from stop place at byte fits : ℕ) → All (λ character. character.byte < 256) chars
-        → Contains (missed chars from stop) (Missed place (BadCheck at byte fits))
+    ensures fits { (chars : List Character) (from stop place at byte fits : ℕ) (header : Option HeaderParts)
+        → All (λ character. character.byte < 256) chars
+        → Contains (missed chars from stop) (Missed place (BadCheck at byte fits) header)
         → HasFrameUpTo (set chars at (record { byte = fits; faults = 0 })) place (at + 1) }
-    ensures faulty { (chars : List Character) (from stop place at faults : ℕ) → All (λ character. character.byte < 256) chars
-        → Contains (missed chars from stop) (Missed place (Faulty at faults)) → HasFaultsAt chars at faults }
-    ensures missing { (chars : List Character) (from stop place count : ℕ) (bytes : List ℕ)
+    ensures faulty { (chars : List Character) (from stop place at faults : ℕ) (header : Option HeaderParts)
+        → All (λ character. character.byte < 256) chars
+        → Contains (missed chars from stop) (Missed place (Faulty at faults) header) → HasFaultsAt chars at faults }
+    ensures missing { (chars : List Character) (from stop place count : ℕ) (bytes : List ℕ) (header : Option HeaderParts)
         → All (λ character. character.byte < 256) chars → All (λ byte. byte < 256) bytes
-        → Contains (missed chars from stop) (Missed place (Missing count)) → count ≡ length bytes + 1
+        → Contains (missed chars from stop) (Missed place (Missing count) header) → count ≡ length bytes + 1
         → (last : ℕ) × IsCheckByte (bytes_from chars place ++ bytes) last
         × HasFrameUpTo (chars ++ faultless (bytes ++ last ∷ [])) place (length chars + count) }
-    ensures alone { (chars : List Character) (from stop place : ℕ) → All (λ character. character.byte < 256) chars
-        → Contains (missed chars from stop) (Missed place OnePreamble)
+    ensures alone { (chars : List Character) (from stop place : ℕ) (header : Option HeaderParts)
+        → All (λ character. character.byte < 256) chars
+        → Contains (missed chars from stop) (Missed place OnePreamble header)
         → FollowsOnePreamble (drop from chars) (place - from) × HasBodyAt chars place
         × (two_begin_in_body (drop from chars) (place - from) ≡ false) }
+    ensures seems { (chars others : List Character) (from stop place : ℕ) (miss : Miss) (header : HeaderParts) (found : Found)
+        → Contains (missed chars from stop) (Missed place miss (Some header))
+        → take (place + command_place (bytes_from chars place) + 1) others ≡ take (place + command_place (bytes_from chars place) + 1) chars
+        → StandsIn found others 0 → found.start ≡ place → header ≡ header_of found.frame }
 {
     every_start_has_a_frame_or_a_miss();
     misses_are_in_the_way();

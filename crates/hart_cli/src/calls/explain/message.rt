@@ -4,15 +4,14 @@ ghost use Rattle.hart_frame.specs.declared.wire.kind.FrameKind.TheVariants.{Ack}
 ghost use Rattle.hart_frame.specs.heard.Frames.{moved};
 ghost use Rattle.hart_frame.specs.scan.View.{found_of};
 ghost use Rattle.hart_frame.specs.wire.View.{parts_of};
-ghost use Rattle.hart_cli.specs.explain.Message.{burst_line, command_words, message_line, paragraph, payload_lines};
+ghost use Rattle.hart_cli.specs.explain.Message.{burst_line, message_line, paragraph, payload_lines};
 
 use crate::calls::explain::data::{push_reply_data, push_request_data};
 use crate::calls::explain::status::push_status;
-use crate::calls::explain::words::{push_bytes_line, push_named_number, push_said, push_who};
+use crate::calls::explain::words::{push_bytes_line, push_header, push_said};
 use crate::kept::Kept;
 use crate::text::pairs::Pairs;
 use crate::text::words::push_text;
-use hart_commands::command_name;
 use hart_frame::{FoundView, FrameKind, FrameView};
 use itoa::Buffer;
 
@@ -67,20 +66,15 @@ fn push_message_line(text: &mut Kept, pairs: &Pairs, first: u64, found: &FoundVi
     push_text(text, "-");
     push_text(text, Buffer::new().format(first + found.stop));
     push_text(text, ": ");
-    push_who(text, pairs, frame.kind(), frame.master(), frame.address());
-    push_text(text, ", ");
-    push_command(text, frame.command());
+    push_header(
+        text,
+        pairs,
+        frame.kind(),
+        frame.master(),
+        frame.address(),
+        frame.command(),
+    );
     text.push(b'\n');
-}
-
-/// Adds the words of a command.
-fn push_command(text: &mut Kept, command: u8)
-    requires { length text.old + 80 ≤ 32768 }
-    ensures words { text.new ≡ text.old ++ command_words command }
-    ensures few { length text.new ≤ length text.old + 80 }
-{
-    push_text(text, "Command ");
-    push_named_number(text, command, command_name(command));
 }
 
 /// Adds the line of a burst bit, if it is set.

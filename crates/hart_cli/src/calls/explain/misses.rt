@@ -1,14 +1,15 @@
 //! What is said of places where a message seems to start, but none stands.
-ghost use Rattle.std.specs.Prelude.{◌≡◌, ◌++◌, ◌+◌, ◌-◌, ◌<◌, ◌≤◌, ◌^◌, codes, decimal, length};
+ghost use Rattle.std.specs.Prelude.{◌≡◌, ◌++◌, ◌+◌, ◌-◌, ◌<◌, ◌≤◌, ◌^◌, codes, decimal, length, option_map};
 ghost use Rattle.hart_frame.specs.heard.Sighting.{miss_in_whole};
 ghost use Rattle.hart_frame.specs.scan.Sighting.{NamesPlacesBelow};
-ghost use Rattle.hart_cli.specs.explain.Misses.{byte_value, miss_line, miss_words, missing_words};
+ghost use Rattle.hart_frame.specs.wire.Header.{header_parts};
+ghost use Rattle.hart_cli.specs.explain.Misses.{byte_value, miss_line, miss_words, missing_words, seems_line};
 
-use crate::calls::explain::words::push_hex_value;
+use crate::calls::explain::words::{push_header, push_hex_value, push_name};
 use crate::kept::Kept;
 use crate::text::pairs::Pairs;
 use crate::text::words::push_text;
-use hart_frame::Miss;
+use hart_frame::{Header, Miss};
 use itoa::Buffer;
 
 /// Appends the line of a missed place. This place and those in its miss are counted from `first` on.
@@ -16,13 +17,33 @@ pub fn push_miss_line(text: &mut Kept, pairs: &Pairs, first: u64, place: usize, 
     requires room { length text.old + 200 ≤ 32768 }
     requires place { first + place < 2 ^ 64 }
     requires fits { NamesPlacesBelow (2 ^ 64 - first) miss }
-    ensures { text.new ≡ text.old ++ miss_line (first + place) (miss_in_whole first miss) }
+    ensures line { text.new ≡ text.old ++ miss_line (first + place) (miss_in_whole first miss) }
+    ensures few { length text.new ≤ length text.old + 140 }
 {
     let start = first + place as u64;
     push_text(text, Buffer::new().format(start));
     push_text(text, ": no message: ");
     push_miss(text, pairs, first, miss);
     text.push(b'\n');
+}
+
+/// Appends the line that says what a missed message seems to be, if its header was heard.
+pub fn push_seems_line(text: &mut Kept, pairs: &Pairs, header: &Option<Header>)
+    requires { length text.old + 190 ≤ 32768 }
+    ensures { text.new ≡ text.old ++ seems_line (option_map header_parts header.now) }
+{
+    if let Some(header) = header {
+        push_name(text, "seems");
+        push_header(
+            text,
+            pairs,
+            header.kind(),
+            header.master(),
+            header.address(),
+            header.command(),
+        );
+        text.push(b'\n');
+    }
 }
 
 /// Appends the words of a miss. Its places are counted from `first` on.

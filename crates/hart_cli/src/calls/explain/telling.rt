@@ -13,7 +13,7 @@ ghost use Rattle.hart_cli.specs.text.Heard.{BeginsWithSilence, NothingBegins};
 ghost use Rattle.hart_cli.specs.text.Items.{NoPieceBegins};
 
 use crate::calls::explain::message::push_paragraph;
-use crate::calls::explain::misses::push_miss_line;
+use crate::calls::explain::misses::{push_miss_line, push_seems_line};
 use crate::kept::{Kept, make_room};
 use crate::output::write_all;
 use crate::stream::{Failed, Sink};
@@ -340,6 +340,13 @@ fn push_sighting(text: &mut Kept, pairs: &Pairs, first: u64, sighting: &Sighting
 {
     match sighting {
         Sighting::Message(found) => push_paragraph(text, pairs, first, found),
-        Sighting::Missed { place, miss } => push_miss_line(text, pairs, first, *place, *miss),
+        Sighting::Missed {
+            place,
+            miss,
+            header,
+        } => {
+            push_miss_line(text, pairs, first, *place, *miss);
+            push_seems_line(text, pairs, header);
+        }
     }
 }

@@ -1,19 +1,50 @@
-//! Bytes, numbers with names, who speaks to whom, and the lines of what a message says.
+//! Bytes, numbers with names, who speaks to whom, headers, and the lines of what a message says.
 ghost use Rattle.std.specs.Prelude.{◌≡◌, ◌++◌, ◌+◌, ◌*◌, ◌≤◌, IfSome, codes, length};
 ghost use Rattle.std.specs.Option.{option_map};
-ghost use Rattle.hart_cli.specs.explain.Words.{bytes_line, device_words, hex_value, master_words, named_number, said_line, who_words};
+ghost use Rattle.hart_cli.specs.explain.Words.{bytes_line, command_words, device_words, header_words, hex_value, master_words};
+ghost use Rattle.hart_cli.specs.explain.Words.{named_number, said_line, who_words};
 
 use crate::kept::Kept;
 use crate::text::device_digits::push_device_digits;
 use crate::text::hex_text::push_hex;
 use crate::text::pairs::Pairs;
 use crate::text::words::push_text;
+use hart_commands::command_name;
 use hart_frame::FrameKind;
 use hart_values::{Address, MasterId};
 use itoa::Buffer;
 
+/// Adds the words of a header: who speaks to whom, and the command.
+pub fn push_header(
+    text: &mut Kept,
+    pairs: &Pairs,
+    kind: FrameKind,
+    master: MasterId,
+    address: Address,
+    command: u8,
+)
+    requires { length text.old + 172 ≤ 32768 }
+    ensures words { text.new ≡ text.old
+        ++ header_words (record { kind = kind; master = master; address = address; command = command }) }
+    ensures few { length text.new ≤ length text.old + 172 }
+{
+    push_who(text, pairs, kind, master, address);
+    push_text(text, ", ");
+    push_command(text, command);
+}
+
+/// Adds the words of a command.
+fn push_command(text: &mut Kept, command: u8)
+    requires { length text.old + 80 ≤ 32768 }
+    ensures words { text.new ≡ text.old ++ command_words command }
+    ensures few { length text.new ≤ length text.old + 80 }
+{
+    push_text(text, "Command ");
+    push_named_number(text, command, command_name(command));
+}
+
 /// Adds the words of who speaks to whom.
-pub fn push_who(text: &mut Kept, pairs: &Pairs, kind: FrameKind, master: MasterId, address: Address)
+fn push_who(text: &mut Kept, pairs: &Pairs, kind: FrameKind, master: MasterId, address: Address)
     requires { length text.old + 90 ≤ 32768 }
     ensures words { text.new ≡ text.old ++ who_words kind master address }
     ensures few { length text.new ≤ length text.old + 90 }

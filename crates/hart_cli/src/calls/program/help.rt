@@ -157,7 +157,8 @@ device. All other numbers are decimal.
 For each place at which a message seems to start and none stands, a line with
 that place and why. A message seems to start after two preamble bytes FF that
 came whole; of a whole message after one FF alone it says so, if that ends
-before two FF in a row begin.
+before two FF in a row begin. If all up to its command came whole, a second line
+says what the message seems to be.
 All stand in the order of their places, which are counted from 0.
 
 If the input holds anything else, or fails, what comes before is explained, and
@@ -175,7 +176,8 @@ and with a byte changed in the second of two messages,
   echo \"FF FF 02 80 00 00 82 FF FF 02 80 00 00 83\" | hart explain
 writes
   2-7: request of the primary master to the device at polling address 0, Command 0, read unique identifier
-  9: no message: the check byte is 0x83 at 13, and 0x82 would fit",
+  9: no message: the check byte is 0x83 at 13, and 0x82 would fit
+      seems: request of the primary master to the device at polling address 0, Command 0, read unique identifier",
 };
 
 pub(super) const SERVE: Page = Page {

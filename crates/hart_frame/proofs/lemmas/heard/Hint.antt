@@ -3,7 +3,7 @@ use Rattle.std.proofs.Common.{◌≡◌, ◌≢◌, ℕ, fold, bit_xor, ◌+◌,
 use Rattle.std.proofs.Common.{set, true, ap, inl, inr, sym, ◌∙◌, None, Option, Some, refl, arith, append_assoc, length-append, ◌↔◌}
 use Rattle.std.proofs.lemmas.Bool.Decides.{nat_tests}
 use Rattle.std.proofs.lemmas.Grind.{common_steps}
-use Rattle.std.proofs.lemmas.List.{length-set, drop_all, length-drop, append-nil, drop_more, get_or-set_same, length-take-le}
+use Rattle.std.proofs.lemmas.List.{length-set, drop_all, length-drop, take_at, append-nil, drop_more, get_or-set_same, length-take-le}
 use Rattle.std.proofs.lemmas.List.{map-append, set_at, take-append-drop, take-take, take_more}
 use Rattle.std.proofs.lemmas.List.Elements.{All-append, All-drop, All-take}
 use Rattle.std.proofs.lemmas.Option.{get_or_from_slice_get, slice_get_within}
@@ -24,7 +24,7 @@ use Rattle.hart_frame.specs.wire.Refusal.{HasCheckByte}
 use Rattle.hart_frame.proofs.lemmas.heard.FramesFound.{body_at, body_frame, frame_up_to, starts}
 use Rattle.hart_frame.proofs.lemmas.heard.Front.{faultless_fit, heard_parts, length-faultless_bytes, of_chars, take_heard}
 use Rattle.hart_frame.proofs.lemmas.heard.InTheWay.{in_the_way, way_of}
-use Rattle.hart_frame.proofs.lemmas.heard.Missed.{miss_of-some, miss_of-start, none_of, preamble_before}
+use Rattle.hart_frame.proofs.lemmas.heard.Missed.{miss_of-some, miss_of-start, none_of, one_preamble-is, one_preamble-yes}
 use Rattle.hart_frame.proofs.lemmas.heard.Place.{preamble}
 use Rattle.hart_frame.proofs.lemmas.wire.Parity.{IsCheckByte-fold, fits-is, fits_at}
 use Rattle.hart_frame.proofs.lemmas.wire.Prefix.{HasGoodByteCount-more, good_prefix, length_more}
@@ -69,11 +69,18 @@ frame_or_miss place chars fit is =
 -- Where the miss is `OnePreamble`, a whole body stands after a single FF.
 one_stands : (start : ℕ) (chars : List Character) → IsOfBytes (drop start chars) → miss_of chars start ≡ Some OnePreamble
     → FollowsOnePreamble chars start × HasBodyAt chars start
-one_stands start chars fit is = grind (arith, in_the_way start chars OnePreamble fit, body_or_miss chars start fit)
+one_stands start chars fit is =
+    grind (
+      arith,
+      miss_of-some chars start OnePreamble is,
+      in_the_way start chars OnePreamble fit,
+      body_or_miss chars start fit,
+      one_preamble-is chars start,
+    )
 
 one_told : (start : ℕ) (chars : List Character) → FollowsOnePreamble chars start → HasBodyAt chars start
     → miss_of chars start ≡ Some OnePreamble
-one_told start chars one has = grind (arith, none_of chars start has)
+one_told start chars one has = grind (arith, one_preamble-yes chars start one, none_of chars start has)
 
 pub one_alone : (start : ℕ) (chars : List Character) → All (λ c. c.byte < 256) chars
     → (miss_of chars start ≡ Some OnePreamble) ↔ (FollowsOnePreamble chars start × HasBodyAt chars start)
@@ -116,11 +123,9 @@ pub one_preamble_fits : (start : ℕ) (chars : List Character) → All (λ c. c.
     → HasFrameAt (insert chars start preamble) (start + 1)
 one_preamble_fits start chars fit is =
     let (one, has) = one_stands start chars (of_chars chars start fit) is in
-    let prefix : List Character = take (start - 1) chars in
-    let (parts, long) = preamble_before chars start one in
-    let split : insert chars start preamble ≡ prefix ++ faultless (255 ∷ 255 ∷ has.body) ++ has.rest =
-    grind (arith, common_steps, preamble, append_assoc) in
-    let found = frame_up_to (insert chars start preamble) prefix has.rest has.body has.frame (start + 1) _ has.is_body split
+    let split : insert chars start preamble ≡ one.prefix ++ faultless (255 ∷ 255 ∷ has.body) ++ has.rest =
+    grind (arith, common_steps, preamble, append_assoc, take_at) in
+    let found = frame_up_to (insert chars start preamble) one.prefix has.rest has.body has.frame (start + 1) _ has.is_body split
     (grind arith) refl in
     (found.0, found.1, found.2)
 

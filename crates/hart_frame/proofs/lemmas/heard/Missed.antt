@@ -1,14 +1,16 @@
 -- The miss of a place, from what stands before it; where a frame stands there is none.
-use Rattle.std.proofs.Common.{refl, ◌≡◌, ℕ, zero, suc, ◌+◌, ◌-◌, ◌<◌, ◌⊎◌, inl, inr, List, [], ◌∷◌, ◌++◌, length, take, drop, true, false}
-use Rattle.std.proofs.Common.{None, Some, arith}
-use Rattle.std.proofs.lemmas.List.{length-take-le, take_more}
+use Rattle.std.proofs.Common.{refl, ◌≡◌, ◌≢◌, ℕ, zero, suc, ◌<◌, ◌⊎◌, inl, inr, List, [], ◌∷◌, ◌++◌, length, take, drop, true, false}
+use Rattle.std.proofs.Common.{None, Some, append_assoc, arith, length-append}
+use Rattle.std.proofs.Math.Seq.{append_snoc, drop-cons, get_or-append_seam, take-append_seam, take-suc}
+use Rattle.std.proofs.lemmas.Grind.{common_steps}
+use Rattle.std.proofs.lemmas.List.{get_or-take, length-take-le, take-append-drop}
 use Rattle.std.specs.Option.{is_some}
 use Rattle.hart_frame.specs.declared.heard.miss.Miss.{Miss}
 use Rattle.hart_frame.specs.declared.heard.miss.Miss.TheVariants.{OnePreamble}
 use Rattle.hart_frame.specs.heard.Character.{Character, faultless_bytes}
 use Rattle.hart_frame.specs.heard.InTheWay.{FollowsOnePreamble, HasBodyAt}
 use Rattle.hart_frame.specs.heard.Place.{HasFrameAt}
-use Rattle.hart_frame.specs.heard.Miss.{body_miss, miss_of, follows_one_preamble, is_start}
+use Rattle.hart_frame.specs.heard.Miss.{body_miss, miss_of, follows_one_preamble, follows_preamble, is_start}
 use Rattle.hart_frame.specs.heard.Start.{IsStart}
 use Rattle.hart_frame.proofs.lemmas.heard.FramesFound.{begins_at, body_of, start_of}
 use Rattle.hart_frame.proofs.lemmas.heard.Place.{preamble}
@@ -29,17 +31,32 @@ miss_of-some chars start miss is =
     let cases : (is_start chars start ≡ true) ⊎ (is_start chars start ≡ false) = grind arith in
     elim cases [ inl here ↦ inl ((start_test chars start).0 here, grind arith) | inr not_here ↦ inr (grind arith) ]
 
--- If exactly one FF stands right before a place, the test says so, and the characters up to the place end with this FF.
-pub one_preamble-yes : (chars : List Character) (place : ℕ) → FollowsOnePreamble chars place → follows_one_preamble chars place ≡ true
-one_preamble-yes chars place one = one
-
-pub preamble_before : (chars : List Character) (place : ℕ) → FollowsOnePreamble chars place
-    → (take place chars ≡ take (place - 1) chars ++ preamble ∷ []) × (length (take (place - 1) chars) + 1 ≡ place)
-preamble_before chars zero one = absurd (grind arith)
-preamble_before chars (suc k) one =
+-- The test says that exactly one FF stands right before a place if, and only if, that is so.
+pub one_preamble-is : (chars : List Character) (place : ℕ) → follows_one_preamble chars place ≡ true → FollowsOnePreamble chars place
+one_preamble-is chars zero one = absurd (grind arith)
+one_preamble-is chars (suc k) one =
     let at = tested chars k in
     let within : k < length chars = grind arith in
-    grind (arith, take_more chars k preamble, length-take-le)
+    record {
+      prefix = take k chars;
+      rest = drop (suc k) chars;
+      split = grind (arith, common_steps, take-append-drop, drop-cons, preamble, append_snoc);
+      place_is = omega (arith, within, length-take-le k chars (omega (arith, within)));
+      alone = λ earlier is.
+          let before = tested chars (length earlier) in
+          grind (arith, common_steps, length-append, preamble, length-take-le, get_or-take, get_or-append_seam);
+    }
+
+no_second : (chars prefix rest : List Character) (k : ℕ) → chars ≡ prefix ++ preamble ∷ rest → k ≡ length prefix
+    → ((earlier : List Character) → prefix ≢ earlier ++ preamble ∷ []) → follows_preamble chars k ≡ false
+no_second chars prefix rest zero split place alone = refl
+no_second chars prefix rest (suc j) split place alone =
+    let at = tested chars j in search (arith, common_steps, take-append_seam, preamble, take-suc)
+
+pub one_preamble-yes : (chars : List Character) (place : ℕ) → FollowsOnePreamble chars place → follows_one_preamble chars place ≡ true
+one_preamble-yes chars place is =
+    let at = tested chars (length is.prefix) in
+    grind (arith, no_second chars is.prefix is.rest, length-append, preamble, append_assoc, get_or-append_seam)
 
 -- Where a whole body stands, nothing is missed.
 pub none_of : (chars : List Character) (start : ℕ) → HasBodyAt chars start → body_miss start (drop start chars) ≡ None

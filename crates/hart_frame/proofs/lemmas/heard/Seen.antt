@@ -16,7 +16,7 @@ use Rattle.hart_frame.specs.declared.heard.found.Found.{Found}
 use Rattle.hart_frame.specs.heard.Character.{Character}
 use Rattle.hart_frame.specs.heard.Frames.{AreFrames, IsFirst, first, none}
 use Rattle.hart_frame.specs.heard.Place.{StandsIn}
-use Rattle.hart_frame.specs.heard.Sighting.{AreSightings, Message, Missed, Seen, missed, missed_at, sightings}
+use Rattle.hart_frame.specs.heard.Sighting.{AreSightings, Message, Missed, Seen, header_at, missed, missed_at, sightings}
 
 -- A list passes to `to` if `given` is seen before it, no frame begins before it, and the same is seen from it as from `from`.
 pub record Passes (chars : List Character) (from to : ℕ) (given : List Seen) : Type 0 where
@@ -136,9 +136,9 @@ passes_silent chars from used order within silent frames clean = record {
 
 -- A list passes to the place after a miss if this miss alone is seen and no frame begins before that place.
 pub passes_miss : (chars : List Character) (from start : ℕ) (miss : Miss) → from ≤ start → start < length chars
-    → NoneSeen chars from start → missed_at chars from start ≡ Missed start miss ∷ []
+    → NoneSeen chars from start → missed_at chars from start ≡ Missed start miss (header_at chars start) ∷ []
     → ((found : Found) → StandsIn found chars from → start + 3 ≤ found.start) → is_preamble_at chars start ≡ false
-    → Passes chars from (start + 1) (Missed start miss ∷ [])
+    → Passes chars from (start + 1) (Missed start miss (header_at chars start) ∷ [])
 passes_miss chars from start miss order within silent is frames other =
     let back : start + 1 - 1 ≡ start = omega arith in record {
       order = omega (arith, order);

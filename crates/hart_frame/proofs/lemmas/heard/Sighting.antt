@@ -17,21 +17,24 @@ use Rattle.hart_frame.specs.heard.Frames.{moved}
 use Rattle.hart_frame.specs.heard.Miss.{body_miss, follows_preamble, is_preamble}
 use Rattle.hart_frame.specs.private.Sighting.{stands_alone}
 use Rattle.hart_frame.proofs.lemmas.heard.Start.{tested}
-use Rattle.hart_frame.specs.heard.Sighting.{Missed, Seen, missed, missed_at, miss_in_whole, moved_seen, seen_miss, sightings}
+use Rattle.hart_frame.specs.heard.Sighting.{Missed, Seen, header_at, missed, missed_at, miss_in_whole, moved_seen, seen_miss, sightings}
 use Rattle.hart_frame.specs.heard.Sighting.{two_begin_in_body}
+use Rattle.hart_frame.specs.wire.Header.{HeaderParts}
 
 -- What is seen at a place of the rest of a list is seen `n` places later in the list.
-told_moved : (n from p : ℕ) (m : Option Miss) → option_map_or (λ miss. Missed (n + p) (miss_in_whole (n + from) miss) ∷ []) m []
-    ≡ map (moved_seen n) (option_map_or (λ miss. Missed p (miss_in_whole from miss) ∷ []) m [])
-told_moved n from p None = refl
-told_moved n from p (Some miss) = grind (arith, common_steps)
+told_moved : (n from p : ℕ) (h : Option HeaderParts) (m : Option Miss)
+    → option_map_or (λ miss. Missed (n + p) (miss_in_whole (n + from) miss) h ∷ []) m []
+    ≡ map (moved_seen n) (option_map_or (λ miss. Missed p (miss_in_whole from miss) h ∷ []) m [])
+told_moved n from p h None = refl
+told_moved n from p h (Some miss) = grind (arith, common_steps)
 
 at_moved : (chars : List Character) (n from p : ℕ) → missed_at chars (n + from) (n + p)
     ≡ map (moved_seen n) (missed_at (drop n chars) from p)
 at_moved chars n from p =
     let same : n + p - (n + from) ≡ p - from = omega arith in
     let rest : drop from (drop n chars) ≡ drop (n + from) chars = grind (arith, drop-drop) in
-    rw (same, rest) (told_moved n from p (seen_miss (drop (n + from) chars) (p - from)))
+    let there : drop p (drop n chars) ≡ drop (n + p) chars = grind (arith, drop-drop) in
+    rw (same, rest, there) (told_moved n from p (header_at chars (n + p)) (seen_miss (drop (n + from) chars) (p - from)))
 
 places_moved : (chars : List Character) (n from a k : ℕ)
     → flat_map (λ p. missed_at chars (n + from) p) (range_with_len (n + a) k)
@@ -111,19 +114,21 @@ miss_is chars from place after =
     (follows_from chars from place) (follows_from chars from (place - 1)) (is_other_at chars place) (two_begin_in_body chars place)
     told refl)
 
--- What is seen at a place: its miss, if it has one.
-abbrev told : ℕ → Option Miss → List Seen
-told place m = option_map_or (λ miss. Missed place miss ∷ []) m []
+-- What is seen at a place: its miss, if it has one, with its header.
+abbrev told : ℕ → Option HeaderParts → Option Miss → List Seen
+told place h m = option_map_or (λ miss. Missed place miss h ∷ []) m []
 
-told_is : (from place : ℕ) (m : Option Miss) → option_map_or (λ miss. Missed place (miss_in_whole from miss) ∷ []) m []
-    ≡ told place (option_map (miss_in_whole from) m)
-told_is from place None = refl
-told_is from place (Some miss) = refl
+told_is : (from place : ℕ) (h : Option HeaderParts) (m : Option Miss)
+    → option_map_or (λ miss. Missed place (miss_in_whole from miss) h ∷ []) m [] ≡ told place h (option_map (miss_in_whole from) m)
+told_is from place h None = refl
+told_is from place h (Some miss) = refl
 
 told_at : (chars : List Character) (from place : ℕ) → from ≤ place → missed_at chars from place
-    ≡ told place (whole_miss chars place (follows_from chars from place) (follows_from chars from (place - 1)) (is_other_at chars place))
+    ≡ told place (header_at chars place)
+    (whole_miss chars place (follows_from chars from place) (follows_from chars from (place - 1)) (is_other_at chars place))
 told_at chars from place after =
-    told_is from place (seen_miss (drop from chars) (place - from)) ∙ ap (told place) (miss_is chars from place after)
+    told_is from place (header_at chars place) (seen_miss (drop from chars) (place - from))
+    ∙ ap (told place (header_at chars place)) (miss_is chars from place after)
 
 -- The second FF before a place matters only if a first one stands right before the place.
 same_miss : (chars : List Character) (place : ℕ) (one two other asked : Bool) → (one ≡ true → two ≡ other)
@@ -137,7 +142,7 @@ same_at : (chars : List Character) (from to place : ℕ) → from ≤ place → 
     → missed_at chars from place ≡ missed_at chars to place
 same_at chars from to place after later one two =
     rw (told_at chars from place after, told_at chars to place later, one)
-    (ap (told place) (same_miss chars place (follows_from chars to place) _ _ (is_other_at chars place) two))
+    (ap (told place (header_at chars place)) (same_miss chars place (follows_from chars to place) _ _ (is_other_at chars place) two))
 
 -- Nothing is seen at a place without an FF right before it, or without another character at it.
 pub unasked : (chars : List Character) (from place : ℕ) → from ≤ place → follows_from chars from place ≡ false
@@ -154,15 +159,16 @@ no_body chars place is =
       | inr end ↦ rw (drop_all place chars end) refl
     ]
 
-none_other : (place : ℕ) (one two : Bool) → told place (if one then if two then None else None else None) ≡ []
-none_other place true true = refl
-none_other place true false = refl
-none_other place false two = refl
+none_other : (place : ℕ) (h : Option HeaderParts) (one two : Bool)
+    → told place h (if one then if two then None else None else None) ≡ []
+none_other place h true true = refl
+none_other place h true false = refl
+none_other place h false two = refl
 
 pub not_other : (chars : List Character) (from place : ℕ) → from ≤ place → is_other_at chars place ≡ false
     → missed_at chars from place ≡ []
 not_other chars from place after is = told_at chars from place after ∙ rw (is, no_body chars place is)
-    (none_other place (follows_from chars from place) (follows_from chars from (place - 1)))
+    (none_other place (header_at chars place) (follows_from chars from place) (follows_from chars from (place - 1)))
 
 -- After a single FF, a miss is seen at a place exactly if a body stands alone there.
 pub after_one-none : (chars : List Character) (from place : ℕ) → from ≤ place → follows_from chars from place ≡ true
@@ -171,13 +177,13 @@ after_one-none chars from place after follows one alone = told_at chars from pla
 
 pub after_one-miss : (chars : List Character) (from place : ℕ) → from ≤ place → follows_from chars from place ≡ true
     → follows_from chars from (place - 1) ≡ false → stands_alone chars place ≡ true
-    → missed_at chars from place ≡ Missed place OnePreamble ∷ []
+    → missed_at chars from place ≡ Missed place OnePreamble (header_at chars place) ∷ []
 after_one-miss chars from place after follows one alone = told_at chars from place after ∙ rw (follows, one, alone) refl
 
 -- After two FF the miss of what begins at a place is seen there.
 pub after_two-miss : (chars : List Character) (from place : ℕ) (miss : Miss) → from ≤ place → follows_from chars from place ≡ true
     → follows_from chars from (place - 1) ≡ true → is_other_at chars place ≡ true → body_miss place (drop place chars) ≡ Some miss
-    → missed_at chars from place ≡ Missed place miss ∷ []
+    → missed_at chars from place ≡ Missed place miss (header_at chars place) ∷ []
 after_two-miss chars from place miss after follows two other is = told_at chars from place after ∙ rw (follows, two, other, is) refl
 
 -- A place `used` is clean if it is `from` or no FF stands right before it, if two FF begin there, or if the list ends there. From

@@ -1,6 +1,6 @@
 -- What stands at a place of bytes, whatever comes after them.
 use Rattle.hart_frame.proofs.lemmas.heard.Front.{faultless_bytes-end, faultless_bytes-append}
-use Rattle.std.proofs.Common.{◌≡◌, ◌≢◌, ℕ, ◌+◌, ◌≤◌, false, List, [], ◌∷◌, ◌++◌, length, drop, None, Some, Option}
+use Rattle.std.proofs.Common.{◌≡◌, ◌≢◌, ℕ, ◌+◌, ◌<◌, ◌≤◌, false, List, [], ◌∷◌, ◌++◌, length, drop, None, Some, Option}
 use Rattle.std.proofs.Common.{◌∙◌, arith, refl, length-append, length-drop}
 use Rattle.std.proofs.lemmas.Bool.Decides.{nat_tests}
 use Rattle.std.proofs.lemmas.List.{append-nil, drop-append-le, drop-map, get_or_at, length-map}
@@ -18,8 +18,12 @@ use Rattle.hart_frame.specs.heard.Character.{Character, faultless, faultless_byt
 use Rattle.hart_frame.specs.heard.Miss.{body_miss, miss_in}
 use Rattle.hart_frame.specs.private.Miss.{cut_miss, wrong_miss}
 use Rattle.hart_frame.specs.private.Prefix.{IsPrefix, IsWrong}
-use Rattle.hart_frame.specs.private.Sighting.{HasBodyMiss, Whatever, stands_alone}
+use Rattle.hart_frame.specs.private.Sighting.{HasBodyMiss, KeepsHeader, Whatever, stands_alone}
 use Rattle.hart_frame.specs.scan.Sighting.{NamesPlacesBelow, heard_with}
+use Rattle.hart_frame.specs.wire.Header.{header_in}
+use Rattle.hart_frame.specs.wire.Layout.{body_length, command_place, delimiter_in}
+use Rattle.hart_frame.specs.wire.Refusal.{IsDelimiter}
+use Rattle.hart_frame.proofs.lemmas.wire.Header.{header_sure}
 use Rattle.hart_frame.proofs.lemmas.heard.Told.{cut_told, whole_told, wrong_told}
 use Rattle.hart_frame.proofs.lemmas.scan.Sighted.{heard_few}
 use Rattle.hart_frame.proofs.lemmas.wire.Reading.{wrong_within}
@@ -105,3 +109,37 @@ cut_not_alone bytes More start missing within over is = absurd (over refl)
 cut_not_alone bytes End start missing within over is = not_alone bytes End start _ (cut_ended bytes start missing within is)
 cut_not_alone bytes (Damaged c) start missing within over is =
     not_alone bytes (Damaged c) start _ (cut_damaged bytes c start missing within is)
+
+-- Bytes that are wrong have at least one byte, and reach the command unless the first byte is no delimiter.
+wrong_some : (xs : List ℕ) (w : Wrong) → IsWrong xs w → 0 < length xs
+wrong_some xs w is = omega (arith, wrong_within xs w is)
+
+wrong_reach : (xs : List ℕ) (w : Wrong) → IsWrong xs w → IsDelimiter (delimiter_in xs) → command_place xs < length xs
+wrong_reach xs (BadDelimiter byte) is good = absurd (is.0.1 good)
+wrong_reach xs (ShortReply len count) is good = omega (arith, is.0.0.1)
+wrong_reach xs (BadCheck len byte fits) is good = omega (arith, is.checked.0.0.1)
+
+-- If the bytes from a place on decide the header there, it is their header whatever follows.
+header_whatever : (bytes : List ℕ) (after : After) (start : ℕ) → start ≤ length bytes
+    → ((ys : List ℕ) → header_in (drop start bytes ++ ys) ≡ header_in (drop start bytes)) → Whatever bytes after (KeepsHeader bytes start)
+header_whatever bytes after start within sure next follows = rw (bytes_from-heard bytes next start within) (sure (faultless_bytes next))
+
+pub wrong_header : (bytes : List ℕ) (after : After) (start : ℕ) (w : Wrong) → start ≤ length bytes → IsWrong (drop start bytes) w
+    → Whatever bytes after (KeepsHeader bytes start)
+wrong_header bytes after start w within is =
+    header_whatever bytes after start within (λ ys. header_sure (drop start bytes) ys (wrong_some (drop start bytes) w is)
+    (wrong_reach (drop start bytes) w is))
+
+pub body_header : (bytes : List ℕ) (after : After) (start : ℕ) → start ≤ length bytes
+    → body_length (drop start bytes) ≤ length (drop start bytes) → Whatever bytes after (KeepsHeader bytes start)
+body_header bytes after start within whole =
+    header_whatever bytes after start within (λ ys. header_sure (drop start bytes) ys (omega (arith, whole)) (λ _. omega (arith, whole)))
+
+-- At the end, and before a character with fault bits, the faultless bytes are all of them.
+pub ended_header : (bytes : List ℕ) (start : ℕ) → start ≤ length bytes → Whatever bytes End (KeepsHeader bytes start)
+ended_header bytes start within next ends = rw (bytes_from-heard bytes next start within, ends, append-nil (drop start bytes)) refl
+
+pub damaged_header : (bytes : List ℕ) (c : Character) (start : ℕ) → start ≤ length bytes
+    → Whatever bytes (Damaged c) (KeepsHeader bytes start)
+damaged_header bytes c start within next (valid, more, same) =
+    rw (bytes_from-heard bytes next start within, same, faultless_bytes-end c more valid, append-nil (drop start bytes)) refl

@@ -12,7 +12,7 @@ use Rattle.hart_frame.specs.declared.scan.sighting.After.TheVariants.{Damaged, E
 use Rattle.hart_frame.specs.heard.Character.{Character, faultless}
 use Rattle.hart_frame.specs.heard.Miss.{body_miss}
 use Rattle.hart_frame.specs.heard.Place.{StandsIn}
-use Rattle.hart_frame.specs.heard.Sighting.{AreSightings, Message, Missed, Seen, SeesOn}
+use Rattle.hart_frame.specs.heard.Sighting.{AreSightings, Message, Missed, Seen, SeesOn, header_at}
 use Rattle.hart_frame.specs.scan.Sighting.{AfterIsValid, heard_with, is_end}
 use Rattle.hart_frame.specs.private.Sighting.{AreSilent, FollowsTwo, IsAsked, IsMessageAt, IsNextAsked, IsPassed, IsStandingAt, MayFollow}
 use Rattle.hart_frame.specs.private.Sighting.{Whatever, stands_alone}
@@ -24,6 +24,7 @@ use Rattle.hart_frame.specs.declared.scan.sighting.Standing.TheVariants.{Nothing
 use Rattle.hart_frame.specs.declared.wire.layout.Layout.{Layout}
 use Rattle.hart_frame.specs.wire.Body.{IsBody}
 use Rattle.hart_frame.specs.wire.FrameParts.{FrameParts}
+use Rattle.hart_frame.specs.wire.Header.{header_in}
 use Rattle.hart_frame.proofs.lemmas.heard.Front.{regrouped}
 use Rattle.hart_frame.proofs.lemmas.heard.Place.{StandsIn-from, stands_at}
 use Rattle.hart_frame.proofs.lemmas.heard.Seen.{Passes, NoneSeen, frame_at, message_on, missed_none, passes_miss, passes_on, passes_silent}
@@ -102,7 +103,7 @@ module _ (bytes : List ℕ) (after : After) (next : List Character) (from start 
       ]
 
   pub miss_two : (miss : Miss) → FollowsTwo bytes from start → body_miss start (drop start (faultless bytes ++ next)) ≡ Some miss
-      → Passes (faultless bytes ++ next) from (start + 1) (Missed start miss ∷ [])
+      → Passes (faultless bytes ++ next) from (start + 1) (Missed start miss (header_at (faultless bytes ++ next) start) ∷ [])
   miss_two miss two wrong =
       let chars = faultless bytes ++ next in
       let order : from ≤ start = omega (arith, is.order) in
@@ -123,7 +124,7 @@ module _ (bytes : List ℕ) (after : After) (next : List Character) (from start 
       let two = rw here at (frame_at (faultless bytes ++ next) from found stands).two in cc (two, not_two one)
 
   pub miss_one : (FollowsTwo bytes from start → ⊥) → stands_alone (faultless bytes ++ next) start ≡ true
-      → Passes (faultless bytes ++ next) from (start + 1) (Missed start OnePreamble ∷ [])
+      → Passes (faultless bytes ++ next) from (start + 1) (Missed start OnePreamble (header_at (faultless bytes ++ next) start) ∷ [])
   miss_one one alone =
       let chars = faultless bytes ++ next in
       let order : from ≤ start = omega (arith, is.order) in
@@ -309,11 +310,11 @@ open_seen bytes after from start used silent is (inr (one, (more_is, at, few, al
 
 pub missed_seen : (bytes : List ℕ) (after : After) (from start : ℕ) (miss : Miss) → SilentBefore bytes after from start
     → IsAsked bytes after from start → IsStandingAt bytes after from start (standing.Missed miss)
-    → Whatever bytes after (λ chars. Passes chars from (start + 1) (Missed start miss ∷ []))
-missed_seen bytes after from start miss silent is (inl (two, (wrong, below))) next may =
-    miss_two bytes after next from start may silent is miss two (wrong next may)
-missed_seen bytes after from start miss silent is (inr (one, (same, alone))) next may =
-    rw same (miss_one bytes after next from start may silent is one (alone next may))
+    → Whatever bytes after (λ chars. Passes chars from (start + 1) (Missed start miss (header_in (drop start bytes)) ∷ []))
+missed_seen bytes after from start miss silent is (inl (two, (wrong, below, header))) next may =
+    rw (header next may) at (miss_two bytes after next from start may silent is miss two (wrong next may))
+missed_seen bytes after from start miss silent is (inr (one, (same, alone, header))) next may =
+    rw same (rw (header next may) at (miss_one bytes after next from start may silent is one (alone next may)))
 
 -- A message stands only after two preamble bytes.
 pub message_two : (bytes : List ℕ) (after : After) (from start : ℕ) (layout : Layout)

@@ -13,8 +13,9 @@ use Rattle.hart_frame.specs.heard.Character.{Character, faultless}
 use Rattle.hart_frame.specs.heard.Frames.{AreFrames}
 use Rattle.hart_frame.specs.heard.Miss.{body_miss, miss_in}
 use Rattle.hart_frame.specs.heard.Place.{StandsIn}
-use Rattle.hart_frame.specs.heard.Sighting.{AreSightings, IsUndecidedSighting, Message, Missed, Seen, miss_in_whole, missed_at}
-use Rattle.hart_frame.specs.heard.Sighting.{seen_miss, sightings}
+use Rattle.hart_frame.specs.heard.Sighting.{AreSightings, IsUndecidedSighting, Message, Missed, Seen, header_at, miss_in_whole}
+use Rattle.hart_frame.specs.heard.Sighting.{missed_at, seen_miss, sightings}
+use Rattle.hart_frame.specs.wire.Header.{HeaderParts}
 use Rattle.hart_frame.specs.scan.Sighting.{heard_with}
 use Rattle.hart_frame.specs.private.Sighting.{FollowsTwo, IsAsked, IsStandingAt, IsUsed, MayStandAlone}
 use Rattle.hart_frame.specs.declared.scan.sighting.After.{After}
@@ -83,29 +84,29 @@ module _ (rest : List ℕ) (fit : All (λ byte. byte < 256) rest) (truncated : I
       cc (one.1, two.1)
 
 -- At a place one miss or nothing is seen, so where nothing is seen no miss of that place comes first.
-form : (m : Option Miss) (from place : ℕ)
-    → (option_map_or (λ miss. Missed place (miss_in_whole from miss) ∷ []) m [] ≡ [])
-    ⊎ ((miss : Miss) × (option_map_or (λ miss. Missed place (miss_in_whole from miss) ∷ []) m [] ≡ Missed place miss ∷ []))
-form None from place = inl refl
-form (Some miss) from place = inr (_, refl)
+form : (m : Option Miss) (h : Option HeaderParts) (from place : ℕ)
+    → (option_map_or (λ miss. Missed place (miss_in_whole from miss) h ∷ []) m [] ≡ [])
+    ⊎ ((miss : Miss) × (option_map_or (λ miss. Missed place (miss_in_whole from miss) h ∷ []) m [] ≡ Missed place miss h ∷ []))
+form None h from place = inl refl
+form (Some miss) h from place = inr (_, refl)
 
-not_first : (chars : List Character) (a k : ℕ) (tail later : List Seen) (miss : Miss) → missed_at chars 0 1 ≡ []
-    → (tail ≡ Missed 1 miss ∷ later → ⊥)
-    → flat_map (λ p. missed_at chars 0 p) (range_with_len a k) ++ tail ≡ Missed 1 miss ∷ later → ⊥
-not_first chars a zero tail later miss none not is = not is
-not_first chars a (suc k) tail later miss none not is = elim (form (seen_miss (drop 0 chars) (a - 0)) 0 a) [
-  | inl nil ↦ not_first chars (a + 1) k tail later miss none not (rw nil at is)
+not_first : (chars : List Character) (a k : ℕ) (tail later : List Seen) (miss : Miss) (h : Option HeaderParts) → missed_at chars 0 1 ≡ []
+    → (tail ≡ Missed 1 miss h ∷ later → ⊥)
+    → flat_map (λ p. missed_at chars 0 p) (range_with_len a k) ++ tail ≡ Missed 1 miss h ∷ later → ⊥
+not_first chars a zero tail later miss h none not is = not is
+not_first chars a (suc k) tail later miss h none not is = elim (form (seen_miss (drop 0 chars) (a - 0)) (header_at chars a) 0 a) [
+  | inl nil ↦ not_first chars (a + 1) k tail later miss h none not (rw nil at is)
   | inr (other, one) ↦
       let both = rw one at is in
       let same : a ≡ 1 = cc in
       let clash = sym none ∙ rw same at one in cc (clash)
 ]
 
-not_one : (chars : List Character) (frames : List Found) (later : List Seen) (miss : Miss) → missed_at chars 0 1 ≡ []
-    → sightings chars 0 frames ≡ Missed 1 miss ∷ later → ⊥
-not_one chars [] later miss none is = not_first chars 0 (length chars - 0) [] later miss none (λ same. cc) (append-nil _ ∙ is)
-not_one chars (found ∷ frames) later miss none is =
-    not_first chars 0 (found.start - 0) (Message found ∷ sightings chars found.stop frames) later miss none (λ same. cc) is
+not_one : (chars : List Character) (frames : List Found) (later : List Seen) (miss : Miss) (h : Option HeaderParts)
+    → missed_at chars 0 1 ≡ [] → sightings chars 0 frames ≡ Missed 1 miss h ∷ later → ⊥
+not_one chars [] later miss h none is = not_first chars 0 (length chars - 0) [] later miss h none (λ same. cc) (append-nil _ ∙ is)
+not_one chars (found ∷ frames) later miss h none is =
+    not_first chars 0 (found.start - 0) (Message found ∷ sightings chars found.stop frames) later miss h none (λ same. cc) is
 
 -- After a single FF stand bytes that may or may not become a body that stands alone.
 module _ (rest : List ℕ) (some : 0 < length rest) (other : get_or rest 0 0 ≢ 255) (may : MayStandAlone (255 ∷ rest) 1) where
@@ -127,8 +128,9 @@ module _ (rest : List ℕ) (some : 0 < length rest) (other : get_or rest 0 0 ≢
       let (frames, are_frames) = AreFrames-found chars 0 in
       let two = always may.other (sightings chars 0 frames) (record { frames = frames; are_frames = are_frames; seen_is = refl }) in
       let none = after_one-none chars 0 1 (omega arith) refl refl may.not_alone in
-      let same : first ≡ Missed 1 OnePreamble = cc (one.1) in
-      not_one chars frames two.0 OnePreamble none (rw same at two.1)
+      let h = header_at (whole ++ may.one) 1 in
+      let same : first ≡ Missed 1 OnePreamble h = cc (one.1) in
+      not_one chars frames two.0 OnePreamble h none (rw same at two.1)
 
 -- In at most two FF no sighting is decided.
 pub undecided_few : (bytes : List ℕ) → length bytes ≤ 2 → ((i : ℕ) → i < length bytes → get_or bytes i 0 ≡ 255)

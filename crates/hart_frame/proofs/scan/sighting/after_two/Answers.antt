@@ -8,7 +8,8 @@ use Rattle.hart_frame.specs.declared.wire.prefix.Prefix.TheVariants.{Cut}
 use Rattle.hart_frame.specs.heard.Character.{Character}
 use Rattle.hart_frame.specs.private.Prefix.{IsPrefix}
 use Rattle.hart_frame.specs.private.Sighting.{IsAfterTwo}
-use Rattle.hart_frame.proofs.lemmas.scan.BodyAt.{cut_damaged, cut_ended, wrong_below, wrong_seen}
+use Rattle.hart_frame.proofs.lemmas.scan.BodyAt.{cut_damaged, cut_ended, damaged_header, ended_header}
+use Rattle.hart_frame.proofs.lemmas.scan.BodyAt.{wrong_below, wrong_header, wrong_seen}
 use Rattle.hart_frame.proofs.scan.sighting.after_two.Goals as goal
 
 pub returns-in-Wrong : goal.returns-in-Wrong
@@ -17,6 +18,7 @@ returns-in-Wrong c =
     rw c.wrong_miss.ensures (
       wrong_seen c.args.bytes.now c.args.after.now c.args.start c.in-Wrong.wrong c.requires.within is,
       wrong_below c.args.bytes.now c.args.after.now c.args.start c.in-Wrong.wrong c.requires.within is,
+      wrong_header c.args.bytes.now c.args.after.now c.args.start c.in-Wrong.wrong c.requires.within is,
     )
 
 -- A damaged character after bytes that end too early is the miss.
@@ -24,11 +26,12 @@ damaged_two : (bytes : List ℕ) (after : After) (start faults : ℕ) (missing :
     → IsPrefix (drop start bytes) (Cut missing) → (c : Character) × (after ≡ Damaged c) × (faults ≡ c.faults)
     → IsAfterTwo bytes after start (Missed (Faulty (length bytes) faults))
 damaged_two bytes after start faults missing within is (c, same, bits) =
-    rw (same, bits) (cut_damaged bytes c start missing within is, grind (arith, length-append, length-map))
+    rw (same, bits)
+    (cut_damaged bytes c start missing within is, grind (arith, length-append, length-map), damaged_header bytes c start within)
 
 pub returns-in-Damaged : goal.returns-in-Damaged
 returns-in-Damaged c =
     damaged_two c.args.bytes.now c.args.after.now c.args.start _ c.in-Cut.missing c.requires.within (grind (arith, take_rest)) (grind arith)
 
 pub returns-in-End : goal.returns-in-End
-returns-in-End c = grind (arith, take_rest, cut_ended)
+returns-in-End c = grind (arith, take_rest, cut_ended, ended_header)

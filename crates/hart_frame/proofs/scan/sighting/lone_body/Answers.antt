@@ -3,6 +3,7 @@ use Rattle.std.proofs.lemmas.List.{get_or-drop}
 use Rattle.hart_frame.specs.heard.Sighting.{has_two_preambles}
 use Rattle.hart_frame.specs.declared.scan.sighting.After.TheVariants.{More}
 use Rattle.hart_frame.proofs.lemmas.scan.Alone.{alone, crossed, lone_open, looked_at}
+use Rattle.hart_frame.proofs.lemmas.scan.BodyAt.{body_header}
 use Rattle.hart_frame.proofs.scan.sighting.lone_body.Goals as goal
 
 pub returns-then-has_two_preambles : goal.returns-then-has_two_preambles
@@ -36,4 +37,6 @@ returns c =
       refl,
       alone bytes c.args.after.now start n (omega (arith, c.requires.order, c.requires.within)) c.requires.body
           (omega (arith, length-drop start bytes, c.requires.within)) c.requires.whole not last,
+      body_header bytes c.args.after.now start (omega (arith, c.requires.order, c.requires.within))
+          (omega (arith, c.requires.body, length-drop start bytes, c.requires.within)),
     )

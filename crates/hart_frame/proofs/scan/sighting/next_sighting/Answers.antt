@@ -57,7 +57,8 @@ returns-in-Missed-clause-sightings c =
     let start = c.in-Some.start in
     let (is, silent) = next_is bytes c.args.after c.args.from c.loop-start.place start c.loop-start.invariant.order
     c.loop-start.invariant.silent c.in-Some.ensures in
-    rw c.missed.ensures (sees bytes c.args.after c.args.from (start + 1) _ c.requires.valid
+    let (header, same, parts) = c.missed.ensures.miss in
+    rw (same, parts, c.missed.ensures.used) (sees bytes c.args.after c.args.from (start + 1) _ c.requires.valid
     (missed_seen bytes c.args.after c.args.from start c.in-Missed.miss silent is c.in-Missed.ensures))
 
 pub returns-clause-sightings : goal.returns-clause-sightings

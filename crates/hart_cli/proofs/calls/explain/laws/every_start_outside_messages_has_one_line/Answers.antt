@@ -3,12 +3,14 @@ use Rattle.std.proofs.lemmas.Grind.{flat_map-append}
 use Rattle.std.proofs.lemmas.List.Elements.{All-drop}
 use Rattle.std.proofs.lemmas.List.Folds.{list_all-append}
 use Rattle.hart_frame.specs.heard.Character.{Character}
-use Rattle.hart_frame.specs.heard.Sighting.{Message, miss_in_whole, missed, seen_miss, sightings}
+use Rattle.hart_frame.specs.heard.Sighting.{Message, header_at, miss_in_whole, missed, seen_miss, sightings}
 use Rattle.hart_cli.specs.explain.Explanation.{explanation, seen_text}
 use Rattle.hart_cli.specs.explain.Message.{paragraph}
 use Rattle.hart_cli.specs.explain.Misses.{miss_words}
+use Rattle.hart_cli.specs.explain.Words.{header_words}
 use Rattle.hart_cli.proofs.lemmas.explain.Gaps.{missed_are, no_frame_in_gap, seen_is_miss, start_is_seen, told_has, told_in_order, told_is}
 use Rattle.hart_cli.proofs.lemmas.explain.Gaps.{unbroken-all, unbroken-decimal, unbroken-miss_words, whole_one}
+use Rattle.hart_cli.proofs.lemmas.explain.Header.{unbroken-header_words}
 use Rattle.hart_cli.proofs.calls.explain.laws.every_start_outside_messages_has_one_line.Goals as goal
 
 pub returns-clause-by_message : goal.returns-clause-by_message
@@ -24,18 +26,26 @@ returns-clause-one_line c place miss = record {
   unbroken = unbroken-all _ (simp (list_all-append, unbroken-decimal, unbroken-miss_words));
 }
 
+pub returns-clause-second_line : goal.returns-clause-second_line
+returns-clause-second_line c header = record {
+  words = codes "    seems: " ++ header_words header;
+  ended = refl;
+  unbroken = unbroken-all _ (simp (list_all-append, unbroken-header_words) refl);
+}
+
 pub returns-clause-in_order : goal.returns-clause-in_order
 returns-clause-in_order c chars from stop =
-    told_in_order (miss_in_whole from) (λ place. seen_miss (drop from chars) (place - from)) from (stop - from)
+    told_in_order (miss_in_whole from) (λ place. seen_miss (drop from chars) (place - from)) (header_at chars) from (stop - from)
 
 pub returns-clause-exactly : goal.returns-clause-exactly
-returns-clause-exactly c chars from stop place miss = (
+returns-clause-exactly c chars from stop place miss header = (
   λ has.
-      let is = told_is (miss_in_whole from) (λ at. seen_miss (drop from chars) (at - from)) from (stop - from) place miss has in
-      (is.0, omega (arith, is.0, is.1), is.2),
+      let is = told_is (miss_in_whole from) (λ at. seen_miss (drop from chars) (at - from)) (header_at chars) from (stop - from) place
+      miss header has in
+      (is.0, omega (arith, is.0, is.1), is.2, is.3),
   λ is.
-      told_has (miss_in_whole from) (λ at. seen_miss (drop from chars) (at - from)) from (stop - from) place miss is.0
-      (omega (arith, is.0, is.1)) is.2,
+      rw is.3 (told_has (miss_in_whole from) (λ at. seen_miss (drop from chars) (at - from)) (header_at chars) from (stop - from) place
+      miss is.0 (omega (arith, is.0, is.1)) is.2),
 )
 
 pub returns-clause-every_start : goal.returns-clause-every_start
@@ -47,8 +57,8 @@ returns-clause-every_start c chars frames from stop place bytes are gap after be
     ]
 
 pub returns-clause-only_there : goal.returns-clause-only_there
-returns-clause-only_there c chars from stop place miss has =
-    let (after, own, seen, told) = missed_are chars from stop place miss has in
+returns-clause-only_there c chars from stop place miss header has =
+    let (after, own, seen, told) = missed_are chars from stop place miss header has in
     let is = seen_is_miss (drop from chars) (place - from) own seen in
     elim (c.every_start_has_a_frame_or_a_miss.ensures.only_there (place - from) (drop from chars) own is) [
       | inl start ↦ inl start

@@ -1,4 +1,4 @@
-use Rattle.std.proofs.Common.{◌≡◌, ◌+◌, ◌-◌, ◌<◌, ◌≤◌, ℕ, false, All, ◌⊎◌, ◌≢◌, List, length, drop, Some, arith, refl}
+use Rattle.std.proofs.Common.{◌≡◌, ◌+◌, ◌-◌, ◌<◌, ◌≤◌, ℕ, false, All, ◌⊎◌, ◌≢◌, List, Option, length, drop, Some, arith, refl}
 use Rattle.std.proofs.Common.{◌++◌, ◌∷◌, [], length-drop}
 use Rattle.std.proofs.lemmas.Grind.{common_steps}
 use Rattle.std.proofs.lemmas.List.{drop-append-le, drop-drop, drop-set-add}
@@ -14,8 +14,10 @@ use Rattle.hart_frame.specs.heard.Place.{HasFrameUpTo}
 use Rattle.hart_frame.specs.heard.Miss.{miss_of}
 use Rattle.hart_frame.specs.heard.Start.{IsStart}
 use Rattle.hart_frame.specs.heard.Sighting.{Missed, miss_in_whole, missed, seen_miss, two_begin_in_body}
+use Rattle.hart_frame.specs.wire.Header.{HeaderParts}
 use Rattle.hart_frame.proofs.lemmas.heard.Missed.{one_preamble-yes}
-use Rattle.hart_cli.proofs.lemmas.explain.Gaps.{missed_are, seen_is_miss, stands_in_rest}
+use Rattle.hart_cli.proofs.lemmas.explain.Gaps.{missed_are, missed_header, seen_is_miss, stands_in_rest}
+use Rattle.hart_cli.proofs.lemmas.explain.Seems.{header_of_all}
 use Rattle.hart_cli.proofs.calls.explain.laws.hints_of_explanations_are_right.Goals as goal
 
 -- a frame in the rest of a list of characters is a frame in the list
@@ -52,10 +54,11 @@ pub record Known (chars : List Character) (from place : ℕ) (miss : Miss) : Typ
   pub is : miss_of (drop from chars) (place - from) ≡ Some own
   pub told : miss ≡ miss_in_whole from own
 
-known : (chars : List Character) (from stop place : ℕ) (miss : Miss) → All (λ character. character.byte < 256) chars
-    → Contains (missed chars from stop) (Missed place miss) → Known chars from place miss
-known chars from stop place miss small has =
-    let (after, own, seen, told) = missed_are chars from stop place miss has in record {
+known : (chars : List Character) (from stop place : ℕ) (miss : Miss) (header : Option HeaderParts)
+    → All (λ character. character.byte < 256) chars → Contains (missed chars from stop) (Missed place miss header)
+    → Known chars from place miss
+known chars from stop place miss header small has =
+    let (after, own, seen, told) = missed_are chars from stop place miss header has in record {
       small = All-drop (λ (character : Character). character.byte < 256) from chars small;
       placed = omega (arith, after);
       own = own;
@@ -116,30 +119,30 @@ body_in_rest : (chars : List Character) (from start place : ℕ) → place ≡ f
 body_in_rest chars from start place is has = grind (arith, common_steps, drop-drop)
 
 pub returns-clause-in_the_way : goal.returns-clause-in_the_way
-returns-clause-in_the_way c chars from stop place miss small has start =
-    let k = known chars from stop place miss small has in
+returns-clause-in_the_way c chars from stop place miss header small has start =
+    let k = known chars from stop place miss header small has in
     rw k.told (way_in_rest chars from (place - from) place k.own k.placed (rest_is chars from (place - from) start)
     ((c.misses_are_in_the_way.ensures.in_the_way (place - from) (drop from chars) k.own k.small start).0 k.is))
 
 pub returns-clause-fits : goal.returns-clause-fits
-returns-clause-fits c chars from stop place at byte fits small has =
-    let k = known chars from stop place (BadCheck at byte fits) small has in
+returns-clause-fits c chars from stop place at byte fits header small has =
+    let k = known chars from stop place (BadCheck at byte fits) header small has in
     let (start, own, at_is) = own_check from at byte fits k.own k.told in
     let stands = c.misses_say_what_is_wrong.ensures.bad_check (place - from) start byte fits (drop from chars) k.small (rw own at k.is) in
     rw at_is (frame_up_to _ from (place - from) (start + 1) place (from + start + 1) (rw drop-set-add stands) k.placed (omega arith))
 
 pub returns-clause-faulty : goal.returns-clause-faulty
-returns-clause-faulty c chars from stop place at faults small has =
-    let k = known chars from stop place (Faulty at faults) small has in
+returns-clause-faulty c chars from stop place at faults header small has =
+    let k = known chars from stop place (Faulty at faults) header small has in
     let (first, own, at_is) = own_fault from at faults k.own k.told in
     let is = rw own at k.is in
     let either = c.every_start_has_a_frame_or_a_miss.ensures.only_there (place - from) (drop from chars) (Faulty first faults) is in
     let start = started (place - from) (drop from chars) (Faulty first faults) either (λ same. absurd cc) in
-    (returns-clause-in_the_way c chars from stop place (Faulty at faults) small has start).2
+    (returns-clause-in_the_way c chars from stop place (Faulty at faults) header small has start).2
 
 pub returns-clause-missing : goal.returns-clause-missing
-returns-clause-missing c chars from stop place count bytes small fit has long =
-    let k = known chars from stop place (Missing count) small has in
+returns-clause-missing c chars from stop place count bytes header small fit has long =
+    let k = known chars from stop place (Missing count) header small has in
     let is = rw (own_missing from count k.own k.told) at k.is in
     let either = c.every_start_has_a_frame_or_a_miss.ensures.only_there (place - from) (drop from chars) (Missing count) is in
     let within = rest_is chars from (place - from) (started (place - from) (drop from chars) (Missing count) either (λ same. absurd cc)) in
@@ -147,11 +150,15 @@ returns-clause-missing c chars from stop place count bytes small fit has long =
     (c.misses_say_what_is_wrong.ensures.missing (place - from) count (drop from chars) bytes k.small fit is long)
 
 pub returns-clause-alone : goal.returns-clause-alone
-returns-clause-alone c chars from stop place small has =
-    let k = known chars from stop place OnePreamble small has in
+returns-clause-alone c chars from stop place header small has =
+    let k = known chars from stop place OnePreamble header small has in
     let one = own_one from k.own k.told in
     let (alone, body) = (c.misses_are_in_the_way.ensures.one_alone (place - from) (drop from chars) k.small).0 (rw one at k.is) in (
       alone,
       body_in_rest chars from (place - from) place k.placed body,
       alone_is (drop from chars) (place - from) (rw one at k.seen) alone,
     )
+
+pub returns-clause-seems : goal.returns-clause-seems
+returns-clause-seems c chars others from stop place miss header found has same stands at =
+    header_of_all chars others place header found (missed_header chars from stop place miss (Some header) has) same stands at

@@ -1,0 +1,96 @@
+-- The header with which bytes begin.
+use Rattle.std.proofs.Common.{◌≡◌, ◌↔◌, ℕ, ◌+◌, ◌/◌, ◌%◌, ◌<◌, Bool, true, false, List, ◌∷◌, ◌++◌, Some, ◌∙◌, get_or, length}
+use Rattle.std.proofs.Common.{take, drop, sym, arith, append_assoc, length-append}
+use Rattle.std.proofs.lemmas.Bool.Decides.{nat_tests}
+use Rattle.std.proofs.lemmas.List.{get_or_append_left, get_or_at, take-append-drop}
+use Rattle.std.specs.Prelude.{IsSome}
+use Rattle.hart_values.specs.address.AddressBytes.{IsAddressBytes, first_byte}
+use Rattle.hart_values.specs.declared.address.Address.{Address}
+use Rattle.hart_values.specs.declared.address.Address.TheVariants.{Polling, Unique}
+use Rattle.hart_values.specs.declared.master_id.MasterId.{MasterId}
+use Rattle.hart_values.specs.declared.master_id.MasterId.TheVariants.{Primary, Secondary}
+use Rattle.hart_frame.specs.wire.Body.{BeginsWithBody}
+use Rattle.hart_frame.specs.wire.Delimiter.{address_type, delimiter_of, kind_code}
+use Rattle.hart_frame.specs.wire.FrameParts.{FrameParts}
+use Rattle.hart_frame.specs.wire.Header.{HeaderParts, address_in, header_in, header_of, kind_in, master_in}
+use Rattle.hart_frame.specs.wire.Layout.{command_place, delimiter_in}
+use Rattle.hart_frame.specs.wire.Refusal.{HasDelimiter, IsDelimiter}
+use Rattle.hart_frame.proofs.lemmas.wire.Refusal.{has_check, says}
+use Rattle.hart_frame.proofs.lemmas.wire.UnambiguousBodies.{address_type-lt, kind_code-is, length-address, spread}
+
+-- The first byte of an address has the master bit on top and six bits of the address below.
+first_read : (master : MasterId) (burst : Bool) (six byte : ℕ) → six < 64 → byte ≡ first_byte master burst six
+    → (byte % 64 ≡ six) × (byte / 128 ≡ (elim master as (λ _. ℕ) [ Primary ↦ 1 | Secondary ↦ 0 ]))
+first_read Primary true six byte low is = grind arith
+first_read Primary false six byte low is = grind arith
+first_read Secondary true six byte low is = grind arith
+first_read Secondary false six byte low is = grind arith
+
+-- Bytes whose address bytes stand after the delimiter have that master and that address.
+pub address_read : (bytes xs : List ℕ) (master : MasterId) (burst : Bool) (address : Address) → IsAddressBytes master burst address xs
+    → ((k : ℕ) → k < length xs → get_or bytes (1 + k) 0 ≡ get_or xs k 0) → delimiter_in bytes / 128 ≡ address_type address
+    → (master_in bytes ≡ master) × (address_in bytes ≡ address)
+address_read bytes xs master burst (Polling number) is at type =
+    let (six, top) = first_read master burst number (get_or bytes 1 0) is.0 (grind (arith, at 0)) in
+    grind (arith, nat_tests)
+address_read bytes xs master burst (Unique numbers) is at type =
+    let (six, top) = first_read master burst is.type_high (get_or bytes 1 0) is.ranges.0 (grind (arith, at 0)) in
+    grind (arith, nat_tests, at 1, at 2, at 3, at 4)
+
+-- These parts stand in bytes as a header: the kind in the delimiter, then the address, and the command after the expansion bytes.
+pub record StandsAsHeader (bytes : List ℕ) (parts : HeaderParts) : Type 0 where
+  pub delimiter : IsDelimiter (delimiter_in bytes)
+  pub within : command_place bytes < length bytes
+  pub kind : kind_code parts.kind ≡ delimiter_in bytes % 8
+  pub form : delimiter_in bytes / 128 ≡ address_type parts.address
+  pub burst : Bool
+  pub address : List ℕ
+  pub address_bytes : IsAddressBytes parts.master burst parts.address address
+  pub stands : (k : ℕ) → k < length address → get_or bytes (1 + k) 0 ≡ get_or address k 0
+  pub command : parts.command ≡ get_or bytes (command_place bytes) 0
+
+pub header_read : (bytes : List ℕ) (parts : HeaderParts) → StandsAsHeader bytes parts → header_in bytes ≡ Some parts
+unfolding header_in
+header_read bytes parts is =
+    let (master, address) = address_read bytes is.address parts.master is.burst parts.address is.address_bytes is.stands is.form in
+    let kind : kind_in bytes ≡ parts.kind = grind (arith, nat_tests, is.kind) in
+    grind (arith, nat_tests, is.delimiter, is.within, is.command)
+
+-- Bytes that begin with a body have the header of its frame.
+pub headers_are_those_of_frames-body : (bytes : List ℕ) (f : FrameParts) (len : ℕ) → BeginsWithBody bytes f len → header_in bytes ≡ Some (header_of f)
+headers_are_those_of_frames-body bytes f len begins =
+    let part = begins.body.checked_part in
+    let said = says bytes f len begins in
+    let has = has_check bytes f len begins in
+    let whole = sym (take-append-drop len bytes) ∙ spread f (take len bytes) (drop len bytes) begins.body in
+    let long = length-address f.master f.burst f.address part.address part.address_bytes in
+    let prefix : List ℕ = delimiter_of f ∷ part.address ++ f.expansion in
+    let rest : List ℕ = length f.payload ∷ (f.payload ++ begins.body.check ∷ drop len bytes) in
+    let split : bytes ≡ prefix ++ f.command ∷ rest = whole ∙ simp append_assoc in
+    let count : length prefix ≡ command_place bytes = grind (arith, length-append, said.place) in
+    let command : get_or bytes (command_place bytes) 0 ≡ f.command = grind (arith, get_or_at) in
+    header_read bytes (header_of f) (record {
+      delimiter = has.0.0.0.1;
+      within = omega (arith, has.0.0.1);
+      kind = grind (arith, said.delimiter, kind_code-is, address_type-lt, part.expansion_fits);
+      form = grind (arith, said.delimiter, kind_code-is, address_type-lt, part.expansion_fits);
+      burst = f.burst;
+      address = part.address;
+      address_bytes = part.address_bytes;
+      stands = λ k below. grind (arith, get_or_append_left);
+      command = sym command;
+    })
+
+-- Bytes have a header exactly if they begin with a delimiter of this profile and reach the command.
+pub headers_are_those_of_frames-exactly : (bytes : List ℕ) → IsSome (header_in bytes) ↔ (HasDelimiter bytes × (command_place bytes < length bytes))
+unfolding header_in
+headers_are_those_of_frames-exactly bytes = grind (arith, nat_tests)
+
+-- More bytes change no header once the command is reached, or once the first byte is no delimiter.
+pub header_sure : (xs ys : List ℕ) → 0 < length xs → (IsDelimiter (delimiter_in xs) → command_place xs < length xs)
+    → header_in (xs ++ ys) ≡ header_in xs
+unfolding header_in
+header_sure xs ys some reach = grind (arith, nat_tests, length-append, get_or_append_left)
+
+pub headers_are_those_of_frames-stays : (xs ys : List ℕ) (parts : HeaderParts) → header_in xs ≡ Some parts → header_in (xs ++ ys) ≡ Some parts
+headers_are_those_of_frames-stays xs ys parts is = grind (arith, headers_are_those_of_frames-exactly xs, header_sure xs ys)

@@ -1,0 +1,33 @@
+use Rattle.std.proofs.Common.{sym, arith}
+use Rattle.std.proofs.lemmas.Grind.{get_or_after_one}
+use Rattle.std.proofs.lemmas.List.{get_or-take}
+use Rattle.std.specs.List.{slice_range}
+use Rattle.hart_frame.specs.private.Address.{address_of}
+use Rattle.hart_frame.specs.wire.Header.{HeaderParts}
+use Rattle.hart_frame.specs.wire.Layout.{address_end}
+use Rattle.hart_frame.proofs.lemmas.wire.Header.{StandsAsHeader, header_read}
+use Rattle.hart_frame.proofs.lemmas.wire.Layout.{length-slice_range}
+use Rattle.hart_frame.proofs.wire.header.Header.read.Goals as goal
+
+pub returns : goal.returns
+returns c =
+    let bytes = c.args.bytes.now in
+    let parts : HeaderParts = record {
+      kind = c.in_ok-delimiter.delimiter.kind;
+      master = c.in_ok-master.master;
+      address = address_of c.plain_of.result;
+      command = c.in_ok-command.field-0.now;
+    } in
+    let long = length-slice_range bytes 1 (address_end bytes) in
+    let stands : StandsAsHeader bytes parts = record {
+      delimiter = grind arith;
+      within = grind arith;
+      kind = grind arith;
+      form = grind (arith, long);
+      burst = c.in_ok-master.field-0-1;
+      address = slice_range bytes 1 (address_end bytes);
+      address_bytes = grind arith;
+      stands = λ k below. grind (arith, get_or-take, get_or_after_one bytes k 0, long);
+      command = grind arith;
+    } in
+    sym (header_read bytes parts stands)
