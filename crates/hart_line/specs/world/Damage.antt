@@ -38,8 +38,7 @@ pub record ReachesAmong (identity : IdentityParts) (chars : List Character) (sen
   pub arrives : ArrivesAmong chars sent frame
   pub brings : BringsBy identity chars arrives.frames brought
 
--- The damage of characters is undetected if it is not detected: a frame was heard that is not the one sent, or more than one frame
--- was heard.
+-- The damage of characters is undetected if it is not detected: a frame other than the one sent was heard, or several frames were.
 pub record IsUndetectedAmong (chars : List Character) (sent : Option FrameParts) : Type 0 where
   pub frames : List Found
   pub are_frames : AreFrames chars 0 frames

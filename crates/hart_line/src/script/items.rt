@@ -1,5 +1,5 @@
 //! Hex items. Each means one received character.
-ghost use Rattle.std.specs.Prelude.{◌≡◌, ◌↔◌, [], ◌∷◌, IsTrue, MatchOption, slice_index};
+ghost use Rattle.std.specs.Prelude.{◌≡◌, ◌↔◌, ◌≤◌, ◌<◌, [], ◌∷◌, ◌++◌, IsTrue, MatchOption, length, slice_index};
 ghost use Rattle.hart_line.specs.script.Items.{AreDigits, BeginsAsItem, byte_of, IsItemsWord, NoItemBegins};
 ghost use Rattle.hart_line.specs.script.Rows.{ReadsWords};
 
@@ -45,19 +45,25 @@ pub fn leading_item(text: &[u8]) -> Option<LeadingItem>
     Some(LeadingItem { char, len: 5 })
 }
 
-/// Returns the same item as [`leading_item`], but looks up the digits of an item without fault bits in the table.
+/// Returns the same item as [`leading_item`] and appends its character. Looks up the digits of an item without fault bits in the table.
 #[inline(always)]
 #[tactic(auto, using(crate::proofs::lemmas::script::Items::begins_as_plain))]
-fn next_item(digits: &Digits, text: &[u8]) -> Option<LeadingItem>
-    ensures { MatchOption result (NoItemBegins text.now) (λ lead. BeginsAsItem text.now lead.char lead.len) }
+fn push_item(digits: &Digits, text: &[u8], chars: &mut Filling<Char>) -> Option<LeadingItem>
+    requires { 2 ≤ length text.now → length chars.old.items < chars.old.room }
+    ensures { MatchOption result (NoItemBegins text.now × (chars.new ≡ chars.old)) (λ lead. BeginsAsItem text.now lead.char lead.len
+        × (chars.new ≡ record chars.old { items = chars.old.items ++ lead.char ∷ [] })) }
 {
+    // Each branch appends for itself: after a join, LLVM puts each character together again from its two bytes.
     if gives_faults(text) {
-        return leading_item(text);
+        let lead = leading_item(text)?;
+        chars.push(lead.char);
+        return Some(lead);
     }
     let [high, low, ..] = text else {
         return None;
     };
     let char = Char::new(digits.byte_of(*high, *low)?, 0)?;
+    chars.push(char);
     Some(LeadingItem { char, len: 2 })
 }
 
@@ -78,8 +84,7 @@ pub(crate) fn read_items(alloc: Global, digits: &Digits, word: &[u8]) -> Result<
     // An item has two bytes at least.
     let mut chars = Filling::with_room(alloc, word.len() / 2)?;
     let mut rest = word;
-    while let Some(lead) = next_item(digits, rest) {
-        chars.push(lead.char);
+    while let Some(lead) = push_item(digits, rest, &mut chars) {
         rest = &rest[lead.len..];
     }
     if !rest.is_empty() {

@@ -19,8 +19,7 @@ pub fn read_who(word: &[u8]) -> Option<MasterId>
     }
 }
 
-/// Reads ADDRESS: `@` and a polling address, the ten hex digits of a device, or `all` for the broadcast address. Returns `None` for
-/// anything else.
+/// Reads ADDRESS: `@` and a polling address, the ten hex digits of a device, or `all` for all devices. Returns `None` for anything else.
 pub fn read_address(word: &[u8]) -> Option<Address>
     ensures { Finds (IsAddressWord word.now) result }
 {

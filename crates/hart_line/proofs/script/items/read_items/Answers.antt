@@ -8,7 +8,7 @@ loop-lead-init c = grind (arith, common_steps, reads_nothing)
 
 pub loop-lead-preserved : goal.loop-lead-preserved
 loop-lead-preserved c =
-    let lead = c.in-Some.ensures in
+    let (lead, pushed) = c.in-Some.ensures in
     let reads = reads_item _ _ _ lead.item lead.tail c.loop-lead.invariant.reads lead.begins in
     grind (arith, common_steps, take_rest, drop-append_seam, length-append, length_push, lead.begins.spelled)
 
