@@ -7,6 +7,8 @@ use Rattle.hart_commands.specs.declared.fields.FieldKind.TheVariants.{Bytes, Dat
 use Rattle.hart_commands.specs.declared.fields.FieldKind.TheVariants.{Variables}
 use Rattle.hart_commands.specs.{Commands.reply_rows, Commands.request_rows, declared.fields.FieldKind.FieldKind, declared.reply.Reply.Reply}
 use Rattle.hart_commands.specs.{FieldWidths.IsWidthOf, Fields.Field, Fields.Row, Fields.bytes_of, Fields.fields_of, Parts.content_bytes}
+use Rattle.hart_c.specs.Faults.{number_of}
+use Rattle.hart_c.specs.declared.fault.Fault.TheVariants.{NoRoom}
 use Rattle.hart_c.specs.declared.{data.HartField.HartField, data.HartReading.HartReading, fault.HartOutcome.HartOutcome}
 
 -- A name that fits is written to the front of the output. Otherwise the output stays; the fault is 15 for no name, 12 for no room.
@@ -14,7 +16,7 @@ abbrev pub NameOutcome : Option (List ℕ) → List ℕ → List ℕ → HartOut
 NameOutcome None before after outcome = (outcome ≡ record { len = 0; fault = 15 }) × (after ≡ before)
 NameOutcome (Some name) before after outcome =
     ((length name ≤ length before) × (outcome ≡ record { len = length name; fault = 0 }) × (after ≡ name ++ drop (length name) before))
-    ⊎ ((length before < length name) × (outcome ≡ record { len = 0; fault = 12 }) × (after ≡ before))
+    ⊎ ((length before < length name) × (outcome ≡ record { len = 0; fault = number_of NoRoom }) × (after ≡ before))
 
 -- The fields of a command are those of the data of its replies with code 0, or those of its request data.
 abbrev pub rows_for : Bool → ℕ → List Row

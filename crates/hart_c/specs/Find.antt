@@ -3,7 +3,7 @@ use Rattle.std.specs.Prelude.{◌≤◌, ◌≡◌, ◌+◌, ◌<◌, ◌⊎◌,
 use Rattle.hart_frame.specs.heard.Character.{AreFaultBits, Character}
 use Rattle.hart_frame.specs.{declared.heard.found.Found.Found, heard.Frames.IsUndecided, heard.Frames.moved, scan.Next.AreNext}
 use Rattle.hart_c.specs.declared.fault.Fault.TheVariants.{BadFaultBits, TooLong}
-use Rattle.hart_c.specs.{Faults.Check, Faults.needs, Numbers.IsTidy, Numbers.found_in_first}
+use Rattle.hart_c.specs.{Faults.Check, Faults.needs, Faults.number_of, Numbers.IsTidy, Numbers.found_in_first}
 use Rattle.hart_c.specs.declared.{find.HartChar.HartChar, find.HartSearch.HartSearch, frame.HartFrame.HartFrame}
 
 -- The `faults` of each character are fault bits only.
@@ -33,7 +33,7 @@ char_of given = record { byte = given.byte; faults = given.faults }
 abbrev pub SearchOutcome : List HartChar → Bool → List HartFrame → List HartFrame → HartSearch → Type 0
 SearchOutcome heard ended before after search =
     (HaveFaultBits heard × Finds (map char_of heard) ended before after search)
-    ⊎ ((HaveFaultBits heard → ⊥) × (search ≡ record { used = 0; count = 0; fault = 13 }) × (after ≡ before))
+    ⊎ ((HaveFaultBits heard → ⊥) × (search ≡ record { used = 0; count = 0; fault = number_of BadFaultBits }) × (after ≡ before))
 
 -- What was heard so far, whether it ended, which frames were found in it, and how much is used up. Each search adds to these.
 pub data IsSearchedSoFar : List Character → Bool → List Found → ℕ → Type 0 where

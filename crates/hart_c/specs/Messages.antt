@@ -33,9 +33,10 @@ IsFrame frame = AllPass (frame_checks frame)
 abbrev pub HasNoRoom : (List ℕ → Type 0) → ℕ → Type 0
 HasNoRoom ToWrite room = (bytes : List ℕ) × ToWrite bytes × (room < length bytes)
 
--- The bytes to be written stand at the front of the output, the rest of the output stays, and their number is told.
+-- The bytes to be written fit. They stand at the front of the output, the rest of the output stays, and their number is told.
 abbrev pub IsWritten : (List ℕ → Type 0) → List ℕ → List ℕ → ℕ → Type 0
-IsWritten ToWrite before after len = (bytes : List ℕ) × ToWrite bytes × (len ≡ length bytes) × (after ≡ bytes ++ drop len before)
+IsWritten ToWrite before after len =
+    (bytes : List ℕ) × ToWrite bytes × (length bytes ≤ length before) × (len ≡ length bytes) × (after ≡ bytes ++ drop len before)
 
 -- First the frame is checked, then that there are 5 to 20 preamble bytes, and then that the message fits.
 abbrev pub encode_checks : HartFrame → ℕ → ℕ → List Check

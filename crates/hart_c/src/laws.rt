@@ -143,7 +143,6 @@ pub fn calls_have_one_outcome()
         → DecodeOutcome bytes before after outcome → DecodeOutcome bytes before other another
         → (outcome ≡ another) × (found_in after ≡ found_in other) }
     ensures encode { (frame : HartFrame) (preambles : ℕ) (before after other : List ℕ) (outcome another : HartOutcome)
-        → length after ≡ length before → length other ≡ length before
         → EncodeOutcome frame preambles before after outcome → EncodeOutcome frame preambles before other another
         → (outcome ≡ another) × (after ≡ other) }
     ensures requests { (command : ℕ) (bytes : List ℕ) (before after other : List HartField) (reading another : HartReading)
@@ -158,7 +157,7 @@ pub fn calls_have_one_outcome()
         → NewDeviceOutcome given before after outcome → NewDeviceOutcome given before other another
         → (outcome ≡ another) × (after ≡ other) }
     ensures hear { (identity : HartIdentity) (process : HartProcess) (heard : List HartChar) (before after other : HartDevice)
-        (old new newer : List ℕ) (outcome another : HartOutcome) → length new ≡ length old → length newer ≡ length old
+        (old new newer : List ℕ) (outcome another : HartOutcome)
         → HearOutcome identity process heard before after old new outcome
         → HearOutcome identity process heard before other old newer another
         → (outcome ≡ another) × (after ≡ other) × (new ≡ newer) }

@@ -50,19 +50,19 @@ encode_sound : (frame : HartFrame) (preambles room : ℕ) → AreSound (encode_c
 encode_sound frame preambles room =
     (needs-sound _ _, (needs-sound _ _, (needs-sound _ _, (needs-sound _ _, (refused_if-sound _ _, tt)))))
 
-written_passes : (frame : HartFrame) (preambles : ℕ) (before after : List ℕ) (len : ℕ) → length after ≡ length before → IsFrame frame
+written_passes : (frame : HartFrame) (preambles : ℕ) (before after : List ℕ) (len : ℕ) → IsFrame frame
     → IsPreambleCount preambles → IsWritten (IsMessage (frame_in frame) preambles) before after len
     → AllPass (encode_checks frame preambles (length before))
-written_passes frame preambles before after len long (address, (expansion, (payload, end))) in_range is =
+written_passes frame preambles before after len (address, (expansion, (payload, end))) in_range is =
     (address, (expansion, (payload, (in_range, (λ none. grind (arith, common_steps, one_message), tt)))))
 
 pub returns-clause-encode : goal.returns-clause-encode
-returns-clause-encode c frame preambles before after other outcome another long longer =
+returns-clause-encode c frame preambles before after other outcome another =
     let checks = encode_checks frame preambles (length before) in
     let sound = encode_sound frame preambles (length before) in
     one_outcome (λ is again. grind (arith, one_message (frame_in frame) preambles is.1.2.0 again.1.2.0))
-    (λ is why. first_none checks sound (written_passes frame preambles before after is.0 long is.1.0 is.1.1 is.1.2) why.0 why.1)
-    (λ why is. first_none checks sound (written_passes frame preambles before other is.0 longer is.1.0 is.1.1 is.1.2) why.0 why.1)
+    (λ is why. first_none checks sound (written_passes frame preambles before after is.0 is.1.0 is.1.1 is.1.2) why.0 why.1)
+    (λ why is. first_none checks sound (written_passes frame preambles before other is.0 is.1.0 is.1.1 is.1.2) why.0 why.1)
     (λ why again. grind (arith, first_one checks sound why.0 again.0))
 
 pub returns-clause-new_devices : goal.returns-clause-new_devices
@@ -84,9 +84,9 @@ one_said answer preambles old new newer len size is again =
     let same = one_saying answer preambles is.0 again.0 is.1 again.1 in grind (arith, same)
 
 -- an answer that was written has room
-said_fits : (answer : Option FrameParts) (preambles : ℕ) (old new : List ℕ) (len : ℕ) → length new ≡ length old
+said_fits : (answer : Option FrameParts) (preambles : ℕ) (old new : List ℕ) (len : ℕ)
     → IsWritten (IsSaid answer preambles) old new len → HasNoRoom (IsSaid answer preambles) (length old) → ⊥
-said_fits answer preambles old new len long is none =
+said_fits answer preambles old new len is none =
     let same = one_saying answer preambles is.0 none.0 is.1 none.1 in grind (arith, common_steps, same)
 
 -- for a device that hears a delivery in a process
@@ -111,22 +111,22 @@ module _ (identity : HartIdentity) (process : HartProcess) (heard : List HartCha
       } in
       (who, (needs-sound _ _, (kept, (needs-sound _ _, (needs-sound _ _, (needs-sound _ _, (refused_if-sound _ _, tt)))))))
 
-  heard_passes : (after : HartDevice) (old new : List ℕ) (len : ℕ) → length new ≡ length old
+  heard_passes : (after : HartDevice) (old new : List ℕ) (len : ℕ)
       → Hears identity process heard device after old new len → AllPass (hear_checks identity process heard device (length old))
-  heard_passes after old new len same is =
+  heard_passes after old new len is =
       let hearing = is.hearing in
       let (bits, (few, end)) = hearing.delivery in
       let room : ((none : IsHearing identity process heard device) × HasNoRoom
       (IsSaid (answer_to none.state none.measured none.brought) identity.response_preambles) (length old)) → ⊥ =
       λ none.
       let (state, measured, brought) = one_hearing none.0 hearing in
-      said_fits _ _ _ _ _ same is.reply (rw (state, measured, brought) at none.1) in (
+      said_fits _ _ _ _ _ is.reply (rw (state, measured, brought) at none.1) in (
         hearing.kept.is_identity,
         (hearing.kept.fits, ((hearing.state, hearing.kept), (hearing.process_is.count, (bits, (few, (room, tt)))))),
       )
 
 pub returns-clause-hear : goal.returns-clause-hear
-returns-clause-hear c identity process heard before after other old new newer outcome another long longer =
+returns-clause-hear c identity process heard before after other old new newer outcome another =
     let checks = hear_checks identity process heard before (length old) in
     let sound = hear_sound identity process heard before c (length old) in
     one_outcome
@@ -135,8 +135,8 @@ returns-clause-hear c identity process heard before after other old new newer ou
     let said = one_said _ _ _ _ _ _ _ (rw (state, measured, brought) at is.1.reply) again.1.reply in
     let same : after ≡ other = is.1.state ∙ rw (state, brought) (sym again.1.state) in
     (is.2 ∙ ap (λ (n : ℕ). outcome_of (Ok n)) said.0 ∙ sym again.2, same, said.1))
-    (λ is why. first_none checks sound (heard_passes identity process heard before after old new is.0 long is.1) why.0 why.1)
-    (λ why is. first_none checks sound (heard_passes identity process heard before other old newer is.0 longer is.1) why.0 why.1)
+    (λ is why. first_none checks sound (heard_passes identity process heard before after old new is.0 is.1) why.0 why.1)
+    (λ why is. first_none checks sound (heard_passes identity process heard before other old newer is.0 is.1) why.0 why.1)
     (λ why again.
     let same = first_one checks sound why.0 again.0 why.1 again.1 in
     (why.2 ∙ ap (λ (fault : Fault). outcome_of (Err fault)) same ∙ sym again.2, why.3.0 ∙ sym again.3.0, why.3.1 ∙ sym again.3.1))
