@@ -3,7 +3,7 @@ ghost use Rattle.std.specs.Prelude.{◌≡◌};
 use hart_frame::Char;
 use std::marker::Model;
 
-/// A list of which contracts see the items alone. Of a `Vec` they see the capacity too.
+/// A list whose items are all that contracts see. Of a `Vec` they see the capacity too.
 #[derive(Debug, Drop)]
 pub struct PlainList<T> {
     items: Vec<T>,

@@ -67,7 +67,7 @@ pub fn is_separator(byte: u8) -> bool
     matches!(byte, b' ' | b'\t' | b'\r' | b'\n')
 }
 
-/// Returns true if the right bytes after a text would make a piece begin it, although none begins it yet. Such a text is short.
+/// Returns true if `text` may become the beginning of a piece once more bytes follow. No piece begins it yet. Such a text is short.
 pub fn may_begin(text: &[u8]) -> bool
     requires { NoPieceBegins text.now }
     ensures may { IsTrue result ↔ MayBegin text.now }

@@ -193,7 +193,7 @@ fn migrated(image: &[u8; 54], text: &[u8; 8]) -> [u8; 86] {
     image_with(tagged, ENDING, &image[51..54])
 }
 
-/// Returns a long tag of successive bytes, beginning with 32 times `group`.
+/// Returns a long tag of 32 bytes, each one above the byte before it. The first is `32 * group`.
 fn long_tag_of(group: u8) -> [u8; 32] {
     let mut long_tag = [0; 32];
     let mut next = group.wrapping_mul(32);

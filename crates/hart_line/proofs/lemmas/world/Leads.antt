@@ -90,7 +90,7 @@ step_hears start world (Turn who up down) next legs.Down heard sent step h =
 step_hears start world (Noise chars) next legs.Noise heard sent step h = rw (h.0, h.1) (arrived_of step.arrives)
 step_hears start world event next leg heard sent step h = absurd h
 
--- So such an event has no undetected damage. Any other event has undetected damage in at most one leg.
+-- An event that leads to a next world has no undetected damage. Any other event has undetected damage in at most one leg.
 step_detected : (start : Start) (world : World) (event : LineEvent) (next : World) (leg : Leg)
     → Step start world event next → HasUndetected start world event leg → ⊥
 step_detected start world event next leg step u =
