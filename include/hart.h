@@ -129,7 +129,7 @@ typedef struct hart_field {
 /* What was read of the data of a message. */
 typedef struct hart_reading {
     size_t count;   /* how many fields there are; those with room are written, the elements after them are unchanged */
-    size_t taken;   /* bytes taken, status bytes included; later ones are ignored */
+    size_t taken;   /* bytes taken, status bytes included; unless the data are refused, later ones are ignored */
     uint8_t code;   /* of a reply its response code; of a request the response code that refuses it, or 0 */
     uint8_t status; /* of a reply its device status; of a request 0 */
     uint8_t fault;  /* HART_OK, or why nothing is told */
@@ -249,7 +249,8 @@ hart_outcome hart_new_device(const hart_registers *registers, hart_device *devic
 void hart_restart(hart_device *device);
 
 /* Lets a device hear a delivery, all that came between two silences. Writes its reply, a whole message, to the front of `reply`, and
- * updates the device. Returns the length of the reply, 0 for silence; 287 bytes fit any. A damaged request gets communication faults.
+ * updates the device. Returns the length of the reply, 0 for silence; 287 bytes fit any. A damaged request gets communication faults, if its
+ * delimiter and its unique address are intact and no character is missing.
  * Faults: HART_OUT_OF_RANGE, HART_BROADCAST_ADDRESS; HART_BAD_LENGTH (0 or above 86), HART_BAD_VERSION, HART_BAD_LENGTH, HART_BAD_FIELD;
  * HART_BAD_VARIABLES; HART_BAD_FAULT_BITS, HART_TOO_LONG (stay silent then); HART_NO_ROOM. Faults change nothing. */
 hart_outcome hart_hear(const hart_identity *identity, const hart_process *process, const hart_char *heard, size_t heard_len,

@@ -2,9 +2,9 @@
 # Runs each call of the built program again and again, and refuses one allocation (growth) each time: the first, the second, and so
 # on. Such a run ends with `out of memory`, after a prefix of whole lines: with status 2 if the growth was for the words (most of
 # these are clap's), and with 1 if it was the call's own. A call's own growths are its reservations. A script has one more for each
-# word of characters, and those by which its events and its text grow; `hart dump`, `hart explain` and `hart encode` have none. Only
-# before clap has the words may a run succeed without a growth. In the last run no growth is left to refuse, and the call has to
-# succeed.
+# word of characters, and those by which its events and its text grow; `hart dump`, `hart explain`, `hart encode` and `hart request`
+# have none. Only before clap has the words may a run succeed without a growth. In the last run no growth is left to refuse, and the
+# call has to succeed.
 #
 # The program does not call `run`, and reports a refusal by `read_script` as its own. So a test of hart_tests makes each call once
 # by its name and prints what it answered. Each growth of that test is refused in the same way.
@@ -119,6 +119,11 @@ cat >"$work/wanted" <<'TEXT'
 TEXT
 refuse_each 0 explain
 
+# The first of these messages as bytes.
+printf '\377\377\002\200\000\000\202' >"$work/input"
+sed -i 1q "$work/wanted"
+refuse_each 0 explain --raw
+
 # So many messages that they are read in 52 portions, and their lines written in more.
 messages=40000
 awk -v messages="$messages" 'BEGIN { while (messages--) print "FF FF 02 80 00 00 82" }' >"$work/input"
@@ -173,6 +178,7 @@ refuse_each 6 sim
 : >"$work/input"
 echo 'FF FF FF FF FF 82 B7 42 0A 1B 2C 13 03 01 23 45 3D' >"$work/wanted"
 refuse_each 0 encode P 37420A1B2C 19 012345
+refuse_each 0 request P 37420A1B2C 19 final_assembly_number=0x012345
 
 # Runs the test that makes each call by its name, and refuses the growth with this number. Then the test does not end as with ample
 # memory, but only what it prints of the calls counts. The result is whether there was such a growth.
@@ -196,6 +202,7 @@ serve with an image 0 102
 simulate 0 410
 simulate with an image 0 410
 encode_text 0 51
+request 0 51
 ANSWERS
 
 # Each growth belongs to a single call, whose answer differs if the growth is refused. All other calls answer as with ample memory.
@@ -212,8 +219,8 @@ while refuse_by_name "$number"; do
     number=$((number + 1))
 done
 
-# How many growths each call has, and what it answers and how many bytes it has written if one of them is refused. `dump`, `explain` and
-# `encode_text` have none.
+# How many growths each call has, and what it answers and how many bytes it has written if one of them is refused. `dump`, `explain`,
+# `explain_raw`, `encode_text` and `request` have none.
 cat >"$work/growths" <<'GROWTHS'
 2 answer 7 0
 3 answer with an image 7 0

@@ -50,7 +50,7 @@ pub struct HartField {
 pub struct HartReading {
     /// How many fields there are. Those that have room are shown.
     pub count: usize,
-    /// How many bytes are taken. Later bytes are ignored.
+    /// How many bytes are taken. Unless the data are refused, later bytes are ignored.
     pub taken: usize,
     /// For a reply its response code; for a request the response code that refuses it, or 0.
     pub code: u8,

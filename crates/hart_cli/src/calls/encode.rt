@@ -1,7 +1,7 @@
 //! `hart encode`: a message to send.
 ghost use Rattle.std.specs.Prelude.{◌≡◌, ℕ, List};
 ghost use Rattle.hart_frame.specs.wire.Message.{IsPreambleCount};
-ghost use Rattle.hart_cli.specs.encode.Encode.{EncodeOutcome, IsEncoding, RequestOutcome};
+ghost use Rattle.hart_cli.specs.encode.Encode.{EncodeOutcome, IsEncoding, IsFirstBad, RequestOutcome};
 ghost use Rattle.hart_cli.specs.encode.MessageWords.{MessageWords};
 
 use crate::fault::CliFault;
@@ -84,9 +84,11 @@ pub fn encode_text<W: Sink>(
     Ok(())
 }
 
-/// Words have at most one text, so they determine what `encode_text` writes.
+/// Words have at most one text or one first bad word, and never both. So they determine what `encode_text` writes and returns.
 pub fn one_encoding()
-    ensures { (words : MessageWords) (xs ys : List ℕ) → IsEncoding words xs → IsEncoding words ys → xs ≡ ys }
+    ensures one_text { (words : MessageWords) (xs ys : List ℕ) → IsEncoding words xs → IsEncoding words ys → xs ≡ ys }
+    ensures one_bad_word { (words : MessageWords) (m n : ℕ) → IsFirstBad words m → IsFirstBad words n → m ≡ n }
+    ensures no_bad_word { (words : MessageWords) (xs : List ℕ) (number : ℕ) → IsEncoding words xs → IsFirstBad words number → ⊥ }
 {}
 
 /// Returns the request that the words describe.

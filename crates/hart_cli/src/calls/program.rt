@@ -1,7 +1,8 @@
 //! The program: which call its words make, and with which status it ends.
 
-ghost use Rattle.std.specs.Prelude.{◌≡◌, ◌≢◌, IfErr, map, string_bytes};
+ghost use Rattle.std.specs.Prelude.{◌≡◌, ◌≢◌, IfErr, None, map, string_bytes};
 ghost use Rattle.clap.specs.Words.{subcommand_rows_of};
+ghost use Rattle.hart_cli.specs.program.CommandLine.{call_of};
 ghost use Rattle.hart_cli.specs.program.Program.{CallOutcome, HasPreambleCount, Made, Ran, status_of};
 ghost use Rattle.hart_cli.specs.FaultText.{fault_line};
 ghost use Rattle.hart_cli.specs.stream.Stream.{WritesUnlessFailed};
@@ -66,7 +67,7 @@ pub fn program<R: Source, W: Sink, E: Sink>(
     }
 }
 
-/// Makes the call that the matches name, and returns the program's status.
+/// Makes the call that the matches name, and returns the program's status: [`NO_CALL`] only if they name none.
 fn make_matched_call<R: Source, W: Sink, E: Sink>(
     alloc: Global,
     matches: &ArgMatches<'_>,
@@ -79,6 +80,7 @@ fn make_matched_call<R: Source, W: Sink, E: Sink>(
         (W.stream writer.old) (W.stream writer.new)
         (E.stream errors.old) (E.stream errors.new)
         result }
+    ensures named { result ≡ 2 → call_of (subcommand_rows_of matches.now) ≡ None }
     ensures unread { result ≡ 2 → reader.new ≡ reader.old }
     ensures unwritten { result ≡ 2 → writer.new ≡ writer.old }
     ensures quiet { result ≡ 0 → errors.new ≡ errors.old }

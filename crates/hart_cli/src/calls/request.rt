@@ -2,9 +2,10 @@
 ghost use Rattle.std.specs.Prelude.{◌≡◌, ℕ, List, [], map};
 ghost use Rattle.std.specs.Option.{option_map_or};
 ghost use Rattle.hart_frame.specs.wire.Message.{IsPreambleCount};
-ghost use Rattle.hart_cli.specs.request.Request.{IsRequestText, ReadOutcome, RequestOutcome};
+ghost use Rattle.hart_cli.specs.request.Request.{HasBadField, IsFirstBadWord, IsRequestText, ReadOutcome, RequestOutcome};
 ghost use Rattle.hart_cli.specs.request.Fields.{payload_of};
 ghost use Rattle.hart_cli.specs.request.RequestWords.{RequestWords as Given};
+ghost use Rattle.hart_cli.specs.declared.calls.request.fault.BadField.{BadField};
 
 use crate::calls::request::fault::BadField;
 use crate::calls::request::fields::payload_of;
@@ -76,9 +77,16 @@ pub fn request<W: Sink>(
     Ok(())
 }
 
-/// Words have at most one text, so they determine what `request` writes.
+/// Words have at most one text, one first bad word or one bad field, and never two of the three. So they determine what `request`
+/// writes and returns.
 pub fn one_request()
-    ensures { (words : Given) (xs ys : List ℕ) → IsRequestText words xs → IsRequestText words ys → xs ≡ ys }
+    ensures one_text { (words : Given) (xs ys : List ℕ) → IsRequestText words xs → IsRequestText words ys → xs ≡ ys }
+    ensures one_bad_word { (words : Given) (m n : ℕ) → IsFirstBadWord words m → IsFirstBadWord words n → m ≡ n }
+    ensures one_bad_field { (words : Given) (a b : BadField) → HasBadField words a → HasBadField words b → a ≡ b }
+    ensures no_bad_word { (words : Given) (xs : List ℕ) (number : ℕ) → IsRequestText words xs → IsFirstBadWord words number → ⊥ }
+    ensures no_bad_field { (words : Given) (xs : List ℕ) (bad : BadField) → IsRequestText words xs → HasBadField words bad → ⊥ }
+    ensures not_both { (words : Given) (number : ℕ) (bad : BadField)
+        → IsFirstBadWord words number → HasBadField words bad → ⊥ }
 {}
 
 /// Returns the request that the words describe.

@@ -2,7 +2,7 @@
 ghost use Rattle.std.specs.Prelude.{◌≡◌, ◌≢◌, ◌+◌, ◌^◌, ◌<◌, ◌≤◌, ◌⊎◌, ◌↔◌, ℕ, List, [], ◌∷◌, ◌++◌, None, Some, length, drop, insert, set};
 ghost use Rattle.std.specs.Prelude.{All, IsSome, MatchOption, slice_get};
 ghost use Rattle.hart_frame.specs.heard.Character.{Character, faultless, faultless_bytes};
-ghost use Rattle.hart_frame.specs.heard.InTheWay.{FollowsOnePreamble, HasBodyAt, IsInTheWay, IsMiss, bytes_from, fault_of};
+ghost use Rattle.hart_frame.specs.heard.InTheWay.{FollowsOnePreamble, HasBodyAt, HasFaultsAt, IsInTheWay, IsMiss, bytes_from, fault_of};
 ghost use Rattle.hart_frame.specs.private.Miss.{IsOfBytes, cut_miss, wrong_miss};
 ghost use Rattle.hart_frame.specs.private.Prefix.{shown_by};
 ghost use Rattle.hart_frame.specs.heard.Place.{HasFrameAt, HasFrameUpTo};
@@ -173,15 +173,18 @@ pub fn every_start_has_a_frame_or_a_miss()
 /// A miss names what really stands in the way of a frame.
 ///
 /// `BadCheck`: once the byte that fits stands at the named place, a frame stands at the start and ends with that byte. `Faulty`:
-/// once any faultless character stands at the named place, no fault bits are named there any more. `Missing`: once any bytes for
-/// the missing ones but the last, and then the check byte of all, follow the list, a frame stands at the start and ends with them.
-/// `OnePreamble`: once another faultless `FF` stands before the single one, a frame stands after the two.
+/// the character at the named place has the named fault bits; once any faultless character stands there, no fault bits are named
+/// there any more. `Missing`: once any bytes for the missing ones but the last, and then the check byte of all, follow the list, a
+/// frame stands at the start and ends with them. `OnePreamble`: once another faultless `FF` stands before the single one, a frame
+/// stands after the two.
 pub fn misses_say_what_is_wrong()
     ensures bad_check { (start place byte fits : ℕ) (chars : List Character) → All (λ character. character.byte < 256) chars
         → miss_of chars start ≡ Some (BadCheck place byte fits)
         → HasFrameUpTo (set chars place (record { byte = fits; faults = 0 })) start (place + 1) }
     ensures faulty { (start place faults byte others : ℕ) (chars : List Character) → miss_of chars start ≡ Some (Faulty place faults)
         → miss_of (set chars place (record { byte = byte; faults = 0 })) start ≢ Some (Faulty place others) }
+    ensures fault_bits { (start place faults : ℕ) (chars : List Character) → miss_of chars start ≡ Some (Faulty place faults)
+        → HasFaultsAt chars place faults }
     ensures missing { (start count : ℕ) (chars : List Character) (bytes : List ℕ) → All (λ character. character.byte < 256) chars
         → All (λ byte. byte < 256) bytes → miss_of chars start ≡ Some (Missing count) → count ≡ length bytes + 1
         → (last : ℕ) × IsCheckByte (bytes_from chars start ++ bytes) last

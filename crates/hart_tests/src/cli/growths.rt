@@ -3,7 +3,7 @@
 //! `tools/refused-growths.sh` runs this test again and again, and refuses another growth each time. So nothing but the calls takes
 //! memory here: inputs are constants, and texts go into an array.
 
-use super::call::{Call, Words};
+use super::call::{Call, Named, Words};
 use super::images::NEW;
 use crate::line::carried::new_device;
 use hart_cli::Plain;
@@ -45,6 +45,17 @@ const CALLS: &[(Call, &str, &str)] = &[
             preambles: 5,
         }),
         "encode_text",
+        "",
+    ),
+    (
+        Call::Request(Named {
+            who: "P",
+            address: "37420A1B2C",
+            command: "19",
+            fields: &["final_assembly_number=0x012345"],
+            preambles: 5,
+        }),
+        "request",
         "",
     ),
 ];

@@ -60,7 +60,8 @@ pub fn explanations_name_the_messages_of_dump()
         → (f ≡ g) × AreOfOneHearing (input ++ more) ending f lines text }
 {}
 
-/// An explanation is what is said of the places before the first message, that message's paragraph, and what is said after it.
+/// An explanation is what is said of the places before the first message, that message's paragraph, and what is said after it. After
+/// the last message that is what is said of the places up to the end.
 ///
 /// A gap between messages has one line for each place where the definition has a miss, in the order of the places. After it comes a
 /// second line if a header is heard at the place. Let the list be the characters from the end of the last message on. Each place of
@@ -69,6 +70,8 @@ pub fn every_start_outside_messages_has_one_line()
     ensures by_message { (chars : List Character) (from : ℕ) (found : Found) (later : List Found)
         → explanation (sightings chars from (found ∷ later))
         ≡ explanation (missed chars from found.start) ++ paragraph found ++ explanation (sightings chars found.stop later) }
+    ensures last_gap { (chars : List Character) (from : ℕ)
+        → explanation (sightings chars from []) ≡ explanation (missed chars from (length chars)) }
     ensures one_line { (place : ℕ) (miss : Miss) → IsOneLine (miss_line place miss) }
     ensures second_line { (header : HeaderParts) → IsOneLine (seems_line (Some header)) }
     ensures in_order { (chars : List Character) (from stop : ℕ)

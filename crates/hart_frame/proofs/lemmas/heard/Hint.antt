@@ -12,7 +12,7 @@ use Rattle.std.specs.Option.{IsSome, MatchOption, is_some}
 use Rattle.hart_frame.specs.declared.heard.miss.Miss.{Miss}
 use Rattle.hart_frame.specs.declared.heard.miss.Miss.TheVariants.{BadCheck, Faulty, Missing, OnePreamble}
 use Rattle.hart_frame.specs.heard.Character.{Character, faultless, faultless_bytes}
-use Rattle.hart_frame.specs.heard.InTheWay.{bytes_from, FollowsOnePreamble, HasBodyAt, IsMiss}
+use Rattle.hart_frame.specs.heard.InTheWay.{bytes_from, FollowsOnePreamble, HasBodyAt, HasFaultsAt, IsMiss}
 use Rattle.hart_frame.specs.heard.Place.{HasFrameAt, HasFrameUpTo}
 use Rattle.hart_frame.specs.heard.Miss.{body_miss, check_miss, miss_of}
 use Rattle.hart_frame.specs.heard.Start.{IsStart}
@@ -165,6 +165,13 @@ fault_is_gone start place faults byte others chars is again =
     let (here, (early, at, (some, byte, there))) =
     way_of start (set chars place c) (Faulty place others) (λ place byte fits same. absurd cc) again (λ same. cc) in
     grind (arith, slice_get_within, get_or_from_slice_get, get_or-set_same chars place c preamble, length-set chars place c)
+
+-- The character that is named as faulty stands at its place, with the fault bits that are named.
+pub fault_is_there : (start place faults : ℕ) (chars : List Character) → miss_of chars start ≡ Some (Faulty place faults)
+    → HasFaultsAt chars place faults
+fault_is_there start place faults chars is =
+    let (here, (early, at, has)) =
+    way_of start chars (Faulty place faults) (λ place byte fits same. absurd cc) is (λ same. cc) in has
 
 -- Where bytes are missing, a frame stands once that many are appended, the last of them the check byte that fits.
 pub missing_fits : (start count : ℕ) (chars : List Character) (bytes : List ℕ) → All (λ c. c.byte < 256) chars

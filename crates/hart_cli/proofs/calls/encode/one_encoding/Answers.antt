@@ -1,8 +1,33 @@
-use Rattle.std.proofs.Common.{arith, ◌≡◌}
+use Rattle.std.proofs.Common.{arith, ◌≡◌, ◌⊎◌, ℕ, inl, inr, refl}
 use Rattle.std.proofs.lemmas.Grind.{common_steps}
+use Rattle.hart_values.specs.declared.address.Address.{Address}
+use Rattle.hart_values.specs.declared.master_id.MasterId.{MasterId}
+use Rattle.hart_line.specs.script.Words.{HasNoValue, IsAddressWord, IsCommandWord, IsDataWord, IsWho}
+use Rattle.hart_cli.specs.encode.Encode.{IsFirstBad}
+use Rattle.hart_cli.specs.encode.MessageWords.{MessageWords}
 use Rattle.hart_cli.proofs.lemmas.text.MessageLine.{IsMessageLine-one}
 use Rattle.hart_cli.proofs.calls.encode.one_encoding.Goals as goal
 
-pub returns : goal.returns
-returns c words xs ys p q =
+-- the number of the first bad word says which words write values
+bad_parts : (words : MessageWords) (number : ℕ) → IsFirstBad words number
+    → ((number ≡ 1) × HasNoValue (IsWho words.who))
+    ⊎ ((number ≡ 2) × ((master : MasterId) × IsWho words.who master) × HasNoValue (IsAddressWord words.address))
+    ⊎ ((number ≡ 3) × ((master : MasterId) × IsWho words.who master) × ((address : Address) × IsAddressWord words.address address)
+    × HasNoValue (IsCommandWord words.command))
+    ⊎ ((number ≡ 4) × ((master : MasterId) × IsWho words.who master) × ((address : Address) × IsAddressWord words.address address)
+    × ((command : ℕ) × IsCommandWord words.command command) × HasNoValue (IsDataWord words.payload))
+bad_parts words _ (IsFirstBad.bad_who none) = inl (refl, none)
+bad_parts words _ (IsFirstBad.bad_address master who none) = inr (inl (refl, (master, who), none))
+bad_parts words _ (IsFirstBad.bad_command master address who is none) = inr (inr (inl (refl, (master, who), (address, is), none)))
+bad_parts words _ (IsFirstBad.bad_data master address command who is asks none) =
+    inr (inr (inr (refl, (master, who), (address, is), (command, asks), none)))
+
+pub returns-clause-one_text : goal.returns-clause-one_text
+returns-clause-one_text c words xs ys p q =
     let frames : p.frame ≡ q.frame = grind (arith, common_steps) in IsMessageLine-one p.frame q.frame _ xs ys frames p.line q.line
+
+pub returns-clause-one_bad_word : goal.returns-clause-one_bad_word
+returns-clause-one_bad_word c words m n p q = grind (arith, bad_parts words m p, bad_parts words n q)
+
+pub returns-clause-no_bad_word : goal.returns-clause-no_bad_word
+returns-clause-no_bad_word c words xs number p q = grind (arith, bad_parts words number q)

@@ -19,6 +19,9 @@ returns-clause-by_message c chars from found later =
     flat_map-append seen_text (missed chars from found.start) (Message found ∷ after)
     ∙ sym (append_assoc (explanation (missed chars from found.start)) (paragraph found) (explanation after))
 
+pub returns-clause-last_gap : goal.returns-clause-last_gap
+returns-clause-last_gap c chars from = refl
+
 pub returns-clause-one_line : goal.returns-clause-one_line
 returns-clause-one_line c place miss = record {
   words = decimal place ++ codes ": no message: " ++ miss_words miss;
