@@ -14,7 +14,8 @@ COMMAND_WORD = 3
 MOST_CODES = 8
 LONG_TAG = 32
 NUMBER = re.compile(r"\+?[0-9]+")
-BYTES = re.compile(r"0x((?:[0-9A-Fa-f]{2})*)")
+MOST_BYTES = 255
+BYTES = re.compile(rf"0x((?:[0-9A-Fa-f]{{2}}){{0,{MOST_BYTES}}})")
 DAY = re.compile(r"(\d{4})-(\d{2})-(\d{2})")
 PACKED = [chr(code) for code in range(0x20, 0x60)]
 LATIN = [chr(code) for code in range(0x100) if 0x20 <= code <= 0x7E or code >= 0xA0]
@@ -153,7 +154,8 @@ def random_text(rng, most, allowed):
 
 
 def random_hex(rng, size):
-    length = weighted(rng, (8, size if size is not None else rng.randrange(1, MOST_CODES + 1)), (1, rng.randrange(40)))
+    good = size if size is not None else rng.randrange(1, MOST_CODES + 1)
+    length = weighted(rng, (16, good), (2, rng.randrange(40)), (1, MOST_BYTES + rng.randrange(2)))
     text = rng.randbytes(length).hex()
     text = text.upper() if rng.random() < 0.5 else text
     return weighted(rng, (12, "0x" + text), (1, text), (1, "0X" + text), (1, f"0x{text}0"), (1, "0x"))

@@ -60,4 +60,6 @@ BAD_WORDS = (
     (["P", "37420A1B2C", "22", "long_tag=a\t"], "4: bad character at 1"),
     (["P", "37420A1B2C", "22", "long_tag=€"], "4: bad character at 0"),
     (["P", "37420A1B2C", "22", "long_tag=0x12"], "4: not 0x and 32 bytes in hex"),
+    (["P", "37420A1B2C", "22", "long_tag=0x" + 255 * "4a"], "4: not 0x and 32 bytes in hex"),
+    (["P", "37420A1B2C", "22", "long_tag=0x" + 256 * "4a"], "4: too long: at most 32 characters"),
 )
