@@ -14,8 +14,9 @@ COMMAND_WORD = 3
 MOST_CODES = 8
 LONG_TAG = 32
 NUMBER = re.compile(r"\+?[0-9]+")
-BYTES = re.compile(r"0x((?:[0-9A-Fa-f]{2})*)")
-DAY = re.compile(r"(\d{4})-(\d{2})-(\d{2})")
+MOST_BYTES = 255
+BYTES = re.compile(rf"0x((?:[0-9A-Fa-f]{{2}}){{0,{MOST_BYTES}}})")
+DAY = re.compile(r"([0-9]{4})-([0-9]{2})-([0-9]{2})")
 PACKED = [chr(code) for code in range(0x20, 0x60)]
 LATIN = [chr(code) for code in range(0x100) if 0x20 <= code <= 0x7E or code >= 0xA0]
 WITH_FIELDS = sorted(command for kind, command in FIELDS if kind == "STX")
@@ -153,15 +154,18 @@ def random_text(rng, most, allowed):
 
 
 def random_hex(rng, size):
-    length = weighted(rng, (8, size if size is not None else rng.randrange(1, MOST_CODES + 1)), (1, rng.randrange(40)))
+    good = size if size is not None else rng.randrange(1, MOST_CODES + 1)
+    length = weighted(rng, (16, good), (2, rng.randrange(40)), (1, MOST_BYTES + rng.randrange(2)))
     text = rng.randbytes(length).hex()
     text = text.upper() if rng.random() < 0.5 else text
     return weighted(rng, (12, "0x" + text), (1, text), (1, "0X" + text), (1, f"0x{text}0"), (1, "0x"))
 
 
 def random_date(rng):
-    day = datetime.date(1900, 1, 1) + datetime.timedelta(days=rng.randrange(93502))
-    return weighted(rng, (8, day.isoformat()), (2, "not set"), (1, "2026-02-30"), (1, "1899-12-31"), (1, "2156-01-01"), (1, ""), (1, "x"))
+    day = (datetime.date(1900, 1, 1) + datetime.timedelta(days=rng.randrange(93502))).isoformat()
+    form = rng.choice(("{}T10:00", "{} 10:00:00", "{}T10:00+01:00", "{}[u-ca=iso8601]", "+00{}", "{} ", "{}Z"))
+    other = rng.choice((form.format(day), day.replace("-", ""), "2026-02-30", "1899-12-31", "2156-01-01", "", "x"))
+    return weighted(rng, (8, day), (2, "not set"), (5, other))
 
 
 def random_number(rng, size):

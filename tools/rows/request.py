@@ -46,6 +46,11 @@ BAD_WORDS = (
     (["P", "37420A1B2C", "18", "tag=X", "descriptor=Y", "date=2156-01-01"], "6: no date"),
     (["P", "37420A1B2C", "18", "tag=X", "descriptor=Y", "date="], "6: no date"),
     (["P", "37420A1B2C", "18", "tag=X", "descriptor=Y", "date=Not set"], "6: no date"),
+    (["P", "37420A1B2C", "18", "tag=X", "descriptor=Y", "date=2026-11-27T10:00"], "6: no date"),
+    (["P", "37420A1B2C", "18", "tag=X", "descriptor=Y", "date=2026-11-27T10:00+01:00"], "6: no date"),
+    (["P", "37420A1B2C", "18", "tag=X", "descriptor=Y", "date=2026-11-27[u-ca=iso8601]"], "6: no date"),
+    (["P", "37420A1B2C", "18", "tag=X", "descriptor=Y", "date=20261127"], "6: no date"),
+    (["P", "37420A1B2C", "18", "tag=X", "descriptor=Y", "date=+002026-11-27"], "6: no date"),
     (["P", "37420A1B2C", "6", "polling_address=256", "loop_current_mode=1"], "4: no number from 0 to 255"),
     (["P", "37420A1B2C", "6", "polling_address=0x1", "loop_current_mode=1"], "4: no number from 0 to 255"),
     (["P", "37420A1B2C", "6", "polling_address=", "loop_current_mode=1"], "4: no number from 0 to 255"),
@@ -60,4 +65,6 @@ BAD_WORDS = (
     (["P", "37420A1B2C", "22", "long_tag=a\t"], "4: bad character at 1"),
     (["P", "37420A1B2C", "22", "long_tag=€"], "4: bad character at 0"),
     (["P", "37420A1B2C", "22", "long_tag=0x12"], "4: not 0x and 32 bytes in hex"),
+    (["P", "37420A1B2C", "22", "long_tag=0x" + 255 * "4a"], "4: not 0x and 32 bytes in hex"),
+    (["P", "37420A1B2C", "22", "long_tag=0x" + 256 * "4a"], "4: too long: at most 32 characters"),
 )

@@ -8,8 +8,8 @@ use Rattle.hart_cli.specs.declared.fault.CliFault.{CliFault}
 use Rattle.hart_cli.specs.declared.fault.CliFault.TheVariants.{Read, Write, TooLong, BadHex, Line, Image, Memory, BadWord, BadField}
 use Rattle.hart_cli.specs.request.FaultText.{reason_text}
 
--- The text of a fault, without the reason why the word of a field is bad. The place of bad hex and the number of a bad word are in
--- decimal.
+-- The text of a fault, without the reason why a word of `hart request` is bad. The place of bad hex and the number of a bad word are
+-- in decimal.
 abbrev pub text_before_reason : CliFault → List ℕ
 text_before_reason Read = codes "read fault"
 text_before_reason Write = codes "write fault"
@@ -21,7 +21,7 @@ text_before_reason (Memory none) = codes "out of memory"
 text_before_reason (BadWord number) = codes "bad word " ++ decimal number
 text_before_reason (BadField bad) = codes "bad word " ++ decimal bad.number ++ codes ": "
 
--- The text of the reason why the word of a field is bad. No other fault has a reason.
+-- The text of the reason why a word of `hart request` is bad. No other fault has a reason.
 abbrev pub reason_of : CliFault → List ℕ
 reason_of (BadField bad) = reason_text bad.fault
 reason_of _ = []

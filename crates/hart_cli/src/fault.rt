@@ -73,7 +73,7 @@ impl CliFault {
         line
     }
 
-    /// Returns the text of the fault, without the reason why the word of a field is bad.
+    /// Returns the text of the fault, without the reason why a word of `hart request` is bad.
     fn text(self) -> FaultText
         ensures { joined result ≡ text_before_reason self }
     {
@@ -95,7 +95,7 @@ impl CliFault {
         }
     }
 
-    /// Returns the reason why the word of a field is bad; no other fault has one.
+    /// Returns the reason why a word of `hart request` is bad; no other fault has one.
     fn reason(self) -> Reason
         ensures { reasoned result ≡ reason_of self }
     {

@@ -1,6 +1,7 @@
 -- The lines of `hart dump` (own profile).
-use Rattle.std.specs.Prelude.{ℕ, ◌+◌, ◌*◌, ◌==◌, ◌&&◌, Bool, true, false, if◌then◌else◌, List, [], ◌∷◌, codes, decimal, length}
+use Rattle.std.specs.Prelude.{ℕ, ◌+◌, ◌*◌, Bool, true, false, if◌then◌else◌, List, [], ◌∷◌, codes, decimal, length}
 use Rattle.std.specs.List.{flat_map}
+use Rattle.hart_values.specs.address.AddressBytes.{is_broadcast}
 use Rattle.hart_values.specs.declared.address.Address.{Address}
 use Rattle.hart_values.specs.declared.address.Address.TheVariants.{Polling, Unique}
 use Rattle.hart_values.specs.declared.master_id.MasterId.{MasterId}
@@ -30,7 +31,7 @@ burst_word true = codes "1"
 abbrev pub address_word : Address → List ℕ
 address_word (Polling number) = 64 ∷ decimal number
 address_word (Unique numbers) =
-    if numbers.expanded_type == 0 && numbers.device_id == 0 then codes "all" else device_digits numbers
+    if is_broadcast (Unique numbers) then codes "all" else device_digits numbers
 
 -- The line of a frame has these nine words.
 abbrev pub dump_line : Found → List ℕ

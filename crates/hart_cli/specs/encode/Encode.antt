@@ -51,7 +51,7 @@ EncodeOutcome words writer writer_after (Err _) = ⊥
 -- For private calls alone: what reading the words returns.
 
 -- Reading the words returns the frame that they ask for, or the number of the first bad word.
-abbrev pub RequestOutcome : MessageWords → Result FrameParts CliFault → Type 0
-RequestOutcome words (Ok frame) = IsRequestOf words frame
-RequestOutcome words (Err (BadWord number)) = IsFirstBad words number
-RequestOutcome words (Err _) = ⊥
+abbrev pub WordsOutcome : MessageWords → Result FrameParts CliFault → Type 0
+WordsOutcome words (Ok frame) = IsRequestOf words frame
+WordsOutcome words (Err (BadWord number)) = IsFirstBad words number
+WordsOutcome words (Err _) = ⊥

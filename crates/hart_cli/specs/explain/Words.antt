@@ -1,7 +1,8 @@
 -- The words of `hart explain` for bytes, for numbers with names, for who speaks to whom and for headers, and its lines (own profile).
-use Rattle.std.specs.Prelude.{◌==◌, ◌&&◌, if◌then◌else◌, ◌++◌, [], ◌∷◌, ℕ, List, Option, None, Some, codes, decimal}
+use Rattle.std.specs.Prelude.{if◌then◌else◌, ◌++◌, [], ◌∷◌, ℕ, List, Option, None, Some, codes, decimal}
 use Rattle.hex.specs.Hex.{encode_upper}
 use Rattle.hart_commands.specs.Commands.{command_name}
+use Rattle.hart_values.specs.address.AddressBytes.{is_broadcast}
 use Rattle.hart_values.specs.declared.address.Address.{Address}
 use Rattle.hart_values.specs.declared.address.Address.TheVariants.{Polling, Unique}
 use Rattle.hart_values.specs.declared.master_id.MasterId.{MasterId}
@@ -43,7 +44,7 @@ master_words Secondary = codes "the secondary master"
 abbrev pub device_words : List ℕ → Address → List ℕ
 device_words broadcast (Polling number) = codes "the device at polling address " ++ decimal number
 device_words broadcast (Unique numbers) =
-    if numbers.expanded_type == 0 && numbers.device_id == 0 then broadcast else codes "device " ++ device_digits numbers
+    if is_broadcast (Unique numbers) then broadcast else codes "device " ++ device_digits numbers
 
 -- An STX is a request of its master to the device at its address, or to all devices. An ACK is a reply to its master from the
 -- device at its address, or from one of all devices.

@@ -1,4 +1,4 @@
--- The texts of the faults of fields (own profile).
+-- The texts of the reasons why a word of `hart request` is bad (own profile).
 use Rattle.std.specs.Prelude.{◌++◌, ℕ, List, [], codes, decimal, slice_get}
 use Rattle.std.specs.Option.{option_map_or}
 use Rattle.hart_commands.specs.Commands.{request_rows}
@@ -11,7 +11,8 @@ use Rattle.hart_cli.specs.declared.calls.request.fault.FieldFault.TheVariants.{U
 abbrev pub name_at : ℕ → ℕ → List ℕ
 name_at command field = option_map_or (λ row. row.name) (slice_get (request_rows command) field) []
 
--- The text of a fault of a field. The place of a character, counted from 0, and other numbers are in decimal.
+-- The text of the reason why a word of `hart request` is bad. The place of a character, counted from 0, and other numbers are in
+-- decimal.
 abbrev pub reason_text : FieldFault → List ℕ
 reason_text UnknownCommand = codes "unknown command"
 reason_text NotNamed = codes "no NAME=VALUE"

@@ -16,7 +16,7 @@ use Rattle.hart_commands.specs.declared.fields.FieldSize.TheVariants.{Exactly, A
 use Rattle.hart_line.specs.script.Words.{data_of}
 use Rattle.hart_cli.specs.declared.calls.request.fault.FieldFault.{FieldFault}
 use Rattle.hart_cli.specs.declared.calls.request.fault.FieldFault.TheVariants.{BadCharacter, NoBytes, NoCodes, NoDate, NoNumber, TooLong}
-use Rattle.hart_cli.specs.explain.Values.{is_printable}
+use Rattle.hart_cli.specs.explain.Values.{date_words, is_printable}
 
 -- A number is written in decimal digits, perhaps after a plus sign, and lies between 0 and the greatest number.
 abbrev pub number_up_to : ℕ → List ℕ → Option ℕ
@@ -42,7 +42,7 @@ number_or_fault size (Some number) = Ok (number_bytes size number)
 abbrev pub number_value : ℕ → List ℕ → Result (List ℕ) FieldFault
 number_value size word = number_or_fault size (number_up_to (greatest_of size) word)
 
--- Bytes are written as `0x` (the bytes 48 and 120), and then like DATA.
+-- Bytes are written as `0x` (the bytes 48 and 120), and then like DATA: at most 255 bytes.
 abbrev pub hex_of : List ℕ → Option (List ℕ)
 hex_of (first ∷ second ∷ digits) = if (first == 48) && (second == 120) then data_of digits else None
 hex_of _ = None
@@ -112,16 +112,18 @@ abbrev pub year_byte : ℤ → Option ℕ
 year_byte (pos year) = if nat_le 1900 year && nat_le year 2155 then Some (year - 1900) else None
 year_byte _ = None
 
--- The bytes of a date with this year, if the year has a byte.
-abbrev pub dated : (day month : ℕ) → Option ℕ → Result (List ℕ) FieldFault
-dated day month None = Err NoDate
-dated day month (Some year) = Ok (day ∷ month ∷ year ∷ [])
+-- The bytes of a date with this year, if the year has a byte, and if the word is exactly what `explain` shows for these bytes.
+abbrev pub dated : List ℕ → (day month : ℕ) → Option ℕ → Result (List ℕ) FieldFault
+dated word day month None = Err NoDate
+dated word day month (Some year) =
+    if bytes_eq word (date_words (day ∷ month ∷ year ∷ [])) then Ok (day ∷ month ∷ year ∷ []) else Err NoDate
 
--- The bytes of a date are those of a day, written as jiff reads it, or of `not set`.
+-- The bytes of a date are those of `not set`, or of the day that jiff reads. jiff also reads other forms of a day, and drops what
+-- may follow it, such as a time. A word in such a form is no date.
 abbrev pub date_value : List ℕ → Result (List ℕ) FieldFault
 date_value word =
     if bytes_eq word (codes "not set") then Ok not_set
-    else option_map_or (λ date. dated date.day date.month (year_byte date.year)) (result_ok (parse_date word)) (Err NoDate)
+    else option_map_or (λ date. dated word date.day date.month (year_byte date.year)) (result_ok (parse_date word)) (Err NoDate)
 
 -- The bytes that a word writes as the value of a field of a kind and a size, or why it writes none.
 abbrev pub value_of : FieldKind → FieldSize → List ℕ → Result (List ℕ) FieldFault

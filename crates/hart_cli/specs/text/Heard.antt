@@ -6,7 +6,7 @@ use Rattle.hart_cli.specs.input.Input.{Ending}
 use Rattle.hart_cli.specs.text.InputChars.{HasHeardBy}
 use Rattle.hart_cli.specs.text.Items.{NoPieceBegins, ReadsUpTo}
 
--- What is heard on a line is characters, and silences between them.
+-- One thing heard on a line: a character or a silence.
 pub data Heard : Type 0 where
   HeardChar : (character : Character) → Heard
   Silence : Heard
@@ -27,7 +27,7 @@ stretches (HeardChar character ∷ heard) = after_chars (character ∷ []) (stre
 stretches (Silence ∷ heard) = [] ∷ stretches heard
 
 -- A text reads as what was heard, up to a rest, if texts of items stand end to end before that rest, with a `/` (the byte 47)
--- between two of them.
+-- between two of them. A text of items may be empty.
 pub data ReadsHeard : List ℕ → List Heard → List ℕ → Type 0 where
   items : (text : List ℕ) (chars : List Character) (rest : List ℕ) → ReadsUpTo text chars rest → ReadsHeard text (heard_chars chars) rest
   silence : (text : List ℕ) (chars : List Character) (rest : List ℕ) (heard : List Heard) (last : List ℕ)

@@ -1,7 +1,7 @@
 //! `hart encode`: a message to send.
 ghost use Rattle.std.specs.Prelude.{◌≡◌, ℕ, List};
 ghost use Rattle.hart_frame.specs.wire.Message.{IsPreambleCount};
-ghost use Rattle.hart_cli.specs.encode.Encode.{EncodeOutcome, IsEncoding, IsFirstBad, RequestOutcome};
+ghost use Rattle.hart_cli.specs.encode.Encode.{EncodeOutcome, IsEncoding, IsFirstBad, WordsOutcome};
 ghost use Rattle.hart_cli.specs.encode.MessageWords.{MessageWords};
 
 use crate::fault::CliFault;
@@ -97,7 +97,7 @@ pub fn one_encoding()
 ///
 /// [`CliFault::BadWord`] with the number of the first bad word.
 fn read_request(words: &EncodeWords<'_>) -> Result<Frame, CliFault>
-    ensures { RequestOutcome words.now result }
+    ensures { WordsOutcome words.now result }
 {
     let Some(master) = read_who(words.who.as_bytes()) else {
         return Err(CliFault::BadWord { number: 1 });

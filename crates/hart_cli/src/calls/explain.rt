@@ -23,7 +23,7 @@ mod message;
 mod misses;
 mod status;
 mod telling;
-mod values;
+pub(crate) mod values;
 mod words;
 
 /// How many bytes a raw input may have at most, so that each place fits in 64 bits.

@@ -57,7 +57,7 @@ address_of word =
 abbrev pub command_of : List ℕ → Option ℕ
 command_of word = decimal_of 3 255 word
 
--- Data are written in two hex digits of either case for each byte, at most 255 of them.
+-- Data are written in two hex digits of either case for each byte, at most 255 bytes.
 abbrev pub data_of : List ℕ → Option (List ℕ)
 data_of word = result_ok (decode_of word) >>= (λ bytes. if nat_le (length bytes) 255 then Some bytes else None)
 

@@ -11,7 +11,7 @@ use crate::kept::Kept;
 use crate::text::pairs::Pairs;
 use crate::text::words::push_text;
 use hart_commands::{FieldKind, unit_name};
-use hart_values::{HartDate, PackedText};
+use hart_values::{ByteList, HartDate, PackedText};
 use itoa::Buffer;
 
 /// The year whose byte is 0.
@@ -183,8 +183,8 @@ fn push_date(text: &mut Kept, pairs: &Pairs, bytes: &[u8])
 }
 
 /// Adds a day of the calendar.
-fn push_day(text: &mut Kept, day: u8, month: u8, year: u8)
-    requires { length text.old + 30 ≤ 32768 }
+pub fn push_day<const N: usize>(text: &mut ByteList<N>, day: u8, month: u8, year: u8)
+    requires { length text.old + 30 ≤ N }
     ensures words { text.new ≡ text.old ++ day_words day month year }
     ensures few { length text.new ≤ length text.old + 30 }
 {
@@ -196,8 +196,8 @@ fn push_day(text: &mut Kept, day: u8, month: u8, year: u8)
 }
 
 /// Adds a number below a hundred as two digits.
-fn push_two_digits(text: &mut Kept, number: u8)
-    requires { length text.old + 6 ≤ 32768 }
+fn push_two_digits<const N: usize>(text: &mut ByteList<N>, number: u8)
+    requires { length text.old + 6 ≤ N }
     ensures digits { text.new ≡ text.old ++ two_digits number }
     ensures few { length text.new ≤ length text.old + 6 }
 {

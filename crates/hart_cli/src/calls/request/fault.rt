@@ -34,7 +34,7 @@ pub enum FieldFault {
     TooLong { most: usize },
     /// The value is not a decimal number from 0 to this one.
     NoNumber { greatest: u16 },
-    /// The value is neither a day of the years 1900 to 2155 nor `not set`.
+    /// The value is neither a day of the years 1900 to 2155, in the form that `explain` shows, nor `not set`.
     NoDate,
     /// The value is not `0x` and this number of bytes in hex.
     NoBytes { count: u8 },

@@ -3,7 +3,7 @@ ghost use Rattle.std.specs.Prelude.{◌≡◌, ◌++◌, ◌*◌, ◌/◌, ℕ, 
 ghost use Rattle.std.specs.Str.{chars};
 ghost use Rattle.std.specs.Str.Parse.{digits_value, without_leading_plus};
 ghost use Rattle.hart_values.specs.packed_text.Packing.{IsPackedSize};
-ghost use Rattle.hart_commands.specs.declared.fields.FieldKind.TheVariants.{Bytes, LatinText, Number, PackedText};
+ghost use Rattle.hart_commands.specs.declared.fields.FieldKind.TheVariants.{Bytes, Date, LatinText, Number, PackedText};
 ghost use Rattle.hart_commands.specs.declared.fields.FieldSize.TheVariants.{Exactly};
 ghost use Rattle.hart_cli.specs.explain.Values.{value_words};
 ghost use Rattle.hart_cli.specs.request.Values.{hex_of, padded, value_of};
@@ -24,7 +24,7 @@ pub fn fields_of_requests_are_those_given()
 {}
 
 /// `hart explain` shows the bytes of a given value as that value: a number as its number, a text in double quotes as its characters
-/// and the added spaces, and bytes as those that were read.
+/// and the added spaces, a date as its word, and bytes as those that were read.
 pub fn values_are_shown_as_given()
     ensures numbers { (size : ℕ) (word bytes : List ℕ) → value_of Number (Exactly size) word ≡ Ok bytes
         → value_words Number bytes ≡ decimal (digits_value 10 (without_leading_plus word)) }
@@ -32,5 +32,6 @@ pub fn values_are_shown_as_given()
         → value_words PackedText bytes ≡ codes "\"" ++ padded (4 * size / 3) (chars word) ++ codes "\"" }
     ensures latin { (word bytes : List ℕ) → hex_of word ≡ None → value_of LatinText (Exactly 32) word ≡ Ok bytes
         → value_words LatinText bytes ≡ codes "\"" ++ encode_utf8_all (padded 32 (chars word)) ++ codes "\"" }
+    ensures dates { (size : ℕ) (word bytes : List ℕ) → value_of Date (Exactly size) word ≡ Ok bytes → value_words Date bytes ≡ word }
     ensures bytes { (size : ℕ) (word bytes : List ℕ) → value_of Bytes (Exactly size) word ≡ Ok bytes → hex_of word ≡ Some bytes }
 {}

@@ -1,11 +1,14 @@
 //! The bytes of a field, from the word of its value.
-ghost use Rattle.std.specs.Prelude.{◌≡◌, ◌*◌, ◌/◌, ◌≤◌, All, length, true};
+ghost use Rattle.std.specs.Prelude.{◌≡◌, ◌+◌, ◌*◌, ◌/◌, ◌≤◌, All, Some, length, true};
 ghost use Rattle.std.specs.Str.{chars};
+ghost use Rattle.hart_values.specs.hart_date.Calendar.{is_calendar_day};
 ghost use Rattle.hart_values.specs.packed_text.Packing.{IsCharacter, IsPackedSize};
 ghost use Rattle.hart_cli.specs.request.Fields.{is_writable};
-ghost use Rattle.hart_cli.specs.request.Values.{bytes_value, can_have, date_value, greatest_of, hex_of, latin_value, number_bytes};
-ghost use Rattle.hart_cli.specs.request.Values.{number_up_to, number_value, packed, packed_value, padded, sized, text_value, value_of};
+ghost use Rattle.hart_cli.specs.request.Values.{bytes_value, can_have, date_value, dated, greatest_of, hex_of, latin_value};
+ghost use Rattle.hart_cli.specs.request.Values.{number_bytes, number_up_to, number_value, packed, packed_value, padded, sized};
+ghost use Rattle.hart_cli.specs.request.Values.{text_value, value_of};
 
+use crate::calls::explain::values::push_day;
 use crate::calls::request::fault::FieldFault;
 use hart_commands::{FieldKind, FieldRow, FieldSize};
 use hart_line::read_data;
@@ -204,14 +207,12 @@ fn pad(text: &mut FieldBytes, most: usize)
     }
 }
 
-/// Returns the bytes of a date as jiff reads it, or those of the date `not set`.
+/// Returns the bytes of a date, which is written as `explain` shows it: a day, or `not set`.
 fn date_value(word: &str) -> Result<FieldBytes, FieldFault>
     ensures { result ≡ date_value word.now }
 {
-    let mut bytes = FieldBytes::new();
     if word == "not set" {
-        bytes.extend_from_slice(&[0, 0, 0]);
-        return Ok(bytes);
+        return FieldBytes::from_slice(&[0, 0, 0]).ok_or(FieldFault::NoDate);
     }
     let Ok(date) = word.parse::<Date>() else {
         return Err(FieldFault::NoDate);
@@ -220,8 +221,19 @@ fn date_value(word: &str) -> Result<FieldBytes, FieldFault>
     if year < FIRST_YEAR || year > LAST_YEAR {
         return Err(FieldFault::NoDate);
     }
-    bytes.push(date.day() as u8);
-    bytes.push(date.month() as u8);
-    bytes.push((year - FIRST_YEAR) as u8);
-    Ok(bytes)
+    let year = (year - FIRST_YEAR) as u8;
+    day_value(word, date.day() as u8, date.month() as u8, year)
+}
+
+/// Returns the bytes of a day that a word writes, if the word is exactly what `explain` shows for this day.
+fn day_value(word: &str, day: u8, month: u8, year: u8) -> Result<FieldBytes, FieldFault>
+    requires { is_calendar_day day month (1900 + year) ≡ true }
+    ensures { result ≡ dated word.now day month (Some year) }
+{
+    let mut shown = FieldBytes::new();
+    push_day(&mut shown, day, month, year);
+    if word.as_bytes() != shown.as_slice() {
+        return Err(FieldFault::NoDate);
+    }
+    FieldBytes::from_slice(&[day, month, year]).ok_or(FieldFault::NoDate)
 }

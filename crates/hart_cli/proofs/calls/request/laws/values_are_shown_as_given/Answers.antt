@@ -1,18 +1,24 @@
 use Rattle.std.proofs.Common.{◌≡◌, ◌≤◌, ◌<◌, ◌-◌, ◌*◌, ◌/◌, ◌%◌, Bool, ℕ}
 use Rattle.std.proofs.Common.{suc, true, List, [], ◌∷◌, Option, None, Some, Result}
-use Rattle.std.proofs.Common.{Ok, Err, arith, get_or, length, refl, sym}
+use Rattle.std.proofs.Common.{Ok, Err, ◌⊎◌, inl, inr, ◌∙◌, ap, arith, codes, get_or, if◌then◌else◌, length, refl, sym}
 use Rattle.std.proofs.lemmas.Bool.{and_from}
 use Rattle.std.proofs.lemmas.Bool.Decides.{nat_tests}
 use Rattle.std.proofs.lemmas.Grind.{common_steps}
+use Rattle.std.proofs.lemmas.Slice.Eq.{bytes_eq-Decides}
 use Rattle.std.specs.List.{list_all}
-use Rattle.std.specs.Str.{chars}
+use Rattle.std.specs.Option.{option_map_or}
+use Rattle.std.specs.Result.{result_ok}
+use Rattle.std.specs.Str.{bytes_eq, chars}
 use Rattle.std.specs.Str.Parse.{digits_value, without_leading_plus}
+use Rattle.jiff.specs.Words.{parse_date}
+use Rattle.hart_values.specs.hart_date.Calendar.{not_set}
 use Rattle.hart_values.specs.packed_text.Packing.{IsCharacter, IsPackedGroup}
 use Rattle.hart_commands.specs.declared.fields.FieldKind.TheVariants.{LatinText, PackedText}
 use Rattle.hart_cli.specs.declared.calls.request.fault.FieldFault.{FieldFault}
-use Rattle.hart_cli.specs.explain.Values.{character, characters_of, is_printable, latin_words, number_in, unpacked}
-use Rattle.hart_cli.specs.request.Values.{can_have, greatest_of, group_number, number_bytes, number_or_fault, number_up_to, pack, packed}
-use Rattle.hart_cli.specs.request.Values.{padded, text_value}
+use Rattle.hart_cli.specs.declared.calls.request.fault.FieldFault.TheVariants.{NoDate}
+use Rattle.hart_cli.specs.explain.Values.{character, characters_of, date_words, is_printable, latin_words, number_in, unpacked}
+use Rattle.hart_cli.specs.request.Values.{can_have, dated, greatest_of, group_number, number_bytes, number_or_fault, number_up_to, pack}
+use Rattle.hart_cli.specs.request.Values.{packed, padded, text_value, year_byte}
 use Rattle.hart_cli.proofs.lemmas.request.Texts.{given_good}
 use Rattle.hart_cli.proofs.calls.request.laws.values_are_shown_as_given.Goals as goal
 
@@ -100,3 +106,33 @@ returns-clause-latin c word bytes none is =
     let pad = padded_is (can_have LatinText) 32 (chars word) bytes given in
     let all = all_printable bytes (given_good (can_have LatinText) refl 32 (chars word) bytes (sym given)) in
     grind (arith, common_steps, all, pad.0)
+
+-- bytes that are given by one word alone are given by that word
+given_by : (word shown bytes given : List ℕ) (other : Result (List ℕ) FieldFault)
+    → (if bytes_eq word shown then Ok bytes else other) ≡ Ok given → ((shown ≡ word) × (given ≡ bytes)) ⊎ (other ≡ Ok given)
+given_by word shown bytes given other is = grind (arith, common_steps, bytes_eq-Decides word shown)
+
+-- a day is shown as its word
+dated_shown : (word : List ℕ) (day month : ℕ) (year : Option ℕ) (bytes : List ℕ) → dated word day month year ≡ Ok bytes
+    → date_words bytes ≡ word
+dated_shown word day month None bytes is = absurd cc
+dated_shown word day month (Some year) bytes is =
+    elim (given_by word (date_words (day ∷ month ∷ year ∷ [])) (day ∷ month ∷ year ∷ []) bytes (Err NoDate) is) [
+      | inl shown ↦ ap date_words shown.1 ∙ shown.0
+      | inr other ↦ absurd cc
+    ]
+
+-- if each date that may be read is shown as a word, so is the one that was read
+read_shown : {A : Type 0} (read : Option A) (given : A → Result (List ℕ) FieldFault) (word bytes : List ℕ)
+    → ((date : A) → given date ≡ Ok bytes → date_words bytes ≡ word) → option_map_or given read (Err NoDate) ≡ Ok bytes
+    → date_words bytes ≡ word
+read_shown None given word bytes each is = absurd cc
+read_shown (Some date) given word bytes each is = each date is
+
+pub returns-clause-dates : goal.returns-clause-dates
+returns-clause-dates c size word bytes is =
+    elim (given_by word (codes "not set") not_set bytes _ is) [
+      | inl shown ↦ ap date_words shown.1 ∙ shown.0
+      | inr other ↦ read_shown (result_ok (parse_date word)) (λ date. dated word date.day date.month (year_byte date.year)) word bytes
+          (λ date. dated_shown word date.day date.month (year_byte date.year) bytes) other
+    ]
