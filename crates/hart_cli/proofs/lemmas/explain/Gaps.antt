@@ -1,6 +1,6 @@
 -- The places outside messages: which of them have a miss, and the lines of these misses.
 use Rattle.std.proofs.Common.{◌≡◌, ◌≢◌, ◌≤◌, ◌<◌, ◌+◌, ◌-◌, ℕ, zero, suc, Bool, true, false, List, [], ◌∷◌, ◌++◌, length, get_or, drop}
-use Rattle.std.proofs.Common.{take, Option, None, Some, refl, sym, append_assoc, arith, length-append, length-drop}
+use Rattle.std.proofs.Common.{take, Option, None, Some, inl, inr, refl, sym, append_assoc, arith, length-append, length-drop}
 use Rattle.std.proofs.lemmas.Bool.Decides.{nat_tests}
 use Rattle.std.proofs.lemmas.Grind.{common_steps}
 use Rattle.std.proofs.lemmas.List.{take-append-drop}
@@ -36,13 +36,27 @@ told_at told f h place = option_map_or (λ miss. Missed place (told miss) (h pla
 abbrev pub told_from : (Miss → Miss) → (ℕ → Option Miss) → (ℕ → Option HeaderParts) → ℕ → ℕ → List Seen
 told_from told f h a n = flat_map (λ place. told_at told f h place) (range_with_len a n)
 
+-- what is told of a place is of that place, with its miss and its header
+at_is : (told : Miss → Miss) (found : Option Miss) (own header : Option HeaderParts) (a place : ℕ) (miss : Miss)
+    → Contains (option_map_or (λ m. Missed a (told m) own ∷ []) found []) (Missed place miss header)
+    → (place ≡ a) × (option_map told found ≡ Some miss) × (header ≡ own)
+at_is told None own header a place miss has = absurd (grind arith)
+at_is told (Some m) own header a place miss (zero, below, is) = grind (arith, common_steps)
+at_is told (Some m) own header a place miss (suc k, below, is) = absurd (omega (arith, below))
+
 -- a miss that is told of `n` places from `a` on stands at one of them, and is made from the miss there
 pub told_is : (told : Miss → Miss) (f : ℕ → Option Miss) (h : ℕ → Option HeaderParts) (a n place : ℕ) (miss : Miss)
     (header : Option HeaderParts) → Contains (told_from told f h a n) (Missed place miss header)
     → (a ≤ place) × (place < a + n) × (option_map told (f place) ≡ Some miss) × (header ≡ h place)
 told_is told f h a zero place miss header has = grind arith
 told_is told f h a (suc n) place miss header has =
-    grind (arith, common_steps, Contains-append_cases, told_is told f h (a + 1) n place miss header)
+    elim (Contains-append_cases (told_at told f h a) (told_from told f h (a + 1) n) (Missed place miss header) has) [
+      | inl here ↦
+          let (same, is, own) = at_is told (f a) (h a) header a place miss here in
+          (omega (arith, same), omega (arith, same), rw same is, rw same own)
+      | inr later ↦
+          let is = told_is told f h (a + 1) n place miss header later in (omega (arith, is.0), omega (arith, is.1), is.2, is.3)
+    ]
 
 -- nothing that is told of places from `a` on stands before `a`
 told_after : (told : Miss → Miss) (f : ℕ → Option Miss) (h : ℕ → Option HeaderParts) (a n : ℕ) (x : Seen)

@@ -1,11 +1,12 @@
 -- The words of a header have no line feed.
-use Rattle.std.proofs.Common.{◌≡◌, ◌++◌, ◌⊎◌, ℕ, Bool, true, false, List, None, Option, Some, inl, inr, refl, arith}
+use Rattle.std.proofs.Common.{◌≡◌, ℕ, Bool, true, List, refl, arith, rules}
 use Rattle.std.proofs.lemmas.Bool.Decides.{nat_tests}
 use Rattle.std.proofs.lemmas.Grind.{common_steps}
 use Rattle.std.proofs.lemmas.List.Folds.{list_all-append}
 use Rattle.std.specs.List.{AllByRecursion, list_all}
 use Rattle.hex.specs.Hex.{encode_with}
 use Rattle.hart_commands.specs.Commands.{Command, command_name, commands}
+use Rattle.hart_commands.specs.Fields.{text}
 use Rattle.hart_commands.proofs.lemmas.Rows.{of_known}
 use Rattle.hart_frame.specs.declared.wire.kind.FrameKind.{FrameKind}
 use Rattle.hart_frame.specs.declared.wire.kind.FrameKind.TheVariants.{Ack, Stx}
@@ -22,7 +23,7 @@ name_is_unbroken : Command → Bool
 name_is_unbroken command = list_all no_line_feed command.name
 
 all_unbroken : AllByRecursion (λ row. name_is_unbroken row.command ≡ true) commands
-unfolding name_is_unbroken
+unfolding name_is_unbroken text
 all_unbroken = search rules
 
 unbroken-name : (command : ℕ) → list_all no_line_feed (name_words (command_name command)) ≡ true
@@ -40,7 +41,7 @@ unbroken-master Secondary = refl
 unbroken-device : (broadcast : List ℕ) (address : Address) → list_all no_line_feed broadcast ≡ true
     → list_all no_line_feed (device_words broadcast address) ≡ true
 unfolding encode_with
-unbroken-device broadcast (Polling number) is = simp (list_all-append, unbroken-decimal) refl
+unbroken-device broadcast (Polling number) is = simp unbroken-decimal refl
 unbroken-device broadcast (Unique numbers) is = grind (arith, nat_tests, list_all-append, unbroken-digit)
 
 unbroken-who : (kind : FrameKind) (master : MasterId) (address : Address)

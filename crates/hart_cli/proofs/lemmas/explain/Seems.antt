@@ -1,6 +1,6 @@
 -- The header that is heard at a place is that of every frame that stands there in characters with the same beginning.
-use Rattle.std.proofs.Common.{◌≡◌, ◌↔◌, ◌+◌, ◌<◌, ◌≤◌, ◌∙◌, ℕ, zero, suc, List, [], ◌∷◌, ◌++◌, None, Option, Some, ap, arith, drop, length}
-use Rattle.std.proofs.Common.{append_assoc, get_or, length-append, refl, sym, take, ◌==◌}
+use Rattle.std.proofs.Common.{◌≡◌, ◌+◌, ◌<◌, ◌∙◌, ℕ, zero, suc, List, [], ◌∷◌, ◌++◌, None, Option, Some, arith, drop, length}
+use Rattle.std.proofs.Common.{append_assoc, length-append, refl, sym, take, ◌==◌}
 use Rattle.std.proofs.lemmas.Bool.Decides.{nat_tests}
 use Rattle.std.proofs.lemmas.Grind.{common_steps}
 use Rattle.std.proofs.lemmas.List.{drop-take, drop_at, get_or-take, length-take-le, take_at, take-append-drop}
@@ -83,22 +83,29 @@ header_front bytes header is =
     let whole = headers_are_those_of_frames-stays front (drop k bytes) own has in
     has ∙ (sym (rw (take-append-drop k bytes) at whole) ∙ is)
 
+-- the same characters from a place on have the same bytes
+same_front : (chars others : List Character) (place k : ℕ) → take (place + k) others ≡ take (place + k) chars
+    → take k (bytes_from others place) ≡ take k (bytes_from chars place)
+same_front chars others place k same =
+    let front : take k (drop place others) ≡ take k (drop place chars) = rw (← drop-take place k others, ← drop-take place k chars, same) refl in
+    rw (first_bytes (drop place others) k, first_bytes (drop place chars) k, front) refl
+
+-- bytes that begin like others up to the command have the header of these
+same_header : (bytes others : List ℕ) (header : HeaderParts) → header_in bytes ≡ Some header
+    → take (command_place bytes + 1) others ≡ take (command_place bytes + 1) bytes → header_in others ≡ Some header
+same_header bytes others header is same =
+    let k = command_place bytes + 1 in
+    let front : header_in (take k others) ≡ Some header = rw same (header_front bytes header is) in
+    rw (take-append-drop k others) at (headers_are_those_of_frames-stays (take k others) (drop k others) header front)
+
 pub header_of_all : (chars others : List Character) (place : ℕ) (header : HeaderParts) (found : Found)
     → header_at chars place ≡ Some header
     → take (place + command_place (bytes_from chars place) + 1) others ≡ take (place + command_place (bytes_from chars place) + 1) chars
     → StandsIn found others 0 → found.start ≡ place → header ≡ header_of found.frame
 header_of_all chars others place header found is same stands at =
-    let bytes = bytes_from chars place in
-    let k = command_place bytes + 1 in
-    let long : place + command_place bytes + 1 ≡ place + k = omega arith in
-    let front : take k (drop place others) ≡ take k (drop place chars) =
-    sym (drop-take place k others) ∙ (ap (λ (cs : List Character). drop place cs) (rw long at same) ∙ drop-take place k chars) in
-    let begun : take k (bytes_from others place) ≡ take k bytes =
-    first_bytes (drop place others) k ∙ (ap faultless_bytes front ∙ sym (first_bytes (drop place chars) k)) in
-    let stays = headers_are_those_of_frames-stays (take k bytes) (drop k (bytes_from others place)) header (header_front bytes header is) in
-    let whole : header_in (bytes_from others place) ≡ Some header =
-    rw (take-append-drop k (bytes_from others place)) at (rw (← begun) at stays) in
+    let long : place + command_place (bytes_from chars place) + 1 ≡ place + (command_place (bytes_from chars place) + 1) = omega arith in
+    let front = same_front chars others place (command_place (bytes_from chars place) + 1) (rw long at same) in
+    let whole = same_header (bytes_from chars place) (bytes_from others place) header is front in
     let (len, body) = begins others found stands in
-    let own = headers_are_those_of_frames-body (bytes_from others found.start) found.frame len body in
-    let both : header_in (bytes_from others place) ≡ Some (header_of found.frame) = rw at at own in
-    cc (whole, both)
+    let own = rw at at (headers_are_those_of_frames-body (bytes_from others found.start) found.frame len body) in
+    cc (whole, own)

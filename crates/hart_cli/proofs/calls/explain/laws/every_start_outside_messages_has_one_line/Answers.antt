@@ -33,7 +33,7 @@ pub returns-clause-second_line : goal.returns-clause-second_line
 returns-clause-second_line c header = record {
   words = codes "    seems: " ++ header_words header;
   ended = refl;
-  unbroken = unbroken-all _ (simp (list_all-append, unbroken-header_words) refl);
+  unbroken = unbroken-all (codes "    seems: " ++ header_words header) (simp unbroken-header_words refl);
 }
 
 pub returns-clause-in_order : goal.returns-clause-in_order
