@@ -1,12 +1,16 @@
 use Rattle.std.proofs.Common.{◌≡◌, ◌<◌, ◌*◌, ◌/◌, ◌==◌, ◌&&◌, ◌++◌, ◌+◌, ◌-◌, if◌then◌else◌, is_some, ℕ, Bool, true, false}
-use Rattle.std.proofs.Common.{List, [], ◌∷◌, Result, Ok, Err}
+use Rattle.std.proofs.Common.{List, [], ◌∷◌, ◌⊎◌, inl, inr, codes, Result, Ok, Err}
 use Rattle.std.proofs.Common.{Option, None, Some, IfSome, arith, ap, append-nil, get_or, length, refl, rules, subst, sym}
 use Rattle.std.proofs.lemmas.Bool.{and_parts, eqb-true}
 use Rattle.std.proofs.lemmas.Bool.Decides.{nat_tests}
 use Rattle.std.proofs.lemmas.Grind.{common_steps}
 use Rattle.std.proofs.lemmas.List.{drop_at, take_at}
 use Rattle.std.specs.List.{AllByRecursion}
-use Rattle.std.specs.Str.{chars}
+use Rattle.std.specs.Option.{option_map_or}
+use Rattle.std.specs.Result.{result_ok}
+use Rattle.std.specs.Str.{bytes_eq, chars}
+use Rattle.jiff.specs.Words.{parse_date}
+use Rattle.hart_values.specs.hart_date.Calendar.{not_set}
 use Rattle.hart_commands.specs.Commands.{command_name, commands, known, request_rows}
 use Rattle.hart_commands.specs.Fields.{Row, bytes_of, fields_of, text}
 use Rattle.hart_commands.specs.declared.fields.FieldKind.{FieldKind}
@@ -18,12 +22,14 @@ use Rattle.hart_commands.proofs.lemmas.Rows.{of_known}
 use Rattle.hart_commands.specs.RequestData.{Reading, request_reading}
 use Rattle.hart_cli.specs.declared.calls.request.fault.BadField.{BadField}
 use Rattle.hart_cli.specs.declared.calls.request.fault.FieldFault.{FieldFault}
-use Rattle.hart_cli.specs.declared.calls.request.fault.FieldFault.TheVariants.{UnknownCommand}
+use Rattle.hart_cli.specs.declared.calls.request.fault.FieldFault.TheVariants.{NoDate, UnknownCommand}
 use Rattle.hart_cli.specs.request.Fields.{data_of_fields, field_value, first_bad_name, is_writable, joined, payload_of, place_for, taken}
 use Rattle.hart_cli.specs.request.Fields.{taken_by}
 use Rattle.hart_cli.specs.request.Fields.{unless_bad, value_in}
 use Rattle.hart_cli.specs.request.Given.{AreGiven}
-use Rattle.hart_cli.specs.request.Values.{can_have, codes_value, pack, packed, text_value, value_of}
+use Rattle.hart_cli.specs.explain.Values.{date_words}
+use Rattle.hart_cli.specs.request.Values.{can_have, codes_value, date_value, dated, pack, packed, text_value, value_of}
+use Rattle.hart_cli.specs.request.Values.{year_byte}
 use Rattle.hart_cli.proofs.calls.request.laws.fields_of_requests_are_those_given.Goals as goal
 
 -- whether a row of fixed size can be written, or a row that takes all that is left is the last
@@ -65,6 +71,38 @@ length-packed_value size word bytes suits is =
     let packs = length-packed (size / 3) from.0 (omega (arith, most, groups)) in
     omega (arith, packs, groups, ap length from.2)
 
+-- a conditional result is one of its two results
+either : (held : Bool) (given other : Result (List ℕ) FieldFault) (bytes : List ℕ) → (if held then given else other) ≡ Ok bytes
+    → (given ≡ Ok bytes) ⊎ (other ≡ Ok bytes)
+either true given other bytes is = inl is
+either false given other bytes is = inr is
+
+-- bytes that are made of what was found, if anything was, are made of something
+made_of : {T : Type 0} (make : T → Result (List ℕ) FieldFault) (found : Option T) (fault : FieldFault) (bytes : List ℕ)
+    → option_map_or make found (Err fault) ≡ Ok bytes → (t : T) × (make t ≡ Ok bytes)
+made_of make None fault bytes is = absurd cc
+made_of make (Some t) fault bytes is = (t, is)
+
+-- a date has three bytes
+length-dated : (word : List ℕ) (day month : ℕ) (year : Option ℕ) (bytes : List ℕ) → dated word day month year ≡ Ok bytes
+    → length bytes ≡ 3
+length-dated word day month None bytes is = absurd cc
+length-dated word day month (Some year) bytes is =
+    elim (either (bytes_eq word (date_words (day ∷ month ∷ year ∷ []))) (Ok (day ∷ month ∷ year ∷ [])) (Err NoDate) bytes is) [
+      | inl given ↦ grind arith
+      | inr none ↦ absurd cc
+    ]
+
+length-date : (word bytes : List ℕ) → date_value word ≡ Ok bytes → length bytes ≡ 3
+length-date word bytes is =
+    elim (either (bytes_eq word (codes "not set")) (Ok not_set) _ bytes is) [
+      | inl given ↦ grind arith
+      | inr found ↦
+          let (date, made) = made_of (λ date. dated word date.day date.month (year_byte date.year)) (result_ok (parse_date word)) NoDate
+          bytes found in
+          length-dated word date.day date.month (year_byte date.year) bytes made
+    ]
+
 -- a value has as many bytes as its field
 length-value : (kind : FieldKind) (size : ℕ) (word bytes : List ℕ) → is_writable kind (Exactly size) ≡ true
     → value_of kind (Exactly size) word ≡ Ok bytes → length bytes ≡ size
@@ -73,7 +111,8 @@ length-value Number size word bytes suits is = grind (arith, common_steps, nat_t
 length-value UnitCode size word bytes suits is = grind (arith, common_steps, nat_tests)
 length-value PackedText size word bytes suits is = length-packed_value size (chars word) bytes suits is
 length-value LatinText size word bytes suits is = grind (arith, common_steps, nat_tests, length-text)
-length-value Date size word bytes suits is = grind (arith, common_steps, nat_tests)
+length-value Date size word bytes suits is =
+    let three = length-date word bytes is in let sized : size ≡ 3 = grind (arith, nat_tests) in omega (arith, three, sized)
 length-value Float size word bytes suits is = grind (arith, common_steps, nat_tests)
 length-value Variables size word bytes suits is = grind (arith, common_steps, nat_tests)
 
