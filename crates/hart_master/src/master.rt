@@ -1,4 +1,4 @@
-ghost use Rattle.std.specs.Prelude.{◌≡◌, ◌≤◌, ◌<◌, ◌↔◌, ◌+◌, ℕ, IsTrue, IsOk, IsSome, IfOk, IfErr, IfSome, None};
+ghost use Rattle.std.specs.Prelude.{◌≡◌, ◌≤◌, ◌<◌, ◌↔◌, ◌+◌, if◌then◌else◌, ℕ, IsTrue, IsOk, IsSome, IfOk, IfErr, IfSome, None, nat_le};
 ghost use Rattle.hart_frame.specs.wire.FrameParts.{request_parts};
 ghost use Rattle.hart_commands.specs.RequestData.{command_of, request_data};
 ghost use Rattle.hart_commands.specs.declared.reply.Reply.{Reply};
@@ -245,17 +245,32 @@ impl Master {
                 if time < self.reply_limit {
                     self.hand = Hand::Awaiting(transaction, time);
                     MasterEvent::Nothing
-                } else if transaction.sendings <= self.retries {
-                    self.hand = Hand::ToSend(transaction);
-                    MasterEvent::Retry
                 } else {
-                    MasterEvent::NoReply(transaction.sendings)
+                    self.end_wait(transaction)
                 }
             }
             other => {
                 self.hand = other;
                 MasterEvent::Nothing
             }
+        }
+    }
+
+    /// Ends the wait for a reply to a request, which was taken out of the hand. The request is due again, unless it was sent
+    /// `retries + 1` times.
+    fn end_wait(&mut self, transaction: Transaction) -> MasterEvent
+        requires { self.old.hand ≡ hands.Empty }
+        ensures event { result ≡
+            (if nat_le transaction.sendings self.old.retries then MasterEvent.Retry else MasterEvent.NoReply transaction.sendings) }
+        ensures state { self.new ≡ record self.old {
+          hand = if nat_le transaction.sendings self.old.retries then hands.ToSend transaction else hands.Empty;
+        } }
+    {
+        if transaction.sendings <= self.retries {
+            self.hand = Hand::ToSend(transaction);
+            MasterEvent::Retry
+        } else {
+            MasterEvent::NoReply(transaction.sendings)
         }
     }
 }
