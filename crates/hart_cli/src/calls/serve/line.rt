@@ -59,13 +59,18 @@ pub fn serve_line(
 fn word_of(line: &[u8]) -> Option<LineWord>
     ensures { result ≡ named_in line_words line.now }
 {
-    match line {
-        b"restart" => Some(LineWord::Restart),
-        b"protect on" => Some(LineWord::Protect(true)),
-        b"protect off" => Some(LineWord::Protect(false)),
-        b"image" => Some(LineWord::Image),
-        b"counter" => Some(LineWord::Counter),
-        _ => None,
+    if line == b"restart".as_slice() {
+        Some(LineWord::Restart)
+    } else if line == b"protect on".as_slice() {
+        Some(LineWord::Protect(true))
+    } else if line == b"protect off".as_slice() {
+        Some(LineWord::Protect(false))
+    } else if line == b"image".as_slice() {
+        Some(LineWord::Image)
+    } else if line == b"counter".as_slice() {
+        Some(LineWord::Counter)
+    } else {
+        None
     }
 }
 
