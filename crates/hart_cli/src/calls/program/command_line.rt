@@ -1,7 +1,7 @@
 //! The call that the words after the program's name ask for.
 
-ghost use Rattle.std.specs.Prelude.{◌≡◌, ◌∷◌, [], ℕ, IfErr, IfOk, List, None, OnOk, Some, codes, false, map, string_bytes};
-ghost use Rattle.clap.specs.Words.{HasKind, all_of, app_of, fault_of, first_of, found_of, new_app, new_rule, rows_of, rule_of};
+ghost use Rattle.std.specs.Prelude.{◌≡◌, ◌∷◌, [], ℕ, IfErr, IfOk, List, None, OnOk, Some, codes, false, map, string_bytes, true};
+ghost use Rattle.clap.specs.Words.{App, HasKind, Rule, all_of, app_of, fault_of, first_of, found_of, new_app, new_rule, rows_of, rule_of};
 ghost use Rattle.clap.specs.Words.{subcommand_of, subcommand_rows_of};
 ghost use Rattle.clap.specs.Words.{with_rule, with_subcommand};
 ghost use Rattle.std.specs.Option.{option_map};
@@ -197,36 +197,35 @@ fn preambles_of(word: &str) -> Option<u8>
 fn hart_command<'a>(alloc: Global) -> Result<Command<'a>, AllocError>
     ensures { IfOk result (λ command. app_of command ≡ hart_app) }
 {
-    let hart = asking_command(alloc)?;
-    let encode = encode_command(alloc)?;
+    let hart = with_made(asking_command(alloc), encode_command(alloc))?;
     // The words leave out the program's name, so clap gets it here: the usage of `hart help` shows it.
-    hart.subcommand(encode)?.bin_name("hart")
+    hart.bin_name("hart")
 }
 
 /// Returns `hart` with the subcommands that read an input, and `request`.
 fn asking_command<'a>(alloc: Global) -> Result<Command<'a>, AllocError>
     ensures { IfOk result (λ command. app_of command ≡ asking_app) }
 {
-    let hart = reading_command(alloc)?;
-    hart.subcommand(request_command(alloc)?)
+    with_made(reading_command(alloc), request_command(alloc))
 }
 
 /// Returns `hart` with the subcommands that read an input.
 fn reading_command<'a>(alloc: Global) -> Result<Command<'a>, AllocError>
     ensures { IfOk result (λ command. app_of command ≡ reading_app) }
 {
-    let hart = hearing_command(alloc)?;
-    let hart = with_image_command(alloc, hart, "serve", help::SERVE)?;
-    with_image_command(alloc, hart, "sim", help::SIM)
+    let hart = hearing_command(alloc);
+    let hart = with_made(hart, image_command(alloc, "serve", help::SERVE));
+    with_made(hart, image_command(alloc, "sim", help::SIM))
 }
 
 /// Returns `hart` with the subcommands that read what is heard: `answer`, `dump` and `explain`.
 fn hearing_command<'a>(alloc: Global) -> Result<Command<'a>, AllocError>
     ensures { IfOk result (λ command. app_of command ≡ hearing_app) }
 {
-    let hart = with_image_command(alloc, hart_alone(alloc), "answer", help::ANSWER)?;
-    let hart = hart.subcommand(plain_command(alloc, "dump", help::DUMP))?;
-    hart.subcommand(explain_command(alloc)?)
+    let hart = Ok(hart_alone(alloc));
+    let hart = with_made(hart, image_command(alloc, "answer", help::ANSWER));
+    let hart = with_made(hart, Ok(plain_command(alloc, "dump", help::DUMP)));
+    with_made(hart, explain_command(alloc))
 }
 
 /// Returns `hart explain` with its flag.
@@ -253,17 +252,18 @@ fn hart_alone<'a>(alloc: Global) -> Command<'a>
 fn encode_command<'a>(alloc: Global) -> Result<Command<'a>, AllocError>
     ensures { IfOk result (λ command. app_of command ≡ encode_app) }
 {
-    with_options(alloc, with_required_words(alloc, "encode", help::ENCODE)?)
+    let encode = with_required_words(alloc, "encode", help::ENCODE);
+    let encode = with_arg(encode, data_word(alloc));
+    with_arg(encode, preambles_option(alloc))
 }
 
 /// Returns `hart request` with its words and its option.
 fn request_command<'a>(alloc: Global) -> Result<Command<'a>, AllocError>
     ensures { IfOk result (λ command. app_of command ≡ request_app) }
 {
-    let request = with_required_words(alloc, "request", help::REQUEST)?;
-    request
-        .arg(field_words(alloc))?
-        .arg(preambles_option(alloc))
+    let request = with_required_words(alloc, "request", help::REQUEST);
+    let request = with_arg(request, field_words(alloc));
+    with_arg(request, preambles_option(alloc))
 }
 
 /// Returns the argument for the words of fields, which may be left out.
@@ -284,30 +284,10 @@ fn with_required_words<'a>(
 ) -> Result<Command<'a>, AllocError>
     ensures { IfOk result (λ command. app_of command ≡ app_with_required_words name.entry.now) }
 {
-    let plain = plain_command(alloc, name, page);
-    let plain = with_word(alloc, plain, "WHO", help::WHO_HELP)?;
-    let plain = with_word(alloc, plain, "ADDRESS", help::ADDRESS_HELP)?;
-    with_word(alloc, plain, "COMMAND", help::COMMAND_HELP)
-}
-
-/// Returns the command with one more word, which is required.
-fn with_word<'a>(
-    alloc: Global,
-    command: Command<'a>,
-    id: &'a str,
-    help: &'a str,
-) -> Result<Command<'a>, AllocError>
-    ensures { IfOk result (λ more. app_of more ≡ with_rule (app_of command.entry) (required_rule id.entry.now)) }
-{
-    command.arg(required_word(alloc, id, help))
-}
-
-/// Returns the command with the data and the number of preamble bytes, both of which may be left out.
-fn with_options<'a>(alloc: Global, command: Command<'a>) -> Result<Command<'a>, AllocError>
-    ensures { IfOk result (λ more. app_of more ≡
-        with_rule (with_rule (app_of command.entry) (new_rule (codes "DATA"))) preambles_rule) }
-{
-    command.arg(data_word(alloc))?.arg(preambles_option(alloc))
+    let command = Ok(plain_command(alloc, name, page));
+    let command = with_arg(command, required_word(alloc, "WHO", help::WHO_HELP));
+    let command = with_arg(command, required_word(alloc, "ADDRESS", help::ADDRESS_HELP));
+    with_arg(command, required_word(alloc, "COMMAND", help::COMMAND_HELP))
 }
 
 /// Returns the argument for the data, which may be left out.
@@ -318,18 +298,42 @@ fn data_word<'a>(alloc: Global) -> Arg<'a>
     Arg::new(alloc, "DATA").help(help::DATA_HELP)
 }
 
-/// Returns the command with one more subcommand, which takes an image.
-fn with_image_command<'a>(
+/// Returns a subcommand that takes an image.
+fn image_command<'a>(
     alloc: Global,
-    command: Command<'a>,
     name: &'a str,
     page: Page<'a>,
 ) -> Result<Command<'a>, AllocError>
-    ensures { IfOk result (λ more. app_of more ≡
-        with_subcommand (app_of command.entry) (image_app name.entry.now).top) }
+    ensures { IfOk result (λ command. app_of command ≡ image_app name.entry.now) }
 {
-    let added = plain_command(alloc, name, page).arg(image_option(alloc))?;
-    command.subcommand(added)
+    plain_command(alloc, name, page).arg(image_option(alloc))
+}
+
+// A `?` on a command takes the prover seconds, since the command is dropped there. So they stand in the next two functions alone.
+
+/// Returns a command with one more subcommand, if both could be made.
+fn with_made<'a>(
+    command: Result<Command<'a>, AllocError>,
+    subcommand: Result<Command<'a>, AllocError>,
+) -> Result<Command<'a>, AllocError>
+    ensures { (outer inner : App) → inner.top.is_plain ≡ true
+        → IfOk command.entry (λ made. app_of made ≡ outer) → IfOk subcommand.entry (λ made. app_of made ≡ inner)
+        → IfOk result (λ more. app_of more ≡ with_subcommand outer inner.top) }
+{
+    command?.subcommand(subcommand?)
+}
+
+/// Returns a command with one more argument, if it could be made.
+fn with_arg<'a>(
+    command: Result<Command<'a>, AllocError>,
+    arg: Arg<'a>,
+) -> Result<Command<'a>, AllocError>
+    requires { arg.global ≡ false }
+    ensures { (app : App) (rule : Rule)
+        → IfOk command.entry (λ made. app_of made ≡ app) → rule_of arg.entry ≡ rule
+        → IfOk result (λ more. app_of more ≡ with_rule app rule) }
+{
+    command?.arg(arg)
 }
 
 /// Returns a subcommand without words of its own.

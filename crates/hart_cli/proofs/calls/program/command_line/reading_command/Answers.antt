@@ -1,7 +1,7 @@
-use Rattle.std.proofs.Common.{arith}
-use Rattle.std.proofs.lemmas.Result.{IfOk-weaker}
-use Rattle.clap.proofs.SimpleLemmas.{plain_fields}
+use Rattle.std.proofs.Common.{refl}
 use Rattle.hart_cli.proofs.calls.program.command_line.reading_command.Goals as goal
 
 pub returns : goal.returns
-returns c = grind (arith, IfOk-weaker, plain_fields)
+returns c =
+    let serve = c.with_made-hart.ensures _ _ refl c.hearing_command-hart.ensures c.image_command.ensures in
+    c.with_made.ensures _ _ refl serve c.image_command-2.ensures

@@ -1,7 +1,0 @@
-use Rattle.std.proofs.Common.{arith}
-use Rattle.std.proofs.lemmas.Result.{IfOk-weaker}
-use Rattle.clap.proofs.SimpleLemmas.{plain_fields}
-use Rattle.hart_cli.proofs.calls.program.command_line.with_image_command.Goals as goal
-
-pub returns : goal.returns
-returns c = grind (arith, IfOk-weaker, plain_fields)
