@@ -69,7 +69,7 @@ returns c frame other preambles before after outcome same long told = elim told 
     (
       is_frame frame other same long is.1.0,
       is.1.1,
-      (is.1.2.0, is_message (frame_in frame) (frame_in other) preambles same is.1.2.1, is.1.2.2, is.1.2.3),
+      (is.1.2.0, is_message (frame_in frame) (frame_in other) preambles same is.1.2.1, is.1.2.2, is.1.2.3, is.1.2.4),
     ),
     is.2,
   )
