@@ -10,13 +10,13 @@ use std::alloc::Global;
 
 pub mod ahead;
 
-/// How many bytes an input may have at most, except for `explain` and `serve`.
+/// The greatest number of bytes that an input may have, except for `explain` and `serve`.
 pub const INPUT_LIMIT: usize = 1_048_576;
 
 /// The room for an input: all bytes that it may have, and one that makes its last item whole.
 const INPUT_ROOM: usize = INPUT_LIMIT + 1;
 
-/// How many bytes one read may give at most.
+/// The greatest number of bytes that one read may return.
 pub const PORTION_LEN: usize = 16_384;
 
 /// How an input came to its end.

@@ -16,7 +16,7 @@ input_limit = 1048576
 abbrev pub stream_limit : ℕ
 stream_limit = 2 ^ 64 - 1
 
--- How many bytes one read returns at most.
+-- The greatest number of bytes that one read returns.
 abbrev pub most_at_once : ℕ
 most_at_once = 16384
 

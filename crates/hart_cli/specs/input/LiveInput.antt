@@ -34,7 +34,7 @@ pub record ReadsText {Heard : Type 0} (decoding : Decoding Heard) (limit : ℕ) 
   pub has_text : HasText decoding IsText input ending fault text
   pub soon : StopsSoon decoding.most_ahead input fault
 
--- An input that may go on decides a text if what was heard so far decides it.
+-- An input that may go on decides a text if what was heard so far decides that text.
 pub record IsDecidedText {Heard : Type 0} (decoding : Decoding Heard) (IsDecided : TextRelation Heard) (input text : List ℕ)
     : Type 0 where
   pub heard : Heard

@@ -42,7 +42,8 @@ abbrev pub status_of : Result (Unit {0}) CliFault → ℕ
 status_of (Ok done) = 0
 status_of (Err fault) = 1
 
--- The program made the call that the words ask for, ended with the status of its result, and reported its fault, if any.
+-- The program made the call that the words ask for, ended with the status of the call's result, and reported the call's fault, if
+-- any.
 pub record Ran (words : List Text) (reader reader_after writer writer_after errors errors_after : Stream) (status : ℕ) : Type 0 where
   pub call : Call
   pub calls : Calls call words

@@ -74,7 +74,8 @@ text_value passes most text =
     else if nat_lt most (length text) then Err (TooLong most)
     else Ok (padded most text)
 
--- The characters of packed text have the codes hex 20 to 5F; those of ISO Latin-1 can be printed, and have codes of one byte.
+-- A character of packed text has a code from hex 20 to 5F. A character of a text in ISO Latin-1 can be printed, and has a code of
+-- one byte.
 abbrev pub can_have : FieldKind → ℕ → Bool
 can_have PackedText code = nat_le 32 code && nat_lt code 96
 can_have _ code = is_printable code && nat_lt code 256
@@ -118,8 +119,8 @@ dated word day month None = Err NoDate
 dated word day month (Some year) =
     if bytes_eq word (date_words (day ∷ month ∷ year ∷ [])) then Ok (day ∷ month ∷ year ∷ []) else Err NoDate
 
--- The bytes of a date are those of `not set`, or of the day that the library jiff reads. jiff also reads other forms of a day, and
--- drops what may follow the day, such as a time. A word in such a form is no date.
+-- The bytes of a date. The word is `not set`, or a day that the library jiff reads. jiff also reads other forms of a day, and drops
+-- what may follow the day, such as a time. A word in such a form is no date.
 abbrev pub date_value : List ℕ → Result (List ℕ) FieldFault
 date_value word =
     if bytes_eq word (codes "not set") then Ok not_set

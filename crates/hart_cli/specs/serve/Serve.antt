@@ -22,7 +22,7 @@ abbrev pub last_lines : Ending → List ℕ → List (List ℕ)
 last_lines (CameTo Ended) (byte ∷ more) = (byte ∷ more) ∷ []
 last_lines ending last = []
 
--- The lines of an input are those of its text, split as a script is. `last_lines` says whether the last one counts.
+-- The lines of an input are split like the lines of a script. `last_lines` says whether the last one counts.
 pub record HasLines (input : List ℕ) (ending : Ending) (lines : List (List ℕ)) : Type 0 where
   pub whole : List (List ℕ)
   pub last : List ℕ

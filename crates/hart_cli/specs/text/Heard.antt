@@ -46,6 +46,6 @@ pub record NothingBegins (text : List ℕ) : Type 0 where
 abbrev pub HasNoSilence : List ℕ → Type 0
 HasNoSilence text = (before rest : List ℕ) → text ≡ before ++ 47 ∷ rest → ⊥
 
--- What was heard in an input is what stands before its fault.
+-- What was heard in an input stands before the fault of the input.
 abbrev pub HasHeard : List ℕ → Ending → List Heard → Option CliFault → Type 0
 HasHeard = HasHeardBy ReadsHeard NothingBegins

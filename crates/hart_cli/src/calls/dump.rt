@@ -1,4 +1,4 @@
-//! `hart dump`: the frames of what was heard, a line each.
+//! `hart dump`: the frames in what was heard, a line for each.
 ghost use Rattle.std.specs.Prelude.{◌≡◌, [], ℕ, List, Option};
 ghost use Rattle.hart_frame.specs.scan.Scanner.{new_scan};
 ghost use Rattle.hart_cli.specs.dump.Dump.{DumpOutcome, IsDump};

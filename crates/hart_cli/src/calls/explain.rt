@@ -26,7 +26,7 @@ mod telling;
 pub(crate) mod values;
 mod words;
 
-/// How many bytes a raw input may have at most, so that each place fits in 64 bits.
+/// The greatest number of bytes that a raw input may have, so that each place fits in 64 bits.
 const RAW_LIMIT: usize = usize::MAX - 1;
 
 /// Reads the characters heard on a HART line as hex items, and writes in words what each message says. For a place where a message

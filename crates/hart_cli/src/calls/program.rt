@@ -137,7 +137,7 @@ fn finish<E: Sink>(outcome: Result<(), CliFault>, errors: &mut E) -> u8
     match outcome {
         Ok(()) => DONE,
         Err(fault) => {
-            // If the line cannot be written, the status alone shows the fault.
+            // If the line cannot be written, only the status shows the fault.
             let _ = write_all(errors, fault.text_line().as_str().as_bytes());
             FAULT
         }

@@ -20,13 +20,13 @@ use std::alloc::Global;
 
 mod text;
 
-/// How often a master retries a request at most.
+/// The retry limit of a master.
 const RETRIES: u8 = 3;
 
-/// For how many character times the primary master awaits a reply.
+/// The reply timeout of the primary master, in character times.
 const PRIMARY_REPLY_LIMIT: u8 = 33;
 
-/// For how many character times the secondary master awaits a reply.
+/// The reply timeout of the secondary master, in character times.
 const SECONDARY_REPLY_LIMIT: u8 = 41;
 
 /// Reads a script, carries it out with the bench device and two masters, and writes what was spoken, what became of each

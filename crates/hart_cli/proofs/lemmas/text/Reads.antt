@@ -91,7 +91,7 @@ module _ {Heard : Type 0} (Reads : List ℕ → List Heard → List ℕ → Type
   one_hearing text _ _ _ _ _ (limit xs h) (limit ys k) =
       ((one_way text xs h.rest ys k.rest h.reads k.reads h.no_piece k.no_piece).0, refl)
 
-  -- an input that came to an end is heard as if it had been left
+  -- if an input that came to an end is also heard as one that was left, what is heard and the fault are the same
   one_heard : (text : List ℕ) (end : InputEnd) (xs ys : List Heard) (f g : Option CliFault)
       → HasHeardBy Reads Stops text (CameTo end) xs f → HasHeardBy Reads Stops text Left ys g → (xs ≡ ys) × (f ≡ g)
   one_heard text _ _ _ _ _ (all xs h) (decided_bad_hex ys q k) = absurd (not_read (closed text) xs ys q h (k (32 ∷ [])))
@@ -100,7 +100,7 @@ module _ {Heard : Type 0} (Reads : List ℕ → List Heard → List ℕ → Type
   one_heard text _ _ _ _ _ (failure xs h) (decided_bad_hex ys q k) = absurd (not_decided text xs ys q h k)
   one_heard text _ _ _ _ _ (limit xs h) (decided_bad_hex ys q k) = absurd (not_decided text xs ys q h k)
 
-  -- each input is heard as if it had been left
+  -- if any input is also heard as one that was left, what is heard and the fault are the same
   pub one_left : (text : List ℕ) (ending : Ending) (xs ys : List Heard) (f g : Option CliFault)
       → HasHeardBy Reads Stops text ending xs f → HasHeardBy Reads Stops text Left ys g → (xs ≡ ys) × (f ≡ g)
   one_left text Left xs ys f g h k = one_hearing text Left xs ys f g h k

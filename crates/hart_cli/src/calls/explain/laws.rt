@@ -45,9 +45,9 @@ pub fn explanations_grow()
         → (rest : List ℕ) × (whole ≡ told ++ rest) }
 {}
 
-/// For an input without a silence, read equally far, `hart dump` and `hart explain` return the same fault, if any, and write of the
-/// same messages at the same places. This also holds if one of them left the input at bad hex, before its end, and the other read
-/// on.
+/// For an input without a silence, read equally far, `hart dump` and `hart explain` return the same fault, if any, and write about
+/// the same messages at the same places. This also holds if one of the two left the input at bad hex, before its end, and the other
+/// read on.
 pub fn explanations_name_the_messages_of_dump()
     ensures whole { (input : List ℕ) (ending : Ending) (f g : Option CliFault) (lines text : List ℕ) → HasNoSilence input
         → IsDump input ending f lines → IsExplanation input ending g text

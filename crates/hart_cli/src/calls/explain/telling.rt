@@ -319,8 +319,8 @@ fn tell_decided<W: Sink>(
     }
 }
 
-/// Returns the next sighting in bytes and what comes after them, from a place on. Each arm makes the value of `after` anew, since
-/// the prover follows no copy of an enum that holds a character.
+/// Returns the next sighting from the place `from` on, in held bytes and in what comes after them. Each arm makes the value of
+/// `after` anew, since the prover follows no copy of an enum that holds a character.
 fn next_after<'a>(held: &'a [u8], after: &After, from: usize) -> NextSighting<'a>
     requires within { from ≤ length (heard_with held.now after.now) }
     requires valid { AfterIsValid after.now }

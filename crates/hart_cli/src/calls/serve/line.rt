@@ -55,7 +55,7 @@ pub fn serve_line(
     }
 }
 
-/// Reads a line as one of these words, or returns `None` if it is none of them.
+/// Reads a line as one of the words of `LineWord`, or returns `None` if the line is no such word.
 fn word_of(line: &[u8]) -> Option<LineWord>
     ensures { result ≡ named_in line_words line.now }
 {

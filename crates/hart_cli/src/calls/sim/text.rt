@@ -19,7 +19,7 @@ use std::alloc::Global;
 /// A payload of a reply begins with its two status bytes.
 const STATUS_LEN: usize = 2;
 
-/// The text of a script while it is carried out: the lines of spoken frames, then those of submissions.
+/// The text of a script while it is carried out: the lines of spoken frames, and then the lines of submissions.
 #[derive(Drop)]
 pub struct SimText {
     text: Filling<u8>,
