@@ -31,13 +31,14 @@ pub data IsBadHexWord (word : List ℕ) : ℕ → Type 0 where
   no_digit : (place : ℕ) → length word % 2 ≡ 0 → place < length word → is_hex_digit (slice_index word place) ≡ false
       → AllPass is_hex_digit (take place word) → IsBadHexWord word place
 
--- The fault of an image is bad hex in its word or, if the word is good hex, the fault of the bytes that the word writes.
+-- The fault of an image is bad hex in its word or, if the word is good hex, the fault of the bytes that the word encodes.
 abbrev pub HasImageFault : Option (List ℕ) → CliFault → Type 0
 HasImageFault (Some word) (BadHex place) = IsBadHexWord word place
 HasImageFault (Some word) (Image fault) = (image : List ℕ) × IsImageWord word image × IsImageFault image fault
 HasImageFault _ _ = ⊥
 
--- Room for the bytes of an image was refused: half as many bytes as its word has. This is no fault of the image.
+-- Room for the bytes of an image was refused. The room is for half as many bytes as the image's word has. This is no fault of the
+-- image.
 abbrev pub LacksImageRoom : Option (List ℕ) → CliFault → Type 0
 LacksImageRoom (Some word) (Memory none) = none.items ≡ length word / 2
 LacksImageRoom _ _ = ⊥
@@ -59,7 +60,7 @@ pub record GivesNoDevice (image : Option (List ℕ)) (reader reader_after writer
   pub unread : reader_after ≡ reader
   pub unwritten : writer_after ≡ writer
 
--- A call had a device, and did what a call with this device may do.
+-- A call had a device, and `Did` holds of this device.
 pub record WentOn (image : Option (List ℕ)) (Did : DeviceState → Type 0) : Type 0 where
   pub device : DeviceState
   pub is_device : IsDeviceOf image device

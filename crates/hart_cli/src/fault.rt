@@ -24,10 +24,11 @@ pub enum CliFault {
     Read,
     /// The writer failed.
     Write,
-    /// The input is longer than [`INPUT_LIMIT`](crate::INPUT_LIMIT), or than 2^64 - 1 for `explain` and `serve` (2^64 - 2 if raw).
+    /// The input is longer than its limit: [`INPUT_LIMIT`](crate::INPUT_LIMIT), but 2^64 - 1 bytes for `explain` and `serve`, and
+    /// 2^64 - 2 for a raw input.
     TooLong,
-    /// The first thing in the input that is neither a separator nor an item begins at this byte, counted from 0. For the word of an
-    /// image, this is the word's length if that is odd, and otherwise its first byte that is no hex digit.
+    /// The first thing in the input that is neither a separator nor an item begins at this byte, counted from 0. In the word of an
+    /// image, the place is the word's length if that length is odd, and otherwise the place of the first byte that is no hex digit.
     BadHex { place: usize },
     /// The input is no script, or a script that is not carried out.
     Line(LineFault),
@@ -41,7 +42,7 @@ pub enum CliFault {
     BadField(BadField),
 }
 
-/// The longest text that may be made: 54 characters of a fault, 80 of a reason, and a line feed.
+/// The length of the longest text: 54 characters of a fault, 80 of a reason, and a line feed.
 const LONGEST_LINE: usize = 135;
 
 impl CliFault {
@@ -61,7 +62,7 @@ impl CliFault {
         }
     }
 
-    /// Returns the text of the fault and a line feed, made without memory, so that refused memory can be reported. The text is
+    /// Returns the text of the fault and a line feed. This allocates nothing, so that refused memory can be reported. The text is
     /// pushed part by part, since no contract of `write!` says that it succeeds.
     pub fn text_line(self) -> ArrayString<LONGEST_LINE>
         ensures { result.bytes ≡ fault_line self }
@@ -170,7 +171,7 @@ impl From<NoRoom> for CliFault {
 impl From<DeviceFault> for CliFault {
     ghost from_gives = { λ fault e. e ≡ Image fault };
 
-    /// Reports a device's fault as one of its image: the program makes no device from other parts.
+    /// Reports a device's fault as a fault of its image, since the program makes no device from other parts.
     fn from(fault: DeviceFault) -> CliFault {
         CliFault::Image(fault)
     }
@@ -181,7 +182,7 @@ impl From<LineFault> for CliFault {
 
     ghost from_gives = { λ fault e. e ≡ call_fault fault };
 
-    /// Reports refused memory as such, whatever part asked for it.
+    /// Reports refused memory as refused memory, whatever part asked for it.
     fn from(fault: LineFault) -> CliFault {
         match fault {
             LineFault::Memory(none) => CliFault::Memory(none),

@@ -33,8 +33,8 @@ impl<'a> Model for ImageWord<'a> {
 ///
 /// # Errors
 ///
-/// [`CliFault::BadHex`] at the word's length if this is odd, and otherwise at its first byte that is no hex digit; then
-/// [`CliFault::Image`]; and [`CliFault::Memory`] if room for the bytes of the image is refused.
+/// [`CliFault::BadHex`] at the word's length if that length is odd, and otherwise at the first byte that is no hex digit; then
+/// [`CliFault::Image`]. [`CliFault::Memory`] if room for the bytes of the image is refused.
 pub fn device_of(alloc: Global, image: Option<&str>) -> Result<Device<ImageRegisters>, CliFault>
     ensures device { IfOk result (IsDeviceOf (option_map (λ word. word.now) image.entry)) }
     ensures fault { IfErr result (HasNoDevice (option_map (λ word. word.now) image.entry)) }
@@ -45,7 +45,7 @@ pub fn device_of(alloc: Global, image: Option<&str>) -> Result<Device<ImageRegis
     device_from(alloc, word.as_bytes())
 }
 
-/// Returns the bench device in the state of the image that a word writes.
+/// Returns the bench device in the state of the image that a word encodes.
 fn device_from(alloc: Global, word: &[u8]) -> Result<Device<ImageRegisters>, CliFault>
     ensures device { IfOk result (IsDeviceOf (Some word.now)) }
     ensures fault { IfErr result (HasNoDevice (Some word.now)) }
@@ -55,7 +55,7 @@ fn device_from(alloc: Global, word: &[u8]) -> Result<Device<ImageRegisters>, Cli
     Ok(device)
 }
 
-/// Returns the bytes that a word writes.
+/// Returns the bytes that a word encodes in hex.
 fn decoded(alloc: Global, word: &[u8]) -> Result<Vec<u8>, CliFault>
     ensures bytes { IfOk result (λ bytes. IsImageWord word.now bytes.items) }
     ensures fault { IfErr result (HasNoDevice (Some word.now)) }
@@ -67,13 +67,13 @@ fn decoded(alloc: Global, word: &[u8]) -> Result<Vec<u8>, CliFault>
             Err(CliFault::BadHex { place: index })
         }
         Err(FromHexError::OddLength) => Err(CliFault::BadHex { place: word.len() }),
-        // There is room for all bytes that the word can write.
+        // There is room for all bytes that the word can encode.
         Err(FromHexError::InvalidStringLength) => unreachable!(),
         Err(FromHexError::OutOfMemory) => unreachable!(),
     }
 }
 
-/// Returns this number of zero bytes.
+/// Returns `count` zero bytes.
 fn zeros(alloc: Global, count: usize) -> Result<Vec<u8>, NoRoom>
     ensures zeros { IfOk result (λ bytes. bytes.items ≡ replicate count 0) }
     ensures refused { IfErr result (λ none. none.items ≡ count) }
@@ -83,7 +83,7 @@ fn zeros(alloc: Global, count: usize) -> Result<Vec<u8>, NoRoom>
     Ok(bytes)
 }
 
-/// A call has at most one device, and its image at most one fault, and never both.
+/// A call has at most one device, its image has at most one fault, and it never has both.
 pub fn one_device()
     ensures one { (image : Option (List ℕ)) (device other : DeviceState)
         → IsDeviceOf image device → IsDeviceOf image other → device ≡ other }

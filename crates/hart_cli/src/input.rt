@@ -10,13 +10,13 @@ use std::alloc::Global;
 
 pub mod ahead;
 
-/// How many bytes an input may have at most, except for `explain` and `serve`.
+/// The greatest number of bytes that an input may have, except for `explain` and `serve`.
 pub const INPUT_LIMIT: usize = 1_048_576;
 
 /// The room for an input: all bytes that it may have, and one that makes its last item whole.
 const INPUT_ROOM: usize = INPUT_LIMIT + 1;
 
-/// How many bytes one read may give at most.
+/// The greatest number of bytes that one read may return.
 pub const PORTION_LEN: usize = 16_384;
 
 /// How an input came to its end.
@@ -31,7 +31,7 @@ pub enum InputEnd {
 }
 
 impl InputEnd {
-    /// Returns the fault that this end makes whatever the input holds, if it makes one.
+    /// Returns the fault of this end, if the end is a fault whatever the input holds.
     pub fn fault(self) -> Option<CliFault>
         ensures { result ≡ fault_of_end self }
     {
@@ -56,8 +56,8 @@ pub struct Portion {
 ///
 /// # Errors
 ///
-/// [`CliFault::Read`] or [`CliFault::TooLong`], if that kept it from the end of the input; [`CliFault::Memory`] if the room for
-/// an input was refused, and nothing is read then.
+/// [`CliFault::Read`] if a read failed, [`CliFault::TooLong`] if the input is longer than its limit, and [`CliFault::Memory`] if
+/// the room for an input was refused. At `Memory` nothing was read.
 pub fn read_whole<R: Source>(alloc: Global, reader: &mut R) -> Result<Filling<u8>, CliFault>
     ensures reads { IfOk result (λ text. Reads
         (R.stream reader.old) (R.stream reader.new)
@@ -73,7 +73,7 @@ pub fn read_whole<R: Source>(alloc: Global, reader: &mut R) -> Result<Filling<u8
     }
 }
 
-/// Reads an input into room for it.
+/// Reads a whole input into `text`, which has room for it.
 fn read_into<R: Source>(reader: &mut R, text: &mut Filling<u8>) -> InputEnd
     requires { text.old ≡ record { items = []; room = input_room } }
     ensures reads { Reads

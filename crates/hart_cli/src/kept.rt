@@ -6,10 +6,10 @@ use crate::output::write_all;
 use crate::stream::{Failed, Sink};
 use hart_values::ByteList;
 
-/// How many bytes of text are kept at most.
+/// The greatest number of bytes of text that are kept.
 const KEPT_LEN: usize = 32_768;
 
-/// How many bytes a piece of text has at most.
+/// The greatest number of bytes in a piece of text.
 const PIECE_LEN: usize = 8_192;
 
 /// Text that is not yet written.

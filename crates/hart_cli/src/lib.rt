@@ -2,9 +2,9 @@
 //!
 //! Each subcommand is a call. [`dump`] lists the messages in what was heard, and [`explain`] says in words what they mean.
 //! [`answer`] gives the bench device's reply to one delivery, [`serve`] its replies to many, a line for each line. [`simulate`]
-//! carries out a script. [`encode_text`] writes a message to send; [`request`] does so by the names of its fields. [`program`]
-//! makes the call that its words name, and returns the exit status. Calls read from a [`Source`] and write to a [`Sink`]; [`Plain`]
-//! makes them from readers and writers of the standard library. A call that cannot do all of its work returns a [`CliFault`].
+//! carries out a script. [`encode_text`] writes a message to send, and [`request`] makes one from named fields. [`program`] makes
+//! the call that its words name, and returns the exit status. Calls read from a [`Source`] and write to a [`Sink`]; [`Plain`] makes
+//! them from readers and writers of the standard library. A call that cannot do all of its work returns a [`CliFault`].
 //!
 //! ```rust
 //! let mut reader = Plain::new(b"FF FF 02 80 00 00 82".as_slice());
@@ -16,10 +16,10 @@
 //! );
 //! ```
 //!
-//! The crate `hart` has `main` alone, which calls [`program`] with the arguments and the standard streams.
+//! The crate `hart` has only `main`, which calls [`program`] with the arguments and the standard streams.
 //!
-//! The root holds the faults, the device that a call goes on from (`image_word`), the reading of an input, and the writing of text,
-//! whole or kept and written piece by piece. The other modules:
+//! The modules at the root hold the faults, the device with which a call starts (`image_word`), the reading of an input, and the
+//! writing of text, whole (`output`) or kept and written piece by piece (`kept`). The other modules:
 //!
 //! - `stream`: readers and writers as the calls see them.
 //! - `text`: hex items, and lines of words and bytes.

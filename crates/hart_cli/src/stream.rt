@@ -1,4 +1,4 @@
-//! Readers and writers as the command line sees them: what they give, take and fail at.
+//! Readers and writers as the command line sees them: what they give and take, and when they fail.
 
 ghost use Rattle.std.specs.Prelude.{◌<◌, IfOk, length};
 ghost use Rattle.std.specs.Io.{ReadsAtMost, WritesAtMost};

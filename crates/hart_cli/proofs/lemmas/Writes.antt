@@ -10,7 +10,7 @@ use Rattle.hart_cli.specs.stream.Stream.{FailsToWrite, Stream, WritesAll}
 pub WritesAll-on : (a b c : Stream) (xs ys : List ℕ) → WritesAll a b xs → WritesAll b c ys → WritesAll a c (xs ++ ys)
 WritesAll-on a b c xs ys h k = grind (arith, common_steps, Appends-trans)
 
--- a write failed in the second of two texts, after the first was written
+-- a write that failed in the second of two texts, after the first was written, failed in both together
 pub FailsToWrite-on : (a b c : Stream) (xs ys : List ℕ) → WritesAll a b xs → FailsToWrite b c ys → FailsToWrite a c (xs ++ ys)
 FailsToWrite-on a b c xs ys h k = grind (arith, common_steps, Appends-trans)
 
@@ -19,7 +19,7 @@ pub FailsToWrite-longer : (old new : Stream) (text more : List ℕ) → FailsToW
 FailsToWrite-longer old new text more fails =
     let after = length-append fails.0.rest more in grind (arith, common_steps)
 
--- what was written in time stays so, whatever is written later
+-- text that was written in time stays written in time, whatever is written later
 pub in_time_on : (IsDecided : List ℕ → List ℕ → Type 0) (input : List ℕ) (w now later : Stream) (text : List ℕ)
     → WroteInTime IsDecided input w now → Appends now.bytes later.bytes text → WroteInTime IsDecided input w later
 in_time_on IsDecided input w now later text before on =

@@ -20,8 +20,8 @@ pub record AreFrameLines (chars : List Character) (lines : List ℕ) : Type 0 wh
 abbrev pub IsDump : List ℕ → Ending → Option CliFault → List ℕ → Type 0
 IsDump = HasText item_decoding AreFrameLines
 
--- These frames of some characters are decided: whatever is heard next, they come first, and no frame is decided in the characters
--- after them.
+-- These frames in some characters are decided: whatever is heard next, these frames come first. In the characters after them, no
+-- frame is decided yet.
 pub record AreDecided (chars : List Character) (frames : List Found) : Type 0 where
   pub passed : List Character
   pub rest : List Character
@@ -36,6 +36,7 @@ pub record AreDecidedLines (chars : List Character) (lines : List ℕ) : Type 0 
   pub decided : AreDecided chars frames
   pub text : lines ≡ dump_text frames
 
--- A call of `dump` reads an input of at most 1,048,576 bytes, and writes the lines of its frames as soon as they are decided.
+-- A call of `dump` reads an input of at most 1,048,576 bytes, and writes the line of each frame in the input as soon as the frame
+-- is decided.
 abbrev pub DumpOutcome : OutcomeRelation
 DumpOutcome = LiveOutcome item_decoding input_limit AreFrameLines AreDecidedLines

@@ -23,12 +23,13 @@ pub record IsWaiting (scan : Scan) : Type 0 where
   pub undecided : IsUndecided scan.held
   pub few : length scan.held ≤ 269
 
--- There is room for the kept lines, and for those of the held characters and `count` more, at twelve bytes for each character.
+-- There is room for the kept lines, and for the lines of the held characters and of `count` more characters, at twelve bytes for
+-- each character.
 abbrev pub HasRoomFor : ℕ → FrameLines → Type 0
 HasRoomFor count frames = length frames.lines + 12 * (length frames.scanner.held + count) ≤ 101562
 
--- A scanner moved past some frames, and their lines were added to the kept ones. The added lines take at most twelve bytes for each
--- character that the scanner let go.
+-- A scanner moved past some frames, and their lines were added to the kept lines. The added lines take at most twelve bytes for
+-- each character that the scanner no longer holds.
 pub record KeepsLines (old new : Scan) (before after : List ℕ) : Type 0 where
   pub given : List Found
   pub moves : MovesPast old new given
@@ -42,14 +43,14 @@ pub record GivesAll (old new : Scan) (before after : List ℕ) : Type 0 where
   pub same_finish : last.finished ≡ old.finished
   pub nothing : GivesNothing last new
 
--- The characters of a text were scanned up to its rest.
+-- The characters that stand before the rest of a text were scanned.
 pub record ScansText (old new : FrameLines) (text rest : List ℕ) : Type 0 where
   pub chars : List Character
   pub reads : ReadsUpTo text chars rest
   pub scans : KeepsLines (hearing old.scanner chars) new.scanner old.lines new.lines
 
 -- An input was read and scanned to its end or up to its first fault. The lines of all frames that its characters decide were
--- written, among them those that were due before the last read.
+-- written. These include the lines that were due before the last read.
 pub record ScansAll (reader reader_after writer writer_after : Stream) (frames : FrameLines) (fault : Option CliFault) : Type 0 where
   pub input : List ℕ
   pub chars : List Character

@@ -27,7 +27,8 @@ abbrev pub burst_word : Bool → List ℕ
 burst_word false = codes "0"
 burst_word true = codes "1"
 
--- The word of an address is `@` and a polling address in decimal, the ten digits of a device, or `all` for broadcast.
+-- The word of a polling address is `@` and its number in decimal. The word of a unique address is the ten digits of the device, or
+-- `all` for broadcast.
 abbrev pub address_word : Address → List ℕ
 address_word (Polling number) = 64 ∷ decimal number
 address_word (Unique numbers) =
@@ -42,10 +43,10 @@ dump_line found = line_of (
     ∷ decimal found.frame.command ∷ bytes_word found.frame.payload ∷ []
     )
 
--- How many bytes the line of a frame has at most, if its places are numbers of 64 bits.
+-- The greatest number of bytes that the line of a frame can have, if the places of the frame fit in 64 bits.
 abbrev pub line_room : Found → ℕ
 line_room found = 69 + 2 * (length found.frame.expansion + length found.frame.payload)
 
--- The text of frames is a line for each.
+-- The text of frames is the line of each frame, in their order.
 abbrev pub dump_text : List Found → List ℕ
 dump_text frames = flat_map dump_line frames

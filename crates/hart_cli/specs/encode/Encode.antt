@@ -21,13 +21,14 @@ pub record IsRequestOf (words : MessageWords) (frame : FrameParts) : Type 0 wher
   pub burst : frame.burst ≡ false
   pub expansion : frame.expansion ≡ []
 
--- The text of the words is the line of the message of their request, with the number of preamble bytes given with them.
+-- The text of the words is the line of the message of their request. The message has the number of preamble bytes given with the
+-- words.
 pub record IsEncoding (words : MessageWords) (text : List ℕ) : Type 0 where
   pub frame : FrameParts
   pub request : IsRequestOf words frame
   pub line : IsMessageLine frame words.preambles text
 
--- The first word that writes no value has this number: 1 for WHO, 2 for ADDRESS, 3 for COMMAND and 4 for DATA.
+-- The first word without a value has this number: 1 for WHO, 2 for ADDRESS, 3 for COMMAND and 4 for DATA.
 pub data IsFirstBad (words : MessageWords) : ℕ → Type 0 where
   bad_who : HasNoValue (IsWho words.who) → IsFirstBad words 1
   bad_address : (master : MasterId) → IsWho words.who master → HasNoValue (IsAddressWord words.address) → IsFirstBad words 2

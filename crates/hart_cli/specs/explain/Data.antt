@@ -20,8 +20,8 @@ data_line bytes = bytes_line (codes "data") bytes
 abbrev pub ignored_line : List ℕ → List ℕ
 ignored_line bytes = bytes_line (codes "ignored") bytes
 
--- Data after a response code other than 0 are not read, since the code may be a warning with data. They are shown with the code, if
--- there are any.
+-- Data after a response code other than 0 are not read, since the code may be a warning with data. If there are any data, they are
+-- shown with the code.
 abbrev pub not_read_line : ℕ → List ℕ → List ℕ
 not_read_line code bytes = bytes_line (codes "not read (code " ++ decimal code ++ codes ")") bytes
 
@@ -63,7 +63,7 @@ abbrev pub other_data_line : ℕ → List ℕ → List ℕ
 other_data_line command bytes =
     said_line (codes "data that are no reply to Command " ++ decimal command) (bytes_or_none bytes)
 
--- Data that are no reply have that line if the command is known. Otherwise they are shown in hex, if there are any.
+-- Data that are no reply have the line above if the command is known. Otherwise they are shown in hex, if there are any.
 abbrev pub no_reply_line : ℕ → List ℕ → List ℕ
 no_reply_line command bytes = if is_some (command_name command) then other_data_line command bytes else data_line bytes
 

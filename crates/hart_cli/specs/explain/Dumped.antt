@@ -10,8 +10,9 @@ use Rattle.hart_cli.specs.input.Input.{Ending}
 use Rattle.hart_cli.specs.text.InputChars.{HasChars}
 use Rattle.hart_cli.specs.declared.fault.CliFault.{CliFault}
 
--- Lines of `hart dump` and an explanation are of the same messages: the frames in the characters of an input, before its fault, if
--- any. Each frame has a line in the one and a paragraph in the other, with the same places and in the same order.
+-- These lines of `hart dump` and this explanation are about the same messages: the frames in the characters of an input before its
+-- fault, if any. Each frame has one line of `hart dump` and one paragraph of the explanation, with the same places and in the same
+-- order.
 pub record AreOfOneHearing (input : List ℕ) (ending : Ending) (fault : Option CliFault) (lines text : List ℕ) : Type 0 where
   pub chars : List Character
   pub has_chars : HasChars input ending chars fault

@@ -11,7 +11,8 @@ use Rattle.hart_cli.specs.input.LiveInput.{HasText, LiveOutcome}
 abbrev pub IsExplanation : List ℕ → Ending → Option CliFault → List ℕ → Type 0
 IsExplanation = HasText heard_decoding IsExplanationOf
 
--- A call of `explain` reads an input of at most 2^64 - 1 bytes, and writes its explanation as soon as it is decided.
+-- A call of `explain` reads an input of at most 2^64 - 1 bytes, and writes each part of its explanation as soon as that part is
+-- decided.
 abbrev pub ExplainOutcome : OutcomeRelation
 ExplainOutcome = LiveOutcome heard_decoding stream_limit IsExplanationOf IsDecidedExplanation
 
@@ -19,6 +20,7 @@ ExplainOutcome = LiveOutcome heard_decoding stream_limit IsExplanationOf IsDecid
 abbrev pub IsRawExplanation : List ℕ → Ending → Option CliFault → List ℕ → Type 0
 IsRawExplanation = HasText raw_decoding IsExplanationOf
 
--- A call of `explain --raw` reads a raw input of at most 2^64 - 2 bytes, and writes its explanation as soon as it is decided.
+-- A call of `explain --raw` reads a raw input of at most 2^64 - 2 bytes, and writes each part of its explanation as soon as that
+-- part is decided.
 abbrev pub RawExplainOutcome : OutcomeRelation
 RawExplainOutcome = LiveOutcome raw_decoding raw_limit IsExplanationOf IsDecidedExplanation

@@ -7,8 +7,8 @@ use Rattle.hart_cli.specs.explain.Message.{paragraph}
 use Rattle.hart_cli.specs.explain.Misses.{miss_line, seems_line}
 use Rattle.hart_cli.specs.text.Heard.{Heard, stretches}
 
--- The text of a sighting is the paragraph of a message, or the line of a place that has no message. A second line says what that
--- message seems to be, if its header was heard.
+-- The text of a sighting is the paragraph of a message, or the line of a place where a message only seems to start. If a header was
+-- heard there, a second line says what the message seems to be.
 abbrev pub seen_text : Seen → List ℕ
 seen_text (Message found) = paragraph found
 seen_text (Missed place miss header) = miss_line place miss ++ seems_line header
@@ -17,14 +17,15 @@ seen_text (Missed place miss header) = miss_line place miss ++ seems_line header
 abbrev pub explanation : List Seen → List ℕ
 explanation seen = flat_map seen_text seen
 
--- The sightings of stretches are those of each stretch by itself, with places counted from `first` on through all stretches.
+-- The sightings of stretches are the sightings of each stretch by itself. Their places are counted through all stretches, beginning
+-- with `first`.
 abbrev pub AreSightingsFrom : ℕ → List (List Character) → List Seen → Type 0
 AreSightingsFrom first [] seen = seen ≡ []
 AreSightingsFrom first (chars ∷ later) seen =
     (own : List Seen) × AreSightings chars 0 own × (rest : List Seen) × AreSightingsFrom (first + length chars) later rest
     × (seen ≡ map (moved_seen first) own ++ rest)
 
--- The sightings of what was heard are those of its stretches.
+-- The sightings of what was heard are the sightings of its stretches.
 abbrev pub AreSightingsOf : List Heard → List Seen → Type 0
 AreSightingsOf heard seen = AreSightingsFrom 0 (stretches heard) seen
 

@@ -13,12 +13,12 @@ use Rattle.hart_cli.specs.explain.Words.{bytes_line, said_line}
 abbrev pub field_line : Field → List ℕ
 field_line field = said_line field.name (value_words field.kind field.bytes)
 
--- The lines of fields are those of each, in their order.
+-- The lines of fields are the line of each field, in their order.
 abbrev pub field_lines : List Field → List ℕ
 field_lines fields = flat_map field_line fields
 
--- Of some data the first `count` bytes are taken. Each field in these has a line, and one more line shows the bytes after them, if
--- any, as ignored.
+-- The first `count` bytes of some data are taken. Each field in these bytes has a line. One more line shows the bytes after them,
+-- if any, as ignored.
 abbrev pub taken_lines : List Row → ℕ → List ℕ → List ℕ
 taken_lines rows count bytes =
     field_lines (fields_of rows (take count bytes)) ++ bytes_line (codes "ignored") (drop count bytes)

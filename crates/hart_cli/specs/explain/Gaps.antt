@@ -1,11 +1,12 @@
--- The places outside all messages, and the lines of those at which a message seems to start (own profile).
+-- The places outside all messages, and the lines of the places at which a message seems to start (own profile).
 use Rattle.std.specs.Prelude.{◌≡◌, ◌≢◌, ◌⊎◌, ◌++◌, [], ◌∷◌, ℕ, All, List, length}
 use Rattle.hart_frame.specs.heard.Character.{Character}
 use Rattle.hart_frame.specs.heard.Sighting.{Message, Missed, Seen}
 use Rattle.hart_frame.specs.declared.heard.found.Found.{Found}
 
--- A gap goes from a place to the start of the first frame after it, from the stop of a frame to the start of the next, or from the
--- stop of the last frame to the end of the characters. If there is no frame, it goes from the place to the end.
+-- Frames follow `place` in some characters. A gap goes from `place` to the start of the first frame, from the stop of a frame to
+-- the start of the next one, or from the stop of the last frame to the end of the characters. If there is no frame, the gap goes
+-- from `place` to the end.
 abbrev pub IsGap : List Character → ℕ → List Found → (from stop : ℕ) → Type 0
 IsGap chars place [] from stop = (from ≡ place) × (stop ≡ length chars)
 IsGap chars place (found ∷ later) from stop = ((from ≡ place) × (stop ≡ found.start)) ⊎ IsGap chars found.stop later from stop

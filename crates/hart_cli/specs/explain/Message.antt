@@ -26,7 +26,7 @@ payload_lines Ack command (first ∷ second ∷ bytes) =
     status_lines command first second ++ reply_lines command (first ∷ second ∷ bytes)
 payload_lines Ack command _ = []
 
--- The paragraph of a message is its line, and then those of what it says: the burst bit, the expansion bytes, and the payload.
+-- The paragraph of a message is its line, and then the lines of its burst bit, its expansion bytes and its payload.
 unfoldable pub paragraph : Found → List ℕ
 paragraph found =
     message_line found ++ burst_line found.frame.burst ++ bytes_line (codes "expansion bytes") found.frame.expansion

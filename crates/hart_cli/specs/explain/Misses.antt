@@ -10,7 +10,7 @@ use Rattle.hart_cli.specs.explain.Words.{header_words, hex_value, said_line}
 abbrev pub byte_value : ℕ → List ℕ
 byte_value byte = hex_value (byte ∷ [])
 
--- The words for missing characters say how many there are, and that the last of them is the check byte.
+-- The words for missing characters say how many are missing, and that the last of them is the check byte.
 abbrev pub missing_words : ℕ → List ℕ
 missing_words count =
     if count == 1 then codes "it lacks 1 character, its check byte"

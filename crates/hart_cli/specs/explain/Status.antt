@@ -10,7 +10,7 @@ pub record NamedBit : Type 0 where
   pub value : ℕ
   pub name : List ℕ
 
--- A bit, written in one line.
+-- A named bit, so that a table has one line for each of its bits.
 abbrev pub bit : ℕ → List ℕ → NamedBit
 bit value name = record { value = value; name = name }
 
@@ -49,7 +49,7 @@ set_names byte bits = flat_map (λ bit. if is_set byte bit then bit.name ∷ [] 
 abbrev pub further : List ℕ → List ℕ
 further name = codes ", " ++ name
 
--- The words of names are `none` if there are none, and otherwise the names, with a comma and a space between two of them.
+-- The words of names are `none` if there are no names. Otherwise they are the names, with a comma and a space between two of them.
 abbrev pub names_words : List (List ℕ) → List ℕ
 names_words [] = codes "none"
 names_words (name ∷ others) = name ++ flat_map further others
@@ -65,7 +65,7 @@ status_lines command first second =
 
 -- For private calls alone:
 
--- How the definitions see a named bit of the code.
+-- A named bit of the code, as a `NamedBit` of these definitions.
 abbrev pub seen : code.NamedBit → NamedBit
 seen named = bit named.value named.name.now
 

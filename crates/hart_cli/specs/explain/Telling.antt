@@ -22,13 +22,13 @@ use Rattle.hart_cli.specs.stream.Stream.{FailsToWrite, Stream, WritesAll}
 use Rattle.hart_cli.specs.text.Heard.{Heard, ReadsHeard, Silence, heard_chars}
 use Rattle.hart_cli.specs.text.Items.{ReadsUpTo}
 
--- The places of a sighting, and those that its miss names, are numbers of 64 bits when counted from a first place on.
+-- The places of a sighting, and the places that its miss names, fit in 64 bits when they are counted from `first` on.
 abbrev pub FitsFrom : ℕ → Sighting → Type 0
 FitsFrom first (given.Message view) = (first + view.start < 2 ^ 64) × (first + view.stop < 2 ^ 64)
 FitsFrom first (given.Missed place miss header) = (first + place < 2 ^ 64) × NamesPlacesBelow (2 ^ 64 - first) miss
 
--- The next sighting in bytes, and in what comes after them, is what is seen of them between two places, `from` and `used`. If there
--- is a sighting, `used` is beyond `from`. If there is none, all bytes are used that no longer decide anything.
+-- The next sighting in held bytes, and in what comes after them, is what is seen there between the places `from` and `used`. If
+-- there is a sighting, `used` is beyond `from`. If there is none, all bytes that no longer decide anything stand before `used`.
 pub record IsNextSighting (held : List ℕ) (after : After) (from : ℕ) (next : NextSighting) : Type 0 where
   pub sees : SeesOn (heard_with held after) (is_end after) from (sightings_of next.sighting) next.used
   pub within : next.used ≤ length (heard_with held after)
@@ -38,13 +38,13 @@ pub record IsNextSighting (held : List ℕ) (after : After) (from : ℕ) (next :
   pub all : next.sighting ≡ None → (after ≡ More → ⊥) → next.used ≡ length (heard_with held after)
   pub undecided : next.sighting ≡ None → after ≡ More → IsUndecidedSighting (faultless (drop next.used held))
 
--- The character after others, if it is known.
+-- The character that comes after the held ones, if it is known.
 abbrev pub chars_after : After → List Character
 chars_after More = []
 chars_after (Damaged character) = character ∷ []
 chars_after End = []
 
--- The text of sightings whose places are counted from a first place on.
+-- The text of sightings whose places are counted from `first` on.
 abbrev pub text_from : ℕ → List Seen → List ℕ
 text_from first seen = explanation (map (moved_seen first) seen)
 
@@ -53,7 +53,7 @@ pub record IsWaiting (telling : Telling) : Type 0 where
   pub undecided : IsUndecidedSighting (faultless telling.held)
   pub few : length telling.held ≤ 268
 
--- All decided sightings in bytes, and in what comes after them, were told, up to a place.
+-- All decided sightings in held bytes, and in what comes after them, were told, up to the place `used`.
 pub record TellsDecided (first : ℕ) (held : List ℕ) (after : After) (used : ℕ) (kept kept_after : List ℕ) (writer writer_after : Stream)
     : Type 0 where
   pub seen : List Seen
@@ -64,15 +64,15 @@ pub record TellsDecided (first : ℕ) (held : List ℕ) (after : After) (used : 
   pub all : (after ≡ More → ⊥) → used ≡ length (heard_with held after)
   pub undecided : after ≡ More → IsUndecidedSighting (faultless (drop used held))
 
--- A write failed after a prefix of the kept text and of the text of the first sightings of characters.
+-- A write failed within a text: the kept text, followed by the text of the first sightings in these characters.
 pub record FailsToTell (first : ℕ) (chars : List Character) (ended : Bool) (kept : List ℕ) (writer writer_after : Stream) : Type 0 where
   pub seen : List Seen
   pub used : ℕ
   pub sees : SeesOn chars ended 0 seen used
   pub fails : FailsToWrite writer writer_after (kept ++ text_from first seen)
 
--- Characters were heard after the held ones. The sightings in all of these were told up to a place, and the rest is held. If
--- `ended` is true, nothing comes after these characters.
+-- Characters were heard after the held ones. The sightings in the held and the new characters together were told up to the place
+-- `used`, and the characters after this place are held. If `ended` is true, nothing comes after the new characters.
 pub record Hears (old new : Telling) (chars : List Character) (ended : Bool) (writer writer_after : Stream) : Type 0 where
   pub seen : List Seen
   pub used : ℕ
@@ -82,7 +82,7 @@ pub record Hears (old new : Telling) (chars : List Character) (ended : Bool) (wr
   pub held : faultless new.held ≡ drop used (faultless old.held ++ chars)
   pub adds : AddsText writer writer_after old.kept new.kept (text_from old.first seen)
 
--- A write failed within the text of the held characters and of further ones.
+-- A write failed within the text of the held characters and of the characters heard after them.
 abbrev pub FailsToHear : Telling → List Character → Bool → Stream → Stream → Type 0
 FailsToHear old chars ended writer writer_after =
     FailsToTell old.first (faultless old.held ++ chars) ended old.kept writer writer_after
@@ -181,7 +181,7 @@ TellsInput decoding limit reader reader_after writer writer_after old new (Ok fa
 TellsInput decoding limit reader reader_after writer writer_after old new (Err failed) =
     StopsWriting decoding limit IsExplanationOf IsDecidedExplanation reader reader_after writer writer_after
 
--- The sightings of what was held were told to their end.
+-- The sightings in the held characters were told, up to the end of these characters.
 pub record TellsRest (old : Telling) (writer writer_after : Stream) : Type 0 where
   pub seen : List Seen
   pub sees : SeesOn (faultless old.held) true 0 seen (length old.held)

@@ -19,7 +19,7 @@ number_in bytes = fold (λ number byte. 256 * number + byte) 0 bytes
 abbrev pub character : ℕ → ℕ
 character bits = if nat_lt bits 32 then bits + 64 else bits
 
--- Three bytes hold four characters of six bits each, the highest first.
+-- Three bytes hold four characters of six bits each, the first one in the highest bits.
 abbrev pub characters_of : (a b c : ℕ) → List ℕ
 characters_of a b c =
     character (a / 4) ∷ character (16 * (a % 4) + b / 16) ∷ character (4 * (b % 16) + c / 64) ∷ character (c % 64) ∷ []

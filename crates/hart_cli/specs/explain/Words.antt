@@ -39,8 +39,8 @@ abbrev pub master_words : MasterId → List ℕ
 master_words Primary = codes "the primary master"
 master_words Secondary = codes "the secondary master"
 
--- The words of an address name the device at a polling address in decimal, or a device by its ten digits. Broadcast has the words
--- that are given for it.
+-- The words of an address name the device at a polling address in decimal, or a device by its ten digits. The words of a broadcast
+-- address are `broadcast`.
 abbrev pub device_words : List ℕ → Address → List ℕ
 device_words broadcast (Polling number) = codes "the device at polling address " ++ decimal number
 device_words broadcast (Unique numbers) =

@@ -1,4 +1,4 @@
--- For private calls alone: what is read of an input and not yet decoded (own profile).
+-- For private calls alone: the bytes of an input that are read but not yet decoded (own profile).
 use Rattle.std.specs.Prelude.{◌≡◌, ◌≢◌, ◌⊎◌, ◌+◌, ◌≤◌, ℕ, List, [], ◌++◌, length, Option, None, Some}
 use Rattle.hart_cli.specs.declared.fault.CliFault.{CliFault}
 use Rattle.hart_cli.specs.declared.fault.CliFault.TheVariants as faults
@@ -13,7 +13,7 @@ use Rattle.hart_cli.specs.input.LiveInput.{StopsSoon}
 use Rattle.hart_cli.specs.stream.Stream.{Stream}
 use Rattle.hart_cli.specs.text.Items.{MayBegin}
 
--- One read returned bytes, which were added to those read ahead, with a space after them if the input ended.
+-- One read returned bytes. They were added to the bytes read ahead, with a space after them if the input ended.
 pub record ReadsAhead (old new : Stream) (before after : List ℕ) (room : ℕ) (portion : Portion) : Type 0 where
   pub bytes : List ℕ
   pub reads : ReadsPortion old new bytes room portion.end
@@ -21,14 +21,14 @@ pub record ReadsAhead (old new : Stream) (before after : List ℕ) (room : ℕ) 
   pub few : length bytes ≤ most_at_once
   pub added : after ≡ before ++ ended_text bytes (ending_of portion.end)
 
--- The number of bytes of an input, plus one for the space that its end stands for, if it ended.
+-- The number of bytes read of an input. If the input ended, one is added for the space that stands for its end.
 abbrev pub ended_length : Option InputEnd → ℕ → ℕ
 ended_length (Some ends.Ended) read = read + 1
 ended_length end read = read
 
 -- The next step depends on the rest of an input after its pieces. If the input ended, an empty rest means no fault, and any other
--- rest is bad hex. If the input may go on, or went past the limit, the rest is bad hex unless a piece may begin in it; if one may,
--- the call reads on, or the limit is the fault. A failed read is the fault whatever the rest is.
+-- rest is bad hex. If the input may go on, or went past the limit, the rest is bad hex unless a piece may begin with it. If one
+-- may, the call reads on, or returns `TooLong` past the limit. A failed read is the fault whatever the rest is.
 abbrev pub IsNextStep : Option InputEnd → List ℕ → ℕ → NextStep → Type 0
 IsNextStep None rest place ReadOn = MayBegin rest
 IsNextStep None rest place (Stop fault) = (MayBegin rest → ⊥) × (fault ≡ Some (faults.BadHex place))

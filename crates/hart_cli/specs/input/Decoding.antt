@@ -9,15 +9,17 @@ use Rattle.hart_cli.specs.text.Heard.{Heard, NothingBegins, ReadsHeard, heard_ch
 use Rattle.hart_cli.specs.text.InputChars.{HasHeardBy}
 use Rattle.hart_cli.specs.text.Items.{NoPieceBegins, ReadsSoFarBy, ReadsUpTo, closed}
 
--- A decoding says what was heard in an input up to its first fault, if any, and that fault; what can have been decoded when a write
--- fails; what was heard so far in an input that may go on; and how many bytes at most are read but not yet decoded.
+-- A decoding has four parts. `Has` says what was heard in an input up to its first fault, if any, and which fault that is.
+-- `Decoded` says what can have been decoded when a write fails. `SoFar` says what was heard so far in an input that may go on.
+-- `most_ahead` is the greatest number of bytes that are read but not yet decoded.
 pub record Decoding (Heard : Type 0) : Type 1 where
   pub Has : List ℕ → Ending → Heard → Option CliFault → Type 0
   pub Decoded : List ℕ → Ending → Heard → Type 0
   pub SoFar : List ℕ → Heard → Type 0
   pub most_ahead : ℕ
 
--- How many bytes of items at most are read but not yet decoded: five for the beginning of an item, and the bytes of one read.
+-- The greatest number of bytes of items that are read but not yet decoded: five for the beginning of an item, and the bytes of one
+-- read.
 abbrev pub most_ahead : ℕ
 most_ahead = 5 + most_at_once
 
@@ -26,7 +28,8 @@ abbrev pub ended_text : List ℕ → Ending → List ℕ
 ended_text input (CameTo Ended) = closed input
 ended_text input _ = input
 
--- What can have been decoded of an input, by a way to read texts, is what it reads as up to a rest of at most `most_ahead` bytes.
+-- `Reads` is a way to read texts. What can have been decoded of an input in this way is what the input reads as up to a rest of at
+-- most `most_ahead` bytes.
 pub record AreDecodedBy {Heard : Type 0} (Reads : List ℕ → List Heard → List ℕ → Type 0) (input : List ℕ) (ending : Ending)
     (heard : List Heard) : Type 0 where
   pub rest : List ℕ
@@ -54,7 +57,7 @@ heard_decoding = decoding_by ReadsHeard NothingBegins
 abbrev pub AreRaw : List ℕ → List Heard → Type 0
 AreRaw input heard = heard ≡ heard_chars (faultless input)
 
--- A raw input has its bytes as characters, however it ended. Only a failed read and the limit are faults of it.
+-- The characters of a raw input are its bytes, however the input ended. Its only faults are a failed read and an exceeded limit.
 pub data HasRaw (input : List ℕ) : Ending → List Heard → Option CliFault → Type 0 where
   all : (heard : List Heard) → AreRaw input heard → HasRaw input (CameTo Ended) heard None
   failure : (heard : List Heard) → AreRaw input heard → HasRaw input (CameTo ReadFailed) heard (Some faults.Read)

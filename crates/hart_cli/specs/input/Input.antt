@@ -16,11 +16,11 @@ input_limit = 1048576
 abbrev pub stream_limit : ℕ
 stream_limit = 2 ^ 64 - 1
 
--- How many bytes one read returns at most.
+-- The greatest number of bytes that one read returns.
 abbrev pub most_at_once : ℕ
 most_at_once = 16384
 
--- The bytes were taken from the reader, no others were lost, and no read failed.
+-- These bytes, and no others, were taken from the reader, and no read failed.
 abbrev pub ReadsWell : Stream → Stream → List ℕ → Type 0
 ReadsWell old new bytes = Consumes old.bytes new.bytes bytes × (new.failures ≡ old.failures)
 
@@ -37,13 +37,13 @@ pub record ReadsBeyond (old new : Stream) (bytes : List ℕ) : Type 0 where
 abbrev pub ReadsPast : ℕ → Stream → Stream → List ℕ → Type 0
 ReadsPast limit old new text = ReadsBeyond old new text × (length text ≡ limit)
 
--- An input with a limit gave this text before it ended, before a read failed, or before it went past the limit.
+-- An input with a limit gave this text before the input ended, before a read failed, or before the input went past the limit.
 abbrev pub ReadsWithin : ℕ → Stream → Stream → List ℕ → InputEnd → Type 0
 ReadsWithin limit old new text Ended = ReadsWell old new text × IsAtEnd new.bytes × (length text ≤ limit)
 ReadsWithin limit old new text ReadFailed = ReadFails old new text × (length text ≤ limit)
 ReadsWithin limit old new text TooLong = ReadsPast limit old new text
 
--- An input gave this text before it ended, before a read failed, or before it went past its 1,048,576 bytes.
+-- An input gave this text before the input ended, before a read failed, or before the input went past 1,048,576 bytes.
 abbrev pub Reads : Stream → Stream → List ℕ → InputEnd → Type 0
 Reads old new text end = ReadsWithin input_limit old new text end
 
@@ -52,8 +52,8 @@ pub data Ending : Type 0 where
   Left : Ending
   CameTo : (end : InputEnd) → Ending
 
--- An input with a limit gave this text before it came to its end or was left. If it was left, more of it may be unread, and one
--- byte past the limit may have been read with the last bytes of the text.
+-- An input with a limit gave this text before the input came to its end or was left. If the input was left, more of it may be
+-- unread, and one byte past the limit may have been read with the last bytes of the text.
 abbrev pub ReadsToWithin : ℕ → Stream → Stream → List ℕ → Ending → Type 0
 ReadsToWithin limit old new text Left = (ReadsWell old new text × (length text ≤ limit)) ⊎ ReadsPast limit old new text
 ReadsToWithin limit old new text (CameTo end) = ReadsWithin limit old new text end
@@ -66,7 +66,8 @@ input_room = input_limit + 1
 abbrev pub LacksInputRoom : Stream → Stream → NoRoom → Type 0
 LacksInputRoom old new none = (none.items ≡ input_room) × (new ≡ old)
 
--- Reading a whole input ends with this fault: a read failed, there were more bytes than the limit, or room for it was refused.
+-- Reading a whole input ends with this fault: a read failed, there were more bytes than the limit, or room for the input was
+-- refused.
 abbrev pub IsReadingFault : Stream → Stream → CliFault → Type 0
 IsReadingFault old new faults.Read = (text : List ℕ) × Reads old new text ReadFailed
 IsReadingFault old new faults.TooLong = (text : List ℕ) × Reads old new text TooLong
@@ -75,7 +76,7 @@ IsReadingFault old new _ = ⊥
 
 -- For private calls alone: what one read of an input returns.
 
--- A failed read and an exceeded limit are faults of an input, whatever it holds.
+-- A failed read and an exceeded limit are faults of an input, whatever the input holds.
 abbrev pub fault_of_end : InputEnd → Option CliFault
 fault_of_end Ended = None
 fault_of_end ReadFailed = Some faults.Read
@@ -86,7 +87,7 @@ abbrev pub ending_of : Option InputEnd → Ending
 ending_of None = Left
 ending_of (Some end) = CameTo end
 
--- With `room` bytes left within the limit, one read returned these bytes. The input came to its end with them, or may go on.
+-- With `room` bytes left within the limit, one read returned these bytes. The input came to its end with this read, or may go on.
 abbrev pub ReadsPortion : Stream → Stream → List ℕ → ℕ → Option InputEnd → Type 0
 ReadsPortion old new bytes room None = ReadsWell old new bytes × (bytes ≢ []) × (length bytes ≤ room)
 ReadsPortion old new bytes room (Some Ended) = ReadsWell old new bytes × IsAtEnd new.bytes × (bytes ≡ [])

@@ -34,14 +34,14 @@ pub record ReadsText {Heard : Type 0} (decoding : Decoding Heard) (limit : ℕ) 
   pub has_text : HasText decoding IsText input ending fault text
   pub soon : StopsSoon decoding.most_ahead input fault
 
--- An input that may go on decides a text if what was heard so far decides it.
+-- An input that may go on decides a text if what was heard so far decides that text.
 pub record IsDecidedText {Heard : Type 0} (decoding : Decoding Heard) (IsDecided : TextRelation Heard) (input text : List ℕ)
     : Type 0 where
   pub heard : Heard
   pub reads : decoding.SoFar input heard
   pub decided : IsDecided heard text
 
--- What an input decides before its last bytes was written. One read can return all of these last bytes.
+-- All that an input without its last bytes decides was written. One read can return all of these last bytes.
 pub record WroteInTime (IsDecided : List ℕ → List ℕ → Type 0) (input : List ℕ) (writer writer_after : Stream) : Type 0 where
   pub before : List ℕ
   pub last : List ℕ
@@ -52,8 +52,8 @@ pub record WroteInTime (IsDecided : List ℕ → List ℕ → Type 0) (input : L
   pub more : List ℕ
   pub written : Appends writer.bytes writer_after.bytes (text ++ more)
 
--- A write failed after a prefix, short of its end, of the text of what had been decoded by then. Nothing was late: what was decided
--- before the last bytes had been written.
+-- A write failed within the text of what had been decoded by then: a prefix of that text, short of its end, was written. Nothing
+-- was late: all that the input without its last bytes decides had been written.
 pub record StopsWriting {Heard : Type 0} (decoding : Decoding Heard) (limit : ℕ) (IsText IsDecided : TextRelation Heard)
     (reader reader_after writer writer_after : Stream) : Type 0 where
   pub input : List ℕ
@@ -67,7 +67,8 @@ pub record StopsWriting {Heard : Type 0} (decoding : Decoding Heard) (limit : �
   pub in_time : WroteInTime (IsDecidedText decoding IsDecided) input writer writer_after
 
 -- At `Ok`, the text of the whole input was written. If a write failed, a prefix of the text of what was decoded by then was
--- written, and at a fault of the input, the text of what was heard before that. Refused memory is no such fault.
+-- written. At a fault of the input, the text of what was heard before the fault was written. Refused memory is no fault of the
+-- input.
 abbrev pub LiveOutcome : {Heard : Type 0} → Decoding Heard → ℕ → TextRelation Heard → TextRelation Heard → OutcomeRelation
 LiveOutcome decoding limit IsText IsDecided reader reader_after writer writer_after (Ok done) =
     (text : List ℕ) × ReadsText decoding limit IsText reader reader_after None text × WritesAll writer writer_after text

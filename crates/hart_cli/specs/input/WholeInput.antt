@@ -6,7 +6,7 @@ use Rattle.hart_cli.specs.declared.input.InputEnd.TheVariants.{Ended}
 use Rattle.hart_cli.specs.input.Input.{IsReadingFault, Reads}
 use Rattle.hart_cli.specs.stream.Stream.{FailsToWrite, Stream, WritesAll, WritesNothing}
 
--- An input was read to its end, and this holds of it.
+-- An input was read to its end, and `Holds` is true of the input.
 pub record WholeInput (reader reader_after : Stream) (Holds : List ℕ → Type 0) : Type 0 where
   pub input : List ℕ
   pub whole : Reads reader reader_after input Ended
@@ -18,7 +18,7 @@ abbrev pub HasWholeFault : (List ℕ → CliFault → Type 0) → Stream → Str
 HasWholeFault HasFault reader reader_after fault =
     IsReadingFault reader reader_after fault ⊎ WholeInput reader reader_after (λ input. HasFault input fault)
 
--- A call wrote the text for its whole input at `Ok`, a prefix of it if a write failed, and nothing at any other fault.
+-- A call wrote the text for its whole input at `Ok`, a prefix of that text if a write failed, and nothing at any other fault.
 abbrev pub WholeOutcome : (List ℕ → List ℕ → Type 0) → (List ℕ → CliFault → Type 0) → Stream → Stream → Stream → Stream
     → Result (Unit {0}) CliFault → Type 0
 WholeOutcome IsText HasFault reader reader_after writer writer_after (Ok done) =

@@ -83,17 +83,17 @@ hearing_app =
     let dump = with_subcommand answer (new_app (codes "dump")).top in
     with_subcommand dump explain_app.top
 
--- The command `hart` with all subcommands that read an input: these three, `serve` and `sim`.
+-- The command `hart` with all subcommands that read an input: `answer`, `dump`, `explain`, `serve` and `sim`.
 abbrev pub reading_app : App
 reading_app =
     let serve = with_subcommand hearing_app (image_app (codes "serve")).top in
     with_subcommand serve (image_app (codes "sim")).top
 
--- The command `hart` with all subcommands but `encode`: these five, and `request`.
+-- The command `hart` with the subcommands that read an input, and `request`.
 abbrev pub asking_app : App
 asking_app = with_subcommand reading_app request_app.top
 
--- The command `hart` has seven subcommands: these six, and `encode`.
+-- The command `hart` with all of its seven subcommands: those of `asking_app`, and `encode`.
 abbrev pub hart_app : App
 hart_app = with_subcommand asking_app encode_app.top
 

@@ -17,8 +17,8 @@ use Rattle.hart_cli.specs.declared.calls.program.command_line.Call.{Call}
 use Rattle.hart_cli.specs.declared.calls.program.command_line.Call.TheVariants.{Answer, Dump, Encode, Explain, ExplainRaw, Request, Serve}
 use Rattle.hart_cli.specs.declared.calls.program.command_line.Call.TheVariants.{Sim}
 
--- A call with this result had an outcome of its own kind on the reader and the writer. Calls of `encode` and `request` leave the
--- reader as it was.
+-- With this result, a call left the reader and the writer as the outcome of its subcommand says. Calls of `encode` and `request`
+-- leave the reader as it was.
 abbrev pub CallOutcome : Call → Stream → Stream → Stream → Stream → Result (Unit {0}) CliFault → Type 0
 CallOutcome (Answer image) reader reader_after writer writer_after result =
     AnswerOutcome image reader reader_after writer writer_after result
@@ -42,7 +42,8 @@ abbrev pub status_of : Result (Unit {0}) CliFault → ℕ
 status_of (Ok done) = 0
 status_of (Err fault) = 1
 
--- The program made the call that the words ask for, ended with the status of its result, and reported its fault, if any.
+-- The program made the call that the words ask for, ended with the status of the call's result, and reported the call's fault, if
+-- any.
 pub record Ran (words : List Text) (reader reader_after writer writer_after errors errors_after : Stream) (status : ℕ) : Type 0 where
   pub call : Call
   pub calls : Calls call words
@@ -63,7 +64,7 @@ pub record Made (met : Option (Text × List Row)) (reader reader_after writer wr
   pub ends : status ≡ status_of result
   pub reports : IfErr result (λ fault. WritesUnlessFailed errors errors_after (fault_line fault))
 
--- A call of `encode` or `request` has 5 to 20 preamble bytes, as a sender puts them. Any other call has none to check.
+-- A call of `encode` or `request` has 5 to 20 preamble bytes, the numbers that a sender may use. Any other call has no such number.
 abbrev pub HasPreambleCount : Call → Type 0
 HasPreambleCount (Encode words) = IsPreambleCount words.preambles
 HasPreambleCount (Request words) = IsPreambleCount words.preambles

@@ -18,7 +18,7 @@ use Rattle.hart_cli.specs.declared.calls.request.fault.FieldFault.TheVariants.{G
 use Rattle.hart_cli.specs.declared.calls.request.fault.FieldFault.TheVariants.{UnknownField}
 use Rattle.hart_cli.specs.request.Values.{value_of}
 
--- The place of the first `=` of a word, which is the byte 61, or its length.
+-- The place of the first `=` (the byte 61) in a word, or the length of the word if it has no `=`.
 abbrev pub equals_place : List ℕ → ℕ
 equals_place word = position_or_len (λ code. code == 61) word
 
@@ -77,8 +77,8 @@ abbrev pub given_at : ℕ → Result (List ℕ) FieldFault → Result (List ℕ)
 given_at place (Ok bytes) = Ok bytes
 given_at place (Err fault) = Err (bad_at place fault)
 
--- The bytes of a field with this row and this place in its command: those that the value in its word writes. If no word gives the
--- field a value, the place after the last word is bad.
+-- The bytes of a field with this row and this place in its command: the bytes of the value that its word gives. If no word gives
+-- the field a value, the fault has the place after the last word.
 abbrev pub field_value : (command field : ℕ) → List (List ℕ) → Row → Result (List ℕ) BadField
 field_value command field words row =
     if nat_lt (place_for words row) (length words)
@@ -101,7 +101,8 @@ data_of_fields command field words [] = Ok []
 data_of_fields command field words (row ∷ rows) =
     joined (field_value command field words row) (data_of_fields command (field + 1) words rows)
 
--- A command takes data that read as a request of it. If it refuses them, that is a fault of the third word, COMMAND.
+-- A command takes data that are read as a request of this command. If the command refuses the data, that is a fault of the third
+-- word, COMMAND.
 abbrev pub taken : List ℕ → Reading → Result (List ℕ) BadField
 taken bytes (Ok request) = Ok bytes
 taken bytes (Err code) = Err (record { number = 3; fault = Refused code })

@@ -13,8 +13,8 @@ use Rattle.hart_cli.specs.text.MessageLine.{IsMessageLine}
 use Rattle.hart_cli.specs.stream.Stream.{FailsToWrite, Stream, WritesAll, WritesNothing}
 use Rattle.hart_line.specs.script.Words.{HasNoValue, IsAddressWord, IsCommandWord, IsWho}
 
--- The request of the words has the values that the first three write, and the data that the others give for its command. It is an
--- STX with burst bit 0 and no expansion bytes.
+-- The request of the words has the values of the first three words, and the data that the other words give for its command. It is
+-- an STX with burst bit 0 and no expansion bytes.
 pub record IsRequestByNames (words : RequestWords) (frame : FrameParts) : Type 0 where
   pub master : IsWho words.who frame.master
   pub address : IsAddressWord words.address frame.address
@@ -24,20 +24,21 @@ pub record IsRequestByNames (words : RequestWords) (frame : FrameParts) : Type 0
   pub burst : frame.burst ≡ false
   pub expansion : frame.expansion ≡ []
 
--- The text of the words is the line of the message of their request, with the number of preamble bytes given with them.
+-- The text of the words is the line of the message of their request. The message has the number of preamble bytes given with the
+-- words.
 pub record IsRequestText (words : RequestWords) (text : List ℕ) : Type 0 where
   pub frame : FrameParts
   pub request : IsRequestByNames words frame
   pub line : IsMessageLine frame words.preambles text
 
--- One of the first three words writes no value. The first such word has this number: 1 for WHO, 2 for ADDRESS, 3 for COMMAND.
+-- One of the first three words has no value. The first such word has this number: 1 for WHO, 2 for ADDRESS, 3 for COMMAND.
 pub data IsFirstBadWord (words : RequestWords) : ℕ → Type 0 where
   bad_who : HasNoValue (IsWho words.who) → IsFirstBadWord words 1
   bad_address : (master : MasterId) → IsWho words.who master → HasNoValue (IsAddressWord words.address) → IsFirstBadWord words 2
   bad_command : (master : MasterId) (address : Address) → IsWho words.who master → IsAddressWord words.address address
       → HasNoValue (IsCommandWord words.command) → IsFirstBadWord words 3
 
--- The first three words write values, but the words of the fields do not give the data of the command.
+-- The first three words have values, but the words of the fields do not give the data of the command.
 pub record HasBadField (words : RequestWords) (bad : BadField) : Type 0 where
   pub master : MasterId
   pub address : Address
@@ -47,7 +48,7 @@ pub record HasBadField (words : RequestWords) (bad : BadField) : Type 0 where
   pub command_is : IsCommandWord words.command command
   pub is_bad : payload_of command words.fields ≡ Err bad
 
--- A call of `request` wrote the text of its words at `Ok`, a prefix of it if a write failed, and nothing if a word is bad.
+-- A call of `request` wrote the text of its words at `Ok`, a prefix of that text if a write failed, and nothing if a word is bad.
 abbrev pub RequestOutcome : RequestWords → Stream → Stream → Result (Unit {0}) CliFault → Type 0
 RequestOutcome words writer writer_after (Ok done) =
     (text : List ℕ) × IsRequestText words text × WritesAll writer writer_after text

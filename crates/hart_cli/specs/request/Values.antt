@@ -1,4 +1,4 @@
--- The bytes that the value of a field writes, by the kind of the field (own profile).
+-- The bytes that encode the value of a field, by the kind of the field (own profile).
 use Rattle.std.specs.Prelude.{ℕ, ℤ, ◌+◌, ◌-◌, ◌*◌, ◌/◌, ◌%◌, ◌==◌, ◌&&◌, nat_le, nat_lt, if◌then◌else◌, Bool, List, [], ◌∷◌, ◌++◌, pos}
 use Rattle.std.specs.Prelude.{codes, is_some, length, replicate, take, Result, Ok, Err, Option, None, Some}
 use Rattle.std.specs.List.{prefix_len}
@@ -38,11 +38,11 @@ abbrev pub number_or_fault : ℕ → Option ℕ → Result (List ℕ) FieldFault
 number_or_fault size None = Err (NoNumber (greatest_of size))
 number_or_fault size (Some number) = Ok (number_bytes size number)
 
--- The bytes of a number field are those of the number that its word writes.
+-- The bytes of a number field are those of the number in its word.
 abbrev pub number_value : ℕ → List ℕ → Result (List ℕ) FieldFault
 number_value size word = number_or_fault size (number_up_to (greatest_of size) word)
 
--- Bytes are written as `0x` (the bytes 48 and 120), and then like DATA: at most 255 bytes.
+-- Bytes are written as `0x` (the bytes 48 and 120) and then in hex like the word DATA. There are at most 255 of them.
 abbrev pub hex_of : List ℕ → Option (List ℕ)
 hex_of (first ∷ second ∷ digits) = if (first == 48) && (second == 120) then data_of digits else None
 hex_of _ = None
@@ -65,8 +65,8 @@ codes_value word = sized NoCodes 1 8 (hex_of word)
 abbrev pub padded : ℕ → List ℕ → List ℕ
 padded count text = text ++ replicate (count - length text) 32
 
--- A text for a field of at most `most` characters. The first of these characters that fails the test is bad; otherwise a longer
--- text is too long; otherwise the text is padded.
+-- The text of a field of `most` characters. If any of the first `most` characters fails the test, the first that fails is bad.
+-- Otherwise, a text of more than `most` characters is too long, and any other text is padded.
 abbrev pub text_value : (ℕ → Bool) → ℕ → List ℕ → Result (List ℕ) FieldFault
 text_value passes most text =
     let place = prefix_len passes (take most text) in
@@ -74,7 +74,8 @@ text_value passes most text =
     else if nat_lt most (length text) then Err (TooLong most)
     else Ok (padded most text)
 
--- The characters of packed text have the codes hex 20 to 5F; those of ISO Latin-1 can be printed, and have codes of one byte.
+-- A character of packed text has a code from hex 20 to 5F. A character of a text in ISO Latin-1 can be printed, and has a code of
+-- one byte.
 abbrev pub can_have : FieldKind → ℕ → Bool
 can_have PackedText code = nat_le 32 code && nat_lt code 96
 can_have _ code = is_printable code && nat_lt code 256
@@ -118,14 +119,14 @@ dated word day month None = Err NoDate
 dated word day month (Some year) =
     if bytes_eq word (date_words (day ∷ month ∷ year ∷ [])) then Ok (day ∷ month ∷ year ∷ []) else Err NoDate
 
--- The bytes of a date are those of `not set`, or of the day that jiff reads. jiff also reads other forms of a day, and drops what
--- may follow it, such as a time. A word in such a form is no date.
+-- The bytes of a date. The word is `not set`, or a day that the library jiff reads. jiff also reads other forms of a day, and drops
+-- what may follow the day, such as a time. A word in such a form is no date.
 abbrev pub date_value : List ℕ → Result (List ℕ) FieldFault
 date_value word =
     if bytes_eq word (codes "not set") then Ok not_set
     else option_map_or (λ date. dated word date.day date.month (year_byte date.year)) (result_ok (parse_date word)) (Err NoDate)
 
--- The bytes that a word writes as the value of a field of a kind and a size, or why it writes none.
+-- The bytes of the value that a word gives for a field of this kind and size, or why the word gives no such value.
 abbrev pub value_of : FieldKind → FieldSize → List ℕ → Result (List ℕ) FieldFault
 value_of kind (AllBut after) word = codes_value word
 value_of Number (Exactly size) word = number_value size word

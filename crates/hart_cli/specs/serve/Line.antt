@@ -33,18 +33,20 @@ after_word (Protect protected) device = record device { protected = protected }
 after_word Image device = device
 after_word Counter device = device
 
--- `image` and `counter` are answered with the lines for them at the end of the text of `hart sim`, and the other words with `ok`.
+-- `image` and `counter` are answered with the lines that `hart sim` writes for them at the end of its text. The other words are
+-- answered with `ok`.
 abbrev pub word_said : LineWord → DeviceState → List ℕ
 word_said Image device = image_line device
 word_said Counter device = counter_line device
 word_said _ device = line_of (codes "ok" ∷ [])
 
--- The line of a device's answer is the line of its message, with the identity's number of response preambles. Silence is `-`.
+-- The line of a device's answer is the line of its message, with the number of preamble bytes that its identity says. The line of
+-- silence is `-`.
 abbrev pub IsReplyLine : DeviceState → Option FrameParts → List ℕ → Type 0
 IsReplyLine device None said = said ≡ line_of (codes "-" ∷ [])
 IsReplyLine device (Some reply) said = IsMessageLine reply device.identity.response_preambles said
 
--- A device hears a whole delivery at once, answers what it brings with this line, and is then in this state.
+-- A device hears a whole delivery at once. This line is its answer to what the delivery brings, and this is its state afterwards.
 pub record Hears (device : DeviceState) (delivery : List Character) (after : DeviceState) (said : List ℕ) : Type 0 where
   pub brought : Brought
   pub brings : Brings device.identity delivery brought

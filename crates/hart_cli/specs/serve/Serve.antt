@@ -22,7 +22,7 @@ abbrev pub last_lines : Ending → List ℕ → List (List ℕ)
 last_lines (CameTo Ended) (byte ∷ more) = (byte ∷ more) ∷ []
 last_lines ending last = []
 
--- The lines of an input are those of its text, split as a script is. `last_lines` says whether the last one counts.
+-- The lines of an input are split like the lines of a script. `last_lines` says whether the last one counts.
 pub record HasLines (input : List ℕ) (ending : Ending) (lines : List (List ℕ)) : Type 0 where
   pub whole : List (List ℕ)
   pub last : List ℕ
@@ -48,8 +48,8 @@ pub record ServesTo (device : DeviceState) (ending : Ending) (reader reader_afte
 abbrev pub IsServedSoFar : DeviceState → List ℕ → List ℕ → Type 0
 IsServedSoFar device input text = IsServed device input Left text
 
--- A write failed after a prefix, short of its end, of what the device says to the first lines that were read by then. No line was
--- late: those that were due before the last bytes had been written.
+-- A write failed within what the device says to the first lines that were read by then: a prefix of that text, short of its end,
+-- was written. No line was late: all that the device says to the whole lines of the input without its last bytes had been written.
 pub record StopsSaying (device : DeviceState) (reader reader_after writer writer_after : Stream) : Type 0 where
   pub input : List ℕ
   pub ending : Ending
@@ -79,7 +79,8 @@ pub record LacksLineRoom (none : NoRoom) (reader reader_after writer writer_afte
   pub unwritten : writer_after ≡ writer
 
 -- At `Ok`, a call served its whole input. If a read failed, or the input was longer than the limit, it served the whole lines
--- before that. If a write failed, it wrote a prefix of what is said to them, and if room for a line was refused, nothing.
+-- before that. If a write failed, it wrote a prefix of what the device says to the lines. If room for a line was refused, it wrote
+-- nothing.
 abbrev pub ServedOutcome : DeviceState → OutcomeRelation
 ServedOutcome device reader reader_after writer writer_after (Ok done) =
     ServesTo device (CameTo Ended) reader reader_after writer writer_after
@@ -93,6 +94,7 @@ ServedOutcome device reader reader_after writer writer_after (Err (faults.Memory
     LacksLineRoom none reader reader_after writer writer_after
 ServedOutcome device reader reader_after writer writer_after (Err fault) = ⊥
 
--- A call of `serve` without a device returned why it has none. Otherwise its device served the lines that the call read.
+-- A call of `serve` without a device returned the reason why it has none. In a call with a device, the device served the lines that
+-- the call read.
 abbrev pub ServeOutcome : Option (List ℕ) → OutcomeRelation
 ServeOutcome = OutcomeWith ServedOutcome

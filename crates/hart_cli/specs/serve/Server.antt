@@ -32,7 +32,7 @@ pub record BeginsWithPart (text part rest : List ℕ) : Type 0 where
   pub free : HasNoFeed part
   pub feed : text ≡ part ++ 10 ∷ rest
 
--- How many bytes of a part are kept at most. A part that has this number or more is a line that is too long.
+-- The greatest number of bytes of a part that are kept. A part that has this number or more is a line that is too long.
 abbrev pub most_kept : ℕ
 most_kept = input_limit + 2
 
@@ -60,7 +60,8 @@ pub record ServesPart (old new : Server) : Type 0 where
 abbrev pub ServesParts : DeviceState → List (List ℕ) → DeviceState → List ℕ → Type 0
 ServesParts device parts after text = Serves device (map strip_carriage_return parts) after text
 
--- Of the part that it kept and what was read after it, a server served the whole lines, and keeps the rest.
+-- `text` is the part that a server kept, followed by the bytes read after it. The server served the whole lines of this text, and
+-- keeps the rest.
 pub record ServesWhole (old new : Server) (text : List ℕ) (writer writer_after : Stream) : Type 0 where
   pub parts : List (List ℕ)
   pub rest : List ℕ
@@ -70,7 +71,7 @@ pub record ServesWhole (old new : Server) (text : List ℕ) (writer writer_after
   pub serves : ServesParts old.device parts new.device said
   pub adds : AddsText writer writer_after old.kept new.kept said
 
--- A write failed, after a prefix of what was kept and of what a device says to the first whole lines.
+-- A write failed within a text: the kept lines, followed by what a device says to the first whole lines.
 pub record FailsInParts (device : DeviceState) (before text : List ℕ) (writer writer_after : Stream) : Type 0 where
   pub parts : List (List ℕ)
   pub later : List (List ℕ)
@@ -96,7 +97,8 @@ pub record ServesLast {T : Type 0} (device : DeviceState) (line : List ℕ) (wri
   pub serves : Serves device (last_lines (CameTo Ended) line) after said
   pub writes : Writes writer writer_after said result
 
--- An input was read up to its end. All that a device says to its whole lines was written, and the rest is kept.
+-- An input was read up to its end. All that a device says to the input's whole lines was written, and the rest of the input is
+-- kept.
 pub record ServesAll (device : DeviceState) (server : Server) (end : InputEnd) (reader reader_after writer writer_after : Stream)
     : Type 0 where
   pub input : List ℕ

@@ -19,8 +19,8 @@ use Rattle.hart_cli.specs.ImageWord.{OutcomeWith, OutcomeRelation}
 use Rattle.hart_cli.specs.sim.Text.{IsNeededByDevice, IsNeededByFrame, IsNeededByOutcomes, sim_text}
 use Rattle.hart_cli.specs.input.WholeInput.{WholeOutcome}
 
--- A script starts with a device, the process values of the bench device, and two masters. A master has nothing in hand, and sends a
--- request again at most three times.
+-- A script starts with a device, the process values of the bench device, and two masters. Each master is idle, and sends a request
+-- again at most three times.
 abbrev pub start_with : DeviceState → Start
 start_with device = record {
   device = device;
@@ -52,8 +52,8 @@ HasLineFault device input (line_faults.BadLine number) = HasFirstBadLine input n
 HasLineFault device input (line_faults.Undetected number leg) = IsScriptWithFault device input (line_faults.Undetected number leg)
 HasLineFault device input (line_faults.Memory none) = ⊥
 
--- At the end of a script, the line of one of its submissions, or its last two lines, need room for this number of bytes, at least
--- 1.
+-- At the end of a script, the line of one of its submissions, or the last two lines of its text together, need room for this number
+-- of bytes. The number is at least 1.
 pub record IsNeededByLastLines (start : Start) (events : List LineEvent) (items : ℕ) : Type 0 where
   pub after : DeviceState
   pub outcomes : List Outcome
@@ -79,8 +79,8 @@ IsSimulationFault device input (Line fault) = HasLineFault device input fault
 IsSimulationFault device input (Memory none) = IsNeededForSimulation device input none.items
 IsSimulationFault device input _ = ⊥
 
--- A call of `simulate` without a device returned why it has none. Otherwise, at `Ok` it wrote the text for its whole input, and if
--- a write failed, a prefix of that. It wrote nothing if a read failed, if the input was too long or had a fault in its lines or
--- events, or if memory was refused. It returns no other fault.
+-- A call of `simulate` without a device returned the reason why it has none. A call with a device wrote the text for its whole
+-- input at `Ok`, and a prefix of that text if a write failed. The call wrote nothing if a read failed, if the input was too long or
+-- had a fault in its lines or events, or if memory was refused. It returns no other fault.
 abbrev pub SimOutcome : Option (List ℕ) → OutcomeRelation
 SimOutcome = OutcomeWith (λ device. WholeOutcome (IsSimulation device) (IsSimulationFault device))

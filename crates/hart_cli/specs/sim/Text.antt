@@ -25,8 +25,8 @@ spoken_line spoken =
     line_of (party_word spoken.party ∷ decimal spoken.preambles ∷ encode_upper spoken.bytes ∷ [])
 
 -- An answered submission has the word `answered`, the number of its sendings, and the response code, the device status and the data
--- of the reply in upper case hex. One without a reply has `noreply`, and an unfinished one `unfinished`, each with the number of
--- its sendings. A refused one has `refused` and the number of the fault. Numbers are in decimal.
+-- of the reply in upper case hex. A submission without a reply has `noreply`, and an unfinished submission has `unfinished`, each
+-- with the number of its sendings. A refused submission has `refused` and the number of the fault. Numbers are in decimal.
 abbrev pub outcome_words : Outcome → List (List ℕ)
 outcome_words (Answered reply sendings) =
     codes "answered" ∷ decimal sendings ∷ encode_upper (reply.code ∷ []) ∷ encode_upper (reply.status.0 ∷ [])

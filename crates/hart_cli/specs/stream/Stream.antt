@@ -3,12 +3,12 @@ use Rattle.std.specs.Prelude.{◌≡◌, ◌≢◌, ◌⊎◌, ℕ, ◌+◌, ◌
 use Rattle.std.specs.Io.KnownBytes.{Appends, Keeps}
 use Rattle.hart_cli.specs.declared.stream.Failed.{Failed}
 
--- One more failure is counted, but the count stays at the greatest number of 64 bits once it is there.
+-- The count of failures after one more failure. A count of 2^64 - 1 stays as it is.
 abbrev pub count_after_failure : ℕ → ℕ
 count_after_failure count = min (count + 1) (2 ^ 64 - 1)
 
--- What contracts see of a reader or a writer: the bytes left to read or written so far, if they are known, and how often it has
--- failed.
+-- What contracts see of a reader or a writer. `bytes` are those that are left to read, or those that were written so far, if they
+-- are known. `failures` says how often the reader or writer has failed.
 pub record Stream : Type 0 where
   pub bytes : Option (List ℕ)
   pub failures : ℕ
@@ -38,7 +38,7 @@ FailsToWrite old new text = WritesPrefix old.bytes new.bytes text × (new.failur
 abbrev pub Writes : {T E : Type 0} → Stream → Stream → List ℕ → Result T E → Type 0
 Writes old new text result = MatchResult result (λ _. WritesAll old new text) (λ _. FailsToWrite old new text)
 
--- The whole text was written and no write failed, or one failed after a prefix of the text, short of its end.
+-- The whole text was written and no write failed, or a write failed after a prefix of the text, short of its end.
 abbrev pub WritesUnlessFailed : Stream → Stream → List ℕ → Type 0
 WritesUnlessFailed old new text = WritesAll old new text ⊎ FailsToWrite old new text
 

@@ -4,7 +4,8 @@ use Rattle.hart_frame.specs.heard.Character.{faultless}
 use Rattle.hart_cli.specs.text.Items.{IsSeparator}
 use Rattle.hart_cli.specs.text.Reading.{ReadsFirst}
 
--- The first `len` bytes of a text, at least one, read as faultless characters. The bytes of these were added to a chunk.
+-- The first `len` bytes of a text, at least one, are read as faultless characters. The bytes of these characters were added to a
+-- chunk.
 pub record ReadsMore (text old new : List ℕ) (len : ℕ) : Type 0 where
   pub bytes : List ℕ
   pub items : ReadsFirst text (faultless bytes) len

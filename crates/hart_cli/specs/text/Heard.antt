@@ -15,7 +15,7 @@ pub data Heard : Type 0 where
 abbrev pub heard_chars : List Character → List Heard
 heard_chars chars = map HeardChar chars
 
--- Characters join the first of the stretches after them. If there is none, they are the only stretch.
+-- Characters join the first of the stretches that follow them. If no stretch follows, the characters are the only stretch.
 abbrev pub after_chars : List Character → List (List Character) → List (List Character)
 after_chars chars [] = chars ∷ []
 after_chars chars (first ∷ later) = (chars ++ first) ∷ later
@@ -46,6 +46,6 @@ pub record NothingBegins (text : List ℕ) : Type 0 where
 abbrev pub HasNoSilence : List ℕ → Type 0
 HasNoSilence text = (before rest : List ℕ) → text ≡ before ++ 47 ∷ rest → ⊥
 
--- What was heard in an input is what stands before its fault.
+-- What was heard in an input stands before the fault of the input.
 abbrev pub HasHeard : List ℕ → Ending → List Heard → Option CliFault → Type 0
 HasHeard = HasHeardBy ReadsHeard NothingBegins

@@ -8,9 +8,9 @@ use Rattle.hart_cli.specs.declared.fault.CliFault.{CliFault}
 use Rattle.hart_cli.specs.declared.fault.CliFault.TheVariants as faults
 use Rattle.hart_cli.specs.declared.input.InputEnd.TheVariants as ends
 
--- What was heard in an input, by a way to read texts, stands before its fault. An input that ended reads as what was heard, or has
--- bad hex after it. An input that the call left has bad hex after it, decided by what was read. An input with a failed read, or
--- past the limit, reads as what is whole so far.
+-- `Reads` is a way to read texts. What was heard in an input in this way stands before the fault of the input. If the input ended,
+-- it reads as what was heard, or has bad hex after what was heard. If the call left the input, there is bad hex after what was
+-- heard, whatever bytes follow. If a read failed, or the input went past the limit, what was heard is what is whole so far.
 pub data HasHeardBy {Heard : Type 0} (Reads : List ℕ → List Heard → List ℕ → Type 0) (Stops : List ℕ → Type 0) (text : List ℕ)
     : Ending → List Heard → Option CliFault → Type 0 where
   all : (heard : List Heard) → Reads (closed text) heard [] → HasHeardBy Reads Stops text (CameTo ends.Ended) heard None

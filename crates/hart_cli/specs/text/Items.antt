@@ -57,8 +57,8 @@ pub record MayBegin (text : List ℕ) : Type 0 where
   pub tail : List ℕ
   pub begins : BeginsWith (text ++ more) piece tail
 
--- A way to read texts says what a text reads as up to a rest, and at which rests it stops. By such a way, a text has bad hex at a
--- place if it reads as what was heard up to there, and reading stops there, before the end of the text.
+-- `Reads` says what a text reads as up to a rest, and `Stops` at which rests reading stops. Read in this way, a text has bad hex at
+-- a place if the text up to there reads as what was heard, and reading stops there, before the end of the text.
 pub record HasBadHexBy {Heard : Type 0} (Reads : List ℕ → List Heard → List ℕ → Type 0) (Stops : List ℕ → Type 0) (text : List ℕ)
     (heard : List Heard) (place : ℕ) : Type 0 where
   pub rest : List ℕ
@@ -83,7 +83,7 @@ ReadsAs text chars = ReadsUpTo (closed text) chars []
 abbrev pub IsBadHexAt : List ℕ → List Character → ℕ → Type 0
 IsBadHexAt text chars place = HasBadHex (closed text) chars place
 
--- While an input may go on, bad hex in it is decided if it is bad whatever follows.
+-- While an input may go on, bad hex in it is decided if the input has this bad hex whatever bytes follow.
 abbrev pub IsDecidedBadHexAt : List ℕ → List Character → ℕ → Type 0
 IsDecidedBadHexAt text chars place = (more : List ℕ) → HasBadHex (text ++ more) chars place
 

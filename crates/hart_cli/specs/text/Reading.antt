@@ -4,13 +4,13 @@ use Rattle.hart_frame.specs.heard.Character.{Character}
 use Rattle.hart_line.specs.Filling.{Filled}
 use Rattle.hart_cli.specs.text.Items.{ReadsUpTo}
 
--- The first `len` bytes of a text, at least one, read as these characters.
+-- The first `len` bytes of a text, at least one, are read as these characters.
 pub record ReadsFirst (text : List ℕ) (chars : List Character) (len : ℕ) : Type 0 where
   pub some : 0 < len
   pub within : len ≤ length text
   pub reads : ReadsUpTo text chars (drop len text)
 
--- The first `len` bytes of a text, at least one, read as characters, which were added to a list.
+-- The first `len` bytes of a text, at least one, are read as characters. These were added to a list.
 pub record ReadsChars (text : List ℕ) (old new : Filled Character) (len : ℕ) : Type 0 where
   pub chars : List Character
   pub pieces : ReadsFirst text chars len

@@ -1,4 +1,4 @@
-//! `hart dump`: the frames of what was heard, a line each.
+//! `hart dump`: the frames in what was heard, a line for each.
 ghost use Rattle.std.specs.Prelude.{◌≡◌, [], ℕ, List, Option};
 ghost use Rattle.hart_frame.specs.scan.Scanner.{new_scan};
 ghost use Rattle.hart_cli.specs.dump.Dump.{DumpOutcome, IsDump};
@@ -18,16 +18,16 @@ use std::alloc::Global;
 mod frame_lines;
 mod text;
 
-/// Reads what was heard on a line as hex items, and writes a line for each frame in it, as soon as the frame is decided.
+/// Reads the characters heard on a HART line as hex items. Writes a line of text for each frame, as soon as the frame is decided.
 ///
 /// It reads a portion at a time. Before each read it has written the lines of all frames decided by then, so a live line is dumped
-/// while it is heard, up to the limit of an input. It takes no memory.
+/// while it is heard, up to the limit of an input. It allocates nothing.
 ///
 /// # Errors
 ///
-/// The first fault of the input, in the order of its bytes: [`CliFault::Read`], [`CliFault::TooLong`] or
-/// [`CliFault::BadHex`]. The lines of the frames before it are written first, and nothing is read after it. At the first write that
-/// fails the fault is [`CliFault::Write`], with a prefix of the lines of what was scanned by then written.
+/// The first fault of the input, in the order of its bytes: [`CliFault::Read`], [`CliFault::TooLong`] or [`CliFault::BadHex`]. The
+/// lines of the frames before the fault are written first, and nothing is read after it. At the first write that fails the fault is
+/// [`CliFault::Write`]: a prefix of the lines of what was scanned by then is written.
 pub fn dump<R: Source, W: Sink>(
     _alloc: Global,
     reader: &mut R,
@@ -48,8 +48,8 @@ pub fn dump<R: Source, W: Sink>(
     }
 }
 
-/// What was read of an input has at most one fault and one list of lines: unless a write fails, what `dump` writes is determined by
-/// what it reads.
+/// The bytes read of an input have at most one fault and one list of lines. So unless a write fails, what `dump` writes is
+/// determined by what it reads.
 pub fn one_dump()
     ensures { (input : List ℕ) (ending : Ending) (f g : Option CliFault) (xs ys : List ℕ)
         → IsDump input ending f xs → IsDump input ending g ys → (f ≡ g) × (xs ≡ ys) }

@@ -26,22 +26,24 @@ mod telling;
 pub(crate) mod values;
 mod words;
 
-/// How many bytes a raw input may have at most, so that each place fits in 64 bits.
+/// The greatest number of bytes that a raw input may have, so that each place fits in 64 bits.
 const RAW_LIMIT: usize = usize::MAX - 1;
 
-/// Reads what was heard on a line as hex items, and writes in words what each message says. Where a message only seems to start, it
-/// writes why none stands there, and what it seems to be, if its header was heard. It writes all this as soon as it is decided.
+/// Reads the characters heard on a HART line as hex items, and writes in words what each message says. For a place where a message
+/// only seems to start, it writes why no message stands there and, if a header was heard, what the message seems to be. It writes
+/// each part as soon as that part is decided.
 ///
-/// An item `/` says that the line fell silent: what was heard before it is explained as ended, and no message crosses it.
+/// An item `/` says that the line fell silent. What was heard before the silence is explained as ended, and no message crosses it.
 ///
 /// It reads a portion at a time. Before each read it has written all that is decided by then, so a live line is explained while it
-/// is heard. It keeps at most 268 characters, those that decide nothing yet. It takes no memory.
+/// is heard. It keeps only the characters that decide nothing yet, at most 268. It allocates nothing.
 ///
 /// # Errors
 ///
 /// The first fault of the input, in the order of its bytes: [`CliFault::Read`], [`CliFault::TooLong`] after 2^64 - 1 bytes, or
-/// [`CliFault::BadHex`]. What is said of the characters before it is written first, and nothing is read after it. At the first write
-/// that fails the fault is [`CliFault::Write`], with a prefix of what is said of the characters that were read by then written.
+/// [`CliFault::BadHex`]. The text about the characters before the fault is written first, and nothing is read after it. At the
+/// first write that fails the fault is [`CliFault::Write`]: a prefix of the text about the characters that were read by then is
+/// written.
 pub fn explain<R: Source, W: Sink>(
     _alloc: Global,
     reader: &mut R,
@@ -61,14 +63,15 @@ pub fn explain<R: Source, W: Sink>(
     }
 }
 
-/// Reads what was heard on a line as raw bytes, and explains them in the words of [`explain`].
+/// Reads the bytes heard on a HART line as raw bytes, and explains them in the words of [`explain`].
 ///
-/// It reads a portion at a time. Before each read it has written all that is decided by then. It takes no memory.
+/// It reads a portion at a time. Before each read it has written all that is decided by then. It allocates nothing.
 ///
 /// # Errors
 ///
-/// [`CliFault::Read`], or [`CliFault::TooLong`] after 2^64 - 2 bytes. What is said of the bytes before it is written first. At the
-/// first write that fails the fault is [`CliFault::Write`], with a prefix of what is said of the bytes that were read by then written.
+/// [`CliFault::Read`], or [`CliFault::TooLong`] after 2^64 - 2 bytes. The text about the bytes before the fault is written first.
+/// At the first write that fails the fault is [`CliFault::Write`]: a prefix of the text about the bytes that were read by then is
+/// written.
 pub fn explain_raw<R: Source, W: Sink>(
     _alloc: Global,
     reader: &mut R,
@@ -88,8 +91,8 @@ pub fn explain_raw<R: Source, W: Sink>(
     }
 }
 
-/// What was read of an input, of items or raw, has at most one fault and one text: unless a write fails, what `explain` writes is
-/// determined by what it reads.
+/// The bytes read of an input, of hex items or raw, have at most one fault and one text. So unless a write fails, what `explain`
+/// writes is determined by what it reads.
 pub fn one_explanation()
     ensures raw { (input : List ℕ) (ending : Ending) (f g : Option CliFault) (xs ys : List ℕ)
         → IsRawExplanation input ending f xs → IsRawExplanation input ending g ys → (f ≡ g) × (xs ≡ ys) }

@@ -37,11 +37,11 @@ pub const NO_CALL: u8 = 2;
 
 /// Makes the call that the words after the program's name ask for, and returns the program's status.
 ///
-/// `answer`, `dump`, `explain`, `serve` and `sim` read from `reader` and write to `writer`; `encode` and `request` read their words
-/// alone. At status 0 nothing goes to `errors`; at status 1 the line of the call's fault does, or a beginning of it if `errors`
-/// failed. Status 2 says that clap found no matches for the words: reader and writer are not touched, and clap's own text goes to
-/// `errors`, even if it is help. No clause says which text that is. A failed write to `errors` ends the text there, and the status
-/// stays what it was.
+/// `answer`, `dump`, `explain`, `serve` and `sim` read from `reader` and write to `writer`; `encode` and `request` read only their
+/// words. At status 0 nothing goes to `errors`. At status 1 the line of the call's fault goes to `errors`, or a beginning of that
+/// line if `errors` failed. Status 2 says that clap found no matches for the words. Then reader and writer are not touched, and
+/// clap's own text goes to `errors`, even if the text is help. No clause says what clap's text is. A failed write to `errors` ends
+/// the text there, and does not change the status.
 pub fn program<R: Source, W: Sink, E: Sink>(
     alloc: Global,
     words: &[String],
@@ -87,7 +87,7 @@ fn make_matched_call<R: Source, W: Sink, E: Sink>(
 {
     match call_of(matches) {
         Some(call) => finish(make_call(alloc, call, reader, writer), errors),
-        // clap's contract leaves this case open. It does not come about.
+        // clap's contract leaves this case open, but it never happens.
         None => NO_CALL,
     }
 }
@@ -137,14 +137,14 @@ fn finish<E: Sink>(outcome: Result<(), CliFault>, errors: &mut E) -> u8
     match outcome {
         Ok(()) => DONE,
         Err(fault) => {
-            // If the line cannot be written, the status alone shows the fault.
+            // If the line cannot be written, only the status shows the fault.
             let _ = write_all(errors, fault.text_line().as_str().as_bytes());
             FAULT
         }
     }
 }
 
-/// Writes clap's text piece by piece, so that it takes no memory. A failed write ends it.
+/// Writes clap's text piece by piece, so that nothing is allocated. A failed write ends the text.
 fn show<E: Sink>(error: &clap::Error, errors: &mut E) {
     let _ = write!(Text { sink: errors }, "{error}");
 }

@@ -55,7 +55,8 @@ impl<'w, 'a: 'w> Model for RequestWords<'w, 'a> {
     } };
 }
 
-/// Writes a command's request as one line of hex. `words` has the values of its fields and the number of preamble bytes.
+/// Writes a command's request as one line of hex. `words` has the values of the request's fields and the number of its preamble
+/// bytes.
 ///
 /// Each field of the command is given once, in any order, as NAME=VALUE; NAME is the name that [`explain`](crate::explain) shows,
 /// with `_` for each space. The request is an STX with burst bit 0 and no expansion bytes.
@@ -63,7 +64,8 @@ impl<'w, 'a: 'w> Model for RequestWords<'w, 'a> {
 /// # Errors
 ///
 /// [`CliFault::BadWord`] with the number of the first bad word: 1 is WHO, 2 ADDRESS, 3 COMMAND; then [`CliFault::BadField`]; then
-/// [`CliFault::Write`]. At a bad word nothing is written, and at `Write` a prefix of the line, short of its end. No memory is taken.
+/// [`CliFault::Write`]. At a bad word nothing is written. At `Write` a prefix of the line is written, short of its end. Nothing is
+/// allocated.
 pub fn request<W: Sink>(
     _alloc: Global,
     words: &RequestWords<'_, '_>,

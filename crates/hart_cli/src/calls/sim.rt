@@ -20,24 +20,25 @@ use std::alloc::Global;
 
 mod text;
 
-/// How often a master retries a request at most.
+/// The retry limit of a master.
 const RETRIES: u8 = 3;
 
-/// For how many character times the primary master awaits a reply.
+/// The reply timeout of the primary master, in character times.
 const PRIMARY_REPLY_LIMIT: u8 = 33;
 
-/// For how many character times the secondary master awaits a reply.
+/// The reply timeout of the secondary master, in character times.
 const SECONDARY_REPLY_LIMIT: u8 = 41;
 
 /// Reads a script, carries it out with the bench device and two masters, and writes what was spoken, what became of each
-/// submission, and what the device holds at the end. With an image, a word of hex, the device goes on from that image.
+/// submission, and what the device holds at the end. If the caller gives an image, as a word of hex, the device goes on from that
+/// image.
 ///
 /// # Errors
 ///
-/// [`CliFault::BadHex`] and [`CliFault::Image`] of the image, at which nothing is read; then [`CliFault::Read`],
-/// [`CliFault::TooLong`], then [`CliFault::Line`] with the first bad line or, if there is none, with the first leg whose damage
-/// is undetected, then [`CliFault::Write`]. [`CliFault::Memory`] at the first growth that is refused: what is left of the script is not
-/// looked at. At a fault nothing is written, except at `Write`: there a prefix of the text is, short of its end.
+/// First [`CliFault::BadHex`] and [`CliFault::Image`] of the image, at which nothing is read. Then [`CliFault::Read`] and
+/// [`CliFault::TooLong`]. Then [`CliFault::Line`] with the first bad line or, if no line is bad, with the first leg whose damage is
+/// undetected. Then [`CliFault::Write`]. [`CliFault::Memory`] at the first allocation that is refused: what is left of the script
+/// is not looked at. At `Write` a prefix of the text is written, short of its end. At any other fault nothing is written.
 pub fn simulate<R: Source, W: Sink>(
     alloc: Global,
     image: Option<&str>,

@@ -1,4 +1,4 @@
-//! What is read of an input and not yet decoded.
+//! The bytes of an input that are read but not yet decoded.
 ghost use Rattle.std.specs.Prelude.{◌≡◌, ◌<◌, ◌≤◌, ◌-◌, Some, length};
 ghost use Rattle.hart_cli.specs.declared.fault.CliFault.TheVariants.{BadHex};
 ghost use Rattle.hart_cli.specs.declared.input.ahead.NextStep.TheVariants.{ReadOn, Stop};
@@ -17,7 +17,8 @@ pub type Open = ByteList<OPEN_LEN>;
 
 const OPEN_LEN: usize = 5;
 
-/// What is read and not yet decoded: the beginning of an item, and then what one read gives, or a space for the end.
+/// The bytes that are read but not yet decoded: the beginning of an item, and then the bytes of one read, or a space if the input
+/// ended.
 pub type Ahead = ByteList<AHEAD_LEN>;
 
 const AHEAD_LEN: usize = OPEN_LEN + PORTION_LEN;
@@ -57,7 +58,8 @@ pub fn read_ahead<R: Source>(
     portion
 }
 
-/// Returns the next step after `read` bytes of an input. Its pieces leave `rest`, and `end` says how the input ended, if it did.
+/// Returns the next step after `read` bytes of an input. `rest` is what follows the last piece in these bytes. `end` says how the
+/// input ended, if it did.
 pub fn next_step(end: Option<InputEnd>, rest: &[u8], read: usize) -> NextStep
     requires stops { NoPieceBegins rest.now }
     requires within { length rest.now ≤ ended_length end read }
@@ -70,14 +72,14 @@ pub fn next_step(end: Option<InputEnd>, rest: &[u8], read: usize) -> NextStep
         Some(InputEnd::Ended) if rest.is_empty() => NextStep::Stop(None),
         // The last byte of the rest is the space that the end stands for.
         Some(InputEnd::Ended) => bad_hex(read - (rest.len() - 1)),
-        // Nothing was read, so a piece may still begin as it might before.
+        // Nothing was read, so a piece may still begin with the rest, as it might before.
         Some(InputEnd::ReadFailed) => NextStep::Stop(Some(CliFault::Read)),
         Some(InputEnd::TooLong) if may_begin(rest) => NextStep::Stop(Some(CliFault::TooLong)),
         Some(InputEnd::TooLong) => bad_hex(read - rest.len()),
     }
 }
 
-/// Returns the step at bad hex.
+/// Returns the step that stops at bad hex.
 fn bad_hex(place: usize) -> NextStep
     ensures { result ≡ Stop (Some (BadHex place)) }
 {

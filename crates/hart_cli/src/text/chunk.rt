@@ -9,7 +9,7 @@ use crate::text::plain_items::{ITEMS_AT_ONCE, dense_items, spaced_items};
 use hart_line::Digits;
 use hart_values::ByteList;
 
-/// How many faultless characters are looked at together at most.
+/// The greatest number of faultless characters that are looked at together.
 pub const CHUNK_LEN: usize = 8192;
 
 /// The bytes of faultless characters.
@@ -29,7 +29,7 @@ pub fn read_chunk(digits: &Digits, text: &[u8], chunk: &mut Chunk) -> usize
     place
 }
 
-/// Reads the first piece of a text, or several items at once if they stand in a usual way. Returns how many bytes it read, or
+/// Reads the first piece of a text, or four items at once if they are spaced in a usual way. Returns how many bytes were read, or
 /// `None` if no piece without fault bits begins the text, or if the chunk has no room for more.
 fn read_some(digits: &Digits, text: &[u8], chunk: &mut Chunk) -> Option<usize>
     ensures { MatchOption result (chunk.new ≡ chunk.old) (ReadsMore text.now chunk.old chunk.new) }

@@ -15,7 +15,7 @@ use hart_frame::Char;
 use hart_line::{Digits, Filling};
 use std::alloc::Global;
 
-/// What was read of an input, and how it ended, determines the characters before its fault, and the fault itself.
+/// The bytes read of an input, and how the input ended, determine the characters before its fault, and the fault itself.
 pub fn inputs_are_unambiguous()
     ensures { (text : List ℕ) (ending : Ending) (xs ys : List Character) (f g : Option CliFault)
         → HasChars text ending xs f → HasChars text ending ys g → (xs ≡ ys) × (f ≡ g) }
@@ -25,8 +25,8 @@ pub fn inputs_are_unambiguous()
 ///
 /// # Errors
 ///
-/// [`CliFault::BadHex`] at the place of the first thing that is neither a separator nor an item; fault bits of a character are
-/// none. [`CliFault::Memory`] if room for half as many characters as it has bytes was refused.
+/// [`CliFault::BadHex`] at the place of the first thing that is neither a separator nor an item; fault bits of a character are no
+/// fault of the input. [`CliFault::Memory`] if room for half as many characters as the input has bytes was refused.
 pub fn read_chars(alloc: Global, mut text: Filling<u8>) -> Result<Vec<Char>, CliFault>
     requires spare { length text.items < text.room }
     ensures chars { IfOk result (λ chars. ReadsAs text.items chars.items) }
@@ -60,7 +60,7 @@ pub fn read_pieces(digits: &Digits, text: &[u8], chars: &mut Filling<Char>) -> u
     place
 }
 
-/// Reads the first piece of a text, or several items at once if they stand in a usual way. Returns how many bytes it read, or
+/// Reads the first piece of a text, or four items at once if they are spaced in a usual way. Returns how many bytes were read, or
 /// `None` if no piece begins the text.
 fn read_more(digits: &Digits, text: &[u8], chars: &mut Filling<Char>) -> Option<usize>
     requires room { length text.now + 2 * length chars.old.items ≤ 2 * chars.old.room + 2 }

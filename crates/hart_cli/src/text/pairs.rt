@@ -5,7 +5,7 @@ ghost use Rattle.hex.specs.Hex.{encode_upper};
 use crate::text::hex_text::digits_of;
 use std::marker::Model;
 
-/// The two digits of each byte in upper case hex. The library is asked for them only once.
+/// The two digits of each byte in upper case hex. The library is asked for these digits only once.
 #[derive(Drop)]
 pub struct Pairs {
     pairs: [[u8; 2]; 256],

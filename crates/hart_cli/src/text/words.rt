@@ -6,9 +6,9 @@ use crate::text::hex_text::push_hex;
 use crate::text::pairs::Pairs;
 use hart_values::ByteList;
 
-/// How many bytes a line has at most. The longest line is that of a frame: two places of 20 digits, the three words of kind, master
-/// and burst bit, 10 digits of an address, 6 of the expansion bytes, 3 of the command and 510 of the payload, eight spaces and a
-/// line feed.
+/// The greatest number of bytes in a line. The longest line is the line of a frame: two places of 20 digits, the three words of
+/// kind, master and burst bit, 10 digits of an address, 6 of the expansion bytes, 3 of the command and 510 of the payload, eight
+/// spaces and a line feed.
 pub const TEXT_LINE_LEN: usize = 583;
 
 /// A line by itself.

@@ -8,7 +8,7 @@ use hart_frame::{LEAST_PREAMBLES, is_preamble_count};
 use std::alloc::{AllocError, Global};
 use std::test::Fail;
 
-/// A message to send, in the words of the command line. Empty DATA and 5 preamble bytes have no word there.
+/// A message to send, in the words of the command line. There, empty DATA and 5 preamble bytes are left out.
 #[derive(Clone, Copy)]
 pub struct Words<'a> {
     pub who: &'a str,
@@ -35,11 +35,11 @@ pub enum Call<'a> {
     Explain,
     /// `explain --raw`.
     ExplainRaw,
-    /// With an image.
+    /// With the word of an image, if one is given.
     Answer(Option<&'a str>),
-    /// With an image.
+    /// With the word of an image, if one is given.
     Serve(Option<&'a str>),
-    /// With an image.
+    /// With the word of an image, if one is given.
     Simulate(Option<&'a str>),
     Encode(Words<'a>),
     Request(Named<'a>),
@@ -184,7 +184,8 @@ impl Call<'_> {
     }
 }
 
-// Each call is made in a function of its own, without a contract: in one function the proof of each would carry the contracts of all.
+// Each call is made in a function of its own, without a contract. If one function made all calls, the proof of each call would
+// carry the contracts of all.
 
 /// Makes the call of `dump`.
 fn make_dump<R: Source, W: Sink>(

@@ -8,8 +8,8 @@ use std::alloc::Global;
 use std::process::Abort;
 use std::test::Fail;
 
-/// The streams that a call is given: spaces, an input and what comes after it, the most bytes of a read and of a write, and the
-/// number of the write that fails, from 0.
+/// The streams that a call is given: spaces, an input and what comes after the input, the greatest number of bytes of a read and of
+/// a write, and the number of the write that fails, counted from 0.
 #[derive(Clone, Copy)]
 pub struct Given<'a> {
     pub spaces: usize,
@@ -44,7 +44,7 @@ impl<'a> Given<'a> {
         Trickle::new(alloc, self.fails_at, self.most_written)
     }
 
-    /// Returns how many reads take in the whole input, with the one that finds its end.
+    /// Returns the number of reads that take in the whole input, including the read that finds its end.
     fn reads(&self) -> usize {
         self.input
             .len()
@@ -85,7 +85,7 @@ pub struct Outcome {
 }
 
 impl Outcome {
-    /// Whether the outcome is the wanted one, with this number. Prints the outcome if not.
+    /// Whether the outcome is the wanted one, with this number. Prints the outcome if it is not.
     fn is(&self, rt: &impl Eprint, number: u8, wanted: &Wanted) -> bool {
         let is_wanted = self.number == number
             && is_line(self.said.taken(), wanted.fault.1)
@@ -137,7 +137,7 @@ pub fn by_name(alloc: Global, call: Call, given: &Given) -> Result<Outcome, Fail
     })
 }
 
-/// Runs `program` on words, with another writer for errors.
+/// Runs `program` on words, with `said` as the writer for errors.
 pub fn by_words(alloc: Global, words: &[String], given: &Given, mut said: Trickle) -> Outcome {
     let mut reader = given.reader();
     let mut output = given.writer(alloc);
@@ -187,8 +187,8 @@ pub type Row<'a> = (&'a str, &'a str, Fault<'a>);
 /// How many bytes a read returns at most. The numbers from 4 to 8 cut the second item of `FF FF!40` after each of its bytes.
 const PORTIONS: &[usize] = &[1, 2, 3, 4, 5, 6, 7, 8, 100, ALL];
 
-/// Whether a call does as a row says with `after` behind its input, for each size in `PORTIONS`. A call that succeeds reads once
-/// more than the input needs, and so finds its end.
+/// Whether a call does as a row says with `after` behind the row's input, for each size of a read in `PORTIONS`. A call that
+/// succeeds reads once more than the input needs, and so finds the end of the input.
 pub fn does_as(
     rt: &impl Eprint,
     alloc: Global,

@@ -66,7 +66,7 @@ const ROWS: &[Row] = &[
     ("P", "@0", "0", "0G", 5, "", (8, "bad word 4")),
 ];
 
-/// Whether the words of a row are written as a message, or refused with its fault. Nothing is read for them.
+/// Whether the words of a row are written as a message, or refused with the row's fault. The call reads nothing.
 fn is_written(rt: &impl Eprint, alloc: Global, row: Row) -> Result<bool, Fail> {
     let (who, address, command, data, preambles, text, fault) = row;
     let call = Call::Encode(Words {

@@ -1,7 +1,7 @@
-//! Makes each call that takes memory once, and prints what it answered.
+//! Makes each call once, by its name, and prints what the call returned.
 //!
-//! `tools/refused-growths.sh` runs this test again and again, and refuses another growth each time. So nothing but the calls takes
-//! memory here: inputs are constants, and texts go into an array.
+//! `tools/refused-growths.sh` runs this test again and again, and refuses another growth each time. So only the calls allocate
+//! here: inputs are constants, and texts go into an array.
 
 use super::call::{Call, Named, Words};
 use super::images::NEW;
@@ -14,7 +14,7 @@ use hart_values::MasterId;
 use std::alloc::Global;
 use std::test::Fail;
 
-/// A reply is lost, noise is a garbled request, and two words have characters.
+/// A script in which a reply is lost, noise is a garbled request, and two words have characters.
 const SCRIPT: &str = "submit P 37420A1B2C 19 012345\nsubmit S all 0\n\
     turn P ok lost\nturn P FFFF!40 ok\n\
     noise FFFF82B7420A1B2C13030123453C\nturn P ok ok\n";

@@ -52,7 +52,7 @@ const DUMPED: &[Row] = &[
 ];
 
 /// Inputs after which a read fails. An item is whole only if something follows its digits, and a failed read does not count. Bad
-/// hex before the failed read comes first.
+/// hex before the failed read is reported first.
 const BROKEN_OFF: &[Row] = &[
     ("", "", READ),
     (IDENTIFY, "", READ),
@@ -65,10 +65,10 @@ const BROKEN_OFF: &[Row] = &[
     ("FF FF 02 80 00 00 82 8", IDENTIFY_LINE, READ),
 ];
 
-/// The prefix, the repeated part, its number and the suffix of a text, and what is written for this text.
+/// The prefix of a text, a part, how often the part is repeated, the suffix, and what is written for this text.
 type Long<'a> = (&'a str, &'a str, usize, &'a str, &'a str);
 
-/// Whether `dump` writes the wanted text for a long one, whatever the size of a read.
+/// Whether `dump` writes the wanted text for a long input, whatever the size of a read.
 fn is_dumped(rt: &impl Eprint, alloc: Global, long: &Long) -> Result<bool, Fail> {
     let (prefix, part, times, suffix, text) = *long;
     let input = text_of(alloc, prefix, part, times, suffix)?;
@@ -86,7 +86,7 @@ const LONG: &[Long] = &[
     (FALSE_START, " 00", 245, "", INNER_LINE),
 ];
 
-/// Like `is_dumped`, for a text that is read at once.
+/// Like `is_dumped`, for an input that is read at once.
 fn is_dumped_at_once(rt: &impl Eprint, alloc: Global, long: &Long) -> Result<bool, Fail> {
     let (prefix, part, times, suffix, text) = *long;
     let input = text_of(alloc, prefix, part, times, suffix)?;
@@ -243,7 +243,7 @@ const NOT_ANSWERED: &[Row] = &[
     ("02!08", "", (4, "bad hex at 0")),
 ];
 
-/// Whether `answer` writes the reply to what is heard on a line of its own, or nothing if the reply is empty.
+/// Whether `answer` writes `reply` and a line feed for what is heard, or nothing if `reply` is empty.
 fn is_answered(rt: &impl Eprint, alloc: Global, heard: &str, reply: &str) -> Result<bool, Fail> {
     let end = if reply.is_empty() { "" } else { "\n" };
     let line = format!(in alloc; "{reply}{end}")?;

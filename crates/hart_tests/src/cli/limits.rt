@@ -10,7 +10,7 @@ use hart_cli::INPUT_LIMIT;
 use std::alloc::Global;
 use std::test::Fail;
 
-/// A call, a number of spaces, the items after them, and what comes after those; then the fault, and what is written.
+/// A call, a number of spaces, the items after the spaces, and what comes after the items; then the fault, and what is written.
 type Spaced<'a> = (Call<'a>, usize, &'a str, After, Fault<'a>, &'a str);
 
 /// Inputs that are as long as they may be.

@@ -34,7 +34,7 @@ const NO_CALLS: &[(&[&str], &str)] = &[
     (&["encode", "P", "@0", "0", "--preambles", "21"], "error: "),
 ];
 
-/// Runs `program` on words and the input `!`. Each write to `errors` takes a byte; the one with the number `fails_at` fails.
+/// Runs `program` on words and the input `!`. Each write to `errors` takes one byte. The write with the number `fails_at` fails.
 fn run_on(alloc: Global, words: &[&str], fails_at: Option<usize>) -> Result<Outcome, AllocError> {
     let strings = strings_of(alloc, words)?;
     let given = Given {
@@ -82,7 +82,8 @@ const REFUSALS: &[(&str, u8)] = &[
     ("frob", NO_CALL),
 ];
 
-/// Whether the status remains, and the text is written up to there, if the write to `errors` with this number fails.
+/// If the write to `errors` with this number fails: whether the status stays the same, and the text is written up to the failed
+/// write.
 fn leaves_status(
     rt: &impl Eprint,
     alloc: Global,
@@ -99,7 +100,7 @@ fn leaves_status(
     Ok(holds)
 }
 
-/// Lets each write of a refusal's text fail.
+/// Lets each write of a refusal's text fail in turn.
 fn fail_errors(rt: &(impl Abort + Eprint), alloc: Global, refusal: (&str, u8)) -> Result<(), Fail> {
     let whole = run_on(alloc, &[refusal.0], None)?;
     let text = whole.said.taken();

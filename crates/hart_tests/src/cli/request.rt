@@ -171,7 +171,7 @@ const NUMBERS: &[Row] = &[
     ),
 ];
 
-/// Whether the words of a row are written as a message, or refused with its fault. Nothing is read for them.
+/// Whether the words of a row are written as a message, or refused with the row's fault. The call reads nothing.
 fn is_written(rt: &impl Eprint, alloc: Global, row: Row) -> Result<bool, Fail> {
     let (who, address, command, fields, preambles, text, fault) = row;
     let call = Call::Request(Named {

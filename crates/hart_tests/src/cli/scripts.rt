@@ -9,8 +9,8 @@ use crate::rows::hold_ok;
 use std::alloc::{AllocError, Global};
 use std::test::Fail;
 
-/// A script, and the image of its device, which is new without one. Then the lines for what is spoken and for the outcomes of the
-/// submissions, and the state of the device at the end.
+/// A script, and the image of its device. Without an image the device is new. Then the lines for what is spoken and for the
+/// outcomes of the submissions, and the state of the device at the end.
 struct Script<'a> {
     image: Option<&'a str>,
     script: &'a str,
@@ -32,7 +32,7 @@ const NOTHING: Script = Script {
     flags: "00",
 };
 
-/// What a single write of 012345 leaves.
+/// The state that a single write of 012345 leaves.
 const WROTE: Script = Script {
     assembly: "012345",
     counter: 1,

@@ -11,7 +11,7 @@ use std::alloc::Global;
 use std::process::Abort;
 use std::test::Fail;
 
-/// A call, its input, and what the call writes for it, with the bench device.
+/// A call, its input, and what the call writes for this input, with the bench device.
 pub type Written<'a> = (Call<'a>, &'a str, &'a str);
 
 /// A row for each of five calls.
@@ -115,7 +115,7 @@ fn names_read(
     )
 }
 
-/// Lets each read of an input fail.
+/// Lets each read of an input fail in turn.
 fn fail_reads(
     rt: &(impl Abort + Eprint),
     alloc: Global,
@@ -169,7 +169,7 @@ fn names_write(
     )
 }
 
-/// Lets each write of a text fail.
+/// Lets each write of a text fail in turn.
 fn fail_writes(rt: &(impl Abort + Eprint), alloc: Global, row: &Written) {
     let (call, _, text) = *row;
     for write in 0..text.len() {
@@ -185,14 +185,14 @@ fn each_failed_write_is_named(rt: HostRuntime) {
     }
 }
 
-/// A whole message inside the bytes of an earlier start, which prove to be no frame.
+/// A whole message inside the bytes that follow an earlier start. These bytes prove to be no frame.
 const HELD_BACK: &str = "FF FF 02 80 00 08 FF FF 02 80 00 00 82 00 00 00 ";
 
 /// A single preamble byte, after which a longer body may begin, and a whole message inside that body.
 const OPEN_AFTER_ONE: &str = "FF 82 B7 42 0A 1B 2C 13 FF FF FF 02 80 00 00 82 ";
 
-/// A call, its input and what comes after that, the most bytes of a read and the write that fails; then the fault, the numbers of reads
-/// and writes, and what is written.
+/// A call, its input, what comes after the input, the greatest number of bytes of a read and the number of the write that fails;
+/// then the fault, the numbers of reads and writes, and what is written.
 type Order<'a> = (
     Call<'a>,
     &'a str,

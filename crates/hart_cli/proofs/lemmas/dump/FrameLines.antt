@@ -18,7 +18,7 @@ use Rattle.hart_cli.specs.dump.FrameLines.{IsWaiting, GivesAll, KeepsLines, Scan
 use Rattle.hart_cli.specs.text.Items.{ReadsUpTo}
 use Rattle.hart_cli.proofs.lemmas.text.Items.{ReadsUpTo-on}
 
--- a scanner that hears more moved past the same frames
+-- a scanner that moved past frames, and then hears more, moved past the same frames
 moves_hearing : (a b : Scan) (xs ys : List Character) (given : List Found) → a.finished ≡ false
     → MovesPast (hearing a xs) b given → MovesPast (hearing a (xs ++ ys)) (hearing b ys) given
 moves_hearing a b xs ys given going moves =
@@ -66,7 +66,7 @@ pub first_frames : (chars more : List Character) (scan : Scan) (given later : Li
 first_frames chars more scan given later moves are =
     scanners_move_past_the_next_frames-frames (hearing new_scan chars) scan given later [] more moves refl (λ over. absurd cc) are
 
--- once nothing is decided in what a scanner holds, the frames that it moved past are those decided
+-- once nothing is decided in what a scanner holds, the frames that it moved past are the decided ones
 pub are_decided : (chars : List Character) (scan : Scan) (given : List Found) → MovesPast (hearing new_scan chars) scan given
     → IsUndecided scan.held → AreDecided chars given
 are_decided chars scan given moves undecided =
@@ -143,7 +143,7 @@ waits_for_more old new p q going few all =
     let waits : Waits all.last new = grind (arith, all.same_finish, all.nothing) in
     grind (arith, moves_on, keeps_then old all.last new p q q all.keeps (keeps_no_frame all.last new q waits.moves))
 
--- once a scanner has ended, the lines kept since it was new are those of all frames
+-- once a scanner has ended, the lines kept since it was new are the lines of all frames
 pub all_lines : (chars : List Character) (scan new : Scan) (text rest : List ℕ) → KeepsLines (hearing new_scan chars) scan [] text
     → GivesAll (finishing scan) new [] rest → AreFrameLines chars (text ++ rest)
 all_lines chars scan new text rest keeps all =

@@ -73,7 +73,7 @@ stopped_writing r r2 w w1 w2 scan end rest read text lines scanned wrote in_time
     (are_decoded ReadsUpTo NoPieceBegins item_laws input_limit r r2 end rest read scanned.input scanned.chars scanned.decoded)
     (grind (arith, common_steps)) in_time all fails
 
--- once an input is read no further, the last step says its fault
+-- once no more of an input is read, the last step says the fault of the input
 pub scans_all : (r r2 w w1 : Stream) (frames : FrameLines) (end : Option InputEnd) (rest : List ℕ) (read : ℕ) (text : List ℕ)
     (fault : Option CliFault) (scanned : ScannedUpTo r r2 frames.scanner end rest read text) → frames.lines ≡ []
     → WritesAll w w1 text → WroteInTime (IsDecidedText item_decoding AreDecidedLines) scanned.input w w1

@@ -19,7 +19,7 @@ moved_back : (n : ℕ) (s : Seen) → back n (moved_seen n s) ≡ s
 moved_back n (Message found) = grind (arith, common_steps)
 moved_back n (Missed place miss header) = grind (arith, common_steps)
 
--- if moved sightings begin with `s`, the sightings begin with `s` moved back
+-- if sightings that were moved begin with `s`, the sightings before the move begin with `s` moved back
 pub first_moved : (n : ℕ) (all : List Seen) (s : Seen) (later : List Seen) → map (moved_seen n) all ≡ s ∷ later
     → (rest : List Seen) × (all ≡ back n s ∷ rest)
 first_moved n [] s later is = absurd cc

@@ -29,14 +29,14 @@ use Rattle.hart_cli.specs.explain.Gaps.{IsGap, seen_place}
 use Rattle.hart_cli.specs.explain.Misses.{miss_words}
 use Rattle.hart_cli.specs.explain.Words.{hex_value}
 
--- a place with its miss, changed by a function, and with its header, if the place has a miss
+-- if a place has a miss, the sighting of this place with its miss, changed by `told`, and with its header
 abbrev pub told_at : (Miss → Miss) → (ℕ → Option Miss) → (ℕ → Option HeaderParts) → ℕ → List Seen
 told_at told f h place = option_map_or (λ miss. Missed place (told miss) (h place) ∷ []) (f place) []
 
 abbrev pub told_from : (Miss → Miss) → (ℕ → Option Miss) → (ℕ → Option HeaderParts) → ℕ → ℕ → List Seen
 told_from told f h a n = flat_map (λ place. told_at told f h place) (range_with_len a n)
 
--- what is told of a place is of that place, with its miss and its header
+-- a miss told of a place stands at that place, and has its miss and its header
 at_is : (told : Miss → Miss) (found : Option Miss) (own header : Option HeaderParts) (a place : ℕ) (miss : Miss)
     → Contains (option_map_or (λ m. Missed a (told m) own ∷ []) found []) (Missed place miss header)
     → (place ≡ a) × (option_map told found ≡ Some miss) × (header ≡ own)
@@ -144,7 +144,7 @@ own_miss : (told : Miss → Miss) (found : Option Miss) (miss : Miss) → option
 own_miss told None miss is = absurd cc
 own_miss told (Some own) miss is = (own, refl, grind arith)
 
--- the miss that is seen at a place is that of the place
+-- the miss that is seen at a place is the miss of the place
 pub seen_is_miss : (chars : List Character) (place : ℕ) (miss : Miss) → seen_miss chars place ≡ Some miss → miss_of chars place ≡ Some miss
 seen_is_miss chars place miss is = grind arith
 
@@ -157,18 +157,18 @@ missed_are chars from stop place miss header has =
     header has in
     let own = own_miss (miss_in_whole from) (seen_miss (drop from chars) (place - from)) miss is.2 in (is.0, own.0, own.1, own.2)
 
--- the header that is told with a miss is the one that is heard at its place
+-- the header that is told with a miss is the header that is heard at the place of the miss
 pub missed_header : (chars : List Character) (from stop place : ℕ) (miss : Miss) (header : Option HeaderParts)
     → Contains (missed chars from stop) (Missed place miss header) → header_at chars place ≡ header
 missed_header chars from stop place miss header has =
     let is = told_is (miss_in_whole from) (λ at. seen_miss (drop from chars) (at - from)) (header_at chars) from (stop - from) place miss
     header has in sym is.3
 
--- the miss of one preamble byte alone is the same in the whole list
+-- the miss `OnePreamble` is the same in the whole list
 pub whole_one : (from : ℕ) (own miss : Miss) → miss ≡ miss_in_whole from own → own ≡ OnePreamble → miss ≡ OnePreamble
 whole_one from own miss told one = rw (told, one) refl
 
--- where a body may start, the miss that is seen is that of the place
+-- where a body may start, the miss that is seen is the miss of the place
 pub start_is_seen : (chars : List Character) (place : ℕ) → IsStart place chars → seen_miss chars place ≡ miss_of chars place
 start_is_seen chars place start =
     let is : is_start chars place ≡ true = (start_test chars place).1 start in

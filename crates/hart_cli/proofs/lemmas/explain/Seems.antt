@@ -1,4 +1,4 @@
--- The header that is heard at a place is that of every frame that stands there in characters with the same beginning.
+-- The header that is heard at a place is the header of every frame that stands there in characters with the same beginning.
 use Rattle.std.proofs.Common.{◌≡◌, ◌+◌, ◌<◌, ◌∙◌, ℕ, zero, suc, List, [], ◌∷◌, ◌++◌, None, Option, Some, arith, drop, length}
 use Rattle.std.proofs.Common.{append_assoc, length-append, refl, sym, take, ◌==◌}
 use Rattle.std.proofs.lemmas.Bool.Decides.{nat_tests}
@@ -64,12 +64,12 @@ begins chars found stands =
       }),
     )
 
--- a header that is there is one
+-- if a header was found, `found` holds it
 some_is : (found : Option HeaderParts) → IsSome found → (header : HeaderParts) × (found ≡ Some header)
 some_is None has = absurd (grind arith)
 some_is (Some header) has = (header, refl)
 
--- the bytes up to the command have the header
+-- the bytes up to the command have the same header as all the bytes
 header_front : (bytes : List ℕ) (header : HeaderParts) → header_in bytes ≡ Some header
     → header_in (take (command_place bytes + 1) bytes) ≡ Some header
 header_front bytes header is =
@@ -83,14 +83,14 @@ header_front bytes header is =
     let whole = headers_are_those_of_frames-stays front (drop k bytes) own has in
     has ∙ (sym (rw (take-append-drop k bytes) at whole) ∙ is)
 
--- the same characters from a place on have the same bytes
+-- if two lists have the same first `place + k` characters, their first `k` bytes from the place on are the same
 same_front : (chars others : List Character) (place k : ℕ) → take (place + k) others ≡ take (place + k) chars
     → take k (bytes_from others place) ≡ take k (bytes_from chars place)
 same_front chars others place k same =
     let front : take k (drop place others) ≡ take k (drop place chars) = rw (← drop-take place k others, ← drop-take place k chars, same) refl in
     rw (first_bytes (drop place others) k, first_bytes (drop place chars) k, front) refl
 
--- bytes that begin like others up to the command have the header of these
+-- bytes that are equal to others up to the command have the same header
 same_header : (bytes others : List ℕ) (header : HeaderParts) → header_in bytes ≡ Some header
     → take (command_place bytes + 1) others ≡ take (command_place bytes + 1) bytes → header_in others ≡ Some header
 same_header bytes others header is same =

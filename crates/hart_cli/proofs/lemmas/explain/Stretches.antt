@@ -42,14 +42,14 @@ all_long a b _ _ _ (chars now _ xs more w u v k one) =
 all_long a b _ _ _ (silence now _ xs w u v k one none) =
     omega (arith, all_long a now xs w u k, hears_long now b [] true u v one, count_on xs (Silence ∷ []))
 
--- what is kept was written
+-- the same was heard once the kept text is written
 pub all_written : (a b c : Telling) (xs : List Heard) (w w1 w2 : Stream) → HearsAll a b xs w w1 → WritesAll w1 w2 b.kept
     → c.first ≡ b.first → c.held ≡ b.held → c.kept ≡ [] → HearsAll a c xs w w2
 all_written a b c xs w w1 w2 h wrote first held quiet =
     let one = hears_written b b c [] false w1 w1 w2 (hears_nothing b w1) wrote first held quiet in
     rw append-nil at (chars b c xs [] w w1 w2 h one)
 
--- some text was written meanwhile
+-- while these things were heard, some text was written
 pub all_wrote : (a b : Telling) (xs : List Heard) (w w1 : Stream) → HearsAll a b xs w w1 → (written : List ℕ) × WritesAll w w1 written
 all_wrote a _ _ _ _ (nothing v) = ([], (Appends-nil _, refl))
 all_wrote a b _ _ _ (chars now _ xs more w u v k one) =
@@ -181,7 +181,7 @@ stretch_written start a b text place w w1 w2 h wrote first held quiet = record {
   hears = all_written start a b h.heard w w1 w2 h.hears wrote first held quiet;
 }
 
--- what was let go, what is held and the rest of a text are no more than at its start
+-- the characters let go, the held ones and the rest of a text are together no more than they were at the start of the text
 pub stretch_fits : (start a : Telling) (text : List ℕ) (place : ℕ) (w w1 : Stream) → HearsStretches start a text place w w1
     → a.first + length a.held + length (drop place text) ≤ start.first + length start.held + length text
 stretch_fits start a text place w w1 h =

@@ -1,4 +1,4 @@
--- An input that is read and told of, step by step.
+-- An input that is read and told, step by step.
 use Rattle.std.proofs.Common.{◌≡◌, ◌≤◌, ◌+◌, ◌-◌, ◌*◌, ◌^◌, ℕ, Bool, false, true, List, [], ◌++◌, length, drop, Option, None}
 use Rattle.std.proofs.Common.{refl, arith}
 use Rattle.std.proofs.Common.{◌∷◌, append-nil, inl, inr, length-append, length-drop}
@@ -54,13 +54,13 @@ fails_part start a text place chars rest w w1 w2 h reads k = record {
   fails = fails_later start a h.chars chars false w w1 w2 h.hears k;
 }
 
--- what was let go, what is held and the rest of a text are no more than at its start
+-- the characters let go, the held ones and the rest of a text are together no more than they were at the start of the text
 pub part_fits : (start a : Telling) (text : List ℕ) (place : ℕ) (w w1 : Stream) → HearsText start a text place w w1
     → a.first + length a.held + length (drop place text) ≤ start.first + length start.held + length text
 part_fits start a text place w w1 h =
     omega (arith, hears_long start a h.chars false w w1 h.hears, ReadsUpTo-few text h.chars (drop place text) h.reads)
 
--- an input was read and told of up to a rest where nothing begins yet
+-- an input was read and told up to a rest where nothing begins yet
 pub record ToldUpTo (old new : Stream) (start telling : Telling) (end : Option InputEnd) (rest : List ℕ) (read : ℕ)
     (writer writer_after : Stream) : Type 0 where
   pub input : List ℕ
@@ -88,7 +88,7 @@ told_nothing r w start new waiting = record {
   quiet = new.quiet;
 }
 
--- an input with the space that its end stands for has at most one byte more than the limit
+-- an input, with a space added for its end, has at most one byte more than the limit
 input_within : (input : List ℕ) (ending : Ending) (r r2 : Stream) → ReadsToWithin stream_limit r r2 input ending
     → length (ended_text input ending) ≤ stream_limit + 1
 input_within input Left r r2 (inl reads) = omega (arith, reads.1)
@@ -174,7 +174,7 @@ stopped_telling r r1 r2 w w1 w2 start old ahead after read portion new due may o
     stops_explaining heard_decoding stream_limit r r2 w w1 w2 start all.now (due.input ++ one.bytes) _ all.passed all.chars all.ended
     all.between last new part.0 (rw all.heard_is at part.1) in_time all.hears all.fails last_fails
 
--- once an input is read no further, the last step says its fault
+-- once no more of an input is read, the last step says the fault of the input
 pub tells_all : (r r2 w w1 w2 : Stream) (start telling : Telling) (end : Option InputEnd) (rest : List ℕ) (read : ℕ)
     (fault : Option CliFault) → IsNew start → (told : ToldUpTo r r2 start telling end rest read w w2)
     → WroteInTime (IsDecidedText heard_decoding IsDecidedExplanation) told.input w w1 → (text : List ℕ) → WritesAll w1 w2 text

@@ -1,4 +1,4 @@
--- A raw input that is read and told of, step by step.
+-- A raw input that is read and told, step by step.
 use Rattle.std.proofs.Common.{◌≡◌, ◌≤◌, ◌<◌, ◌+◌, ◌-◌, ◌^◌, ℕ, false, List, [], ◌++◌, length, Option, None, Some, MatchOption}
 use Rattle.std.proofs.Common.{◌∙◌, ap, refl, sym, arith, append-nil, length-append}
 use Rattle.std.proofs.KnownBytes.{Consumes-nil}
@@ -22,7 +22,7 @@ use Rattle.hart_cli.proofs.lemmas.explain.Telling.{long_is}
 use Rattle.hart_cli.proofs.lemmas.input.Decoded.{read_more, read_to, some_long}
 use Rattle.hart_cli.proofs.lemmas.input.Raw.{faultless_on}
 
--- a raw input was read and told of
+-- a raw input was read and told
 pub record RawUpTo (old new : Stream) (start telling : Telling) (end : Option InputEnd) (read : ℕ) (writer writer_after : Stream)
     : Type 0 where
   pub input : List ℕ
@@ -127,7 +127,7 @@ raw_soon Ended input = tt
 raw_soon ReadFailed input = tt
 raw_soon TooLong input = tt
 
--- a raw input was told of up to its end
+-- a raw input was told up to its end
 pub raw_tells_all : (r r2 w w1 w2 : Stream) (start telling : Telling) (last : Option InputEnd) (end : InputEnd) (read : ℕ)
     → IsNew start → last ≡ Some end → (told : RawUpTo r r2 start telling last read w w2)
     → WroteInTime (IsDecidedText raw_decoding IsDecidedExplanation) told.input w w1 → (text : List ℕ) → WritesAll w1 w2 text
@@ -155,7 +155,7 @@ raw_tells_all r r2 w w1 w2 start telling last end read new is told in_time text 
   in_time = in_time_on (IsDecidedText raw_decoding IsDecidedExplanation) told.input w w1 w2 text in_time wrote.0;
 }
 
--- a read that came to no end gave at least one byte, within the limit
+-- a read that did not end the input gave at least one byte, within the limit
 pub raw_more : (r1 r2 : Stream) (bytes : List ℕ) (read : ℕ) (end : Option InputEnd) → ReadsPortion r1 r2 bytes (raw_limit - read) end
     → end ≡ None → (0 < length bytes) × (length bytes ≤ raw_limit - read)
 raw_more r1 r2 bytes read end reads on = let now = rw on at reads in (some_long bytes now.1, now.2)

@@ -48,7 +48,7 @@ hears_long a b xs ended w w1 h =
     let all = length-append (faultless a.held) xs in
     omega (arith, h.within, h.first, held, long_is a.held, long_is b.held, length-drop h.used (faultless a.held ++ xs), all)
 
--- the characters now held are those held before and those of the new bytes
+-- the characters now held are those held before and the characters of the new bytes
 same_held : (old mid : Telling) (bytes : List ℕ) → mid.held ≡ old.held ++ bytes
     → faultless mid.held ++ [] ≡ faultless old.held ++ faultless bytes
 same_held old mid bytes held = rw (held, append-nil, map-append) refl
@@ -76,7 +76,7 @@ fails_more old mid bytes ended w w1 held first kept k = record {
   fails = rw (first, kept) at k.fails;
 }
 
--- what is kept was written
+-- the same was heard once the kept text is written
 pub hears_written : (old mid new : Telling) (xs : List Character) (ended : Bool) (w w1 w2 : Stream) → Hears old mid xs ended w w1
     → WritesAll w1 w2 mid.kept → new.first ≡ mid.first → new.held ≡ mid.held → new.kept ≡ [] → Hears old new xs ended w w2
 hears_written old mid new xs ended w w1 w2 h wrote first held quiet = record {
@@ -133,7 +133,7 @@ held_on : (a b : Telling) (xs ys : List Character) (w w1 : Stream) → (h : Hear
 held_on a b xs ys w w1 h =
     ap (λ chars. chars ++ ys) h.held ∙ sym (drop-append-le h.used (faultless a.held ++ xs) ys h.within)
 
--- the sightings of characters and then of more are sightings of both
+-- the sightings of characters, followed by the sightings of more characters, are sightings of both
 sees_on : (a b : Telling) (xs ys : List Character) (ended : Bool) (given : List Seen) (used : ℕ) (w w1 : Stream)
     → (h : Hears a b xs false w w1) → SeesOn (faultless b.held ++ ys) ended 0 given used
     → SeesOn (faultless a.held ++ (xs ++ ys)) ended 0 (h.seen ++ map (moved_seen h.used) given) (h.used + used)
@@ -200,7 +200,7 @@ stays_held held (Damaged character) used all =
     ) refl
 stays_held held End used all = rw (append-nil (faultless held)) (rest_is held used)
 
--- nothing is decided of the bytes that stay
+-- no sighting is decided in the bytes that stay
 waits_held : (held : List ℕ) (after : After) (used : ℕ) → ((after ≡ More → ⊥) → used ≡ length (heard_with held after))
     → (after ≡ More → IsUndecidedSighting (faultless (drop used held))) → IsUndecidedSighting (faultless (drop used held))
 waits_held held More used all undecided = undecided refl

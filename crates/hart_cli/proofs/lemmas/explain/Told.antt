@@ -69,7 +69,7 @@ some_seen first (chars ∷ later) =
     let (rest, more) = some_seen (first + length chars) later in
     (map (moved_seen first) own ++ rest, (own, are, rest, more, refl))
 
--- the sightings of stretches and then of later ones are those of both in one list
+-- the sightings of stretches, followed by the sightings of later stretches, are the sightings of both in one list
 pub seen_on : (first : ℕ) (xs ys : List (List Character)) (seen later : List Seen) → AreSightingsFrom first xs seen
     → AreSightingsFrom (first + total xs) ys later → AreSightingsFrom first (xs ++ ys) (seen ++ later)
 seen_on first [] ys seen later h k = let same : first + 0 ≡ first = omega arith in rw h (rw same at k)

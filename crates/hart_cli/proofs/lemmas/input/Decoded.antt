@@ -44,14 +44,14 @@ pub record DecodedUpTo {Heard : Type 0} (Reads : List ℕ → List Heard → Lis
   pub few : length rest ≤ most_ahead
   pub still_open : end ≡ Some ReadFailed → MayBegin rest
 
--- the length of an input with the space that its end stands for
+-- the length of an input with the space that is added for its end
 ended_long : (input : List ℕ) (end : Option InputEnd) → length (ended_text input (ending_of end)) ≡ ended_length end (length input)
 ended_long input None = refl
 ended_long input (Some Ended) = length-append input _
 ended_long input (Some ReadFailed) = refl
 ended_long input (Some TooLong) = refl
 
--- the space that the end of an input stands for comes after its last bytes
+-- the space that is added for the end of an input comes after the input's last bytes
 ended_on : (input bytes : List ℕ) (end : Option InputEnd)
     → ended_text (input ++ bytes) (ending_of end) ≡ input ++ ended_text bytes (ending_of end)
 ended_on input bytes end = grind (arith, common_steps, append_assoc)
@@ -63,7 +63,7 @@ read_on (Some Ended) rest place step = absurd step
 read_on (Some ReadFailed) rest place step = absurd step
 read_on (Some TooLong) rest place step = absurd step
 
--- a read that came to no end gave at least one byte, and no more than there is room for
+-- a read that did not end the input gave at least one byte, and no more than there is room for
 pub some_long : (bytes : List ℕ) → bytes ≢ [] → 0 < length bytes
 some_long [] some = absurd (some refl)
 some_long (byte ∷ bytes) some = omega arith
@@ -92,7 +92,7 @@ stops_in decoding limit IsText IsDecided r r2 w w1 w2 input ending heard text la
 }
 
 module _ {Heard : Type 0} (Reads : List ℕ → List Heard → List ℕ → Type 0) (Stops : List ℕ → Type 0) (laws : Laws Reads Stops) where
-  -- the rest is no longer than what was read
+  -- the rest is at most as long as what was read
   pub rest_within : (limit : ℕ) (old new : Stream) (end : Option InputEnd) (rest : List ℕ) (read : ℕ) (input : List ℕ)
       (chars : List Heard) → DecodedUpTo Reads Stops limit old new end rest read input chars → length rest ≤ ended_length end read
   rest_within limit old new end rest read input chars h =
@@ -236,7 +236,7 @@ module _ {Heard : Type 0} (Reads : List ℕ → List Heard → List ℕ → Type
       let same : ended_length end read ≡ length (ended_text input (ending_of end)) = rw h.count (sym (ended_long input end)) in
       decodes_at limit r r2 end rest (ended_length end read - length rest) read input chars fault h (omega (arith, same, within)) step
 
--- each fault that an input can have is an outcome once its text was written
+-- once the text of an input was written, each fault that the input can have is an outcome
 fault_ends : {Heard : Type 0} (Reads : List ℕ → List Heard → List ℕ → Type 0) (Stops : List ℕ → Type 0) (limit : ℕ)
     (IsText IsDecided : TextRelation (List Heard)) (r r' w w' : Stream) (input : List ℕ) (ending : Ending)
     (heard : List Heard) (fault : CliFault) → HasHeardBy Reads Stops input ending heard (Some fault)

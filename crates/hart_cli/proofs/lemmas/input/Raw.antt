@@ -1,4 +1,4 @@
--- A raw input is its bytes.
+-- The characters of a raw input are its bytes.
 use Rattle.std.proofs.Common.{◌≡◌, ◌++◌, ℕ, List, Err, Option, Some, refl, sym, ◌∙◌}
 use Rattle.std.proofs.lemmas.List.{map-append}
 use Rattle.hart_frame.specs.heard.Character.{faultless}
@@ -27,7 +27,7 @@ raw_chars input _ _ _ (HasRaw.all chars is) = is
 raw_chars input _ _ _ (HasRaw.failure chars is) = is
 raw_chars input _ _ _ (HasRaw.limit chars is) = is
 
--- each fault that a raw input can have is an outcome once its text was written
+-- once the text of a raw input was written, each fault that the input can have is an outcome
 raw_fault_ends : (limit : ℕ) (IsText IsDecided : TextRelation (List Heard)) (r r' w w' : Stream) (input : List ℕ) (ending : Ending)
     (heard : List Heard) (fault : CliFault) → HasRaw input ending heard (Some fault)
     → (text : List ℕ) × ReadsText raw_decoding limit IsText r r' (Some fault) text × WritesAll w w' text

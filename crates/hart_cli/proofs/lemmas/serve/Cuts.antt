@@ -29,7 +29,7 @@ cut_lines text parts rest cut =
     ap lines_of cut.all ∙ (ap (map strip_carriage_return) (parts_split parts rest cut.whole cut.open_end)
     ∙ map-append strip_carriage_return parts (rest ∷ []))
 
--- a cut text has its parts as lines, and its rest if the ending makes that a line
+-- a cut text has its parts as lines, and its rest too if the ending makes the rest a line
 pub cut_has_lines : (text : List ℕ) (ending : Ending) (parts : List (List ℕ)) (rest : List ℕ) → IsCut text parts rest
     → HasLines text ending (map strip_carriage_return parts ++ last_lines ending (strip_carriage_return rest))
 cut_has_lines text ending parts rest cut = record {
@@ -52,7 +52,7 @@ cut_rest rest free = record { all = refl; whole = tt; open_end = free }
 pub cut_part : (part : List ℕ) → HasNoFeed part → IsCut (part ++ 10 ∷ []) (part ∷ []) []
 cut_part part free = record { all = grind (arith, common_steps); whole = (free, tt); open_end = All-nil _ }
 
--- a text with more after it is cut into its parts and those of its rest with more after it
+-- a text followed by more bytes is cut into the parts of the text, and the parts of its rest followed by these bytes
 pub cut_on : (text more : List ℕ) (parts : List (List ℕ)) (rest : List ℕ) (later : List (List ℕ)) (last : List ℕ)
     → IsCut text parts rest → IsCut (rest ++ more) later last → IsCut (text ++ more) (parts ++ later) last
 cut_on text more parts rest later last h k =

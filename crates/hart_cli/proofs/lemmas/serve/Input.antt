@@ -71,7 +71,7 @@ served_on device now next room r r1 r2 w w1 w2 bytes h more was quiet k =
       wrote = WritesAll-on w w1 w2 h.said k.said h.wrote (rw same at k.adds.wrote);
     }
 
--- what is said to the whole lines before the last bytes of an input was written in time
+-- all that is said to the whole lines of an input without its last bytes was written in time
 said_in_time : (device after : DeviceState) (input bytes : List ℕ) (parts : List (List ℕ)) (rest said : List ℕ) (w w1 w2 : Stream)
     → IsCut input parts rest → ServesParts device parts after said → WritesAll w w1 said → length bytes ≤ most_at_once
     → (more : List ℕ) → Appends w1.bytes w2.bytes more → WroteInTime (IsServedSoFar device) (input ++ bytes) w w2

@@ -10,7 +10,7 @@ use Rattle.hart_cli.specs.serve.Serve.{HasLines, Serves, first, last_lines, noth
 use Rattle.hart_cli.specs.serve.Server.{most_kept}
 use Rattle.hart_cli.proofs.lemmas.serve.Lines.{kept_whole, no_more, one_line, serves_kept}
 
--- a device serves lines and then others
+-- a device that serves a list of lines, and then another list, serves both lists joined
 pub Serves-on : (a b c : DeviceState) (xs ys : List (List ℕ)) (s t : List ℕ) → Serves a xs b s → Serves b ys c t
     → Serves a (xs ++ ys) c (s ++ t)
 Serves-on _ b c _ ys _ t (nothing _) k = k

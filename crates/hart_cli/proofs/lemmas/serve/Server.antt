@@ -20,7 +20,7 @@ use Rattle.hart_cli.proofs.lemmas.serve.Cuts.{cut_on, cut_part, cut_rest, every_
 use Rattle.hart_cli.proofs.lemmas.serve.Lines.{serves_kept}
 use Rattle.hart_cli.proofs.lemmas.serve.Served.{Serves-on}
 
--- cutting the first of two joined texts to `most` bytes leaves the first `most` bytes of both
+-- cutting the first of two joined texts to `most` bytes does not change the first `most` bytes of the whole
 take_more : (most : ℕ) (xs ys : List ℕ) → take most (take most xs ++ ys) ≡ take most (xs ++ ys)
 take_more most xs ys = grind (arith, common_steps, take-append-le)
 
@@ -89,7 +89,7 @@ fails_next old now text more w w1 w2 h fails =
       fails = rw append-nil at (fails_then w w1 w2 old.kept now.kept h.said [] h.adds fails);
     }
 
--- the rest was read, which has no line feed
+-- the rest, which has no line feed, was read
 pub serves_last : (old now kept : Server) (text piece : List ℕ) (w w1 : Stream) → ServesWhole old now text w w1 → HasNoFeed piece
     → kept.device ≡ now.device → kept.kept ≡ now.kept → kept.part.items ≡ take most_kept (now.part.items ++ piece)
     → kept.part.room ≡ now.part.room → kept.chars.room ≡ now.chars.room → ServesWhole old kept (text ++ piece) w w1
@@ -165,7 +165,7 @@ front_next {kept} {next} serves old now part more rest piece after w w1 w2 h beg
   whole = rw append_assoc at (serves_next old now kept next (part ++ h.done) piece w w1 w2 h.whole begins.free device bytes adds serves);
 }
 
--- the rest of a text was read, which has no line feed
+-- the rest of a text, which has no line feed, was read
 pub front_all : (old now kept : Server) (part more rest : List ℕ) (w w1 : Stream) → ServesFront old now part more rest w w1 → HasNoFeed rest
     → kept.device ≡ now.device → kept.kept ≡ now.kept → kept.part.items ≡ take most_kept (now.part.items ++ rest)
     → kept.part.room ≡ now.part.room → kept.chars.room ≡ now.chars.room → ServesWhole old kept (part ++ more) w w1

@@ -110,7 +110,7 @@ heard_still _ _ _ (items text chars rest r) long = item_laws.still text chars re
 heard_still _ _ _ (silence text chars next heard last r h) long =
     absurd (omega (arith, long, ReadsUpTo-few text chars (47 ∷ next) r, heard_few next heard last h))
 
--- nothing begins at the end
+-- nothing begins at the end of a text
 heard_none : NothingBegins []
 heard_none = record { no_piece = NoPieceBegins-nil; no_silence = λ begins. let is = begins.1 in absurd cc }
 

@@ -56,7 +56,7 @@ one_reading text xs rest ys last h k n m = grind (arith, append-nil, goes_on, st
 pub spelling-length : (p : Piece) → 0 < length (spelling p)
 spelling-length p = grind (arith, common_steps)
 
--- no piece begins at the end
+-- no piece begins at the end of a text
 pub NoPieceBegins-nil : NoPieceBegins []
 NoPieceBegins-nil p tail h = grind (arith, common_steps)
 

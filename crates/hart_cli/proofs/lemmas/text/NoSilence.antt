@@ -1,4 +1,4 @@
--- A text without a silence is one of items alone.
+-- A text without a silence is a text of items only.
 use Rattle.std.proofs.Common.{◌≡◌, ◌≢◌, ◌+◌, ◌∙◌, ℕ, List, [], ◌∷◌, ◌++◌, length, Option, refl, ap, sym, arith, append_assoc, length-append}
 use Rattle.hart_frame.specs.heard.Character.{Character}
 use Rattle.hart_cli.specs.declared.fault.CliFault.{CliFault}
@@ -24,7 +24,7 @@ reads_plain _ _ _ (items text chars rest r) none = (chars, refl, r)
 reads_plain _ _ _ (silence text chars rest heard last r h) none =
     let (before, is) = rest_of text chars (47 ∷ rest) r in absurd (none before rest is)
 
--- a byte that is not in a text is not in it with a different byte after it
+-- a byte that is not in a text is not in the text followed by a different byte
 not_after : (last byte : ℕ) → last ≢ byte → (text before rest : List ℕ) → ((p r : List ℕ) → text ≡ p ++ byte ∷ r → ⊥)
     → text ++ last ∷ [] ≡ before ++ byte ∷ rest → ⊥
 not_after last byte differ [] [] rest none is = let same : last ≡ byte = cc in differ same
@@ -37,7 +37,7 @@ not_after last byte differ (x ∷ text) (b ∷ before) rest none is =
     let later : text ++ last ∷ [] ≡ before ++ byte ∷ rest = cc in
     not_after last byte differ text before rest (λ p r e. none (x ∷ p) r (ap (λ ys. x ∷ ys) e)) later
 
--- a text without a silence has none with a space after it
+-- a text without a silence, followed by a space, has no silence either
 no_silence_closed : (text : List ℕ) → HasNoSilence text → HasNoSilence (closed text)
 no_silence_closed text none before rest is = not_after 32 47 (λ same. omega (arith, same)) text before rest none is
 

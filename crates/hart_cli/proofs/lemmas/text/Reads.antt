@@ -9,8 +9,8 @@ use Rattle.hart_cli.specs.input.Input.{CameTo, Ending, Left}
 use Rattle.hart_cli.specs.text.InputChars.{HasHeardBy, all, bad_hex, decided_bad_hex, failure, limit}
 use Rattle.hart_cli.specs.text.Items.{HasBadHexBy, MayBegin, NoPieceBegins, ReadsSoFarBy, Separator, closed}
 
--- the laws of a way to read texts: more text does not change what was read; a reading goes on from its rest, and in one way;
--- it stops only where no piece begins, and reads nothing there
+-- the laws of a way to read texts: more text does not change what was read; a reading goes on from its rest, and in one way; a
+-- reading stops only where no piece begins, and reads nothing there
 pub record Laws {Heard : Type 0} (Reads : List ℕ → List Heard → List ℕ → Type 0) (Stops : List ℕ → Type 0) : Type 0 where
   pub more : (text : List ℕ) (heard : List Heard) (rest more : List ℕ) → Reads text heard rest → Reads (text ++ more) heard (rest ++ more)
   pub on : (text : List ℕ) (xs : List Heard) (rest : List ℕ) (ys : List Heard) (last : List ℕ) → Reads text xs rest → Reads rest ys last
@@ -24,7 +24,7 @@ pub record Laws {Heard : Type 0} (Reads : List ℕ → List Heard → List ℕ �
   pub pieces : (text : List ℕ) → Stops text → NoPieceBegins text
   pub decided : (rest more : List ℕ) → Stops rest → (MayBegin rest → ⊥) → Stops (rest ++ more)
 
--- a piece may begin at the end
+-- a piece may begin at the end of a text
 pub may_begin-nil : MayBegin []
 may_begin-nil = record { more = 32 ∷ []; piece = Separator 32; tail = []; begins = grind (arith, common_steps) }
 
@@ -91,7 +91,7 @@ module _ {Heard : Type 0} (Reads : List ℕ → List Heard → List ℕ → Type
   one_hearing text _ _ _ _ _ (limit xs h) (limit ys k) =
       ((one_way text xs h.rest ys k.rest h.reads k.reads h.no_piece k.no_piece).0, refl)
 
-  -- an input that came to an end is heard as if it had been left
+  -- if an input that came to an end is also heard as one that was left, what is heard and the fault are the same
   one_heard : (text : List ℕ) (end : InputEnd) (xs ys : List Heard) (f g : Option CliFault)
       → HasHeardBy Reads Stops text (CameTo end) xs f → HasHeardBy Reads Stops text Left ys g → (xs ≡ ys) × (f ≡ g)
   one_heard text _ _ _ _ _ (all xs h) (decided_bad_hex ys q k) = absurd (not_read (closed text) xs ys q h (k (32 ∷ [])))
@@ -100,7 +100,7 @@ module _ {Heard : Type 0} (Reads : List ℕ → List Heard → List ℕ → Type
   one_heard text _ _ _ _ _ (failure xs h) (decided_bad_hex ys q k) = absurd (not_decided text xs ys q h k)
   one_heard text _ _ _ _ _ (limit xs h) (decided_bad_hex ys q k) = absurd (not_decided text xs ys q h k)
 
-  -- each input is heard as if it had been left
+  -- if any input is also heard as one that was left, what is heard and the fault are the same
   pub one_left : (text : List ℕ) (ending : Ending) (xs ys : List Heard) (f g : Option CliFault)
       → HasHeardBy Reads Stops text ending xs f → HasHeardBy Reads Stops text Left ys g → (xs ≡ ys) × (f ≡ g)
   one_left text Left xs ys f g h k = one_hearing text Left xs ys f g h k

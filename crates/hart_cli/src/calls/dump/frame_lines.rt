@@ -1,4 +1,4 @@
-//! The frames of what is heard, found while it is read, and their lines, kept until they are written.
+//! Finds the frames in what is heard while an input is read, and keeps the lines of these frames until they are written.
 ghost use Rattle.std.specs.Prelude.{◌≡◌, ◌+◌, ◌-◌, ◌<◌, ◌≤◌, ◌^◌, [], length};
 ghost use Rattle.std.specs.Option.{option_to_list};
 ghost use Rattle.hart_frame.specs.heard.Character.{faultless};
@@ -15,8 +15,8 @@ use hart_frame::{Char, Scanner};
 use hart_line::Digits;
 use hart_values::ByteList;
 
-/// How many bytes of lines are kept at most: 12 for each character that a frame takes up. The scanner holds at most 269 characters,
-/// and what is read ahead has at most one for every two of its 16,389 bytes.
+/// The greatest number of bytes of lines that are kept: 12 for each character that a frame takes up. The scanner holds at most 269
+/// characters. The bytes read ahead are at most 16,389, and have at most one character for every two bytes.
 const TEXT_LINES_LEN: usize = 101_562;
 
 /// Lines that are not yet written.
@@ -25,7 +25,7 @@ type TextLines = ByteList<TEXT_LINES_LEN>;
 /// A scanner, and lines of the frames that it found.
 #[derive(Drop)]
 pub struct FrameLines {
-    /// It finds the frames.
+    /// The scanner that finds the frames.
     pub scanner: Scanner,
     /// The lines that are not yet written.
     pub lines: TextLines,

@@ -10,7 +10,8 @@ use crate::kept::Kept;
 use crate::text::pairs::Pairs;
 use hart_commands::FieldRow;
 
-/// Appends the lines of data: the first `count` bytes by these rows, and the rest as ignored.
+/// Appends the lines of data: a line for each field that these rows find in the first `count` bytes, and a line that shows the
+/// bytes after them as ignored.
 pub fn push_taken(text: &mut Kept, pairs: &Pairs, rows: &[FieldRow], count: usize, bytes: &[u8])
     requires room { length text.old + 15 * length bytes.now + 1800 ≤ 32768 }
     requires shown { are_shown (map seen rows.now) ≡ true }

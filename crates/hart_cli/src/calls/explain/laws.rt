@@ -31,8 +31,8 @@ use hart_frame::laws::{
     every_start_has_a_frame_or_a_miss, misses_are_in_the_way, misses_say_what_is_wrong,
 };
 
-/// What was told is never taken back: whatever is heard or read next, what was decided so far is a prefix of the whole explanation.
-/// What was heard determines the text that is decided.
+/// What was told is never taken back: whatever is heard or read next, the text that was decided so far is a prefix of the whole
+/// explanation. What was heard determines the text that is decided.
 pub fn explanations_grow()
     ensures one { (heard : List Heard) (xs ys : List ℕ) → IsDecidedExplanation heard xs → IsDecidedExplanation heard ys → xs ≡ ys }
     ensures heard { (heard more : List Heard) (told whole : List ℕ) → IsDecidedExplanation heard told
@@ -45,9 +45,9 @@ pub fn explanations_grow()
         → (rest : List ℕ) × (whole ≡ told ++ rest) }
 {}
 
-/// For an input without a silence, read equally far, `hart dump` and `hart explain` return the same fault, if any, and write of the
-/// same messages at the same places. This also holds if one of them left the input at bad hex, before its end, and the other read
-/// on.
+/// For an input without a silence, read equally far, `hart dump` and `hart explain` return the same fault, if any, and write about
+/// the same messages at the same places. This also holds if one of the two left the input at bad hex, before its end, and the other
+/// read on.
 pub fn explanations_name_the_messages_of_dump()
     ensures whole { (input : List ℕ) (ending : Ending) (f g : Option CliFault) (lines text : List ℕ) → HasNoSilence input
         → IsDump input ending f lines → IsExplanation input ending g text
@@ -60,12 +60,13 @@ pub fn explanations_name_the_messages_of_dump()
         → (f ≡ g) × AreOfOneHearing (input ++ more) ending f lines text }
 {}
 
-/// An explanation is what is said of the places before the first message, that message's paragraph, and what is said after it. After
-/// the last message that is what is said of the places up to the end.
+/// An explanation consists of what is said of the places before the first message, that message's paragraph, and the explanation of
+/// what follows. After the last message, the explanation is what is said of the places up to the end.
 ///
-/// A gap between messages has one line for each place where the definition has a miss, in the order of the places. After it comes a
-/// second line if a header is heard at the place. Let the list be the characters from the end of the last message on. Each place of
-/// the gap where a body may start in it has a line. Any other place has one only if it comes after one preamble byte alone.
+/// A gap between messages has one line for each place where the definition has a miss, in the order of the places. A second line
+/// follows that line if a header is heard at the place. Let the tail be the characters from the end of the last message on. Each
+/// place of the gap where a body may start in the tail has a line. Any other place has a line only if just one preamble byte stands
+/// before it.
 pub fn every_start_outside_messages_has_one_line()
     ensures by_message { (chars : List Character) (from : ℕ) (found : Found) (later : List Found)
         → explanation (sightings chars from (found ∷ later))
@@ -92,12 +93,13 @@ pub fn every_start_outside_messages_has_one_line()
 
 /// Each line of a gap names what really stands in the way, at its real place.
 ///
-/// Let the list be the characters from the end of the last message on. Where a body may start in it, the line's reason is in the
-/// way in the whole input. If the byte that would fit replaces the check byte, a frame stands at the line's place and ends with
-/// that byte. The character at the place told has the fault bits told. If the missing characters come, any bytes and then their
-/// check byte, a frame stands at the line's place and ends with them. If a line says that only one `FF` stands before its place,
-/// just one stands right before it in the list. A whole body stands at that place, and ends before two `FF` in a row begin. If the
-/// characters up to the command stay and others follow them, a frame that stands at the place has the header that the second line says.
+/// Let the tail be the characters from the end of the last message on. Where a body may start in the tail, the line's reason is in
+/// the way in the whole input. If the byte that would fit replaces the check byte, a frame stands at the line's place and ends with
+/// that byte. If a line names a character with fault bits, the character at the named place has the named fault bits. If the
+/// missing characters follow, which are any bytes and then their check byte, a frame stands at the line's place and ends with the
+/// check byte. If a line says that only one `FF` stands before its place, just one stands right before that place in the tail. A
+/// whole body stands at that place, and ends before two `FF` in a row begin. If the characters up to the command stay and any
+/// others follow them, a frame that stands at the place has the header that the second line says.
 pub fn hints_of_explanations_are_right()
     ensures in_the_way { (chars : List Character) (from stop place : ℕ) (miss : Miss) (header : Option HeaderParts)
         → All (λ character. character.byte < 256) chars

@@ -12,7 +12,7 @@ use crate::text::words::push_text;
 use hart_frame::{Header, Miss};
 use itoa::Buffer;
 
-/// Appends the line of a missed place. This place and those in its miss are counted from `first` on.
+/// Appends the line of a missed place. This place and the places in its miss are counted from `first` on.
 pub fn push_miss_line(text: &mut Kept, pairs: &Pairs, first: u64, place: usize, miss: Miss)
     requires room { length text.old + 200 ≤ 32768 }
     requires place { first + place < 2 ^ 64 }

@@ -24,13 +24,14 @@ use hart_frame::{After, Char, NextSighting, Sighting, next_sighting};
 use hart_line::Digits;
 use hart_values::ByteList;
 
-/// How many characters are kept at most while they decide nothing: two preamble bytes, and the longest body without its check byte.
+/// The greatest number of characters that are kept while they decide nothing: two preamble bytes, and the longest body without its
+/// check byte.
 const MOST_OPEN: usize = 268;
 
 /// Characters that decide nothing yet.
 type Open = ByteList<MOST_OPEN>;
 
-/// How many characters are looked at together at most: those that decide nothing yet, and a chunk of what is read.
+/// The greatest number of characters that are looked at together: those that decide nothing yet, and a chunk of what is read.
 const HELD_LEN: usize = MOST_OPEN + CHUNK_LEN;
 
 /// Faultless characters that were heard but are not wholly told, and text that is not yet written.
@@ -38,7 +39,7 @@ const HELD_LEN: usize = MOST_OPEN + CHUNK_LEN;
 pub struct Telling {
     /// The characters that are not wholly told.
     pub held: ByteList<HELD_LEN>,
-    /// The place of the first of them in all that was heard.
+    /// The place of the first held character in all that was heard.
     pub first: u64,
     /// The text that is not yet written.
     pub kept: Kept,
@@ -245,7 +246,8 @@ impl Telling {
         Ok(())
     }
 
-    /// Drops the characters that are told: the first `used` of those held and of what came after them. At most 268 stay.
+    /// Drops the characters that are told: the first `used` of the held ones and of those that came after them. At most 268 are
+    /// still held.
     fn let_go(&mut self, used: usize)
         requires places { self.old.first + used < 2 ^ 64 }
         requires few { length (drop used self.old.held) ≤ 268 }
@@ -317,8 +319,8 @@ fn tell_decided<W: Sink>(
     }
 }
 
-/// Returns the next sighting in bytes and what comes after them, from a place on. Each arm makes the value of `after` anew, since
-/// the prover follows no copy of an enum that holds a character.
+/// Returns the next sighting from the place `from` on, in held bytes and in what comes after them. Each arm makes the value of
+/// `after` anew, since the prover follows no copy of an enum that holds a character.
 fn next_after<'a>(held: &'a [u8], after: &After, from: usize) -> NextSighting<'a>
     requires within { from ≤ length (heard_with held.now after.now) }
     requires valid { AfterIsValid after.now }

@@ -17,7 +17,7 @@ use itoa::Buffer;
 /// The year whose byte is 0.
 const FIRST_YEAR: u16 = 1900;
 
-/// How many characters a packed text has at most.
+/// The greatest number of characters in a packed text.
 const MOST_CHARACTERS: usize = 32;
 
 /// Adds the value of a field.

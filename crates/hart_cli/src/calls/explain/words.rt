@@ -76,7 +76,7 @@ fn master_words(master: MasterId) -> &'static str
     }
 }
 
-/// Adds the words of an address; those of a broadcast address are `broadcast`.
+/// Adds the words of an address. The words of a broadcast address are `broadcast`.
 fn push_device(text: &mut Kept, pairs: &Pairs, broadcast: &str, address: Address)
     requires room { length text.old + 40 ≤ 32768 }
     requires short { length broadcast.now ≤ 18 }

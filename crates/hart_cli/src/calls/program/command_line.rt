@@ -88,7 +88,7 @@ pub enum Call<'w, 'a: 'w> {
 ///
 /// # Errors
 ///
-/// What clap gives if it finds no matches for them, help among it, or if memory is refused.
+/// The error that clap returns if it finds no matches for the words, which may be its help, or if memory is refused.
 pub fn matches_of<'a>(alloc: Global, words: &'a [String]) -> Result<ArgMatches<'a>, clap::Error>
     ensures fits { OnOk result (fault_of hart_app (map string_bytes words.now) ≡ []) }
     ensures matches { IfOk result (λ matches. subcommand_rows_of matches ≡ subcommand_of hart_app (map string_bytes words.now)) }
@@ -309,7 +309,8 @@ fn image_command<'a>(
     plain_command(alloc, name, page).arg(image_option(alloc))
 }
 
-// A `?` on a command takes the prover seconds, since the command is dropped there. So they stand in the next two functions alone.
+// A `?` on a command takes the prover seconds, since the command is dropped there. So each such `?` stands in one of the next two
+// functions.
 
 /// Returns a command with one more subcommand, if both could be made.
 fn with_made<'a>(

@@ -208,7 +208,7 @@ fn is_name(name: &str, word: &str) -> bool
     true
 }
 
-/// Returns what stands in a word for a character of a name.
+/// Returns the character that stands in a word for this character of a name.
 fn in_word(code: u8) -> u8
     ensures { result ≡ in_word code }
 {

@@ -14,8 +14,8 @@ ghost use Rattle.hart_cli.specs.request.Given.{AreGiven};
 ghost use Rattle.hart_cli.specs.request.Request.{IsRequestByNames};
 ghost use Rattle.hart_cli.specs.request.RequestWords.{RequestWords as GivenWords};
 
-/// `hart explain` splits the data of a request into fields by a table. Split so, the data have all fields of the command. Each has
-/// the bytes that its word writes, and no byte follows them.
+/// `hart explain` splits the data of a request into fields by a table. Split in this way, the data have all fields of the command.
+/// Each field has the bytes of the value in its word, and no byte follows the last field.
 pub fn fields_of_requests_are_those_given()
     ensures given { (words : GivenWords) (frame : FrameParts) → IsRequestByNames words frame
         → AreGiven words.fields (request_rows frame.command) (fields_of (request_rows frame.command) frame.payload) }
@@ -23,8 +23,8 @@ pub fn fields_of_requests_are_those_given()
         → bytes_of (fields_of (request_rows frame.command) frame.payload) ≡ frame.payload }
 {}
 
-/// `hart explain` shows the bytes of a given value as that value: a number as its number, a text in double quotes as its characters
-/// and the added spaces, a date as its word, and bytes as those that were read.
+/// `hart explain` shows the bytes of a given value as that value: a number as the same number, a text as its characters and the
+/// added spaces in double quotes, a date as its word, and bytes as the bytes that were read.
 pub fn values_are_shown_as_given()
     ensures numbers { (size : ℕ) (word bytes : List ℕ) → value_of Number (Exactly size) word ≡ Ok bytes
         → value_words Number bytes ≡ decimal (digits_value 10 (without_leading_plus word)) }

@@ -1,9 +1,9 @@
-//! The text of a reason, made without memory.
+//! The text of a reason, made without an allocation.
 ghost use Rattle.std.specs.Prelude.{◌≡◌, ◌+◌, ◌++◌, ◌≤◌, [], decimal, length};
 
 use std::fmt;
 
-/// The text of a reason, in parts, so that it can be written without memory too.
+/// The text of a reason, in parts, so that it can be written without an allocation too.
 #[derive(Clone, Copy, Debug)]
 pub struct Reason {
     /// The whole text, or what stands before the number or the last word.

@@ -20,17 +20,17 @@ const FIRST_YEAR: i16 = 1900;
 
 const LAST_YEAR: i16 = 2155;
 
-/// How many bytes a field given by its value has at most.
+/// The greatest number of bytes of a field that is given by its value.
 const MOST_BYTES: usize = 32;
 
 /// The bytes of a field.
 pub type FieldBytes = ByteList<MOST_BYTES>;
 
-/// Returns the bytes that a word writes as the value of a field.
+/// Returns the bytes of the value that a word gives for a field.
 ///
 /// # Errors
 ///
-/// Why it writes none.
+/// Why the word gives no value for the field.
 pub fn value_of(row: &FieldRow, word: &str) -> Result<FieldBytes, FieldFault>
     requires { is_writable row.now.kind row.now.size ≡ true }
     ensures { result ≡ value_of row.now.kind row.now.size word.now }
@@ -79,7 +79,7 @@ fn sized(
     }
 }
 
-/// Returns the bytes that a word writes in hex: `0x`, and two digits for each.
+/// Returns the bytes that a word encodes in hex: `0x`, and two digits for each byte.
 fn hex_bytes(word: &str) -> Option<Payload>
     ensures { result ≡ hex_of word.now }
 {

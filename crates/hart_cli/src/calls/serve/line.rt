@@ -23,17 +23,17 @@ use hart_line::{Digits, Filling};
 /// What a line that is no delivery asks of the device.
 #[derive(Clone, Copy)]
 pub enum LineWord {
-    /// It was without power and is on again.
+    /// The device was without power and is on again.
     Restart,
-    /// Its write protection is switched on or off.
+    /// The device's write protection is switched on or off.
     Protect(bool),
-    /// Its image is wanted.
+    /// The image of the device is wanted.
     Image,
-    /// Its configuration change counter is wanted.
+    /// The configuration change counter of the device is wanted.
     Counter,
 }
 
-/// Serves a line, given with one space after it, and returns the line for it.
+/// Serves a line, which is passed with one space after it, and returns the answer to the line.
 pub fn serve_line(
     device: &mut Device<ImageRegisters>,
     digits: &Digits,
@@ -55,7 +55,7 @@ pub fn serve_line(
     }
 }
 
-/// Reads a line as one of these words, or returns `None` if it is none of them.
+/// Reads a line as one of the words of `LineWord`, or returns `None` if the line is no such word.
 fn word_of(line: &[u8]) -> Option<LineWord>
     ensures { result ≡ named_in line_words line.now }
 {
@@ -74,7 +74,7 @@ fn word_of(line: &[u8]) -> Option<LineWord>
     }
 }
 
-/// Does what a word asks, and returns the line for it.
+/// Does what a word asks, and returns the answer to the word.
 fn obey(device: &mut Device<ImageRegisters>, pairs: &Pairs, word: LineWord) -> HexLine
     ensures device { device.new ≡ after_word word device.old }
     ensures said { result ≡ word_said word device.old }
@@ -95,7 +95,7 @@ fn obey(device: &mut Device<ImageRegisters>, pairs: &Pairs, word: LineWord) -> H
     said
 }
 
-/// Lets a device hear the characters of a line, given with one space after it, and returns the line for them.
+/// Lets a device hear the characters of a line, which is passed with one space after it, and returns the answer to the line.
 fn hear_text(
     device: &mut Device<ImageRegisters>,
     digits: &Digits,
@@ -134,7 +134,7 @@ fn silence() -> HexLine
     said
 }
 
-/// Returns the line for a line that is too long.
+/// Returns the answer to a line that is too long.
 fn too_long() -> HexLine
     ensures { result ≡ bad_line (codes "too long") }
 {
@@ -143,7 +143,7 @@ fn too_long() -> HexLine
     said
 }
 
-/// Returns the line for a line with bad hex at a place.
+/// Returns the answer to a line with bad hex at a place.
 fn bad_hex(place: usize) -> HexLine
     ensures { result ≡ bad_line (fault_text (BadHex place)) }
 {

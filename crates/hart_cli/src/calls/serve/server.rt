@@ -1,4 +1,4 @@
-//! A device that serves, with what is read of a line and with its answers until they are written.
+//! A device that serves, with the bytes read so far of its next line, and with its answers until they are written.
 ghost use Rattle.std.specs.Prelude.{◌≡◌, ◌≤◌, ◌↔◌, ◌+◌, ◌⊎◌, ◌++◌, ◌∷◌, [], ℕ, List, IfErr, IfOk, IsTrue, MatchOption, OnOk, length, take};
 ghost use Rattle.std.specs.Str.Lines.{strip_carriage_return};
 ghost use Rattle.hart_cli.specs.serve.Serve.{chars_room, line_room};
@@ -15,7 +15,8 @@ use hart_frame::Char;
 use hart_line::{Digits, Filling, NoRoom};
 use std::alloc::Global;
 
-/// How many bytes of a part are kept at most. With all of them, the line is too long even if its last byte is a carriage return.
+/// The greatest number of bytes of a part that are kept. A part that has this number or more is a line that is too long, even if
+/// its last byte is a carriage return.
 const MOST_KEPT: usize = INPUT_LIMIT + 2;
 
 /// The room for a part, and for the space after its line.
@@ -27,7 +28,7 @@ const CHARS_ROOM: usize = INPUT_LIMIT / 2;
 /// A device that serves lines.
 #[derive(Drop)]
 pub struct Server {
-    /// It hears the lines.
+    /// The device that hears the lines.
     pub device: Device<ImageRegisters>,
     /// The first bytes that were read since the last line feed.
     pub part: Filling<u8>,
@@ -42,7 +43,7 @@ pub struct Server {
 }
 
 impl Server {
-    /// Takes the room that serving needs.
+    /// Allocates the room that serving needs.
     ///
     /// # Errors
     ///

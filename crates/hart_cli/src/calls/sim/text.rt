@@ -19,7 +19,7 @@ use std::alloc::Global;
 /// A payload of a reply begins with its two status bytes.
 const STATUS_LEN: usize = 2;
 
-/// The text of a script while it is carried out: the lines of spoken frames, then those of submissions.
+/// The text of a script while it is carried out: the lines of spoken frames, and then the lines of submissions.
 #[derive(Drop)]
 pub struct SimText {
     text: Filling<u8>,
@@ -111,7 +111,7 @@ fn push_bytes(text: &mut Filling<u8>, bytes: &[u8]) -> Result<(), NoRoom>
     Ok(())
 }
 
-/// Replaces a line by that of a spoken frame.
+/// Replaces the text of `line` by the line of a spoken frame.
 fn make_spoken_line(line: &mut TextLine, pairs: &Pairs, frame: &Spoken)
     ensures { line.new ≡ spoken_line frame.now }
 {
@@ -134,7 +134,7 @@ fn party_word(party: Party) -> &'static str
     }
 }
 
-/// Replaces a line by that of the submission with this number.
+/// Replaces the text of `line` by the line of the submission with this number.
 fn make_outcome_line(line: &mut TextLine, pairs: &Pairs, number: usize, outcome: &Outcome)
     ensures { line.new ≡ outcome_line (number, outcome.now) }
 {
@@ -144,7 +144,7 @@ fn make_outcome_line(line: &mut TextLine, pairs: &Pairs, number: usize, outcome:
     line.push(b'\n');
 }
 
-/// Adds the words for the outcome of a submission to a line, which has at most its number, of 20 digits, and a space.
+/// Adds the words for the outcome of a submission to a line, which has at most the submission's number, of 20 digits, and a space.
 fn push_outcome(line: &mut TextLine, pairs: &Pairs, outcome: &Outcome)
     requires { length line.old ≤ 21 }
     ensures words { line.new ≡ line.old ++ join_with_byte 32 (outcome_words outcome.now) }
@@ -158,7 +158,7 @@ fn push_outcome(line: &mut TextLine, pairs: &Pairs, outcome: &Outcome)
     }
 }
 
-/// Adds the words of an answered submission to a line, which has at most its number and a space.
+/// Adds the words of an answered submission to a line, which has at most the submission's number and a space.
 fn push_answered(line: &mut TextLine, pairs: &Pairs, reply: &Reply, sendings: u8)
     requires { length line.old ≤ 21 }
     ensures words { line.new ≡ line.old ++ join_with_byte 32 (outcome_words (Answered reply.now sendings)) }

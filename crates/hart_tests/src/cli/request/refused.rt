@@ -191,7 +191,7 @@ const TEXTS: &[Row] = &[
     ),
 ];
 
-/// Dates that there are not, or that a device cannot hold.
+/// Dates that do not exist, or that a device cannot hold.
 const DATES: &[Row] = &[
     (
         "P",

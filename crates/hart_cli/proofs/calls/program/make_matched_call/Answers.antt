@@ -15,12 +15,12 @@ use Rattle.hart_cli.specs.program.CommandLine.{words_of}
 use Rattle.hart_cli.specs.program.Program.{HasPreambleCount}
 use Rattle.hart_cli.proofs.calls.program.make_matched_call.Goals as goal
 
--- the words of `encode` have a number of preamble bytes that a sender may put
+-- the words of `encode` have a number of preamble bytes that a sender may use
 words_counted : (word : Option Text) (who address command : Option Text) (payload : Text) (words : MessageWords)
     → message_words (option_and_then preambles_of word) who address command payload ≡ Some words → IsPreambleCount words.preambles
 words_counted word who address command payload words h = grind (arith, common_steps, nat_tests)
 
--- the words of `request` have a number of preamble bytes that a sender may put
+-- the words of `request` have a number of preamble bytes that a sender may use
 request_counted : (word : Option Text) (who address command : Option Text) (fields : List Text) (words : RequestWords)
     → request_words (option_and_then preambles_of word) who address command fields ≡ Some words → IsPreambleCount words.preambles
 request_counted word who address command fields words h = grind (arith, common_steps, nat_tests)
@@ -45,7 +45,7 @@ request_called : (answer dump explain serve sim encode request : Bool) (image ra
     else if request then option_map (λ w. Request w) named else None) ≡ Some (Request words) → named ≡ Some words
 request_called answer dump explain serve sim encode request image raw given named words h = grind (arith, common_steps)
 
--- a call of `encode` or `request` has a number of preamble bytes that a sender may put
+-- a call of `encode` or `request` has a number of preamble bytes that a sender may use
 call_counted : (met : Option (Text × List Row)) (call : Call) → call_of met ≡ Some call → HasPreambleCount call
 call_counted None call gives = cc
 call_counted (Some found) (Encode words) gives =

@@ -17,7 +17,7 @@ use Rattle.hart_cli.specs.sim.Text.{IsNeededByDevice, IsNeededByFrame, IsNeededB
 use Rattle.hart_cli.proofs.calls.sim.simulation.Goals.{After-push_outcomes}
 use Rattle.hart_cli.proofs.calls.sim.simulation.Goals as goal
 
--- the fault of a script is that of its input
+-- the fault of a script is the fault of its input
 logged_fault : (device : DeviceState) (input : List ℕ) (start : Start) (AreNoted : List Spoken → Type 0) (events : List LineEvent)
     (fault : LineFault) → IsScript input events → start ≡ start_with device
     → IsLoggedFault IsNeededByFrame AreNoted start events fault

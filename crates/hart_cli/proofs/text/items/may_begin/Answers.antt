@@ -19,12 +19,12 @@ fault_bits high small = record {
       grind (arith, differs 0 (omega arith), differs 2 (omega arith), differs 3 (omega arith), differs 7 (omega arith));
 }
 
--- a text begins with the same piece without what follows, if it holds the separator, or the item and a byte
+-- a text begins with the same piece without what follows, if the text itself holds the separator, or the item and one more byte
 stands : (text more tail : List ℕ) (p : Piece) → BeginsWith (text ++ more) p tail → length (spelling p) + length (meaning p) ≤ length text
     → BeginsWith text p (drop (length (spelling p)) text)
 stands text more tail p h within = grind (arith, common_steps)
 
--- a text begins with an item with fault bits if they are fault bits other than 0
+-- a text of two digits, `!`, the two digits of fault bits other than 0, and a space begins with an item
 begins_faulty : (text : List ℕ) (x y v w : ℕ) → AreDigits x y → AreDigits v w → byte_of v w ≢ 0 → AreFaultBits (byte_of v w)
     → text ≡ x ∷ y ∷ 33 ∷ v ∷ w ∷ 32 ∷ [] → BeginsWith text (Item (Faulty x y v w)) (32 ∷ [])
 begins_faulty text x y v w d f z a e = grind (arith, common_steps)

@@ -31,12 +31,12 @@ char_in_rest : (chars : List Character) (from at : ℕ) (c : Character) → slic
     → slice_get chars (from + at) ≡ Some c
 char_in_rest chars from at c is = grind (arith, common_steps, slice_get_within, slice_get_cases)
 
--- the bytes from a place in the rest on are those from its place in the whole list on
+-- the bytes from a place in the rest on are the bytes from the same place in the whole list on
 bytes_in_rest : (chars : List Character) (from start place : ℕ) → place ≡ from + start
     → bytes_from (drop from chars) start ≡ bytes_from chars place
 bytes_in_rest chars from start place is = grind (arith, common_steps, drop-drop)
 
--- what stands in the way in the rest of a list of characters does so in the list
+-- what stands in the way in the rest of a list of characters also stands in the way in the list
 way_in_rest : (chars : List Character) (from start place : ℕ) (miss : Miss) → place ≡ from + start → from ≤ length chars
     → IsInTheWay (drop from chars) start miss → IsInTheWay chars place (miss_in_whole from miss)
 way_in_rest chars from start place miss is within way = grind (arith, bytes_in_rest chars from start place is, char_in_rest, length-drop)
@@ -84,7 +84,7 @@ own_missing : (from count : ℕ) (own : Miss) → Missing count ≡ miss_in_whol
 own_missing from count (Missing n) is = grind arith
 own_missing from count _ is = absurd cc
 
--- a miss that names one preamble byte alone in the whole list names it in the rest too
+-- a miss that is `OnePreamble` in the whole list is `OnePreamble` in the rest too
 own_one : (from : ℕ) (own : Miss) → OnePreamble ≡ miss_in_whole from own → own ≡ OnePreamble
 own_one from OnePreamble is = refl
 own_one from _ is = absurd cc
@@ -94,12 +94,12 @@ alone_is : (chars : List Character) (place : ℕ) → seen_miss chars place ≡ 
     → two_begin_in_body chars place ≡ false
 alone_is chars place seen follows = let one = one_preamble-yes chars place follows in grind (arith, one)
 
--- every miss but that of one preamble byte alone is told where a body may start
+-- every miss except `OnePreamble` is told where a body may start
 started : (start : ℕ) (chars : List Character) (miss : Miss) → IsStart start chars ⊎ (miss ≡ OnePreamble) → miss ≢ OnePreamble
     → IsStart start chars
 started start chars miss either other = grind arith
 
--- a frame completed by more bytes after the rest of a list of characters is one after the list
+-- if more bytes after the rest of a list of characters complete a frame, these bytes after the list complete it too
 missing_in_rest : (chars : List Character) (from place count : ℕ) (bytes : List ℕ) → place ≡ from + (place - from)
     → from ≤ length chars
     → (last : ℕ) × IsCheckByte (bytes_from (drop from chars) (place - from) ++ bytes) last

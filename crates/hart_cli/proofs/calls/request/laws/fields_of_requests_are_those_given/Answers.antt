@@ -32,7 +32,7 @@ use Rattle.hart_cli.specs.request.Values.{can_have, codes_value, date_value, dat
 use Rattle.hart_cli.specs.request.Values.{year_byte}
 use Rattle.hart_cli.proofs.calls.request.laws.fields_of_requests_are_those_given.Goals as goal
 
--- whether a row of fixed size can be written, or a row that takes all that is left is the last
+-- whether a row of fixed size can be written; whether a row that takes all that is left is the last one
 abbrev closes : FieldKind → FieldSize → List Row → Bool
 closes kind (Exactly size) rows = is_writable kind (Exactly size)
 closes kind (AllBut after) [] = after == 0
@@ -127,7 +127,7 @@ first_field : (name : List ℕ) (kind : FieldKind) (size : ℕ) (rows : List Row
 first_field name kind size rows value rest is =
     grind (arith, common_steps, nat_tests, take_at value rest size is, drop_at value rest size is)
 
--- a field that takes all bytes that are left is the only field of them
+-- a field that takes all bytes that are left is the only field in these bytes
 last_field : (name : List ℕ) (kind : FieldKind) (value : List ℕ) → 0 < length value
     → fields_of (record { name = name; size = AllBut 0; kind = kind } ∷ []) value ≡ record { name = name; kind = kind; bytes = value } ∷ []
 last_field name kind value is = grind (arith, common_steps, nat_tests)
@@ -216,7 +216,7 @@ known_inv : (known : Bool) (given : Result (List ℕ) BadField) (bad : BadField)
 known_inv true given bad bytes is = is
 known_inv false given bad bytes is = absurd cc
 
--- the data given by words are those of the fields
+-- the data given by words are the data of the fields
 data_are : (command : ℕ) (words : List (List ℕ)) (bytes : List ℕ) → payload_of command words ≡ Ok bytes
     → data_of_fields command 0 words (request_rows command) ≡ Ok bytes
 data_are command words bytes is =

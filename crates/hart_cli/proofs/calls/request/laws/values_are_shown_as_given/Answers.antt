@@ -107,7 +107,7 @@ returns-clause-latin c word bytes none is =
     let all = all_printable bytes (given_good (can_have LatinText) refl 32 (chars word) bytes (sym given)) in
     grind (arith, common_steps, all, pad.0)
 
--- bytes that are given by one word alone are given by that word
+-- either the word is the one that is shown, and gives `bytes`, or `other` gives the bytes
 given_by : (word shown bytes given : List ℕ) (other : Result (List ℕ) FieldFault)
     → (if bytes_eq word shown then Ok bytes else other) ≡ Ok given → ((shown ≡ word) × (given ≡ bytes)) ⊎ (other ≡ Ok given)
 given_by word shown bytes given other is = grind (arith, common_steps, bytes_eq-Decides word shown)

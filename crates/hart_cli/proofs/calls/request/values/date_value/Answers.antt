@@ -17,7 +17,7 @@ byte_of number = unsigned_abs (to_z w8 (of_z w8 number))
 abbrev count_of : ℤ → ℕ
 count_of year = unsigned_abs (to_z w16 (of_z w16 (to_z w16 (of_z w16 year) -ℤ pos 1900)))
 
--- a small number is the byte that it becomes
+-- a number below 128 becomes the byte of the same value
 byte_back : (number : ℤ) (n : ℕ) → n < 128 → number ≡ pos n → byte_of number ≡ n
 byte_back number n small e = grind (arith, ints, to_z_pos)
 

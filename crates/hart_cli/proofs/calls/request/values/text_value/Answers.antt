@@ -11,7 +11,7 @@ use Rattle.hart_cli.specs.declared.calls.request.fault.FieldFault.TheVariants.{B
 use Rattle.hart_cli.specs.request.Values.{can_have, padded, text_value}
 use Rattle.hart_cli.proofs.calls.request.values.text_value.Goals as goal
 
--- as many characters pass at the front as stand before the first bad one or the end of the room
+-- the characters that pass at the front are those before the first bad character or before the end of the room
 passing : (passes : ℕ → Bool) (most : ℕ) (text : List ℕ) (place : ℕ) → place ≤ most → place ≤ length text
     → ((k : ℕ) → k < place → passes (get_or text k 0) ≡ true)
     → (place < most → place < length text → passes (get_or text place 0) ≡ false) → prefix_len passes (take most text) ≡ place
@@ -28,7 +28,7 @@ bad_is passes most text place room within good bad =
     let is = passing passes most text place (omega arith) (omega arith) good (λ _ _. bad) in
     grind (arith, common_steps, nat_tests)
 
--- a text that is too long is refused, with the most characters that the field has room for
+-- a text that is too long is refused, with the number of characters that the field has room for
 long_is : (passes : ℕ → Bool) (most : ℕ) (text : List ℕ) → most < length text
     → ((k : ℕ) → k < most → passes (get_or text k 0) ≡ true) → Err (TooLong most) ≡ text_value passes most text
 long_is passes most text long good =

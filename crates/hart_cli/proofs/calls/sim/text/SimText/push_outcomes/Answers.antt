@@ -8,7 +8,7 @@ use Rattle.hart_line.specs.declared.line.report.Outcome.{Outcome}
 use Rattle.hart_cli.specs.sim.Text.{IsNeededByOutcomes, outcome_line}
 use Rattle.hart_cli.proofs.calls.sim.text.SimText.push_outcomes.Goals as goal
 
--- the items of a list that goes on are numbered on
+-- the items after the first part of a list have the next numbers
 numbered_on : {X : Type 0} (n : ℕ) (xs more : List X)
     → enumerate_from n (xs ++ more) ≡ enumerate_from n xs ++ enumerate_from (n + length xs) more
 numbered_on n [] more = grind arith
