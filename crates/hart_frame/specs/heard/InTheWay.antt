@@ -78,7 +78,7 @@ IsMiss chars start miss =
     (IsStart start chars × IsInTheWay chars start miss)
     ⊎ ((miss ≡ OnePreamble) × FollowsOnePreamble chars start × HasBodyAt chars start)
 
--- The fault of the faultless bytes that a miss comes from. A character with fault bits truncates these bytes, as the end of the
+-- The fault of the faultless bytes at the place of a miss. A character with fault bits truncates these bytes, as the end of the
 -- list does. A single FF before the bytes is no fault of theirs.
 abbrev pub fault_of : Miss → Option FrameFault
 fault_of (Faulty place faults) = Some Truncated

@@ -27,8 +27,8 @@ IsOpenAll bytes found =
     (found.decided ≡ length bytes) × (length bytes ≤ found.place + 268) × MayBegin (drop found.place bytes)
 
 -- A search from `from` on finds a place, and decides it by the first `decided` bytes, at least `seen`, which end at most 269 bytes
--- after the place. No frame begins before it. At it a frame stands in these bytes, or else all bytes decide nothing. A prefix of at
--- least `seen` but fewer than `decided` bytes decides nothing.
+-- after the place. No frame begins before the place. At the place a frame stands in these bytes, or else all bytes together decide
+-- nothing. A prefix of at least `seen` but fewer than `decided` bytes decides nothing.
 pub record IsSearched (bytes : List ℕ) (from seen : ℕ) (found : Sighting) : Type 0 where
   pub after : from ≤ found.place
   pub order : found.place ≤ found.decided

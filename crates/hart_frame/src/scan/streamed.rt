@@ -8,8 +8,8 @@ ghost use Rattle.hart_frame.specs.scan.Scanner.{Gives, GivesNothing, MovesPast, 
 ghost use Rattle.hart_frame.specs.scan.Streamed.{IsHistory, IsWholeHistory};
 ghost use Rattle.hart_frame.specs.declared.heard.found.Found.{Found};
 
-/// The frames that a scanner gave are the next ones of all that was pushed, up to the first character that it holds. So, whatever
-/// is still to come, they are the first frames of all that is pushed, and all of its frames once the scanner ended.
+/// The frames that a scanner gave are the next ones of all that was pushed, up to the first character that it holds. So these
+/// frames are the first ones of all that is pushed, whatever is still to come. Once the scanner ended, they are all frames.
 pub fn frames_are_streamed()
     ensures next { (past : List Character) (scan : Scan) (given : List Found) → IsHistory past scan given
         → AreNext past scan.finished 0 given scan.first }
@@ -45,8 +45,8 @@ pub fn held_frames_are_given()
 {}
 
 /// A scanner holds what was pushed from its first held place on. Whatever is still to come, the frames of all that is pushed are
-/// those that it gave, and then those of what it holds with what is still to come, moved to their places. So a caller that keeps
-/// only what is held, at most 269 characters, has all frames that are left.
+/// those that it gave, and then those of what it holds with what is still to come, with places counted in all that is pushed. So a
+/// caller that keeps only what is held, at most 269 characters, has all frames that are left.
 pub fn held_characters_have_the_later_frames()
     ensures within { (past : List Character) (scan : Scan) (given : List Found) → IsHistory past scan given
         → scan.first ≤ length past }
