@@ -35,7 +35,7 @@ IsFault start events (Undetected number leg) = (world : World) × (event : LineE
 IsFault start events (Memory room) = IsNeededBy events room.items
 IsFault start events (BadLine line) = ⊥
 
--- What is heard in a leg is detectable. Noise never is, since nobody sends it.
+-- What is heard in a leg is detectable. Noise is never detectable, since nobody sends it.
 abbrev pub HasDetectable : Start → World → LineEvent → Leg → Type 0
 HasDetectable = HasDamage IsDetectable
 

@@ -14,12 +14,12 @@ use Rattle.hart_line.specs.world.World.{Start, World, first_world, overwrites_of
 
 -- What is promised if a script was carried out and this device and these outcomes are returned.
 pub record KeepsPromises (start : Start) (events : List LineEvent) (device : DeviceState) (outcomes : List Outcome) : Type 0 where
-  -- Each request is well made, since it is a value of its type.
+  -- Each request is well made, since it is a value of the type `Request`.
   pub well_made : AreWellMade events
   -- Each accepted reply is the device's answer in the turn in which its request was last sent.
   pub accepted_reply_answers_last_sending : (number : ℕ) (reply : Reply) (sendings : ℕ)
       → slice_get outcomes number ≡ Some (Answered reply sendings) → AnswersLastSending start events number reply sendings
-  -- The registers are the initial ones overwritten by the last execution of each submission, in their order.
+  -- The registers are the initial ones overwritten by the last execution of each submission, in the order of these executions.
   pub registers_follow_last_executions : (world : World) → IsLast start events world
       → device.contents ≡ registers_of (overwrites_of (last_executions world.executions)) start.device.contents
   -- The counter has grown by the number of executed writes.

@@ -262,7 +262,7 @@ le_or a b = grind arith
 lt_or : (a b : ℕ) → a ≤ b → (a < b) ⊎ (a ≡ b)
 lt_or a b order = grind arith
 
--- A place that is asked from `from` on is also asked from any other place before it.
+-- A place that is asked from `from` on is also asked from any other place before the asked one.
 asked_after : (bytes : List ℕ) (after : After) (from place start : ℕ) → place < start → IsAsked bytes after from start
     → IsAsked bytes after place start
 asked_after bytes after from place start order is = grind arith
@@ -299,7 +299,7 @@ message_seen bytes after from start used view valid silent is two at more later 
     (message bytes after next from start may silent is (parts_of view.frame) used later two (omega (arith, at.order)) at.within at.body
     (rw same at are))
 
--- Nothing is seen up to the FF before an open place, and only the miss up to a missed place, whatever follows.
+-- Whatever follows, nothing is seen up to the FF before an open place, and up to a missed place only its miss is seen.
 pub open_seen : (bytes : List ℕ) (after : After) (from start used : ℕ) → SilentBefore bytes after from start
     → IsAsked bytes after from start → IsStandingAt bytes after from start (Open used)
     → Whatever bytes after (λ chars. Passes chars from used [])

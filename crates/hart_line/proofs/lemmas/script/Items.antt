@@ -22,7 +22,7 @@ first_begins : (text : List ℕ) (item : Item) (items : List Item) → text ≡ 
     → AllByRecursion IsValidItem (item ∷ items) → BeginsWithItem text item (flat_map item_spelling items)
 first_begins text item items spelled valid = record { valid = valid.0; spelled = spelled; ends = items_end item items valid.1 }
 
--- So items that spell the same are the same.
+-- So two lists of items with the same spelling are the same.
 items_one : (xs ys : List Item) → AllByRecursion IsValidItem xs → AllByRecursion IsValidItem ys
     → flat_map item_spelling xs ≡ flat_map item_spelling ys → xs ≡ ys
 items_one [] [] v w same = refl
