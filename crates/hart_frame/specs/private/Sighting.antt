@@ -74,8 +74,8 @@ pub record LacksOnePreamble (bytes : List ℕ) : Type 0 where
   pub before : slice_index bytes (length bytes - 1) ≡ 255
   pub check : IsCheckByte bytes 255
 
--- What stands at a place right after a single preamble byte: no body that stands alone, whatever comes; or this is not decided yet;
--- or a body that stands alone, which is a miss.
+-- What stands at a place right after a single preamble byte. `Nothing`: no body stands alone there, whatever comes. `Open`: whether
+-- one does is not decided yet. `Missed`: a body stands alone there, which is a miss.
 abbrev pub IsAfterOne : List ℕ → After → ℕ → Standing → Type 0
 IsAfterOne bytes after start Nothing = Whatever bytes after (λ chars. stands_alone chars start ≡ false)
 IsAfterOne bytes after start (Open used) =
@@ -85,8 +85,8 @@ IsAfterOne bytes after start (standing.Missed miss) =
     (miss ≡ OnePreamble) × Whatever bytes after (λ chars. stands_alone chars start ≡ true)
     × Whatever bytes after (KeepsHeader bytes start)
 
--- What stands at a place right after two preamble bytes: bytes that may become a body, so nothing is decided; or a message; or a
--- miss. What follows does not change the header of a miss, here and after a single preamble byte.
+-- What stands at a place right after two preamble bytes: bytes that may become a body, so that nothing is decided; or a message; or
+-- a miss. Here, as after a single preamble byte, what follows does not change the header of a miss.
 abbrev pub IsAfterTwo : List ℕ → After → ℕ → Standing → Type 0
 IsAfterTwo bytes after start Nothing = ⊥
 IsAfterTwo bytes after start (Open used) = (after ≡ More) × (used + 2 ≡ start) × IsTruncated (drop start bytes)

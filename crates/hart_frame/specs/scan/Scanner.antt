@@ -39,8 +39,8 @@ pub record MovesPast (old new : Scan) (given : List Found) : Type 0 where
   pub held : new.held ≡ drop count old.held
   pub finished : new.finished ≡ old.finished
 
--- A scanner that gives a frame moves past it, and then holds what comes after its body. It is drained neither before nor after,
--- since more frames may be given.
+-- A scanner that gives a frame moves past this frame, and then holds what comes after the body of the frame. The scanner is drained
+-- neither before nor after that, since more frames may be given.
 pub record Gives (old new : Scan) (found : Found) : Type 0 where
   pub moves : MovesPast old new (found ∷ [])
   pub stop : new.first ≡ found.stop

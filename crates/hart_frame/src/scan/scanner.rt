@@ -102,7 +102,8 @@ impl Scanner {
     /// Returns the next frame that is decided, or `None` if there is none for now. After the finish, `None` means that no frame is
     /// left; the scanner is then new, and places begin at 0 again.
     pub fn take(&mut self) -> Option<FoundView<'_>>
-        // The view borrows the scanner, so this speaks of it once the view is dropped: GivesNextOrNothing self.old after result.
+        // The view borrows the scanner, so this speaks of the scanner once the view is dropped: GivesNextOrNothing self.old after
+        // result.
         ensures* after { sem 𝓛 (follows_so the_row the_row self.entry.ghost_name none (λ _ _. ⊤)
             (λ after. GivesNextOrNothing self.old after result)) }
     {

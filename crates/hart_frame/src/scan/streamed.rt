@@ -21,7 +21,7 @@ pub fn frames_are_streamed()
 {}
 
 /// A scanner that moves past frames and then past others moves past all of them. Whatever it hears later, it moved past the same
-/// frames. These frames are the next ones in all that was heard, whatever it let go before and whatever comes later.
+/// frames. These frames are the next ones in all that was heard, whatever the scanner let go before and whatever comes later.
 pub fn scanners_move_past_the_next_frames()
     ensures onward { (old mid new : Scan) (given found : List Found) → MovesPast old mid given → MovesPast mid new found
         → MovesPast old new (given ++ found) }

@@ -105,8 +105,8 @@ pub record IsExecutedInItsTurn (start : Start) (events : List LineEvent) (number
   pub overwrites : overwrite_of request ≡ Some overwrite
   pub executed : answered.next.executions ≡ answered.before.executions ++ record { submission = number; overwrite = overwrite } ∷ []
 
--- What an event brought the device. A turn brought what its leg up brought. Every other event counts as bringing no message, since
--- it cannot bring a frame: noise may bring a garbled request, but that has no effect.
+-- What an event brought the device. A turn brought what the leg up of the turn brought. Every other event counts as bringing no
+-- message, since it cannot bring a frame: noise may bring a garbled request, but that has no effect.
 abbrev pub brought_in_step : (start : Start) (before : World) (event : LineEvent) (next : World) → Step start before event next → Brought
 brought_in_step start before (Turn who up down) next step = step.brought
 brought_in_step start before event next step = NoMessage

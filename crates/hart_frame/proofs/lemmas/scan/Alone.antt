@@ -98,7 +98,7 @@ module _ (bytes : List ℕ) (after : After) (start n : ℕ) (within : start ≤ 
       → Whatever bytes after (λ chars. stands_alone chars start ≡ true)
   alone none last next follows = grind (arith, nat_tests, two_in bytes next start n within long enough, part, end_none, more_of)
 
--- The bytes that are looked at are those of the body and one more, if there is one.
+-- The bytes that are looked at are those of the body and the byte after it, if there is one.
 pub looked_at : (bytes : List ℕ) (start stop : ℕ) → start < stop → stop ≤ length bytes
     → take (min (length bytes) (stop + 1) - start) (drop start bytes) ≡ take (stop - start + 1) (drop start bytes)
 looked_at bytes start stop order within = grind (arith, nat_tests, length-drop, take_all)

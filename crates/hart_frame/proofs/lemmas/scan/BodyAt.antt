@@ -38,7 +38,7 @@ pub bytes_from-heard : (bytes : List ℕ) (next : List Character) (start : ℕ) 
     → faultless_bytes (drop start (faultless bytes ++ next)) ≡ drop start bytes ++ faultless_bytes next
 bytes_from-heard bytes next start within = rw (drop-heard bytes next start within) (faultless_bytes-append (drop start bytes) next)
 
--- The miss of what is heard is that of its faultless bytes and the character after them.
+-- The miss of what is heard is found from its faultless bytes and the character after these bytes.
 pub miss_more : (xs : List ℕ) (rest : List Character) (start : ℕ) → body_miss start (faultless xs ++ rest)
     ≡ miss_in (xs ++ faultless_bytes rest) (slice_get (faultless xs ++ rest) (length (xs ++ faultless_bytes rest)))
     (start + length (xs ++ faultless_bytes rest)) start

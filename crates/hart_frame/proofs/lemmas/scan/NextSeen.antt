@@ -156,7 +156,7 @@ module _ (bytes : List ℕ) (after : After) (next : List Character) (from start 
       let here = no_frame one found stands in
       omega (arith, at, low, here)) (inl clean)
 
-  -- A body after two preamble bytes at the asked place is that of a frame that stands there.
+  -- If a body stands at the asked place after two preamble bytes, the frame of this body stands there.
   stands_there : (f : FrameParts) (stop : ℕ) → FollowsTwo bytes from start → start ≤ stop → stop ≤ length bytes
       → IsBody f (slice_range bytes start stop)
       → StandsIn (record { start = start; stop = stop; frame = f }) (faultless bytes ++ next) from
@@ -267,7 +267,8 @@ asked_after : (bytes : List ℕ) (after : After) (from place start : ℕ) → pl
     → IsAsked bytes after place start
 asked_after bytes after from place start order is = grind arith
 
--- If nothing is seen up to `place`, the next asked place after it is asked from `from` on too, and nothing is seen before it.
+-- If nothing is seen up to `place`, the next asked place after `place` is asked from `from` on too, and nothing is seen before that
+-- next place.
 pub next_is : (bytes : List ℕ) (after : After) (from place start : ℕ) → from ≤ place → AreSilent bytes after from place
     → IsNextAsked bytes after place (Some start) → IsAsked bytes after from start × SilentBefore bytes after from start
 next_is bytes after from place start order silent (is, least) = (

@@ -101,7 +101,7 @@ wrong_fewer xs (ShortReply len count) is fewer below =
 wrong_fewer xs (BadCheck len byte fits) is fewer below =
     truncated_check xs fewer is.checked.0 (omega (arith, below, is.whole)) (omega (arith, below, is.whole, is.checked.1))
 
--- Bytes with something wrong are refused with the fault for it.
+-- Bytes with something wrong are refused with the fault that `fault_in` gives for it.
 pub wrong_refused : (xs : List ℕ) (w : Wrong) → IsWrong xs w → IsRefusedWith xs (fault_in w)
 wrong_refused xs (BadDelimiter byte) is = is.0
 wrong_refused xs (ShortReply len count) is = is.0

@@ -1,4 +1,4 @@
--- The bytes that end too early for a body are those that can become one.
+-- Bytes end too early for a body exactly if they can become a body and begin with no body yet.
 use Rattle.std.proofs.Common.{◌≡◌, ℕ, fold, bit_xor, ◌+◌, ◌-◌, ◌<◌, ◌≤◌, List, [], ◌∷◌, ◌++◌, length, take, drop}
 use Rattle.std.proofs.Common.{get_or, replicate, refl, arith, length-append}
 use Rattle.std.proofs.Math.Seq.{take-append_seam}

@@ -9,7 +9,7 @@ use Rattle.hart_line.proofs.lemmas.world.Steps.{entered, leads_more, marks_kept}
 use Rattle.hart_line.proofs.lemmas.world.Submitted.{made_more}
 use Rattle.hart_line.proofs.lemmas.line.Leg.{AreSpoken-append}
 
--- The events are well made and lead to a world. The line stands for it, and what was spoken in the events has been noted.
+-- The events are well made and lead to a world. The line stands for that world, and what was spoken in the events has been noted.
 pub record IsReached (start : Start) (events : List LineEvent) (line : LineState) (noted : List Spoken) : Type 0 where
   pub world : World
   pub is_last : IsLast start events world
