@@ -163,8 +163,8 @@ impl<S: RegisterStore> Line<S> {
         self.outcomes.push(outcome);
     }
 
-    /// Carries out a turn of a master: the master sends the request in its hand, the device hears the characters of the leg up and
-    /// answers, and both masters hear those of the leg down.
+    /// Carries out a turn of a master. The master sends the request in its hand. The device hears the characters of the leg up and
+    /// answers. Both masters hear the characters of the leg down.
     fn turn(
         &mut self,
         who: MasterId,

@@ -29,9 +29,9 @@ use crate::{Char, FoundView, FrameView, Header, Miss};
 pub enum After {
     /// More characters may come, which are not heard yet.
     More,
-    /// This character, which has fault bits.
+    /// This character comes next, and has fault bits.
     Damaged(Char),
-    /// Nothing.
+    /// Nothing comes after the bytes.
     End,
 }
 

@@ -44,9 +44,9 @@ pub fn held_frames_are_given()
     ensures onward { (old new : Scan) (found : Found) → Gives old new found → length new.held < length old.held }
 {}
 
-/// A scanner holds what was pushed from its first held place on. Whatever is still to come, the frames of all that is pushed are
-/// those that it gave, and then those of what it holds with what is still to come, with places counted in all that is pushed. So a
-/// caller that keeps only what is held, at most 269 characters, has all frames that are left.
+/// A scanner holds what was pushed from its first held place on. The frames of all that is pushed are the frames that the scanner
+/// gave, and then the frames of what it holds together with what is still to come, whatever that is. Their places are counted in
+/// all that is pushed. So a caller that keeps only what is held, at most 269 characters, has all frames that are left.
 pub fn held_characters_have_the_later_frames()
     ensures within { (past : List Character) (scan : Scan) (given : List Found) → IsHistory past scan given
         → scan.first ≤ length past }

@@ -25,7 +25,7 @@ pub(crate) enum Wrong {
     BadDelimiter { byte: u8 },
     /// The last of the first `len` bytes is the byte count of a reply, below 2.
     ShortReply { len: usize, byte_count: u8 },
-    /// The last of the first `len` bytes stands in the place of the check byte, and `fits` would fit there.
+    /// The last of the first `len` bytes, `byte`, stands in the place of the check byte, and `fits` would fit there.
     BadCheck { len: usize, byte: u8, fits: u8 },
 }
 

@@ -32,7 +32,7 @@ pub record KeepsPromises (start : Start) (events : List LineEvent) (device : Dev
   pub refused_turns_change_nothing : (before next : World) (refused : IsRefusedByDevice start events before next)
       → state_of start.device next ≡ after_refusal (state_of start.device before) refused.frame
   -- If a write arrives in a turn and the device answers it with code 0, the request in hand is executed, even if the answer is not
-  -- heard. Nothing else is ever executed. So a write whose accepted reply has code 0 was executed in the turn of that reply; and a
+  -- heard. Nothing else is ever executed. So a write whose accepted reply has code 0 was executed in the turn of that reply. A
   -- submission was executed at most as often as it was sent, and never if it was refused.
   pub unrefused_writes_are_executed : (before next : World) (who : MasterId) (up down : Heard)
       (turn : IsStepOf start (first_world start) events before (Turn who up down) next)

@@ -25,7 +25,7 @@ use std::alloc::Global;
 ///
 /// [`LineFault::Memory`] if room was refused: before the first event, for an outcome of each submission; or after an event, if the
 /// log has no room for a frame that was spoken in it. [`LineFault::Undetected`] as [`run`](crate::run) gives it, if no room was
-/// refused before; all that was spoken before the event that it names has been noted then. Only the fault is given back.
+/// refused before; all that was spoken before the event that it names has been noted then. Only the fault is returned.
 pub fn run_logged<S: RegisterStore + Drop, L: Log>(
     alloc: Global,
     device: Device<S>,
@@ -47,7 +47,7 @@ pub fn run_logged<S: RegisterStore + Drop, L: Log>(
     // outcomes for which there is no room, and nothing has been noted; or the room that is missing to note a spoken frame.
     ensures fault { let start = start_from device process.now primary secondary in
         IfErr result (IsLoggedFault L.needs (λ spoken. L.notes log.old spoken log.new) start events.now) }
-    // A clean or lost leg never stops a script, nor does a leg in which marked or check damage of the message sent in it is heard.
+    // A clean or lost leg never stops a script, nor does a leg in which the message sent is heard with marked or check damage.
     ensures detectable_damage_is_detected { IfErr result (IsNotDetectable (start_from device process.now primary secondary) events.now) }
 {
     let outcomes = room_for_outcomes(alloc, events)?;

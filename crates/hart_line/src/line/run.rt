@@ -27,7 +27,7 @@ use std::alloc::Global;
 ///
 /// [`LineFault::Memory`] if room was refused. Before the first event it is reserved for an outcome of each submission, for two spoken
 /// frames of each turn and for one of each noise. Otherwise [`LineFault::Undetected`], with the number of the event, counted from 0, for
-/// the first leg in which a frame was heard that was not the one sent, or several frames were heard. Only the fault is given back.
+/// the first leg in which a frame was heard that was not the one sent, or several frames were heard. Only the fault is returned.
 pub fn run<S: RegisterStore + Drop>(
     alloc: Global,
     device: Device<S>,
@@ -46,7 +46,7 @@ pub fn run<S: RegisterStore + Drop>(
         KeepsPromises (start_from device process.now primary secondary) events.now report.device report.outcomes) }
     // A fault names the first leg with undetected damage, or the number of outcomes or spoken frames for which there is no room.
     ensures fault { IfErr result (IsFault (start_from device process.now primary secondary) events.now) }
-    // A clean or lost leg never stops a script, nor does a leg in which marked or check damage of the message sent in it is heard.
+    // A clean or lost leg never stops a script, nor does a leg in which the message sent is heard with marked or check damage.
     ensures detectable_damage_is_detected { IfErr result (IsNotDetectable (start_from device process.now primary secondary) events.now) }
 {
     let outcomes = room_for_outcomes(alloc, events)?;

@@ -18,8 +18,8 @@ use Rattle.hart_frame.specs.heard.Frames.{AreFrames, IsFirst, first, none}
 use Rattle.hart_frame.specs.heard.Place.{StandsIn}
 use Rattle.hart_frame.specs.heard.Sighting.{AreSightings, Message, Missed, Seen, header_at, missed, missed_at, sightings}
 
--- A list passes to `to` if `given` is seen before `to`, no frame begins before `to`, and at each later place the same is seen
--- whether characters count from `from` on or from `to` on.
+-- A list passes to `to` if three things hold: `given` is seen before `to`; no frame begins before `to`; and at each place from `to`
+-- on the same is seen whether characters count from `from` on or from `to` on.
 pub record Passes (chars : List Character) (from to : ℕ) (given : List Seen) : Type 0 where
   pub order : from ≤ to
   pub within : to ≤ length chars
