@@ -36,7 +36,7 @@ abbrev pub IsMarkedDamage : FrameParts → ℕ → List Character → Type 0
 IsMarkedDamage frame preambles chars =
     IsDamage frame preambles chars (λ left body. AllZip IsHeardOrMarked (replicate left 255 ++ body) chars)
 
--- Bytes replace a body if they have its length, its delimiter and its byte count; their other bytes may be any.
+-- Bytes replace a body if they have its length, its delimiter and its byte count; their other bytes may have any value.
 pub record Replaces (bytes body : List ℕ) : Type 0 where
   pub same_length : length bytes ≡ length body
   pub same_delimiter : delimiter_in bytes ≡ delimiter_in body

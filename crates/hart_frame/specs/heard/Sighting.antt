@@ -47,8 +47,8 @@ seen_miss chars place =
 abbrev pub header_at : List Character → ℕ → Option HeaderParts
 header_at chars place = header_in (bytes_from chars place)
 
--- A list of the place, the miss that is seen there and the header that is heard there; it is empty if no miss is seen. Characters
--- before `from`, the end of the last message, do not count.
+-- The list of one place, with the miss that is seen there and the header that is heard there. The list is empty if no miss is seen.
+-- Characters before `from`, the end of the last message, do not count.
 abbrev pub missed_at : List Character → ℕ → ℕ → List Seen
 missed_at chars from place =
     option_map_or (λ miss. Missed place (miss_in_whole from miss) (header_at chars place) ∷ [])

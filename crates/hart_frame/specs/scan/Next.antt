@@ -22,6 +22,6 @@ pub record AreNext (chars : List Character) (ended : Bool) (from : ℕ) (given :
   pub leads : LeadsOn chars ended from given to
   pub stops : All (λ found. found.stop ≤ to) given
 
--- The list of one frame, that of a view with its places, or the empty list if there is no view.
+-- The list of the frame of a view, with its places, or the empty list if there is no view.
 abbrev pub frames_of : Option FoundView → List Found
 frames_of view = map found_of (option_to_list view)

@@ -8,8 +8,8 @@ use Rattle.hart_frame.specs.declared.heard.found.Found.{Found}
 use Rattle.hart_frame.specs.declared.scan.view.FoundView.{FoundView}
 
 -- A scanner stands for the characters that it holds, and for the place of the first of them, or of the next one to come if it holds
--- none. It is finished if no more is to come. It is drained if it is new, if its last call gave no frame, or if it heard a chunk to
--- its end with nothing decided. In each case it has heard neither a character nor the finish since.
+-- none. It is finished if no more is to come. It is drained if it is new, if it was asked for a frame and gave none, or if it heard
+-- a chunk to its end with nothing decided. In each case it has heard neither a character nor the finish since.
 pub record Scan : Type 0 where
   pub first : ℕ
   pub held : List Character
