@@ -46,7 +46,8 @@ abbrev pub NoneBeginThen : List ℕ → Bool → ℕ → ℕ → Type 0
 NoneBeginThen bytes ended from to = (place : ℕ) → from ≤ place → place < to → (next : List Character)
     → (IsTrue ended → NothingFollows next) → BeginWithNone (faultless (drop place bytes) ++ next)
 
--- No frame is found from a place on if no byte is left there, or if the bytes left, at most 268, may begin one and have not ended.
+-- No frame is found from a place on if no byte is left there, or if the bytes left, at most 268, may begin a frame and more bytes
+-- can follow them.
 abbrev pub IsLeftOpen : List ℕ → Bool → ℕ → Type 0
 IsLeftOpen bytes ended place =
     (length bytes ≡ place) ⊎ ((length bytes ≤ place + 268) × MayBegin (drop place bytes) × (ended ≡ false))

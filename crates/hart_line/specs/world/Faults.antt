@@ -45,7 +45,7 @@ IsNotDetectable start events (Undetected number leg) = (world : World) (event : 
     → IsLast start (take number events) world → slice_get events number ≡ Some event → HasDetectable start world event leg → ⊥
 IsNotDetectable start events fault = Unit {0}
 
--- The damage of each leg of an event is detected. In the leg down it is detected whatever the leg up brings the device.
+-- The damage of each leg of an event is detected. In the leg down the damage is detected whatever the leg up brings the device.
 abbrev pub LegsAreDetected : Start → World → LineEvent → Type 0
 LegsAreDetected start world event = (leg : Leg) (heard : Heard) (sent : Option SpokenFrame)
     → HeardIn start world event leg heard sent → (arrived : Option FrameParts) × Arrives heard sent arrived

@@ -69,7 +69,7 @@ IsOther first = (first ≡ codes "submit" → ⊥) × (first ≡ codes "turn" �
 pub says_none : (first : List ℕ) (words : List (List ℕ)) → IsOther first → HasNoValue (Says (first ∷ words))
 says_none first words other event said = grind arith
 
--- A word that is not items, nor `ok` or `lost`, is not the word of a leg.
+-- A word that is neither items nor `ok` nor `lost` is not the word of a leg.
 pub no_leg : (word : List ℕ) → (word ≡ codes "ok" → ⊥) × (word ≡ codes "lost" → ⊥) → HasNoValue (IsItemsWord word)
     → HasNoValue (IsLegWord word)
 no_leg word other none Clean is = other.0 is
