@@ -1,4 +1,4 @@
--- What private functions promise one another. A reader who trusts the contracts of the public functions need not read it.
+-- What private functions promise one another. A reader who trusts the contracts of the public functions need not read these files.
 pub mod Layout
 pub mod Prefix
 pub mod Body

@@ -7,10 +7,10 @@
 //!   [`misses_say_what_is_wrong`], [`misses_are_faults`], [`damaged_messages_have_no_other_frame`], [`damage_by_example`].
 //! - Of a scanner: [`frames_are_streamed`], [`scanners_move_past_the_next_frames`], [`any_chunking_gives_the_same_frames`],
 //!   [`held_frames_are_given`].
-//! - For a caller that keeps only the rest of what was heard: [`the_rest_has_the_later_frames`]; with a scanner, from
-//!   [`Scanner::first_held`](crate::Scanner::first_held) on, [`held_characters_have_the_later_frames`]; and with
+//! - For a caller that keeps only the rest of what was heard: [`the_rest_has_the_later_frames`]; for a scanner, which keeps the
+//!   characters from [`Scanner::first_held`](crate::Scanner::first_held) on, [`held_characters_have_the_later_frames`]; and for
 //!   [`next_in_bytes`](crate::next_in_bytes), [`next_frames_are_all`].
-//! - Of messages and misses: [`sightings_are_unambiguous`], [`the_rest_has_the_later_sightings`]; and with
+//! - Of messages and misses: [`sightings_are_unambiguous`], [`the_rest_has_the_later_sightings`]; and for
 //!   [`next_sighting`](crate::next_sighting), [`next_sightings_are_all`].
 ghost use Rattle.std.specs.Prelude.{◌≡◌, ◌<◌, ◌≤◌, ◌↔◌, List, ℕ, [], ◌∷◌, ◌++◌, Some, length, drop, map, All, IsSome};
 ghost use Rattle.hart_frame.specs.wire.FrameParts.{FrameParts};
@@ -52,8 +52,8 @@ pub fn bodies_are_unambiguous()
         → IsBody f body → BeginsWithBody (body ++ rest) f (length body) }
 {}
 
-/// Bytes have a header exactly if they begin with a delimiter of this profile and reach the command. Bytes that begin with a body
-/// have the header of its frame. A header stays whatever follows. So if the bytes become a body, its frame has this header.
+/// Bytes have a header exactly if they begin with a delimiter of this profile and reach the command. Bytes that begin with a body have the
+/// header of its frame. Bytes that have a header keep it, whatever follows them. So if the bytes become a body, its frame has this header.
 pub fn headers_are_those_of_frames()
     ensures exactly { (bytes : List ℕ) → IsSome (header_in bytes) ↔ (HasDelimiter bytes × (command_place bytes < length bytes)) }
     ensures body { (bytes : List ℕ) (frame : FrameParts) (len : ℕ)

@@ -22,6 +22,6 @@ abbrev pub number_text : Option ℕ → List ℕ
 number_text None = []
 number_text (Some number) = decimal number
 
--- A text is its parts in this order.
+-- The text of a fault is its parts, joined in this order.
 abbrev pub joined : FaultText → List ℕ
 joined text = text.before.now ++ number_text text.number ++ text.comma.now ++ text.word.now

@@ -7,7 +7,7 @@ use hart_values::{Address, MasterId};
 pub enum Heard {
     /// What was sent in this leg, heard without faults; or nothing if nothing was sent.
     Clean,
-    /// Nothing.
+    /// Nothing is heard.
     Lost,
     /// These characters in place of what was sent.
     Chars(CharList),

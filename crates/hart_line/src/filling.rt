@@ -28,7 +28,7 @@ impl<T> Filling<T> {
     ///
     /// # Errors
     ///
-    /// [`NoRoom`] with that number, if the allocator refused it.
+    /// [`NoRoom`] with the number `room`, if the allocator refused the memory.
     pub fn with_room(alloc: Global, room: usize) -> Result<Self, NoRoom>
         requires small { AreSmall T.row }
         ensures empty { IfOk result (λ list. list ≡ record { items = []; room = room }) }
@@ -85,7 +85,7 @@ impl<T> Filling<T> {
     ///
     /// # Errors
     ///
-    /// [`NoRoom`] with that number, if the allocator refused it. Nothing has changed then.
+    /// [`NoRoom`] with the number `more`, if the allocator refused the memory. Nothing has changed then.
     pub fn make_room(&mut self, more: usize) -> Result<(), NoRoom>
         requires small { AreSmall T.row }
         ensures items { self.new.items ≡ self.old.items }

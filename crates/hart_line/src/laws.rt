@@ -30,7 +30,7 @@ pub fn words_have_one_value()
     ensures items { (word : List ℕ) (xs ys : List Character) → AreItems word xs → AreItems word ys → xs ≡ ys }
 {}
 
-/// Every text is a script or has a first bad line. By [`texts_have_one_script`] it is never both, and the script or line is unique.
+/// Every text is a script or has a first bad line. By [`texts_have_one_script`] no text is both, and the script or the line is unique.
 pub fn every_text_is_a_script_or_has_a_first_bad_line()
     ensures { (text : List ℕ)
         → ((events : List LineEvent) × IsScript text events) ⊎ ((number : ℕ) × HasFirstBadLine text number) }
@@ -68,7 +68,7 @@ pub fn empty_scripts_need_no_room<L: Log>()
         → IsScriptFault text (Memory none) → ⊥ }
 {}
 
-/// A master that takes a unique address from a reply with code 0 and a device's identity gets this device's own unique address.
+/// A master that takes the unique address in a device's identity, from a reply with code 0, gets this device's own unique address.
 #[tactic(auto, using(std::proofs::lemmas::Grind::common_steps, std::proofs::lemmas::Bool::Decides::nat_tests))]
 pub fn identities_give_their_address()
     ensures { (parts : IdentityParts) (counter extended_device_status : ℕ) (reply : Reply) → AreIdentityParts parts
@@ -76,8 +76,8 @@ pub fn identities_give_their_address()
         → unique_in reply ≡ Some (Unique (own_numbers parts)) }
 {}
 
-/// Wherever a turn stands in a script: if the device refuses a command in it, only the cold start bit of the turn's master changes,
-/// which the reply shows and clears. If the device does not answer, nothing in the device changes.
+/// In each turn of a script: if the device refuses a command, only the cold start bit of the turn's master changes, which the reply
+/// shows and clears. If the device does not answer, nothing in the device changes.
 pub fn refused_turns_change_nothing()
     ensures { (start : Start) (events : List LineEvent) (before next : World)
         (refused : IsRefusedByDevice start events before next)

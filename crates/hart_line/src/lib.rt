@@ -21,8 +21,8 @@
 //! assert_eq!(rt; *outcome, Outcome::Unfinished { sendings: 1 });
 //! ```
 //!
-//! The modules: `script` has texts whose lines say events; `line`, a device and two masters on one line; `world`, which is only
-//! definitions and lemmas, what has happened on the line. A reader of the script knows that, but no party on the line does.
+//! The modules: `script` has texts whose lines say events; `line`, a device and two masters on one line; `world`, which is only definitions
+//! and lemmas, what has happened on the line. A reader of the script knows what has happened, but no party on the line does.
 #![tactic(auto)]
 
 mod event;

@@ -108,7 +108,7 @@ impl<S: RegisterStore> Line<S> {
         }
     }
 
-    /// Notes in a log the spoken frames that the line keeps, up to the first that the log has no room for. Then keeps none.
+    /// Notes in a log the spoken frames that the line keeps, up to the first that the log has no room for. Then the line keeps none.
     pub fn tell<L: Log>(&mut self, log: &mut L) -> Result<(), NoRoom>
         ensures line { OnOk result (self.new ≡ record self.old { spoken = [] }) }
         ensures noted { OnOk result (L.notes log.old self.old.spoken log.new) }
@@ -163,8 +163,8 @@ impl<S: RegisterStore> Line<S> {
         self.outcomes.push(outcome);
     }
 
-    /// Carries out a turn of a master: the master sends the request in its hand, the device hears what goes up and answers, and
-    /// both masters hear what comes down.
+    /// Carries out a turn of a master. The master sends the request in its hand. The device hears the characters of the leg up and
+    /// answers. Both masters hear the characters of the leg down.
     fn turn(
         &mut self,
         who: MasterId,

@@ -23,7 +23,7 @@ impl NoRoom {
 ///
 /// # Errors
 ///
-/// [`NoRoom`] with that number, if the allocator refused it.
+/// [`NoRoom`] with the number `room`, if the allocator refused the memory.
 pub fn reserved<T>(alloc: Global, room: usize) -> Result<Vec<T>, NoRoom>
     requires small { AreSmall T.row }
     ensures empty { IfOk result (λ list. list.items ≡ []) }
@@ -41,7 +41,7 @@ pub fn reserved<T>(alloc: Global, room: usize) -> Result<Vec<T>, NoRoom>
 ///
 /// # Errors
 ///
-/// [`NoRoom`] with that number, if the allocator refused it. The list is as it was.
+/// [`NoRoom`] with the number `more`, if the allocator refused the memory. The list is then unchanged.
 pub fn make_room<T>(list: &mut Vec<T>, more: usize) -> Result<(), NoRoom>
     requires small { AreSmall T.row }
     ensures items { list.new.items ≡ list.old.items }

@@ -18,8 +18,8 @@ pub mod words;
 ///
 /// # Errors
 ///
-/// [`LineFault::BadLine`] with the number, counted from 1, of the first line that says no event and is no such line;
-/// [`LineFault::Memory`] if room was refused: for the event of a line, or for half as many characters as a word of it has bytes.
+/// [`LineFault::BadLine`] with the number, counted from 1, of the first line that says no event, and is neither empty nor a comment;
+/// [`LineFault::Memory`] if room was refused: for the event of a line, or for half as many characters as one of its words has bytes.
 pub fn read_script(alloc: Global, text: &[u8]) -> Result<Vec<LineEvent>, LineFault>
     ensures events { IfOk result (λ events. IsScript text.now events.items) }
     ensures fault { IfErr result (IsScriptFault text.now) }

@@ -14,9 +14,9 @@ pub type AddressBytes = ByteList<5>;
 /// The address of a message (HCF_SPEC-081): a polling address of one byte, or a unique address of five.
 #[derive(Clone, Copy, Debug, PartialEq, Eq, Hash)]
 pub enum Address {
-    /// A polling address, one byte.
+    /// A polling address, of one byte.
     Polling(PollingAddress),
-    /// A unique address or broadcast, five bytes.
+    /// A unique address or the broadcast address, of five bytes.
     Unique(UniqueAddress),
 }
 

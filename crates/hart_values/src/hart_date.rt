@@ -37,7 +37,7 @@ impl HartDate {
     ///
     /// # Errors
     ///
-    /// [`ValueFault::BadDate`] if they are neither three zeros nor a day of the calendar.
+    /// [`ValueFault::BadDate`] if the bytes are neither three zeros nor a day of the calendar.
     pub fn from_bytes(bytes: [u8; 3]) -> Result<Self, ValueFault>
         ensures accepted { IsOk result ↔ IsDateBytes bytes }
         ensures kept { IfOk result (λ date. date ≡ bytes) }

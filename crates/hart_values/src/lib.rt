@@ -1,9 +1,9 @@
 //! The values that a HART message carries, and their bytes (HCF_SPEC-081, HCF_SPEC-099, HCF_SPEC-127).
 //!
-//! Each value here is a value of the standard. If its bytes have a form of their own, a relation in `specs/` defines it. A pair of
-//! calls converts both ways: [`Address::bytes`] and [`Address::read`] for an address, [`PackedText::from_text`] and
-//! [`PackedText::write_text`] for a text, [`HartDate::from_bytes`] and [`HartDate::as_bytes`] for a date, [`Status::bytes`] and
-//! [`Status::read`] for a status.
+//! Each value here is a value of the standard. If the standard gives its bytes a form of their own, a relation in `specs/` defines
+//! that form. A pair of calls converts both ways: [`Address::bytes`] and [`Address::read`] for an address,
+//! [`PackedText::from_text`] and [`PackedText::write_text`] for a text, [`HartDate::from_bytes`] and [`HartDate::as_bytes`] for a
+//! date, [`Status::bytes`] and [`Status::read`] for a status.
 //!
 //! ```rust
 //! let address = Address::unique(0x3742, 0x0A1B2C)?;
@@ -17,14 +17,14 @@
 //! );
 //! ```
 //!
-//! The program `hart` does not call [`Status::read`]. It is for programs that show replies to a person with this library.
+//! The program `hart` does not call [`Status::read`]. That call is for programs that use this library to show replies to a person.
 //!
 //! No call of this crate allocates. Its modules are independent of each other:
 //!
 //! - `address`: polling and unique addresses, and the bytes that they have in a message.
 //! - `packed_text`: texts with four characters in every three bytes.
 //! - `hart_date`: dates, and the calendar that they are checked against.
-//! - `status`: the two status bytes of a reply, as a response code and a device status or as communication faults.
+//! - `status`: the two status bytes of a reply: either a response code and a device status, or communication faults.
 //!
 //! The root has the values of one or four bytes that have no invariant, lists of bytes, and a pair of values for the two masters.
 //! The module [`laws`] states what is proved of the definitions alone.

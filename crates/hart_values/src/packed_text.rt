@@ -34,8 +34,8 @@ impl<const N: usize> PackedText<N> {
     ///
     /// # Errors
     ///
-    /// [`ValueFault::WrongLength`] unless the text has 4N/3 bytes, and otherwise
-    /// [`ValueFault::BadCharacter`] with the first place of a byte outside hex 20 to 5F.
+    /// [`ValueFault::WrongLength`] unless the text has 4N/3 bytes. Otherwise, [`ValueFault::BadCharacter`] with the place of the
+    /// first byte outside hex 20 to 5F, if there is one.
     pub fn from_text(text: &[u8]) -> Result<Self, ValueFault>
         requires { IsPackedSize N }
         ensures accepted { IsOk result ↔ ((length text.now ≡ 4 * N / 3) × All IsCharacter text.now) }

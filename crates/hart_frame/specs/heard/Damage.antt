@@ -21,8 +21,8 @@ pub record IsMarked (character : Character) : Type 0 where
 abbrev pub IsHeardOrMarked : ℕ → Character → Type 0
 IsHeardOrMarked byte character = (character ≡ record { byte = byte; faults = 0 }) ⊎ IsMarked character
 
--- Damage to a message with `preambles` preamble bytes: any number of these is missing at the front. The rest of the preamble and
--- the body are heard as `AreHeard` says, and after the delimiter no two faultless FF are heard in a row.
+-- Damage to a message with `preambles` preamble bytes: any number of these is missing at the front. The preamble bytes that are
+-- left and the body are heard as `AreHeard` says, and after the delimiter no two faultless FF are heard in a row.
 pub record IsDamage (frame : FrameParts) (preambles : ℕ) (chars : List Character) (AreHeard : ℕ → List ℕ → Type 0) : Type 0 where
   pub left : ℕ
   pub left_within : left ≤ preambles
@@ -36,7 +36,7 @@ abbrev pub IsMarkedDamage : FrameParts → ℕ → List Character → Type 0
 IsMarkedDamage frame preambles chars =
     IsDamage frame preambles chars (λ left body. AllZip IsHeardOrMarked (replicate left 255 ++ body) chars)
 
--- Bytes replace a body if they have its length, its delimiter and its byte count; the others may be any bytes.
+-- Bytes replace a body if they have its length, its delimiter and its byte count; their other bytes may have any value.
 pub record Replaces (bytes body : List ℕ) : Type 0 where
   pub same_length : length bytes ≡ length body
   pub same_delimiter : delimiter_in bytes ≡ delimiter_in body

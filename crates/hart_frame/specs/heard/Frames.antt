@@ -13,8 +13,8 @@ pub record IsFirst (found : Found) (chars : List Character) (from : ℕ) : Type 
   pub stands : StandsIn found chars from
   pub least : (other : Found) → StandsIn other chars from → found.start ≤ other.start
 
--- A list has no frames from a place on if no frame stands from there on. Otherwise its frames are the first one, and then those
--- from the end of its body on. Their places are counted in the whole list.
+-- A list has no frames from a place on if no frame stands from there on. Otherwise its frames from there on are the first one, and
+-- then the frames from the end of that frame's body on. The places of all frames are counted in the whole list.
 pub data AreFrames (chars : List Character) : ℕ → List Found → Type 0 where
   none : (from : ℕ) → HasNoFrame chars from → AreFrames chars from []
   first : (from : ℕ) (found : Found) (later : List Found) → IsFirst found chars from

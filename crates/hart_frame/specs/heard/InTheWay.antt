@@ -30,10 +30,11 @@ ComeToTheEnd chars place = place + length (bytes_from chars place) ≡ length ch
 abbrev pub IsBurstDelimiter : ℕ → Type 0
 IsBurstDelimiter byte = (byte / 8 % 4 ≡ 0) × (byte % 8 ≡ 1)
 
--- What stands in the way of a body at a place where one may start. A character with fault bits ends the bytes there too early; or
--- they begin with the delimiter of a burst message, or with another byte that is no delimiter; or all that was heard ends before
--- the byte count; or a reply has a byte count below 2; or all that was heard ends `count` characters before the end of the check
--- byte; or the check byte does not fit the bytes before it. A single FF before a place (`OnePreamble`) is never in the way there.
+-- What stands in the way of a body at a place where a body may start. `Faulty`: a character with fault bits ends the bytes there
+-- too early. `Burst`: the bytes begin with the delimiter of a burst message. `BadDelimiter`: they begin with another byte that is
+-- no delimiter. `EndsBeforeByteCount`: all that was heard ends before the byte count. `ShortReply`: a reply has a byte count below
+-- 2. `Missing`: all that was heard ends `count` characters before the end of the check byte. `BadCheck`: the check byte does not
+-- fit the bytes before it. `OnePreamble`: a single FF before a place is never in the way there.
 abbrev pub IsInTheWay : List Character → ℕ → Miss → Type 0
 IsInTheWay chars start (Faulty place faults) =
     IsTruncated (bytes_from chars start) × (place ≡ start + length (bytes_from chars start)) × HasFaultsAt chars place faults
@@ -78,7 +79,7 @@ IsMiss chars start miss =
     (IsStart start chars × IsInTheWay chars start miss)
     ⊎ ((miss ≡ OnePreamble) × FollowsOnePreamble chars start × HasBodyAt chars start)
 
--- The fault of the faultless bytes that a miss comes from. A character with fault bits truncates these bytes, as the end of the
+-- The fault of the faultless bytes at the place of a miss. A character with fault bits truncates these bytes, as the end of the
 -- list does. A single FF before the bytes is no fault of theirs.
 abbrev pub fault_of : Miss → Option FrameFault
 fault_of (Faulty place faults) = Some Truncated

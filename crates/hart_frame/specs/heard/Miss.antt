@@ -1,5 +1,5 @@
 -- The miss of a place, found step by step (HCF_SPEC-081; own profile). The law `misses_are_in_the_way` says that `IsMiss` of
--- InTheWay allows just this miss. The texts of `explain` and the sightings of a list use it.
+-- InTheWay allows just this miss. The texts of `explain` and the sightings of a list use `miss_of`.
 use Rattle.std.specs.Prelude.{◌+◌, ◌-◌, ◌/◌, ◌%◌, ◌==◌, ◌&&◌, not, nat_le, nat_lt, if◌then◌else◌, ℕ, zero, suc, Bool, false}
 use Rattle.std.specs.Prelude.{List, Option, None, Some, drop, fold, is_none, length, slice_get, slice_index, take, bit_xor}
 use Rattle.std.specs.Option.{option_map_or}
@@ -32,8 +32,8 @@ abbrev pub faulty_or : Option Character → ℕ → Miss → Miss
 faulty_or None place at_end = at_end
 faulty_or (Some character) place at_end = Faulty place character.faults
 
--- Why no body begins at a start, or nothing if one does. The faultless bytes from there on decide, with the character with fault
--- bits after them, if there is one, and its place. The first condition that holds counts.
+-- Why no body begins at a start, or `None` if a body does. This depends on the faultless bytes from the start on, and on the
+-- character with fault bits after them, if there is one, and its place. The first condition that holds counts.
 abbrev pub miss_in : List ℕ → Option Character → ℕ → ℕ → Option Miss
 miss_in bytes faulty faulty_place start =
     if length bytes == 0 then Some (faulty_or faulty faulty_place EndsBeforeByteCount)
@@ -44,7 +44,7 @@ miss_in bytes faulty faulty_place start =
     then Some (faulty_or faulty faulty_place (Missing (body_length bytes - length bytes)))
     else check_miss bytes start
 
--- Like `miss_in`, for all that is heard from the start on.
+-- Like `miss_in`, for the characters `heard`, which are all from the start on.
 abbrev pub body_miss : ℕ → List Character → Option Miss
 body_miss start heard =
     let bytes = faultless_bytes heard in miss_in bytes (slice_get heard (length bytes)) (start + length bytes) start

@@ -47,8 +47,8 @@ seen_miss chars place =
 abbrev pub header_at : List Character → ℕ → Option HeaderParts
 header_at chars place = header_in (bytes_from chars place)
 
--- A place, the miss that is seen there, if any, and the header that is heard there. Characters before `from`, the end of the last
--- message, do not count.
+-- The list of one place, with the miss that is seen there and the header that is heard there. The list is empty if no miss is seen.
+-- Characters before `from`, the end of the last message, do not count.
 abbrev pub missed_at : List Character → ℕ → ℕ → List Seen
 missed_at chars from place =
     option_map_or (λ miss. Missed place (miss_in_whole from miss) (header_at chars place) ∷ [])
@@ -64,14 +64,14 @@ abbrev pub sightings : List Character → ℕ → List Found → List Seen
 sightings chars from [] = missed chars from (length chars)
 sightings chars from (found ∷ later) = missed chars from found.start ++ Message found ∷ sightings chars found.stop later
 
--- These are the messages and the misses of a list, from a place on.
+-- `seen` are the messages and the misses of a list, from a place on.
 pub record AreSightings (chars : List Character) (from : ℕ) (seen : List Seen) : Type 0 where
   pub frames : List Found
   pub are_frames : AreFrames chars from frames
   pub seen_is : seen ≡ sightings chars from frames
 
--- Whatever follows the characters, what is seen of all from `from` on is `given`, and then what is seen from `to` on. If the
--- characters ended, nothing follows them.
+-- Whatever follows the characters, the sightings of all characters together, from `from` on, are `given`, and then the sightings
+-- from `to` on. If the characters ended, nothing follows them.
 abbrev pub SeesOn : List Character → Bool → ℕ → List Seen → ℕ → Type 0
 SeesOn chars ended from given to = (more : List Character) (later : List Seen) → (IsTrue ended → more ≡ [])
     → AreSightings (chars ++ more) to later → AreSightings (chars ++ more) from (given ++ later)

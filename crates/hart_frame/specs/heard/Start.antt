@@ -12,11 +12,11 @@ pub record IsStart (place : ℕ) (chars : List Character) : Type 0 where
   pub place_is : place ≡ length prefix + 2
   pub other : first ≢ record { byte = 255; faults = 0 }
 
--- The first start of a list is the least such place.
+-- The first start of a list is the least place where a body may start.
 pub record IsFirstStart (place : ℕ) (chars : List Character) : Type 0 where
   pub start : IsStart place chars
   pub least : (other : ℕ) → IsStart other chars → place ≤ other
 
--- A list has no start if there is no such place.
+-- A list has no start if a body may start at none of its places.
 abbrev pub HasNoStart : List Character → Type 0
 HasNoStart chars = (place : ℕ) → IsStart place chars → ⊥

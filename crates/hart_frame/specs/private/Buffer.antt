@@ -1,4 +1,4 @@
--- What a scanner holds, and what it knows of it (own profile).
+-- What a scanner holds, and what it knows of the characters that it holds (own profile).
 use Rattle.std.specs.Prelude.{◌≡◌, ◌≢◌, ◌<◌, ◌≤◌, ◌+◌, ◌^◌, ℕ, Bool, true, false, Option, None, Some, IfSome, ◌⊎◌, List, ◌++◌, drop, length}
 use Rattle.std.specs.Option.{option_to_list}
 use Rattle.hart_frame.specs.heard.Character.{faultless}
@@ -19,12 +19,12 @@ is_drained Drained = true
 is_drained Busy = false
 is_drained (Stands layout) = false
 
--- With a layout, the state is that a frame stands by it; without one, the state is drained.
+-- With a layout, the state says that a frame of this layout stands at the front. Without a layout, the state is drained.
 abbrev pub state_of : Option Layout → State
 state_of None = Drained
 state_of (Some layout) = Stands layout
 
--- A buffer stands for its held bytes as faultless characters, and after them one character with faults or none.
+-- A buffer stands for its held bytes as faultless characters, and after them at most one character with faults.
 abbrev pub scan_of : Buffer → Scan
 scan_of b = record {
   first = b.first;
@@ -50,7 +50,8 @@ pub record IsWaiting (b : Buffer) : Type 0 where
   pub few : length (held_bytes b) ≤ 268
   pub may : MayBegin (held_bytes b)
 
--- What a state means: a drained buffer waits, of a busy one nothing is known, and one with a frame that stands begins with it.
+-- What a state means: a drained buffer waits; nothing is known of a busy one; in the state `Stands`, the held bytes begin with a
+-- frame of its layout.
 abbrev pub IsMeant : Buffer → State → Type 0
 IsMeant b Drained = IsWaiting b
 IsMeant b Busy = Unit {0}

@@ -38,12 +38,13 @@ abbrev pub NoneBeginHeld : Buffer → ℕ → Type 0
 NoneBeginHeld b count = (place : ℕ) → place < count → (more : List Character) → (IsTrue b.finished → more ≡ [])
     → BeginWithNone (faultless (drop place (held_bytes b)) ++ (option_to_list b.damaged ++ more))
 
--- Nothing is found in the held bytes from a place on: there are none, or they may begin a frame and more bytes can follow.
+-- Nothing is found in the held bytes from a place on: no bytes are held from there on, or those held may begin a frame and more
+-- bytes can follow.
 abbrev pub IsHeldOpen : Buffer → ℕ → Type 0
 IsHeldOpen b place = (length (held_bytes b) ≡ place)
     ⊎ ((length (held_bytes b) ≤ place + 268) × MayBegin (drop place (held_bytes b)) × (b.damaged ≡ None) × (b.finished ≡ false))
 
--- A search of the held bytes finds a place before which no frame begins. A frame begins at it, or nothing is found there.
+-- A search of the held bytes finds a place before which no frame begins. A frame begins at that place, or nothing is found from there on.
 pub record IsHeldSearched (b : Buffer) (found : Sighting) : Type 0 where
   pub within : found.place ≤ length (held_bytes b)
   pub none : NoneBeginHeld b found.place

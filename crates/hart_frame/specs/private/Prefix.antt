@@ -50,8 +50,8 @@ fault_in (BadDelimiter byte) = fault.BadDelimiter
 fault_in (ShortReply len byte_count) = fault.ShortReply
 fault_in (BadCheck len byte fits) = fault.BadCheck
 
--- How bytes begin: with a whole body; or they end too early for one, before the byte count or `missing` bytes before the end of the
--- check byte; or something is wrong with them.
+-- How bytes begin. `Whole`: with a whole body. `Cut`: they end too early for a body, either before the byte count or `missing`
+-- bytes before the end of the check byte. `Wrong`: something is wrong with them.
 abbrev pub IsPrefix : List ℕ → Prefix → Type 0
 IsPrefix bytes (prefix.Whole layout) =
     (layout_length layout ≤ length bytes) × IsWholeBody layout (take (layout_length layout) bytes)

@@ -27,8 +27,8 @@ IsOpenAll bytes found =
     (found.decided ≡ length bytes) × (length bytes ≤ found.place + 268) × MayBegin (drop found.place bytes)
 
 -- A search from `from` on finds a place, and decides it by the first `decided` bytes, at least `seen`, which end at most 269 bytes
--- after the place. No frame begins before it. At it a frame stands in these bytes, or else all bytes decide nothing. A prefix of at
--- least `seen` but fewer than `decided` bytes decides nothing.
+-- after the place. No frame begins before the place. At the place a frame stands in these bytes, or else all bytes together decide
+-- nothing. A prefix of at least `seen` but fewer than `decided` bytes decides nothing.
 pub record IsSearched (bytes : List ℕ) (from seen : ℕ) (found : Sighting) : Type 0 where
   pub after : from ≤ found.place
   pub order : found.place ≤ found.decided
@@ -46,7 +46,8 @@ abbrev pub NoneBeginThen : List ℕ → Bool → ℕ → ℕ → Type 0
 NoneBeginThen bytes ended from to = (place : ℕ) → from ≤ place → place < to → (next : List Character)
     → (IsTrue ended → NothingFollows next) → BeginWithNone (faultless (drop place bytes) ++ next)
 
--- No frame is found from a place on if no byte is left there, or if the bytes left, at most 268, may begin one and have not ended.
+-- No frame is found from a place on if no byte is left there, or if the bytes left, at most 268, may begin a frame and more bytes
+-- can follow them.
 abbrev pub IsLeftOpen : List ℕ → Bool → ℕ → Type 0
 IsLeftOpen bytes ended place =
     (length bytes ≡ place) ⊎ ((length bytes ≤ place + 268) × MayBegin (drop place bytes) × (ended ≡ false))

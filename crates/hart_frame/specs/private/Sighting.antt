@@ -23,7 +23,8 @@ use Rattle.hart_frame.specs.declared.wire.prefix.Prefix.TheVariants.{Whole}
 use Rattle.hart_frame.specs.declared.scan.view.FoundView.{FoundView}
 use Rattle.hart_frame.specs.scan.Sighting.{NamesPlacesBelow, heard_with}
 
--- A place after `from` is asked if a preamble byte stands right before it, and another byte or a character with fault bits at it.
+-- A place after `from` is asked if a preamble byte stands right before it, and at the place itself a byte that is no preamble byte,
+-- or a character with fault bits.
 pub record IsAsked (bytes : List ℕ) (after : After) (from place : ℕ) : Type 0 where
   pub order : from < place
   pub within : place ≤ length bytes
@@ -47,11 +48,11 @@ MayFollow End next = next ≡ []
 abbrev pub Whatever : List ℕ → After → (List Character → Type 0) → Type 0
 Whatever bytes after holds = (next : List Character) → MayFollow after next → holds (faultless bytes ++ next)
 
--- What begins at a place has this miss, or has none and is a whole body.
+-- The characters from a place on have this miss, or `None` if they begin with a whole body.
 abbrev pub HasBodyMiss : ℕ → Option Miss → List Character → Type 0
 HasBodyMiss start miss chars = body_miss start (drop start chars) ≡ miss
 
--- The header that is heard at a place is that of the bytes.
+-- The header that is heard at a place is the one with which the bytes from there on begin.
 abbrev pub KeepsHeader : List ℕ → ℕ → List Character → Type 0
 KeepsHeader bytes start chars = header_at chars start ≡ header_in (drop start bytes)
 
@@ -73,8 +74,8 @@ pub record LacksOnePreamble (bytes : List ℕ) : Type 0 where
   pub before : slice_index bytes (length bytes - 1) ≡ 255
   pub check : IsCheckByte bytes 255
 
--- What stands at a place right after a single preamble byte: no body that stands alone, whatever comes; or this is not decided yet;
--- or a body that stands alone, which is a miss.
+-- What stands at a place right after a single preamble byte. `Nothing`: no body stands alone there, whatever comes. `Open`: whether
+-- one does is not decided yet. `Missed`: a body stands alone there, which is a miss.
 abbrev pub IsAfterOne : List ℕ → After → ℕ → Standing → Type 0
 IsAfterOne bytes after start Nothing = Whatever bytes after (λ chars. stands_alone chars start ≡ false)
 IsAfterOne bytes after start (Open used) =
@@ -84,8 +85,8 @@ IsAfterOne bytes after start (standing.Missed miss) =
     (miss ≡ OnePreamble) × Whatever bytes after (λ chars. stands_alone chars start ≡ true)
     × Whatever bytes after (KeepsHeader bytes start)
 
--- What stands at a place right after two preamble bytes: bytes that may become a body, so nothing is decided; or a message; or a
--- miss. What follows does not change the header of a miss, here and after a single preamble byte.
+-- What stands at a place right after two preamble bytes: bytes that may become a body, so that nothing is decided; or a message; or
+-- a miss. Here, as after a single preamble byte, what follows does not change the header of a miss.
 abbrev pub IsAfterTwo : List ℕ → After → ℕ → Standing → Type 0
 IsAfterTwo bytes after start Nothing = ⊥
 IsAfterTwo bytes after start (Open used) = (after ≡ More) × (used + 2 ≡ start) × IsTruncated (drop start bytes)
@@ -119,7 +120,8 @@ IsUsed bytes from used = (from ≤ used) × (
     ⊎ ((used + 1 ≡ length bytes) × (slice_index bytes used ≡ 255) × ((from < used) → slice_index bytes (used - 1) ≢ 255))
     ⊎ ((used + 2 ≡ length bytes) × (slice_index bytes used ≡ 255) × (slice_index bytes (used + 1) ≡ 255)))
 
--- How far bytes are used that show nothing. All are used, with the character that has fault bits, unless more may come.
+-- How far bytes in which nothing is seen are used. Unless more may come, all of them are used, and so is the character with fault
+-- bits, if there is one.
 abbrev pub IsPassed : List ℕ → After → ℕ → ℕ → Type 0
 IsPassed bytes More from used = IsUsed bytes from used
 IsPassed bytes (Damaged character) from used = used ≡ length bytes + 1

@@ -8,8 +8,8 @@ use Rattle.hart_frame.specs.declared.heard.found.Found.{Found}
 use Rattle.hart_frame.specs.declared.scan.view.FoundView.{FoundView}
 
 -- A scanner stands for the characters that it holds, and for the place of the first of them, or of the next one to come if it holds
--- none. It is finished if no more is to come. It is drained if it is new, gave no frame, or heard a chunk to its end with nothing
--- decided, and has heard neither a character nor the finish since.
+-- none. It is finished if no more is to come. It is drained if it is new, if it was asked for a frame and gave none, or if it heard
+-- a chunk to its end with nothing decided. In each case it has heard neither a character nor the finish since.
 pub record Scan : Type 0 where
   pub first : ℕ
   pub held : List Character
@@ -20,7 +20,7 @@ pub record Scan : Type 0 where
 abbrev pub new_scan : Scan
 new_scan = record { first = 0; held = []; finished = false; drained = true }
 
--- A scanner that has heard more holds that too, and has yet to look at it.
+-- A scanner that hears more characters holds them too, and has yet to look at them.
 abbrev pub hearing : Scan → List Character → Scan
 hearing scan chars = record scan { held = scan.held ++ chars; drained = false }
 
@@ -29,7 +29,7 @@ abbrev pub finishing : Scan → Scan
 finishing scan = record scan { finished = true; drained = false }
 
 -- A scanner moves past some frames if it lets go of the first `count` characters that it held, and the frames are the next ones up
--- to there. They are found at places counted from the first character held, and given with their places in all that was heard.
+-- to `count`. In `found`, their places are counted from the first character held; in `given`, in all that was heard.
 pub record MovesPast (old new : Scan) (given : List Found) : Type 0 where
   pub count : ℕ
   pub found : List Found
@@ -39,8 +39,8 @@ pub record MovesPast (old new : Scan) (given : List Found) : Type 0 where
   pub held : new.held ≡ drop count old.held
   pub finished : new.finished ≡ old.finished
 
--- A scanner that gives a frame moves past it, and then holds what comes after its body. It is drained neither before nor after,
--- since more frames may be given.
+-- A scanner that gives a frame moves past this frame, and then holds what comes after the body of the frame. The scanner is drained
+-- neither before nor after that, since more frames may be given.
 pub record Gives (old new : Scan) (found : Found) : Type 0 where
   pub moves : MovesPast old new (found ∷ [])
   pub stop : new.first ≡ found.stop

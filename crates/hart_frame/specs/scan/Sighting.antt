@@ -33,7 +33,7 @@ abbrev pub seen_of : Sighting → Seen
 seen_of (given.Message view) = Message (found_of view)
 seen_of (given.Missed place miss header) = Missed place miss (option_map header_parts header)
 
--- The list of what a sighting shows, empty without one.
+-- The list of what a sighting shows, or the empty list if there is no sighting.
 abbrev pub sightings_of : Option Sighting → List Seen
 sightings_of None = []
 sightings_of (Some sighting) = seen_of sighting ∷ []

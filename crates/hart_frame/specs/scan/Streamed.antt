@@ -5,7 +5,7 @@ use Rattle.hart_frame.specs.scan.Scanner.{Scan, Ends, Gives, MovesPast, Waits, f
 use Rattle.hart_frame.specs.declared.heard.found.Found.{Found}
 
 -- What was pushed to a scanner since it was new, what it now stands for, and the frames that it gave. In each call it heard a
--- character, a part of a chunk (also one of bytes) or the finish, or it gave a frame, or none for now.
+-- character, a part of a chunk (also one of bytes) or the finish, or it gave a frame, or no frame for now.
 pub data IsHistory : List Character → Scan → List Found → Type 0 where
   begin : IsHistory [] new_scan []
   push : (past : List Character) (scan : Scan) (given : List Found) (character : Character) → IsHistory past scan given

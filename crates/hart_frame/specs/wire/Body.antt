@@ -16,8 +16,8 @@ pub record IsCheckedPart (frame : FrameParts) (bytes : List ℕ) : Type 0 where
   pub expansion_fits : length frame.expansion ≤ 3
   pub payload_fits : IsLongEnough frame.kind frame.payload
 
--- A body of a frame is that part and a check byte. All its bytes are below 256, and each of the eight bits is set in an even number
--- of them.
+-- A body of a frame is its checked part and a check byte. All its bytes are below 256, and each of the eight bits is set in an even
+-- number of them.
 pub record IsBody (frame : FrameParts) (bytes : List ℕ) : Type 0 where
   pub checked : List ℕ
   pub check : ℕ
@@ -35,7 +35,7 @@ pub record BeginsWithBody (bytes : List ℕ) (frame : FrameParts) (count : ℕ) 
 abbrev pub HasNoBody : List ℕ → Type 0
 HasNoBody bytes = (frame : FrameParts) (count : ℕ) → BeginsWithBody bytes frame count → ⊥
 
--- A list can become a body if it begins with one once certain bytes follow it.
+-- A list can become a body if there are bytes, `rest`, such that the list followed by them begins with a body.
 pub record CanBecomeBody (bytes : List ℕ) : Type 0 where
   pub rest : List ℕ
   pub frame : FrameParts

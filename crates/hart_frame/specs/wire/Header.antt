@@ -54,7 +54,7 @@ header_in bytes =
     })
     else None
 
--- What a header in the program says.
+-- What a value of the type `Header` of the code says.
 abbrev pub header_parts : Header → HeaderParts
 header_parts header = record {
   kind = header.kind;

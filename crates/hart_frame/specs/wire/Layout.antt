@@ -1,7 +1,7 @@
 -- Where the parts of a body stand in a list of bytes (HCF_SPEC-081).
 use Rattle.std.specs.Prelude.{ℕ, ◌+◌, ◌*◌, ◌/◌, ◌%◌, List, slice_index}
 
--- The delimiter is the first byte, 0 if there is none.
+-- The delimiter is the first byte, or 0 if the list is empty.
 abbrev pub delimiter_in : List ℕ → ℕ
 delimiter_in bytes = slice_index bytes 0
 
@@ -17,7 +17,7 @@ command_place bytes = address_end bytes + delimiter_in bytes / 32 % 4
 abbrev pub byte_count_place : List ℕ → ℕ
 byte_count_place bytes = command_place bytes + 1
 
--- The byte count is the byte at that place.
+-- The byte count is the byte at `byte_count_place`.
 abbrev pub byte_count_in : List ℕ → ℕ
 byte_count_in bytes = slice_index bytes (byte_count_place bytes)
 

@@ -74,7 +74,7 @@ pub fn why_none(chars: &[Char], start: usize) -> Option<Miss>
     None
 }
 
-/// Returns why no body begins at the front of `heard`, the characters from `start` on, or `None` if one does.
+/// Returns why no body begins at the front of `heard`, the characters from `start` on, or `None` if a body does.
 fn body_miss(heard: &[Char], start: usize) -> Option<Miss>
     requires within { start + length heard.now < 2 ^ 64 }
     ensures found { result ≡ body_miss start heard.now }
@@ -126,7 +126,7 @@ pub(crate) fn cut_miss(missing: Option<usize>) -> Miss
     }
 }
 
-/// Returns the miss for the character with fault bits after the first `count` characters, or `at_end` if they end there.
+/// Returns the miss for the character with fault bits after the first `count` characters, or `at_end` if no character follows them.
 fn faulty_or(heard: &[Char], count: usize, start: usize, at_end: Miss) -> Miss
     requires within { start + length heard.now < 2 ^ 64 }
     ensures { result ≡ faulty_or (slice_get heard.now count) (start + count) at_end }
@@ -173,10 +173,10 @@ pub fn every_start_has_a_frame_or_a_miss()
 /// A miss names what really stands in the way of a frame.
 ///
 /// `BadCheck`: once the byte that fits stands at the named place, a frame stands at the start and ends with that byte. `Faulty`:
-/// the character at the named place has the named fault bits; once any faultless character stands there, no fault bits are named
-/// there any more. `Missing`: once any bytes for the missing ones but the last, and then the check byte of all, follow the list, a
-/// frame stands at the start and ends with them. `OnePreamble`: once another faultless `FF` stands before the single one, a frame
-/// stands after the two.
+/// the character at the named place has the named fault bits; once any faultless character stands there, the miss names no fault
+/// bits there any more. `Missing`: let any bytes follow the list in place of all missing bytes but the last, and then the check
+/// byte of all bytes from the start on. A frame then stands at the start and ends with that check byte. `OnePreamble`: once another
+/// faultless `FF` stands before the single one, a frame stands after the two.
 pub fn misses_say_what_is_wrong()
     ensures bad_check { (start place byte fits : ℕ) (chars : List Character) → All (λ character. character.byte < 256) chars
         → miss_of chars start ≡ Some (BadCheck place byte fits)
@@ -194,8 +194,8 @@ pub fn misses_say_what_is_wrong()
         → HasFrameAt (insert chars start (record { byte = 255; faults = 0 })) (start + 1) }
 {}
 
-/// Where a body may start, a miss comes from the fault of the bytes there, up to the first character with fault bits. So misses
-/// come in the order of the faults of [`decode`](crate::decode).
+/// Where a body may start, a miss stands for the fault of the bytes there, up to the first character with fault bits. So misses are
+/// found in the order of the faults of [`decode`](crate::decode).
 pub fn misses_are_faults()
     ensures { (start : ℕ) (chars : List Character) (miss : Miss) → All (λ character. character.byte < 256) chars
         → IsStart start chars → miss_of chars start ≡ Some miss

@@ -6,8 +6,8 @@ ghost use Rattle.hart_frame.specs.heard.Start.{HasNoStart, IsFirstStart, IsStart
 use crate::Char;
 use crate::wire::message::PREAMBLE;
 
-/// Returns the first place where a body may start, however the body itself is heard, or `None` if there is none: two faultless
-/// preamble bytes `FF` stand right before it, and the character at it is not a faultless `FF`.
+/// Returns the first place where a body may start, or `None` if there is none. A body may start at a place if two faultless
+/// preamble bytes `FF` stand right before it and the character at it is not a faultless `FF`, however the body itself is heard.
 pub fn first_start(chars: &[Char]) -> Option<usize>
     ensures { MatchOption result (HasNoStart chars.now) (λ place. IsFirstStart place chars.now) }
 {

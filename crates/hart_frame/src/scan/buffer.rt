@@ -13,13 +13,13 @@ use crate::wire::layout::Layout;
 use crate::{Char, FoundView, FrameView};
 use hart_values::ByteList;
 
-/// How many characters are held at most: two preamble bytes and a body.
+/// The greatest number of characters that are held: two preamble bytes and a body.
 pub(crate) const MOST_HELD: usize = 269;
 
-/// The capacity of the list: twice [`MOST_HELD`], so that few bytes are moved when others are let go.
+/// The capacity of the list: twice [`MOST_HELD`], so that few bytes have to be moved after earlier ones were let go.
 pub(crate) const ROOM: usize = 538;
 
-/// The held characters: the faultless bytes of the list from `from` on, and after them one character with faults or none.
+/// The held characters: the faultless bytes of the list from `from` on, and after them at most one character with faults.
 #[derive(Drop)]
 pub(crate) struct Buffer {
     pub(crate) bytes: ByteList<ROOM>,
@@ -128,7 +128,7 @@ impl Buffer {
         self.finished || self.damaged.is_some()
     }
 
-    /// Lets go of the first `count` bytes.
+    /// Lets go of the first `count` bytes that are held.
     pub(crate) fn pass(&mut self, count: usize)
         requires sound { IsSound self.old }
         requires within { count ≤ length (held_bytes self.old) }
@@ -186,7 +186,8 @@ impl Buffer {
         }
     }
 
-    /// Keeps, of the held bytes and the chunk after them, those from `place` up to `stop`, and lets go of those before `place`.
+    /// Takes the held bytes and then those of the chunk, keeps the bytes from `place` up to `stop`, and lets go of the bytes before
+    /// `place`.
     pub(crate) fn keep(&mut self, chunk: &[u8], place: usize, stop: usize)
         requires stored { IsStored self.old }
         requires clear { self.old.damaged ≡ None }
@@ -259,7 +260,7 @@ impl Buffer {
         self.first += 1;
     }
 
-    /// Lets go of a held character with faults once no byte is held. A finished scanner is then new.
+    /// Lets go of the character with faults, if one is held. No byte may be held. A finished scanner is new afterwards.
     pub(crate) fn end(&mut self)
         requires sound { IsSound self.old }
         requires empty { held_bytes self.old ≡ [] }

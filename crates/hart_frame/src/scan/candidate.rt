@@ -9,11 +9,11 @@ use crate::wire::prefix::{Prefix, prefix_of};
 /// How bytes begin.
 #[derive(Clone, Copy)]
 pub(crate) enum Candidate {
-    /// With no frame, whatever follows. This many bytes prove it, and fewer do not.
+    /// The bytes begin with no frame, whatever follows them. The first ones, this many, prove that; fewer do not.
     Never(usize),
-    /// With what may still become a frame.
+    /// The bytes may still become a frame.
     Open,
-    /// With a frame, by this layout.
+    /// The bytes begin with a frame, by this layout.
     Whole(Layout),
 }
 

@@ -1,4 +1,4 @@
-//! Chunks of characters, which a scanner hears at once.
+//! Chunks: characters that a scanner hears in one call.
 ghost use Rattle.std.specs.Prelude.{◌≡◌, ◌<◌, ◌≤◌, ◌+◌, ◌^◌, ◌++◌, length};
 ghost use Rattle.hart_frame.specs.heard.Character.{faultless};
 ghost use Rattle.hart_frame.specs.private.Buffer.{IsSound, held_bytes, scan_of, state_of};
@@ -13,12 +13,12 @@ use crate::scan::search::{Sighting, search};
 use crate::wire::layout::Layout;
 use hart_values::ByteList;
 
-/// How many faultless characters are looked at together at most. They are copied, so a frame at the front is found without copying
-/// many that follow it.
+/// The greatest number of faultless characters that are searched together. They are copied first, so this limit keeps a frame at
+/// the front from causing a copy of many characters after it.
 const STRETCH: usize = 64;
 
 impl Buffer {
-    /// Hears the first bytes of a chunk, up to the first at which a frame is decided, and returns how many.
+    /// Hears the bytes of a chunk up to the first one at which a frame is decided, or else all. Returns how many it heard.
     pub(crate) fn push_bytes(&mut self, chunk: &[u8]) -> usize
         requires sound { IsSound self.old }
         requires drained { self.old.state ≡ Drained }
@@ -36,7 +36,7 @@ impl Buffer {
         taken
     }
 
-    /// Hears the first bytes of a chunk, and returns how many. They are searched without a copy if no byte is held before them.
+    /// Hears the first bytes of a chunk, and returns how many it heard. If no byte is held, the chunk is searched without a copy.
     fn push_part(&mut self, chunk: &[u8]) -> usize
         requires sound { IsSound self.old }
         requires drained { self.old.state ≡ Drained }
@@ -67,7 +67,8 @@ impl Buffer {
         search(joined.as_slice(), 0, held.len() + 1)
     }
 
-    /// Hears as many bytes of `part` as `found` says, the result for the held bytes and `part`, and returns how many.
+    /// Hears as many bytes of `part` as `found` needed, and returns how many. `found` is the result of a search of the held bytes
+    /// and `part`.
     #[inline(always)]
     fn settle(&mut self, part: &[u8], found: Sighting) -> usize
         requires sound { IsSound self.old }
@@ -84,7 +85,7 @@ impl Buffer {
         found.decided - held
     }
 
-    /// Hears the first characters of a chunk, up to the first at which a frame is decided, and returns how many.
+    /// Hears the characters of a chunk up to the first one at which a frame is decided, or else all. Returns how many it heard.
     pub(crate) fn push_chars(&mut self, chunk: &[Char]) -> usize
         requires sound { IsSound self.old }
         requires drained { self.old.state ≡ Drained }
@@ -102,7 +103,7 @@ impl Buffer {
         taken
     }
 
-    /// Hears the first characters of a chunk, either faultless ones or one with faults, and returns how many.
+    /// Hears either faultless characters at the front of a chunk or one character with faults. Returns how many it heard.
     fn push_stretch(&mut self, chunk: &[Char]) -> usize
         requires sound { IsSound self.old }
         requires drained { self.old.state ≡ Drained }

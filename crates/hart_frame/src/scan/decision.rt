@@ -47,7 +47,7 @@ impl Buffer {
         self.decide_held()
     }
 
-    /// Like [`Buffer::decide`], if bytes are held. It is a function of its own, since after most frames no bytes are held.
+    /// Like [`Buffer::decide`], if bytes are held. This is a separate function, since after most frames no bytes are held.
     #[inline(never)]
     fn decide_held(&mut self) -> Option<Layout>
         requires sound { IsSound self.old }

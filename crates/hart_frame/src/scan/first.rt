@@ -17,11 +17,11 @@ use crate::{Char, Found};
 /// Whether a delivery has exactly one frame. A delivery is what is heard at once.
 #[derive(Debug, Drop, PartialEq, Eq)]
 pub enum LoneFrame {
-    /// It has no frame.
+    /// The delivery has no frame.
     NoFrame,
-    /// It has this frame, and no other.
+    /// The delivery has this frame, and no other.
     Alone(Found),
-    /// It has more than one frame.
+    /// The delivery has more than one frame.
     Several,
 }
 
@@ -77,7 +77,7 @@ fn has_frame(chars: &[Char]) -> bool
     first_span(&mut buffer, chars).is_some()
 }
 
-/// Pushes a list to a new buffer, and returns where the body of its first frame then lies in the buffer.
+/// Pushes a list to a new buffer, and returns where the body of the list's first frame then lies in the buffer.
 fn first_span(buffer: &mut Buffer, chars: &[Char]) -> Option<Span>
     requires sound { IsSound buffer.old }
     requires is_new { scan_of buffer.old ≡ new_scan }

@@ -11,18 +11,19 @@ use crate::{FoundView, FrameView};
 /// What stands next in bytes.
 #[derive(Drop)]
 pub struct NextInBytes<'a> {
-    /// The next frame and its places in the bytes, or `None` if none is decided, or none is left.
+    /// The next frame and its places in the bytes, or `None` if no frame is decided yet, or no frame is left.
     pub frame: Option<FoundView<'a>>,
-    /// The place from which on later frames stand.
+    /// The place from which to continue. All later frames stand after it.
     pub used: usize,
 }
 
 /// Returns the next frame in bytes that were heard without faults; nothing is copied. Its two preamble bytes stand at or after
-/// `from`, which is at most the number of bytes. `ended` says that nothing comes after the bytes.
+/// `from`, which is at most the number of bytes. If `ended` is true, nothing comes after the bytes.
 ///
-/// Continue from [`NextInBytes::used`] to get the frame after it. If no frame is returned and the bytes ended, none is left. If
-/// they did not end, the bytes from `used` on, at most 268, may begin a frame with what comes after them. Places are counted from
-/// the first of `bytes`: they stay the same if `bytes` grow at their end, and change if the first of them are dropped.
+/// Continue from [`NextInBytes::used`] to get the frame after the returned one. If no frame is returned and `ended` is true, no
+/// frame is left. If no frame is returned and `ended` is false, the bytes from `used` on, at most 268, may begin a frame together
+/// with what comes after them. Places are counted from the first of `bytes`. So they stay the same if bytes are added at the end,
+/// and change if bytes at the front are dropped.
 ///
 /// ```rust
 /// let bytes = [0x55, 0xFF, 0xFF, 0x02, 0x80, 0x00, 0x00, 0x82];
@@ -61,11 +62,12 @@ pub fn next_in_bytes(bytes: &[u8], from: usize, ended: bool) -> NextInBytes<'_>
     }
 }
 
-/// Frames that are found one after another are the next ones, also if more is heard, or if no more comes. Each frame uses up some
-/// characters.
+/// Frames that are found one after another are the next ones, and stay so if more is heard, or if no more comes. Each frame uses up
+/// some characters.
 ///
-/// The rest alone, with what comes later, has all frames that are left, so a caller may keep only the rest. The next frames of the
-/// rest, moved to their places, are the next ones of the whole. Once all characters are used up, the frames found are all frames.
+/// The characters that are not used up, with what comes later, have all frames that are left, so a caller may keep only those
+/// characters. Their next frames, with places counted in the whole list, are the next frames of the whole list. Once all characters
+/// are used up, the frames found are all frames.
 pub fn next_frames_are_all()
     ensures nothing { (chars : List Character) (ended : Bool) (place : ℕ) → place ≤ length chars → AreNext chars ended place [] place }
     ensures some { (chars : List Character) (ended : Bool) (from to : ℕ) (found : Found) (more : List Found)

@@ -6,8 +6,8 @@ use std::marker::Model;
 
 /// Finds the frames of what is heard, character by character, and lends a view of each as soon as it is decided.
 ///
-/// It holds at most 269 characters, the two preamble bytes and the body of the longest frame, and allocates no memory. While it
-/// waits for more it holds at most 268, since the longest frame is decided by its last character.
+/// A scanner holds at most 269 characters, the two preamble bytes and the body of the longest frame, and allocates no memory. While
+/// it waits for more it holds at most 268, since the longest frame is decided by its last character.
 ///
 /// ```rust
 /// let mut scanner = Scanner::new();
@@ -51,8 +51,8 @@ impl Scanner {
         }
     }
 
-    /// Hears one more character. The scanner must be drained, and must have been pushed fewer than 2^64 - 1 characters so far. It
-    /// then holds at most 269.
+    /// Hears one more character. The scanner must be drained, and fewer than 2^64 - 1 characters may have been pushed to it so far.
+    /// It then holds at most 269 characters.
     pub fn push(&mut self, character: Char)
         requires drained { IsTrue self.old.drained }
         requires room { self.old.first + length self.old.held < 2 ^ 64 - 1 }
@@ -62,9 +62,9 @@ impl Scanner {
         self.buffer.push(character);
     }
 
-    /// Hears the first bytes of a chunk, without faults, and returns how many: up to the first at which a frame is decided, or else
-    /// all. [`Scanner::take`] then returns that frame. The scanner must be drained, and the characters pushed so far and the chunk
-    /// must together be fewer than 2^64.
+    /// Hears the bytes of a chunk, as characters without faults, up to the first byte at which a frame is decided, or else all.
+    /// Returns how many it heard. If a frame is decided, [`Scanner::take`] returns it. The scanner must be drained, and the
+    /// characters pushed so far and the chunk must together be fewer than 2^64.
     ///
     /// The effect is that of [`Scanner::push`] for each of these bytes, with [`Scanner::take`] returning `None` after each but the
     /// last. An empty scanner searches the bytes in place, and copies only those that it then holds.
@@ -83,7 +83,7 @@ impl Scanner {
         self.buffer.push_bytes(chunk)
     }
 
-    /// Hears the first characters of a chunk, with or without faults, like [`Scanner::push_bytes`], and returns how many.
+    /// Hears characters of a chunk like [`Scanner::push_bytes`], but with or without faults. Returns how many it heard.
     pub fn push_chars(&mut self, chunk: &[Char]) -> usize
         requires drained { IsTrue self.old.drained }
         requires room { self.old.first + length self.old.held + length chunk.now < 2 ^ 64 }
@@ -102,7 +102,8 @@ impl Scanner {
     /// Returns the next frame that is decided, or `None` if there is none for now. After the finish, `None` means that no frame is
     /// left; the scanner is then new, and places begin at 0 again.
     pub fn take(&mut self) -> Option<FoundView<'_>>
-        // The view borrows the scanner, so this speaks of it once the view is dropped: GivesNextOrNothing self.old after result.
+        // The view borrows the scanner, so this speaks of the scanner once the view is dropped: GivesNextOrNothing self.old after
+        // result.
         ensures* after { sem 𝓛 (follows_so the_row the_row self.entry.ghost_name none (λ _ _. ⊤)
             (λ after. GivesNextOrNothing self.old after result)) }
     {

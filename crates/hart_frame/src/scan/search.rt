@@ -14,7 +14,7 @@ pub(crate) struct Sighting {
     pub(crate) place: usize,
     /// How many bytes were needed to decide this.
     pub(crate) decided: usize,
-    /// The layout of the frame that begins at this place. If none does, the bytes from there on may still begin one.
+    /// The layout of the frame that begins at `place`. If this is `None`, the bytes from `place` on may still begin a frame.
     pub(crate) layout: Option<Layout>,
 }
 
@@ -46,7 +46,8 @@ pub(crate) fn search(bytes: &[u8], from: usize, seen: usize) -> Sighting
     open_at(bytes, bytes.len())
 }
 
-/// Searches from `from` for a frame. If the bytes ended, nothing can follow them, and an open place begins no frame.
+/// Searches from `from` for a frame. If `ended` is true, nothing can follow the bytes, so a place at which a frame might still
+/// begin has none.
 pub(crate) fn search_to_end(bytes: &[u8], from: usize, ended: bool) -> Sighting
     requires { from ≤ length bytes.now }
     ensures { IsSearchedToEnd bytes.now from ended result }
@@ -70,7 +71,7 @@ fn open_at(bytes: &[u8], place: usize) -> Sighting
 }
 
 /// Returns the first place from `from` on at which a frame may begin, or `None` if no preamble byte follows. In a row of several
-/// preamble bytes it is the last but one.
+/// preamble bytes, this place is the last but one.
 fn next_candidate(bytes: &[u8], from: usize) -> Option<usize>
     requires { from ≤ length bytes.now }
     ensures { MatchOption result (HasNoPreamble bytes.now from) (IsNextCandidate bytes.now from) }

@@ -27,18 +27,18 @@ use crate::{Char, FoundView, FrameView, Header, Miss};
 /// What comes after bytes that were heard without faults.
 #[derive(Clone, Copy, Debug, PartialEq, Eq)]
 pub enum After {
-    /// More may come, which is not heard yet.
+    /// More characters may come, which are not heard yet.
     More,
-    /// This character, which has fault bits.
+    /// This character comes next, and has fault bits.
     Damaged(Char),
-    /// Nothing.
+    /// Nothing comes after the bytes.
     End,
 }
 
 /// A message, or a place where one seems to start but none stands.
 #[derive(Drop)]
 pub enum Sighting<'a> {
-    /// A message, whose frame lies where it was found.
+    /// A message. Its frame is borrowed from the bytes in which it was found.
     Message(FoundView<'a>),
     /// Why no frame stands at this place. The header is that of the faultless bytes from there on, if they begin with a delimiter of
     /// this profile and reach the command.
@@ -52,9 +52,9 @@ pub enum Sighting<'a> {
 /// The next sighting in bytes.
 #[derive(Drop)]
 pub struct NextSighting<'a> {
-    /// The next message or miss, or `None` if none is decided, or none is left.
+    /// The next message or miss, or `None` if no sighting is decided yet, or no sighting is left.
     pub sighting: Option<Sighting<'a>>,
-    /// The place from which on the later sightings stand.
+    /// The place from which to continue. All later sightings stand at or after it.
     pub used: usize,
 }
 
@@ -64,8 +64,9 @@ pub struct NextSighting<'a> {
 /// of their places. A whole body after a single `FF` is a miss only if no two `FF` in a row begin within it. All places, also those
 /// in a miss, are counted from the first of `bytes`.
 ///
-/// Continue from [`NextSighting::used`] to get the sighting after it. If there is no sighting and `after` is not [`After::More`],
-/// all is used, also a character with fault bits. If more may follow, at most 268 bytes are left, and these decide nothing.
+/// Continue from [`NextSighting::used`] to get the sighting after this one. If there is no sighting and `after` is [`After::More`],
+/// at most 268 bytes are left, and these decide nothing. If there is no sighting and `after` is another value, all bytes are used,
+/// and so is a character with fault bits.
 pub fn next_sighting(bytes: &[u8], after: After, from: usize) -> NextSighting<'_>
     requires within { from ≤ length (heard_with bytes.now after) }
     requires valid { AfterIsValid after }
@@ -147,7 +148,7 @@ fn message_at(bytes: &[u8], start: usize, layout: Layout) -> NextSighting<'_>
 pub(crate) enum Standing {
     /// No sighting.
     Nothing,
-    /// This is not decided yet. All before the place given here is used.
+    /// This is not decided yet. All characters before the place given here are used.
     Open(usize),
     /// A message, by the layout of its body.
     Message(Layout),
@@ -188,8 +189,8 @@ fn after_two(bytes: &[u8], after: &After, start: usize) -> Standing
     }
 }
 
-/// Returns what stands at `start` if exactly one preamble byte stands right before it. A body there is a miss if no two preamble
-/// bytes in a row begin within it.
+/// Returns what stands at `start` if exactly one preamble byte stands right before it. A whole body at `start` is a miss, unless
+/// two preamble bytes in a row begin within that body.
 fn after_one(bytes: &[u8], after: &After, start: usize) -> Standing
     requires one { 1 ≤ start }
     requires within { start ≤ length bytes.now }
@@ -231,7 +232,8 @@ fn lone_body(bytes: &[u8], after: &After, start: usize, stop: usize) -> Standing
     Standing::Missed(Miss::OnePreamble)
 }
 
-/// Returns true if bytes that lack `missing` bytes of a body may become one within which no two preamble bytes in a row begin.
+/// Returns true if these bytes, which lack `missing` bytes of a body, may still become a body within which no two preamble bytes in
+/// a row begin.
 fn can_stand_alone(bytes: &[u8], missing: Option<usize>) -> bool
     requires { IsPrefix bytes.now (Cut missing) }
     ensures may { IsTrue result → MayStandAlone bytes.now 0 }
@@ -266,8 +268,8 @@ fn has_two_preambles(bytes: &[u8]) -> bool
     false
 }
 
-/// Returns how far bytes are used that show nothing and leave nothing open. A character with fault bits that follows is used too.
-/// If more may follow, the preamble bytes at the end, at most two, are not used.
+/// Returns up to which place the bytes are used, if nothing is seen in them and no place in them is open. A character with fault
+/// bits that follows is used too. If more may follow, the preamble bytes at the end, at most two, are not used.
 fn passed(bytes: &[u8], after: &After, from: usize) -> usize
     requires within { from ≤ length bytes.now }
     requires places { length bytes.now < 2 ^ 64 - 1 }
@@ -289,7 +291,7 @@ fn passed(bytes: &[u8], after: &After, from: usize) -> usize
     }
 }
 
-/// Finds the next place after `from` at which another character follows a preamble byte.
+/// Finds the next place after `from` where a character that is no preamble byte follows a preamble byte.
 fn next_asked(bytes: &[u8], after: &After, from: usize) -> Option<usize>
     requires within { from ≤ length bytes.now }
     ensures { IsNextAsked bytes.now after.now from result }
@@ -304,7 +306,7 @@ fn next_asked(bytes: &[u8], after: &After, from: usize) -> Option<usize>
 }
 
 /// The rest of a list, after its first `place` characters, has exactly the list's sightings from `place` on. In the list they stand
-/// `place` places later. So a caller that keeps only the rest has all that are left.
+/// `place` places later. So a caller that keeps only the rest has all sightings that are left.
 pub fn the_rest_has_the_later_sightings()
     ensures { (place : ℕ) (chars : List Character) (seen : List Seen)
         → AreSightings (drop place chars) 0 seen → AreSightings chars place (map (moved_seen place) seen) }
@@ -317,8 +319,9 @@ pub fn sightings_are_unambiguous()
     ensures some { (chars : List Character) (from : ℕ) → (seen : List Seen) × AreSightings chars from seen }
 {}
 
-/// Sightings that are found one after another are the next ones, also if the characters grow at their end. The rest alone, with
-/// what comes later, has the sightings that are left. Once all characters are used, those found are all sightings of the list.
+/// Sightings that are found one after another are the next ones, and stay so if more characters follow. The characters that are not
+/// used up, with what comes later, have the sightings that are left. Once all characters are used, the sightings found are all
+/// those of the list.
 pub fn next_sightings_are_all()
     ensures onward { (chars : List Character) (ended : Bool) (from to after : ℕ) (given found : List Seen)
         → SeesOn chars ended from given to → SeesOn chars ended to found after → SeesOn chars ended from (given ++ found) after }

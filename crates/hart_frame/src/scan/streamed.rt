@@ -8,8 +8,8 @@ ghost use Rattle.hart_frame.specs.scan.Scanner.{Gives, GivesNothing, MovesPast, 
 ghost use Rattle.hart_frame.specs.scan.Streamed.{IsHistory, IsWholeHistory};
 ghost use Rattle.hart_frame.specs.declared.heard.found.Found.{Found};
 
-/// The frames that a scanner gave are the next ones of all that was pushed, up to the first character that it holds. So, whatever
-/// is still to come, they are the first frames of all that is pushed, and all of its frames once the scanner ended.
+/// The frames that a scanner gave are the next ones of all that was pushed, up to the first character that it holds. So these
+/// frames are the first ones of all that is pushed, whatever is still to come. Once the scanner ended, they are all frames.
 pub fn frames_are_streamed()
     ensures next { (past : List Character) (scan : Scan) (given : List Found) → IsHistory past scan given
         → AreNext past scan.finished 0 given scan.first }
@@ -21,7 +21,7 @@ pub fn frames_are_streamed()
 {}
 
 /// A scanner that moves past frames and then past others moves past all of them. Whatever it hears later, it moved past the same
-/// frames. These frames are the next ones in all that was heard, whatever it let go before and whatever comes later.
+/// frames. These frames are the next ones in all that was heard, whatever the scanner let go before and whatever comes later.
 pub fn scanners_move_past_the_next_frames()
     ensures onward { (old mid new : Scan) (given found : List Found) → MovesPast old mid given → MovesPast mid new found
         → MovesPast old new (given ++ found) }
@@ -44,9 +44,9 @@ pub fn held_frames_are_given()
     ensures onward { (old new : Scan) (found : Found) → Gives old new found → length new.held < length old.held }
 {}
 
-/// A scanner holds what was pushed from its first held place on. Whatever is still to come, the frames of all that is pushed are
-/// those that it gave, and then those of what it holds with what is still to come, moved to their places. So a caller that keeps
-/// only what is held, at most 269 characters, has all frames that are left.
+/// A scanner holds what was pushed from its first held place on. The frames of all that is pushed are the frames that the scanner
+/// gave, and then the frames of what it holds together with what is still to come, whatever that is. Their places are counted in
+/// all that is pushed. So a caller that keeps only what is held, at most 269 characters, has all frames that are left.
 pub fn held_characters_have_the_later_frames()
     ensures within { (past : List Character) (scan : Scan) (given : List Found) → IsHistory past scan given
         → scan.first ≤ length past }

@@ -3,7 +3,7 @@ use crate::FrameView;
 /// A frame that was found, and where it stands in what was heard.
 #[derive(Drop)]
 pub struct FoundView<'a> {
-    /// The place of the delimiter, from 0.
+    /// The place of the delimiter, counted from 0.
     pub start: u64,
     /// The place after the check byte.
     pub stop: u64,

@@ -25,7 +25,7 @@ pub const UNIQUE_REQUEST: u8 = 0x82;
 // The prover refuses any other value.
 const _: () = prove!(UNIQUE_REQUEST == 0x82);
 
-/// The place of the command after that delimiter: the five address bytes stand between them.
+/// The place of the command after [`UNIQUE_REQUEST`]: the five address bytes stand between the two.
 pub const UNIQUE_COMMAND_PLACE: usize = 6;
 
 /// What a delimiter says of the bytes after it.

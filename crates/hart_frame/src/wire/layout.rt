@@ -5,7 +5,7 @@ ghost use Rattle.hart_frame.specs.wire.Layout.{body_length, byte_count_in, delim
 use crate::FrameKind;
 use crate::wire::delimiter::UNIQUE_COMMAND_PLACE;
 
-/// The kind and the parts of a body, as its delimiter and its byte count say.
+/// The kind of a body and the places of its parts, as its delimiter and its byte count give them.
 #[derive(Clone, Copy)]
 pub(crate) struct Layout {
     pub(crate) kind: FrameKind,

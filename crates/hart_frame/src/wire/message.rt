@@ -38,8 +38,7 @@ pub fn is_preamble_count(preambles: u8) -> bool
 ///
 /// # Errors
 ///
-/// [`FrameFault::BadPreamble`] if `preambles` is outside [`LEAST_PREAMBLES`] to [`MOST_PREAMBLES`]. The output is then
-/// as it was.
+/// [`FrameFault::BadPreamble`] if `preambles` is outside [`LEAST_PREAMBLES`] to [`MOST_PREAMBLES`]. `output` is then unchanged.
 pub fn encode(frame: &Frame, preambles: u8, output: &mut Message) -> Result<(), FrameFault>
     ensures accepted { IsOk result ↔ IsPreambleCount preambles }
     ensures written { OnOk result (IsMessage frame.now preambles output.new) }

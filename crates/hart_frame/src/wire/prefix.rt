@@ -1,4 +1,4 @@
-//! How bytes begin as a body; only this module reads that.
+//! How bytes begin as a body. No other module reads that.
 ghost use Rattle.std.specs.Prelude.{◌≡◌};
 ghost use Rattle.hart_frame.specs.private.Prefix.{IsPrefix, fault_in, shown_by};
 
@@ -10,11 +10,11 @@ use crate::wire::parity::body_check;
 /// How bytes begin.
 #[derive(Clone, Copy)]
 pub(crate) enum Prefix {
-    /// With a whole body, by this layout.
+    /// The bytes begin with a whole body, by this layout.
     Whole(Layout),
-    /// With what may become a body. If the bytes reach the byte count, this is how many bytes are missing.
+    /// The bytes may still become a body. If they reach the byte count, this is how many bytes are missing.
     Cut(Option<usize>),
-    /// With what never becomes a body.
+    /// The bytes never become a body, whatever follows them.
     Wrong(Wrong),
 }
 
@@ -25,7 +25,7 @@ pub(crate) enum Wrong {
     BadDelimiter { byte: u8 },
     /// The last of the first `len` bytes is the byte count of a reply, below 2.
     ShortReply { len: usize, byte_count: u8 },
-    /// The last of the first `len` bytes stands in the place of the check byte, and `fits` would fit there.
+    /// The last of the first `len` bytes, `byte`, stands in the place of the check byte, and `fits` would fit there.
     BadCheck { len: usize, byte: u8, fits: u8 },
 }
 

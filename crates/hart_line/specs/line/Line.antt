@@ -35,12 +35,12 @@ pub record Stepped (start : Start) (world : World) (event : LineEvent) (line : L
   pub said_is : next.spoken ≡ world.spoken ++ said
   pub spoken_are : AreSpoken said line.spoken
 
--- Whichever world the old line stands for, the event leads from it to a next world, for which the new line stands.
+-- From each world for which the old line stands, the event leads to a next world, for which the new line stands.
 abbrev pub StepsOn : Process → LineEvent → LineState → LineState → Type 0
 StepsOn process event old new = (start : Start) (world : World) → start.process ≡ process → MarksWithin world → Stands start world old
     → Stepped start world event new
 
--- In whichever world the line stands for, this leg of the event has undetected damage.
+-- In each world for which the line stands, this leg of the event has undetected damage.
 abbrev pub StopsAt : Process → LineEvent → LineState → Leg → Type 0
 StopsAt process event line leg = (start : Start) (world : World) → start.process ≡ process → Stands start world line
     → HasUndetected start world event leg

@@ -21,7 +21,7 @@ pub record IsSubmitter (id : MasterId) (retries : ℕ) (hand : Hand) (held : Opt
   pub master_is : submitter.master ≡ record { id = id; retries = retries; reply_limit = reply_limit; hand = hand }
   pub place_is : IfSome held (λ request. submitter.place ≡ request.submission)
 
--- A master has this in its hand.
+-- A master has this request in its hand, or nothing if there is none.
 abbrev pub Holds : MasterId → ℕ → Option InHand → Submitter → Type 0
 Holds id retries held submitter = IsSubmitter id retries (hand_of held) held submitter
 
@@ -51,11 +51,11 @@ Submits held place address request (Some fault) outcome Left = (outcome ≡ Refu
 abbrev pub outcome_in_turn : (retries : ℕ) → Option InHand → Option Reply → Option Outcome
 outcome_in_turn retries hand accepted = option_map (λ held. outcome_of retries (held.sendings + 1) accepted) hand
 
--- By this outcome the request stays in the master's hand or leaves it.
+-- What is in the master's hand after a turn: by its outcome the request stays there or leaves.
 abbrev pub hand_after_turn : (retries : ℕ) → Option InHand → Option Reply → Option InHand
 hand_after_turn retries hand accepted = option_and_then (λ held. hand_left held (outcome_of retries (held.sendings + 1) accepted)) hand
 
--- This outcome replaces the one that the submission had. With nothing in hand no outcome changes.
+-- The outcome of the request in hand replaces the one that its submission had. With nothing in hand, no outcome changes.
 abbrev pub outcomes_after_turn : (retries : ℕ) → Option InHand → Option Reply → List Outcome → List Outcome
 outcomes_after_turn retries None accepted outcomes = outcomes
 outcomes_after_turn retries (Some held) accepted outcomes =

@@ -7,7 +7,7 @@ use Rattle.hart_line.specs.script.Items.{AreDigits, byte_of, hex_value}
 abbrev pub value_of_digit : ℕ → ℕ
 value_of_digit byte = if is_hex_digit byte then hex_value byte else 255
 
--- A table holds the value as a digit of each byte below `count`.
+-- For each byte below `count`, a table holds the value of this byte as a hex digit.
 abbrev pub AreDigitValues : ℕ → List ℕ → Type 0
 AreDigitValues count values = (byte : ℕ) → byte < count → get_or values byte 0 ≡ value_of_digit byte
 

@@ -25,7 +25,7 @@ request_of command payload = do
   bytes ← payload_of payload
   result_ok (request_reading number bytes)
 
--- The word of a leg is `ok` if it is clean, `lost` if it is lost, and otherwise items end to end for the characters heard.
+-- The word of a leg is `ok` if the leg is clean, `lost` if it is lost, and otherwise items end to end for the characters heard.
 abbrev pub IsLegWord : List ℕ → Heard → Type 0
 IsLegWord word Clean = word ≡ codes "ok"
 IsLegWord word Lost = word ≡ codes "lost"
@@ -61,7 +61,7 @@ lines_in_words text = map words_of (lines_of text)
 abbrev pub AreEvents : List (List (List ℕ)) → List LineEvent → Type 0
 AreEvents lines events = AllZip Says (filter (λ words. not (is_skipped words)) lines) events
 
--- The script of a text is the list of the events that its lines say.
+-- The script of a text is the list of the events that the lines of the text say.
 abbrev pub IsScript : List ℕ → List LineEvent → Type 0
 IsScript text events = AreEvents (lines_in_words text) events
 
@@ -75,7 +75,7 @@ pub record HasFirstBadLine (text : List ℕ) (number : ℕ) : Type 0 where
   pub bad : IsBadLine words
   pub good : AreEvents (take before (lines_in_words text)) events
 
--- Words need room for half as many characters as one of them has bytes, if that is at least 1.
+-- Words need room for this number of characters if the number is at least 1 and half the number of bytes of one of the words.
 abbrev pub IsNeededByWords : List (List ℕ) → ℕ → Type 0
 IsNeededByWords words items = (0 < items) × Any (λ word. items ≡ length word / 2) words
 
@@ -84,7 +84,7 @@ abbrev pub IsNeededByLine : List (List ℕ) → ℕ → Type 0
 IsNeededByLine words items =
     (is_skipped words ≡ false) × (((event : LineEvent) × Says words event × (items ≡ 1)) ⊎ IsNeededByWords words items)
 
--- A text needs the room that one of its lines needs.
+-- A text needs room for this number of items if one of its lines does.
 abbrev pub IsNeededByText : List ℕ → ℕ → Type 0
 IsNeededByText text items = Any (λ words. IsNeededByLine words items) (lines_in_words text)
 
@@ -107,8 +107,8 @@ abbrev pub fault_at_line : ℕ → RowFault → LineFault
 fault_at_line number rows.Bad = BadLine number
 fault_at_line number (rows.Memory room) = Memory room
 
--- The result of reading the line with this number. If it has no event, the line is skipped. If it has an event, the words of the
--- line say it. A fault names this line if it is bad, or the room that its words need.
+-- The result of reading the line with this number. If the result has no event, the line is skipped. If it has an event, the words
+-- of the line say this event. A fault names the line if the line is bad, or the room that its words need.
 abbrev pub SaysLine : ℕ → List (List ℕ) → Result (Option LineEvent) LineFault → Type 0
 SaysLine number words (Ok None) = IsTrue (is_skipped words)
 SaysLine number words (Ok (Some event)) = (is_skipped words ≡ false) × Says words event

@@ -81,7 +81,7 @@ IsDataWord word bytes = data_of word ≡ Some bytes
 abbrev pub HasNoValue : {T : Type 0} → (T → Type 0) → Type 0
 HasNoValue {T} IsValue = (value : T) → IsValue value → ⊥
 
--- If a value is found, this holds for it. If nothing is found, this holds for no value.
+-- If a value is found, `IsValue` holds for it. If nothing is found, `IsValue` holds for no value.
 abbrev pub Finds : {T : Type 0} → (T → Type 0) → Option T → Type 0
 Finds {T} IsValue None = HasNoValue IsValue
 Finds {T} IsValue (Some value) = IsValue value

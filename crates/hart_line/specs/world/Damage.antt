@@ -19,8 +19,8 @@ AreHeard Clean (Some said) chars =
 AreHeard Lost sent chars = chars ≡ []
 AreHeard (Chars given) sent chars = chars ≡ given
 
--- The damage of what was heard is detected in two cases. If no frame was heard, nothing arrives. If the sent frame was heard and no
--- other, it arrives. So if nothing was sent, no frame may be heard.
+-- The damage of what was heard is detected in two cases. If no frame was heard, nothing arrives. If the frame that was sent was
+-- heard, and no other frame, the sent frame arrives. So if nothing was sent, any frame that is heard is undetected damage.
 abbrev pub IsDetected : Option FrameParts → List Found → Option FrameParts → Type 0
 IsDetected sent [] arrived = arrived ≡ None
 IsDetected sent (found ∷ []) arrived = (sent ≡ Some found.frame) × (arrived ≡ sent)
@@ -32,7 +32,7 @@ pub record ArrivesAmong (chars : List Character) (sent arrived : Option FramePar
   pub are_frames : AreFrames chars 0 frames
   pub detected : IsDetected sent frames arrived
 
--- What the device is brought if this was sent and these characters were heard, with detected damage. A brought frame was sent.
+-- What the device is brought if this was sent and these characters were heard, with detected damage. A frame that is brought was sent.
 pub record ReachesAmong (identity : IdentityParts) (chars : List Character) (sent : Option FrameParts) (brought : Brought) : Type 0 where
   pub frame : Option FrameParts
   pub arrives : ArrivesAmong chars sent frame
@@ -56,14 +56,14 @@ pub record Reaches (identity : IdentityParts) (heard : Heard) (sent : Option Spo
   pub are_heard : AreHeard heard sent chars
   pub among : ReachesAmong identity chars (frame_of sent) brought
 
--- The damage of a leg is undetected if the damage of the characters that are heard in it is.
+-- The damage of a leg is undetected if the damage of the characters that are heard in it is undetected.
 pub record IsUndetected (heard : Heard) (sent : Option SpokenFrame) : Type 0 where
   pub chars : List Character
   pub are_heard : AreHeard heard sent chars
   pub among : IsUndetectedAmong chars (frame_of sent)
 
--- A clean or lost leg is detectable. Given characters are detectable if a message was sent and they are marked or check damage of
--- it. If nothing was sent, given characters do not count as detectable.
+-- A clean or lost leg is detectable. Given characters are detectable if a message was sent and they are marked damage or check
+-- damage of this message. If nothing was sent, they do not count as detectable.
 abbrev pub IsDetectable : Heard → Option SpokenFrame → Type 0
 IsDetectable Clean sent = Unit {0}
 IsDetectable Lost sent = Unit {0}

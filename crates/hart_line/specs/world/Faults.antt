@@ -35,7 +35,7 @@ IsFault start events (Undetected number leg) = (world : World) × (event : LineE
 IsFault start events (Memory room) = IsNeededBy events room.items
 IsFault start events (BadLine line) = ⊥
 
--- What is heard in a leg is detectable. Noise never is, since nobody sends it.
+-- What is heard in a leg is detectable. Noise is never detectable, since nobody sends it.
 abbrev pub HasDetectable : Start → World → LineEvent → Leg → Type 0
 HasDetectable = HasDamage IsDetectable
 
@@ -45,7 +45,7 @@ IsNotDetectable start events (Undetected number leg) = (world : World) (event : 
     → IsLast start (take number events) world → slice_get events number ≡ Some event → HasDetectable start world event leg → ⊥
 IsNotDetectable start events fault = Unit {0}
 
--- The damage of each leg of an event is detected. In the leg down it is detected whatever the leg up brings the device.
+-- The damage of each leg of an event is detected. In the leg down the damage is detected whatever the leg up brings the device.
 abbrev pub LegsAreDetected : Start → World → LineEvent → Type 0
 LegsAreDetected start world event = (leg : Leg) (heard : Heard) (sent : Option SpokenFrame)
     → HeardIn start world event leg heard sent → (arrived : Option FrameParts) × Arrives heard sent arrived

@@ -14,12 +14,12 @@ use Rattle.hart_line.specs.world.World.{Start, World, first_world, overwrites_of
 
 -- What is promised if a script was carried out and this device and these outcomes are returned.
 pub record KeepsPromises (start : Start) (events : List LineEvent) (device : DeviceState) (outcomes : List Outcome) : Type 0 where
-  -- Each request is well made, since it is a value of its type.
+  -- Each request is well made, since it is a value of the type `Request`.
   pub well_made : AreWellMade events
   -- Each accepted reply is the device's answer in the turn in which its request was last sent.
   pub accepted_reply_answers_last_sending : (number : ℕ) (reply : Reply) (sendings : ℕ)
       → slice_get outcomes number ≡ Some (Answered reply sendings) → AnswersLastSending start events number reply sendings
-  -- The registers are the initial ones overwritten by the last execution of each submission, in their order.
+  -- The registers are the initial ones overwritten by the last execution of each submission, in the order of these executions.
   pub registers_follow_last_executions : (world : World) → IsLast start events world
       → device.contents ≡ registers_of (overwrites_of (last_executions world.executions)) start.device.contents
   -- The counter has grown by the number of executed writes.
@@ -32,7 +32,7 @@ pub record KeepsPromises (start : Start) (events : List LineEvent) (device : Dev
   pub refused_turns_change_nothing : (before next : World) (refused : IsRefusedByDevice start events before next)
       → state_of start.device next ≡ after_refusal (state_of start.device before) refused.frame
   -- If a write arrives in a turn and the device answers it with code 0, the request in hand is executed, even if the answer is not
-  -- heard. Nothing else is ever executed. So a write whose accepted reply has code 0 was executed in the turn of that reply; and a
+  -- heard. Nothing else is ever executed. So a write whose accepted reply has code 0 was executed in the turn of that reply. A
   -- submission was executed at most as often as it was sent, and never if it was refused.
   pub unrefused_writes_are_executed : (before next : World) (who : MasterId) (up down : Heard)
       (turn : IsStepOf start (first_world start) events before (Turn who up down) next)

@@ -25,6 +25,6 @@ most_spoken events = 2 * count_by is_turn events + count_by is_noise events
 abbrev pub IsNeededForOutcomes : List LineEvent → ℕ → Type 0
 IsNeededForOutcomes events items = (0 < items) × (items ≡ count_by is_submission events)
 
--- If spoken frames are kept, events need room for their outcomes, and room for as many frames as are spoken in them at most.
+-- If spoken frames are kept, events need room for their outcomes, and room for the greatest number of frames that are spoken in them.
 abbrev pub IsNeededBy : List LineEvent → ℕ → Type 0
 IsNeededBy events items = IsNeededForOutcomes events items ⊎ (0 < items) × (items ≡ most_spoken events)

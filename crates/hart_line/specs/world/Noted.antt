@@ -18,8 +18,8 @@ pub record IsNeededByNoting (Needs : Spoken → ℕ → Type 0) (start : Start) 
   pub needed : Any (λ frame. Needs frame items) spoken
   pub some : 0 < items
 
--- The fault of events that are carried out with a log. It is undetected damage, as without a log, and all that was spoken before
--- its event has been noted; or it is refused memory that is needed to note one of the spoken frames.
+-- The fault of events that are carried out with a log. It is undetected damage, as without a log; all that was spoken before the
+-- event with this damage has then been noted. Or it is refused memory that is needed to note one of the spoken frames.
 abbrev pub IsNotingFault : (Needs : Spoken → ℕ → Type 0) → (AreNoted : List Spoken → Type 0) → Start → List LineEvent → LineFault → Type 0
 IsNotingFault Needs AreNoted start events (Undetected number leg) = (undetected : IsFault start events (Undetected number leg))
     × (spoken : List Spoken) × AreSpoken undetected.0.spoken spoken × AreNoted spoken

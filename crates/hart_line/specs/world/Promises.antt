@@ -40,7 +40,7 @@ submissions_of (event ∷ events) = submissions_of events
 abbrev pub submission_in : MasterId → InHand → Submission
 submission_in who held = record { who = who; address = held.address; request = held.request }
 
--- One event of a script: the events before it lead to a world, and it leads from there to the next.
+-- One event of a script: the events before it lead to a world, and the event leads from this world to the next.
 pub record IsStepOf (start : Start) (from : World) (events : List LineEvent) (before : World) (event : LineEvent) (next : World)
     : Type 0 where
   pub prefix : List LineEvent
@@ -49,7 +49,7 @@ pub record IsStepOf (start : Start) (from : World) (events : List LineEvent) (be
   pub led : LeadsTo start from prefix before
   pub step : Step start before event next
 
--- A start is well made if its device and its process are, as every value of their types is.
+-- A start is well made if its device and its process are well made, as every value of their types is.
 pub record IsWellMadeStart (start : Start) : Type 0 where
   pub device : IsDevice start.device
   pub process : IsProcess start.process
@@ -105,13 +105,13 @@ pub record IsExecutedInItsTurn (start : Start) (events : List LineEvent) (number
   pub overwrites : overwrite_of request ≡ Some overwrite
   pub executed : answered.next.executions ≡ answered.before.executions ++ record { submission = number; overwrite = overwrite } ∷ []
 
--- What an event brought the device. A turn brought what its leg up brought. Every other event counts as bringing no message, since
--- it cannot bring a frame: noise may bring a garbled request, but that has no effect.
+-- What an event brought the device. A turn brought what the leg up of the turn brought. Every other event counts as bringing no
+-- message, since it cannot bring a frame: noise may bring a garbled request, but that has no effect.
 abbrev pub brought_in_step : (start : Start) (before : World) (event : LineEvent) (next : World) → Step start before event next → Brought
 brought_in_step start before (Turn who up down) next step = step.brought
 brought_in_step start before event next step = NoMessage
 
--- What was brought is an unrefused write: the frame of a configuration write, and the device answers it with code 0.
+-- What was brought is an unrefused write: the frame of a configuration write, which the device answers with code 0.
 abbrev pub IsUnrefusedWrite : DeviceState → Brought → Type 0
 IsUnrefusedWrite state (OneFrame frame) =
     IsTrue (is_write frame.command) × (is_answered state frame ≡ true) × (code_of state frame ≡ 0)

@@ -53,7 +53,7 @@ abbrev pub sent_back : Start → World → Brought → Option SpokenFrame
 sent_back start world brought = spoken_by Device start.device.identity.response_preambles
     (answer_to (state_of start.device world) start.process brought)
 
--- A frame that arrives has its effect on the device. A garbled request has no effect. Without a message there is none either.
+-- A frame that arrives has its effect on the device. A garbled request has no effect. Without a message there is no effect either.
 abbrev pub effect_on : DeviceState → Brought → Effect
 effect_on state (OneFrame frame) = effect_of state frame
 effect_on state brought = Nothing
@@ -82,13 +82,13 @@ Accepts who (Some held) None accepted = accepted ≡ None
 Accepts who (Some held) (Some frame) None = (reply : Reply) → IsReplyTo who held.address held.request frame reply → ⊥
 Accepts who (Some held) (Some frame) (Some reply) = IsReplyTo who held.address held.request frame reply
 
--- A request is answered by the reply that is accepted. Without one it is unfinished if it was sent at most `retries` times, and
--- otherwise has no reply.
+-- A request is answered by the reply that is accepted. Without an accepted reply, it is unfinished if it was sent at most `retries`
+-- times, and otherwise is given up.
 abbrev pub outcome_of : (retries sendings : ℕ) → Option Reply → Outcome
 outcome_of retries sendings (Some reply) = Answered reply sendings
 outcome_of retries sendings None = if nat_le sendings retries then Unfinished sendings else NoReply sendings
 
--- An unfinished request stays in hand, with its sendings. Any other leaves the hand.
+-- An unfinished request stays in hand, with its sendings. Any other request leaves the hand.
 abbrev pub hand_left : InHand → Outcome → Option InHand
 hand_left held (Unfinished sendings) = Some (record held { sendings = sendings })
 hand_left held outcome = None
@@ -97,10 +97,10 @@ hand_left held outcome = None
 abbrev pub replied : Start → World → Brought → World
 replied start world brought = record world { spoken = world.spoken ++ option_to_list (sent_back start world brought) }
 
--- A turn of a master in which the device was brought this and this reply was accepted. With nothing in hand, only the device's
--- answer, if any, is spoken. Otherwise the request is spoken, and then the answer, if any; the effect enters the executions under
--- the number of the submission, or sets the master's mark; if the frame is answered, the master's cold start bit is cleared; and
--- the submission gets its outcome, by which the request stays in hand or leaves it.
+-- A turn of a master in which the device was brought `brought` and the master accepted `accepted`. With nothing in hand, only the
+-- device's answer, if any, is spoken. Otherwise the request is spoken, and then the answer, if any; the effect enters the
+-- executions under the number of the submission, or sets the master's mark; if the frame is answered, the master's cold start bit
+-- is cleared; and the submission gets its outcome, by which the request stays in hand or leaves it.
 abbrev pub turned : Start → World → MasterId → Option InHand → Brought → Option Reply → World
 turned start world who None brought accepted = replied start world brought
 turned start world who (Some held) brought accepted =
@@ -127,15 +127,15 @@ pub record IsTurn (start : Start) (world : World) (who : MasterId) (up down : He
   pub next_is : next ≡ turned start world who (of_master who world.hands) brought accepted
 
 -- Noise, in which nothing was sent, leads to the next world by what it brings the device. The device's answer, if any, is spoken.
--- Both masters hear it without damage. As neither awaits a reply, neither accepts it.
+-- Both masters hear it without damage. As neither master awaits a reply, neither accepts the answer.
 pub record IsNoise (start : Start) (world : World) (chars : List Character) (next : World) : Type 0 where
   pub brought : Brought
   pub arrives : Reaches start.device.identity (Chars chars) None brought
   pub next_is : next ≡ replied start world brought
 
 -- An event leads from a world to the next. A submission does so with the fault that refuses it, if any. A switch of protection
--- changes nothing else. A restart of the device sets both masters' cold start bits and nothing else, so what the masters have in
--- hand stays. A turn or noise with undetected damage leads to no next world.
+-- changes nothing but the protection. A restart of the device sets both masters' cold start bits and nothing else, so what the
+-- masters have in hand stays. A turn or noise with undetected damage leads to no next world.
 abbrev pub Step : Start → World → LineEvent → World → Type 0
 Step start world (Submit who address request) next =
     next ≡ submitted world who address request (submission_fault (of_master who world.hands) address request)
@@ -149,6 +149,6 @@ abbrev pub LeadsTo : Start → World → List LineEvent → World → Type 0
 LeadsTo start world [] last = last ≡ world
 LeadsTo start world (event ∷ events) last = (next : World) × Step start world event next × LeadsTo start next events last
 
--- The last world of a script is the one that its events lead to from the first.
+-- The last world of a script is the one to which its events lead from the first world.
 abbrev pub IsLast : Start → List LineEvent → World → Type 0
 IsLast start events last = LeadsTo start (first_world start) events last

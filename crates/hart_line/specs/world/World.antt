@@ -18,9 +18,9 @@ pub record InHand : Type 0 where
   pub request : Request
   pub sendings : ℕ
 
--- A world is what was executed, oldest first; for each master its mark, if any: how many executions there were when its last
--- Command 38 was executed; whether the device is protected; for each master its cold start bit; what each master has in hand; what
--- became of each submission so far; and what was spoken.
+-- A world is what was executed, oldest first; for each master its mark, if any (the number of executions when its last Command 38
+-- was executed); whether the device is protected; for each master its cold start bit; what each master has in hand; what became of
+-- each submission so far; and what was spoken.
 pub record World : Type 0 where
   pub executions : List Execution
   pub marks : EachMaster (Option ℕ)

@@ -59,7 +59,7 @@ impl EventFrames {
         }
     }
 
-    /// Notes these frames in a log, in order, up to the first one that the log has no room for. Keeps none of them.
+    /// Notes these frames in a log, in order, up to the first one that the log has no room for. Then none of them is kept.
     pub fn note_in<L: Log>(&mut self, log: &mut L) -> Result<(), NoRoom>
         ensures noted { OnOk result (L.notes log.old self.old log.new) }
         ensures refused { IfErr result (λ none. (0 < none.items) × Any (λ said. L.needs said none.items) self.old) }

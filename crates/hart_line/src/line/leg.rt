@@ -48,7 +48,7 @@ pub fn arrived_among<'a>(
     }
 }
 
-/// Lets the device hear what goes up. Returns true if the device answers; the answer is then in `reply`.
+/// Lets the device hear the leg `up`, in which `sent` was sent. Returns true if the device answers; the answer is then in `reply`.
 #[tactic(auto, using(crate::proofs::lemmas::line::Leg::nothing_reaches))]
 pub fn answer_in<S: RegisterStore>(
     device: &mut Device<S>,

@@ -1,4 +1,4 @@
-//! Scripts are carried out, and what is spoken is noted while they are.
+//! Carries out scripts, and notes in a log what is spoken.
 ghost use Rattle.std.specs.Prelude.{◌≡◌, ◌≤◌, [], List, IfErr, IfOk, count_by};
 ghost use Rattle.hart_line.specs.Types.{Primary, Secondary, Spoken};
 ghost use Rattle.hart_master.specs.declared.hand.Hand.TheVariants.{Empty};
@@ -19,13 +19,13 @@ use hart_device::{Device, Process, RegisterStore};
 use hart_master::Master;
 use std::alloc::Global;
 
-/// Carries out a script as [`run`](crate::run) does. After each event, notes in the log what was spoken in it, without keeping it.
+/// Carries out a script as [`run`](crate::run) does. After each event, notes in the log the frames spoken in it, and keeps none of them.
 ///
 /// # Errors
 ///
-/// [`LineFault::Memory`] if room was refused: before the first event, for an outcome of each submission; or after an event, if the log
-/// has no room for a frame that was spoken in it. [`LineFault::Undetected`] as [`run`](crate::run) gives it, if no room was refused before
-/// that event; what was spoken before it has been noted then. Only the fault is given back.
+/// [`LineFault::Memory`] if room was refused: before the first event, for an outcome of each submission; or after an event, if the
+/// log has no room for a frame that was spoken in it. [`LineFault::Undetected`] as [`run`](crate::run) gives it, if no room was
+/// refused before; all that was spoken before the event that it names has been noted then. Only the fault is returned.
 pub fn run_logged<S: RegisterStore + Drop, L: Log>(
     alloc: Global,
     device: Device<S>,
@@ -43,11 +43,11 @@ pub fn run_logged<S: RegisterStore + Drop, L: Log>(
     // The script and what is returned keep the promises that are made of every script.
     ensures promises { IfOk result (λ ending.
         KeepsPromises (start_from device process.now primary secondary) events.now ending.device ending.outcomes) }
-    // A fault names the first leg with undetected damage, and what was spoken before its event has been noted; or the number of
+    // A fault names the first leg with undetected damage, and what was spoken before the event of this leg has been noted; or the number of
     // outcomes for which there is no room, and nothing has been noted; or the room that is missing to note a spoken frame.
     ensures fault { let start = start_from device process.now primary secondary in
         IfErr result (IsLoggedFault L.needs (λ spoken. L.notes log.old spoken log.new) start events.now) }
-    // No leg stops a script if it is clean or lost, or if what is heard is marked or check damage of the message sent in it.
+    // A clean or lost leg never stops a script, nor does a leg in which the message sent is heard with marked or check damage.
     ensures detectable_damage_is_detected { IfErr result (IsNotDetectable (start_from device process.now primary secondary) events.now) }
 {
     let outcomes = room_for_outcomes(alloc, events)?;

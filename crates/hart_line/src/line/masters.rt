@@ -50,7 +50,7 @@ impl Submitter {
         self.master.send_into(frame)
     }
 
-    /// Hears the frame that comes back, if any. Returns the outcome of the request in hand if the frame answers it.
+    /// Hears the frame that comes back, if any. Returns the outcome of the request in hand if the frame answers that request.
     fn hear(&mut self, returned: Option<&Frame>) -> Option<Outcome>
         ensures awaited { (id : MasterId) (retries : ℕ) (held : Option InHand) → Awaits id retries held self.old
             → MatchOption result (Accepts id held (option_copied returned.entry) None × Awaits id retries held self.new)
@@ -135,7 +135,7 @@ impl Masters {
         }
     }
 
-    /// Lets both masters hear what comes back, and ends the turn of this one.
+    /// Lets both masters hear what comes back, and ends the turn of the master `who`.
     pub fn end_turn(
         &mut self,
         who: MasterId,

@@ -5,7 +5,7 @@ ghost use Rattle.hart_line.specs.world.Needs.{IsNeededBy, IsNeededForOutcomes, i
 use crate::{Filling, LineEvent, NoRoom, Outcome, Spoken};
 use std::alloc::Global;
 
-/// Reserves room for an outcome of each submission in these events. If refused, the error has the number of submissions.
+/// Reserves room for an outcome of each submission in these events. If the room is refused, the error has the number of submissions.
 pub fn room_for_outcomes(alloc: Global, events: &[LineEvent]) -> Result<Filling<Outcome>, NoRoom>
     ensures empty { IfOk result (λ outcomes. outcomes ≡ record { items = []; room = count_by is_submission events.now }) }
     ensures refused { IfErr result (λ none. IsNeededForOutcomes events.now none.items) }
@@ -13,7 +13,7 @@ pub fn room_for_outcomes(alloc: Global, events: &[LineEvent]) -> Result<Filling<
     Filling::with_room(alloc, submissions(events))
 }
 
-/// Reserves room for as many frames as are spoken in these events at most. If refused, the error has this number of frames.
+/// Reserves room for the greatest number of frames that are spoken in these events. If it is refused, the error has this number.
 pub fn room_for_all_spoken(alloc: Global, events: &[LineEvent]) -> Result<Filling<Spoken>, NoRoom>
     ensures empty { IfOk result (λ spoken. spoken ≡ record { items = []; room = most_spoken events.now }) }
     ensures refused { IfErr result (λ none. IsNeededBy events.now none.items) }

@@ -17,17 +17,17 @@ use std::alloc::Global;
 
 /// Carries out a script: what the masters ask, and what each side hears.
 ///
-/// In a turn the master sends the request in its hand, if there is one. The device hears what goes up, and answers. Both masters
-/// hear what comes down; a master that still awaits its reply then stops waiting. All three hear noise, and both masters hear the
-/// device's answer to it without damage. A restart sets both cold start bits of the device.
+/// In a turn the master sends the request in its hand, if there is one. The device hears the characters of the leg up, and answers.
+/// Both masters hear those of the leg down; a master that still awaits its reply after that stops waiting. All three hear noise,
+/// and both masters hear the device's answer to it without damage. A restart sets both cold start bits of the device.
 ///
 /// The masters are the primary and the secondary one, with no request in hand. The device is handed the values of `process`.
 ///
 /// # Errors
 ///
-/// [`LineFault::Memory`] if room was refused, which is reserved before the first event: for an outcome of each submission, for two spoken
-/// frames of each turn and for one of each noise; otherwise [`LineFault::Undetected`] at the first leg in which a frame was heard that was
-/// not the one sent, or more than one frame, with the number of its event, counted from 0. Only the fault is given back.
+/// [`LineFault::Memory`] if room was refused. Before the first event it is reserved for an outcome of each submission, for two spoken
+/// frames of each turn and for one of each noise. Otherwise [`LineFault::Undetected`], with the number of the event, counted from 0, for
+/// the first leg in which a frame was heard that was not the one sent, or several frames were heard. Only the fault is returned.
 pub fn run<S: RegisterStore + Drop>(
     alloc: Global,
     device: Device<S>,
@@ -46,7 +46,7 @@ pub fn run<S: RegisterStore + Drop>(
         KeepsPromises (start_from device process.now primary secondary) events.now report.device report.outcomes) }
     // A fault names the first leg with undetected damage, or the number of outcomes or spoken frames for which there is no room.
     ensures fault { IfErr result (IsFault (start_from device process.now primary secondary) events.now) }
-    // No leg stops a script if it is clean or lost, or if what is heard is marked or check damage of the message sent in it.
+    // A clean or lost leg never stops a script, nor does a leg in which the message sent is heard with marked or check damage.
     ensures detectable_damage_is_detected { IfErr result (IsNotDetectable (start_from device process.now primary secondary) events.now) }
 {
     let outcomes = room_for_outcomes(alloc, events)?;

@@ -1,4 +1,4 @@
-//! A table of the values of hex digits, as the `hex` library has them.
+//! A table of the values of hex digits, as the `hex` library gives them.
 ghost use Rattle.std.specs.Prelude.{◌≡◌, MatchOption};
 ghost use Rattle.hart_line.specs.script.Digits.{AreDigitsOf, value_of_digit};
 ghost use Rattle.hart_line.specs.script.Items.{AreDigits};

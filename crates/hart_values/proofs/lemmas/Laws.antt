@@ -1,4 +1,4 @@
--- The laws of addresses, of packed texts and of dates, for the proofs of this crate and of those above.
+-- The laws of addresses, of packed texts and of dates, for the proofs of this crate and of the crates above.
 use Rattle.std.proofs.Common.{◌≡◌, ◌/◌, ℕ, Bool, true, List, arith, rules}
 use Rattle.std.proofs.lemmas.List.{ext_get_or}
 use Rattle.hart_values.specs.address.AddressBytes.{IsAddressBytes}

@@ -16,7 +16,7 @@ abbrev pub burst_bit : Bool → ℕ
 burst_bit true = 1
 burst_bit false = 0
 
--- The first byte of an address has the master bit on top, then the burst bit, then six bits of the address.
+-- The first byte of an address has the master bit as bit 7, the burst bit as bit 6, and six bits of the address below them.
 abbrev pub first_byte : MasterId → Bool → ℕ → ℕ
 first_byte master burst six_bits = 128 * master_bit master + 64 * burst_bit burst + six_bits
 

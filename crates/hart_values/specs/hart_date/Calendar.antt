@@ -3,7 +3,7 @@
 use Rattle.std.specs.Prelude.{◌≡◌, ℕ, ◌+◌, ◌-◌, ◌%◌, ◌<◌, ◌≤◌, ◌⊎◌, List, [], ◌∷◌, length, slice_index}
 use Rattle.std.specs.Prelude.{Bool, false, not, ◌==◌, ◌&&◌, ◌||◌, nat_le, nat_lt, if◌then◌else◌}
 
--- A year is a leap year if it is divisible by 4 and not by 100, or by 400.
+-- A year is a leap year if it is divisible by 4 but not by 100, or if it is divisible by 400.
 abbrev pub is_leap_year : ℕ → Bool
 is_leap_year year = ((year % 4 == 0) && not (year % 100 == 0)) || (year % 400 == 0)
 

@@ -11,7 +11,7 @@ IsPackedSize size = (size ≡ 6) ⊎ (size ≡ 12) ⊎ (size ≡ 24)
 abbrev pub IsCharacter : ℕ → Type 0
 IsCharacter code = (32 ≤ code) × (code < 96)
 
--- A group of three bytes is one number of 24 bits, made of four codes modulo 64, the first code on top.
+-- A group of three bytes is one number of 24 bits, made of four codes modulo 64. The first code is in its highest six bits.
 abbrev pub IsPackedGroup : (w x y z a b c : ℕ) → Type 0
 IsPackedGroup w x y z a b c =
     65536 * a + 256 * b + c ≡ 262144 * (w % 64) + 4096 * (x % 64) + 64 * (y % 64) + z % 64
@@ -38,7 +38,8 @@ pub record IsFirstBadCharacter (text : List ℕ) (place : ℕ) : Type 0 where
   pub bad : ¬ IsCharacter (slice_index text place)
   pub least : (k : ℕ) → k < place → IsCharacter (slice_index text k)
 
--- A text is refused if it does not have `characters` characters, or else for its first bad character, and for nothing else.
+-- A text is refused with `WrongLength` if it does not have `characters` characters. Otherwise, it is refused for its first bad
+-- character, if it has one. It is never refused for anything else.
 abbrev pub IsTextFault : ℕ → List ℕ → ValueFault → Type 0
 IsTextFault characters text WrongLength = length text ≢ characters
 IsTextFault characters text (BadCharacter place) = (length text ≡ characters) × IsFirstBadCharacter text place

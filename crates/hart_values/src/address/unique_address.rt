@@ -5,8 +5,8 @@ use std::marker::Model;
 
 /// The unique address of a device: its expanded device type and its device id (HCF_SPEC-081).
 ///
-/// An address has only the lower 14 of the type's 16 bits, so only these are kept. With both numbers 0, it is the broadcast
-/// address.
+/// An address has only the lower 14 of the 16 bits of the expanded device type, so only these are kept. The unique address whose
+/// two numbers are 0 is the broadcast address.
 #[derive(Clone, Copy, Debug, PartialEq, Eq, Hash)]
 pub struct UniqueAddress {
     expanded_type: u16,

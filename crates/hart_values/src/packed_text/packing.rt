@@ -41,7 +41,7 @@ fn character(six_bits: u8) -> u8
     }
 }
 
-/// Returns the 12 bits of two characters.
+/// Returns the lower six bits of both characters as one number of 12 bits.
 fn join_characters(high: u8, low: u8) -> u32
     ensures { result ≡ 64 * (high % 64) + low % 64 }
 {

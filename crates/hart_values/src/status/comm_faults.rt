@@ -43,7 +43,7 @@ impl CommFaults {
     ///
     /// # Errors
     ///
-    /// [`ValueFault::OutOfRange`] if bit 7 is set, so that `bits` is above 127.
+    /// [`ValueFault::OutOfRange`] if bit 7 is set, that is, if `bits` is above 127.
     pub fn new(bits: u8) -> Result<Self, ValueFault>
         ensures accepted { IsOk result ↔ (bits < 128) }
         ensures kept { IfOk result (λ faults. faults ≡ bits) }

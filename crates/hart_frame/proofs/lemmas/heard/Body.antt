@@ -8,7 +8,7 @@ use Rattle.hart_frame.specs.wire.Delimiter.{delimiter_of}
 use Rattle.hart_frame.specs.wire.FrameParts.{FrameParts}
 use Rattle.hart_frame.proofs.lemmas.wire.UnambiguousBodies.{address_type-lt, kind_code-is}
 
--- The bytes of faultless characters are the bytes of which they were made.
+-- The bytes of faultless characters are the bytes from which the characters were made.
 pub bytes_of-faultless : (bytes : List ℕ) → bytes_of (faultless bytes) ≡ bytes
 bytes_of-faultless [] = refl
 bytes_of-faultless (byte ∷ bytes) = ap (λ (xs : List ℕ). byte ∷ xs) (bytes_of-faultless bytes)

@@ -56,7 +56,8 @@ two_there (suc (suc (suc left))) zero head bytes rest one other is = absurd (oth
 two_there zero (suc place) head bytes rest one other is = inl (omega arith)
 two_there (suc left) (suc place) head bytes rest one other is = grind (arith, two_there left place head bytes rest one other is)
 
--- A frame that is heard starts at the delimiter, and its body is a prefix of the sent one; or it stands after the delimiter.
+-- A frame that is heard starts at the delimiter, and its body is a prefix of the body that was sent; or the frame stands after the
+-- delimiter.
 pub stood : (left : ℕ) (body : List ℕ) (chars : List Character) (found : Found) (from : ℕ) → delimiter_in body ≢ 255
     → AllZip IsHeardOrMarked (replicate left 255 ++ body) chars → (stands : StandsIn found chars from)
     → (rest : List ℕ) × ((left < length stands.prefix) ⊎ ((length stands.prefix + 2 ≡ left) × (body ≡ stands.body ++ rest)))
@@ -112,7 +113,7 @@ AreFrames-marked frame preambles chars damage =
 says_of : (f : FrameParts) (body : List ℕ) → IsBody f body → Says body f (length body)
 says_of f body is = says body f (length body) (rw (append-nil body) at (BeginsWithBody-append f body [] is))
 
--- With check damage no frame is heard, since its body would be all the bytes, and their parity is not even.
+-- With check damage no frame is heard, since the body of such a frame would be all the bytes, and their parity is not even.
 pub AreFrames-check : (frame : FrameParts) (preambles : ℕ) (chars : List Character) → IsCheckDamage frame preambles chars
     → AreFrames chars 0 []
 AreFrames-check frame preambles chars damage = none 0 (λ found stands.

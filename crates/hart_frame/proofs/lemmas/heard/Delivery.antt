@@ -7,7 +7,7 @@ use Rattle.hart_frame.specs.heard.Delivery.{IsLone, lone_of}
 use Rattle.hart_frame.specs.heard.Frames.{AreFrames, HasNoFrame, IsFirst, none, first}
 use Rattle.hart_frame.proofs.lemmas.heard.UnambiguousFrames.{AreFrames-one}
 
--- Whether a delivery has no frame, one alone or several is what its list of frames says.
+-- Whether a delivery has no frame, one frame alone or several follows from its list of frames.
 pub only_said : (delivery : List Character) (said : LoneFrame) → IsLone delivery said
     → (frames : List Found) → AreFrames delivery 0 frames → said ≡ lone_of frames
 only_said delivery said are frames others = grind (arith, AreFrames-one)

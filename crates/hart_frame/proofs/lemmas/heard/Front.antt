@@ -25,7 +25,7 @@ faultless_bytes-end first others bad = grind (arith, nat_tests, take_while-cons 
 pub length-faultless_bytes : (chars : List Character) → length (faultless_bytes chars) ≤ length chars
 length-faultless_bytes chars = grind (arith, length-map, length-take)
 
--- The faultless bytes of a heard body and what follows are the body and then the faultless bytes of what follows.
+-- The faultless bytes of a faultless body and the characters after it are the body and then the faultless bytes of those characters.
 pub faultless_bytes-append : (body : List ℕ) (rest : List Character)
     → faultless_bytes (faultless body ++ rest) ≡ body ++ faultless_bytes rest
 faultless_bytes-append [] rest = refl
@@ -50,7 +50,7 @@ pub Front-all : (heard : List Character) (count most : ℕ) (bytes : List ℕ) �
     → bytes ≡ take most (faultless_bytes heard)
 Front-all heard count most bytes all front = grind (arith, drop_all, append-nil, take_all, take_at)
 
--- What is heard consists of the characters of its faultless bytes and then what follows them.
+-- What is heard consists of the characters of its faultless bytes and then the characters after these.
 pub heard_parts : (heard : List Character)
     → heard ≡ faultless (faultless_bytes heard) ++ drop (length (faultless_bytes heard)) heard
 heard_parts [] = refl
@@ -62,7 +62,7 @@ pub after_faultless : (heard : List Character) (c : Character) → slice_get hea
 after_faultless [] c is = absurd cc
 after_faultless (x ∷ xs) c is = grind (arith, faultless_bytes-more x xs, faultless_bytes-end x xs, after_faultless xs c)
 
--- The first characters, up to the first one with fault bits, are those of the first faultless bytes.
+-- The first `n` characters, if none has fault bits, are the characters of the first `n` faultless bytes.
 pub take_heard : (heard : List Character) (n : ℕ) → n ≤ length (faultless_bytes heard)
     → take n heard ≡ faultless (take n (faultless_bytes heard))
 take_heard heard n within = grind (arith, heard_parts heard, take-append-le, length-map, take-map)
@@ -83,7 +83,7 @@ of_chars chars start fit =
     All-take (λ byte. byte < 256) (body_length (faultless_bytes (drop start chars))) (faultless_bytes (drop start chars))
     (faultless_fit (drop start chars) (All-drop (λ (c : Character). c.byte < 256) start chars fit))
 
--- The faultless characters of two joined lists are those of the first and then those of the second, also before a tail.
+-- The faultless characters of two joined lists, before a tail, are those of the first list and then those of the second.
 pub regrouped : (xs ys : List ℕ) (tail : List Character) → faultless (xs ++ ys) ++ tail ≡ faultless xs ++ (faultless ys ++ tail)
 regrouped xs ys tail = grind (arith, common_steps, map-append, append_assoc)
 

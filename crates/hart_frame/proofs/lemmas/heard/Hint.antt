@@ -157,7 +157,7 @@ bad_check_fits start place byte fits chars fit is =
     frame_up_to (set chars place c) begins.prefix others (checked ++ last ∷ []) body.0 start (place + 1) body.1 changed begins.at
     (omega (arith, at, long, length-append checked (last ∷ [])))
 
--- Once a faultless character replaces a faulty one, the miss of `start` no longer names its place as faulty.
+-- Once a faultless character replaces a faulty one, the miss of `start` no longer names the place of this character as faulty.
 pub fault_is_gone : (start place faults byte others : ℕ) (chars : List Character) → miss_of chars start ≡ Some (Faulty place faults)
     → miss_of (set chars place (record { byte = byte; faults = 0 })) start ≢ Some (Faulty place others)
 fault_is_gone start place faults byte others chars is again =
@@ -173,7 +173,7 @@ fault_is_there start place faults chars is =
     let (here, (early, at, has)) =
     way_of start chars (Faulty place faults) (λ place byte fits same. absurd cc) is (λ same. cc) in has
 
--- Where bytes are missing, a frame stands once that many are appended, the last of them the check byte that fits.
+-- Where bytes are missing, a frame stands once that many bytes are appended, if the last of them is the check byte that fits.
 pub missing_fits : (start count : ℕ) (chars : List Character) (bytes : List ℕ) → All (λ c. c.byte < 256) chars
     → All (λ byte. byte < 256) bytes → miss_of chars start ≡ Some (Missing count) → count ≡ length bytes + 1
     → (last : ℕ) × IsCheckByte (bytes_from chars start ++ bytes) last

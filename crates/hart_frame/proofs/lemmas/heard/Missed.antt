@@ -1,4 +1,4 @@
--- The miss of a place, from what stands before it; where a frame stands there is none.
+-- How the miss of a place depends on what stands right before the place. Where a frame stands there is no miss.
 use Rattle.std.proofs.Common.{refl, ◌≡◌, ◌≢◌, ℕ, zero, suc, ◌<◌, ◌⊎◌, inl, inr, List, [], ◌∷◌, ◌++◌, length, take, drop, true, false}
 use Rattle.std.proofs.Common.{None, Some, append_assoc, arith, length-append}
 use Rattle.std.proofs.Math.Seq.{append_snoc, drop-cons, get_or-append_seam, take-append_seam, take-suc}
@@ -31,7 +31,7 @@ miss_of-some chars start miss is =
     let cases : (is_start chars start ≡ true) ⊎ (is_start chars start ≡ false) = grind arith in
     elim cases [ inl here ↦ inl ((start_test chars start).0 here, grind arith) | inr not_here ↦ inr (grind arith) ]
 
--- The test says that exactly one FF stands right before a place if, and only if, that is so.
+-- The test `follows_one_preamble` is true exactly if one FF, and no second one, stands right before a place.
 pub one_preamble-is : (chars : List Character) (place : ℕ) → follows_one_preamble chars place ≡ true → FollowsOnePreamble chars place
 one_preamble-is chars zero one = absurd (grind arith)
 one_preamble-is chars (suc k) one =

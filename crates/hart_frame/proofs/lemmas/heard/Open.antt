@@ -10,7 +10,7 @@ use Rattle.hart_frame.proofs.lemmas.heard.FramesFound.{frame_up_to}
 use Rattle.hart_frame.proofs.lemmas.heard.Place.{preamble}
 use Rattle.hart_frame.proofs.lemmas.wire.Truncated.{CanBecomeBody-truncated}
 
--- The bytes from an open place on are below 256 if the bytes of all characters are.
+-- The bytes from an open place on are below 256 if the bytes of all characters are below 256.
 open_fits : (place : ℕ) (chars : List Character) → All (λ character. character.byte < 256) chars → (opened : IsOpen place chars)
     → All (λ byte. byte < 256) opened.bytes
 open_fits place chars all opened = All-from_get_or (λ byte. byte < 256) opened.bytes 0 (λ k below.

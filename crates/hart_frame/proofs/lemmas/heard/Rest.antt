@@ -1,4 +1,4 @@
--- The frames of the rest of a list, moved by its place, are the frames of the list from that place on.
+-- The frames of the rest of a list, moved by the place where the rest begins, are the frames of the list from that place on.
 use Rattle.std.proofs.Common.{add-zero, ◌≡◌, ℕ, ◌+◌, ◌-◌, ◌<◌, ◌≤◌, ◌⊎◌, inl, inr, List, [], ◌∷◌, ◌++◌, length, map, take, drop, refl}
 use Rattle.std.proofs.Common.{arith, append_assoc, length-append, length-drop, take-append-drop}
 use Rattle.std.proofs.lemmas.Grind.{common_steps}
@@ -62,7 +62,7 @@ pub frames_none : (chars : List Character) (place : ℕ) (frames : List Found) �
     → frames ≡ []
 frames_none chars place frames end given_4 = grind (arith, common_steps, HasNoFrame-end)
 
--- The frames of the rest of a list, moved by its place, are the frames of the list from there on.
+-- The frames of the rest of a list, moved by the place where the rest begins, are frames of the list from there on.
 pub rest_frames : (place : ℕ) (chars : List Character) (frames : List Found) → AreFrames (drop place chars) 0 frames
     → AreFrames chars place (map (moved place) frames)
 rest_frames place chars frames are =
@@ -76,7 +76,7 @@ rest_frames place chars frames are =
           (AreFrames.none place (HasNoFrame-end chars place (omega (arith, past))))
     ]
 
--- All frames of a list from a place on are moved frames of its rest.
+-- All frames of a list from a place on are moved frames of the rest from that place on.
 pub rest_all : (place : ℕ) (chars : List Character) (frames : List Found) → AreFrames chars place frames
     → (own : List Found) × AreFrames (drop place chars) 0 own × (frames ≡ map (moved place) own)
 rest_all place chars frames are = grind (arith, common_steps, AreFrames-found (drop place chars) 0, AreFrames-one, rest_frames)

@@ -1,4 +1,4 @@
--- What is seen of a list from a place on, by what is seen of it from a later place on.
+-- How what is seen of a list from a place on depends on what is seen of the list from a later place on.
 use Rattle.std.proofs.Common.{◌≡◌, ℕ, zero, suc, ◌+◌, ◌-◌, ◌≤◌, List, [], ◌∷◌, ◌++◌, length}
 use Rattle.std.proofs.Common.{◌<◌, drop, true, false, None, inl, arith, append_assoc, refl, sym}
 use Rattle.std.proofs.lemmas.Bool.Decides.{nat_tests}
@@ -18,7 +18,8 @@ use Rattle.hart_frame.specs.heard.Frames.{AreFrames, IsFirst, first, none}
 use Rattle.hart_frame.specs.heard.Place.{StandsIn}
 use Rattle.hart_frame.specs.heard.Sighting.{AreSightings, Message, Missed, Seen, header_at, missed, missed_at, sightings}
 
--- A list passes to `to` if `given` is seen before it, no frame begins before it, and the same is seen from it as from `from`.
+-- A list passes to `to` if three things hold: `given` is seen before `to`; no frame begins before `to`; and at each place from `to`
+-- on the same is seen whether characters count from `from` on or from `to` on.
 pub record Passes (chars : List Character) (from to : ℕ) (given : List Seen) : Type 0 where
   pub order : from ≤ to
   pub within : to ≤ length chars
@@ -123,7 +124,7 @@ missed_one chars from start order silent =
     let before = missed_none chars from start silent in
     rw (long, parts, flat_map-append, before, append-nil) refl
 
--- A list passes to a clean place with nothing seen if no miss is seen and no frame begins before it.
+-- A list passes to a clean place with nothing seen if no miss is seen before that place and no frame begins before it.
 pub passes_silent : (chars : List Character) (from used : ℕ) → from ≤ used → used ≤ length chars → NoneSeen chars from used
     → ((found : Found) → StandsIn found chars from → used + 2 ≤ found.start) → IsClean chars from used → Passes chars from used []
 passes_silent chars from used order within silent frames clean = record {
@@ -148,7 +149,7 @@ passes_miss chars from start miss order within silent is frames other =
       same = λ place after. same_from chars from (start + 1) place (omega (arith, order)) after (inl (λ _. rw back other));
     }
 
--- Where a frame starts, two FF stand right before the place, another character stands at it, and a whole body begins.
+-- Where a frame starts, two FF stand right before the place, a character other than FF stands at it, and a whole body begins there.
 pub record FrameAt (chars : List Character) (from start : ℕ) : Type 0 where
   pub order : from + 2 ≤ start
   pub within : start < length chars

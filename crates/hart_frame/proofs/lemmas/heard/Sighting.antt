@@ -144,7 +144,7 @@ same_at chars from to place after later one two =
     rw (told_at chars from place after, told_at chars to place later, one)
     (ap (told place (header_at chars place)) (same_miss chars place (follows_from chars to place) _ _ (is_other_at chars place) two))
 
--- Nothing is seen at a place without an FF right before it, or without another character at it.
+-- Nothing is seen at a place without an FF right before it, or without a character other than FF at it.
 pub unasked : (chars : List Character) (from place : ℕ) → from ≤ place → follows_from chars from place ≡ false
     → missed_at chars from place ≡ []
 unasked chars from place after not = told_at chars from place after ∙ rw not refl
@@ -186,8 +186,8 @@ pub after_two-miss : (chars : List Character) (from place : ℕ) (miss : Miss) �
     → missed_at chars from place ≡ Missed place miss (header_at chars place) ∷ []
 after_two-miss chars from place miss after follows two other is = told_at chars from place after ∙ rw (follows, two, other, is) refl
 
--- A place `used` is clean if it is `from` or no FF stands right before it, if two FF begin there, or if the list ends there. From
--- a clean place on, the same is seen at each place as from `from`.
+-- A place `used` is clean in three cases: it is `from`, or no FF stands right before it; two FF begin there; or the list ends
+-- there. At each place from a clean one on, the same is seen whether characters count from `from` on or from `used` on.
 abbrev pub IsClean : List Character → ℕ → ℕ → Type 0
 IsClean chars from used = (from < used → is_preamble_at chars (used - 1) ≡ false)
     ⊎ ((is_preamble_at chars used ≡ true) × (is_preamble_at chars (used + 1) ≡ true))

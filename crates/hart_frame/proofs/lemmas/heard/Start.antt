@@ -16,7 +16,7 @@ use Rattle.hart_frame.proofs.lemmas.heard.Place.{preamble}
 pub IsFirstStart-one : (place other : ℕ) (chars : List Character) → IsFirstStart place chars → IsFirstStart other chars → place ≡ other
 IsFirstStart-one place other chars p q = omega (arith, p.least other q.start, q.least place p.start)
 
--- Two FF stand right before a start and another character at it, whatever `d` is read past the end.
+-- Two FF stand right before a start, and a character other than FF stands at it, whatever `d` is read past the end of the list.
 pub record StartsAt (chars : List Character) (place : ℕ) (d : Character) : Type 0 where
   pub after_two : 2 ≤ place
   pub within : place < length chars

@@ -41,7 +41,7 @@ two_last [] ys last = absurd (grind arith)
 two_last (x ∷ []) ys last = grind (arith, nat_tests, two_step)
 two_last (x ∷ y ∷ xs) ys last = grind (arith, nat_tests, two_step, two_last (y ∷ xs) ys)
 
--- After a last byte other than FF, at most one more byte makes no two FF in a row.
+-- If the last byte is no FF, one more byte never makes two FF in a row.
 pub two_end : (xs ys : List ℕ) → get_or xs (length xs - 1) 0 ≢ 255 → length ys ≤ 1 → has_two_preambles (xs ++ ys) ≡ has_two_preambles xs
 two_end [] [] last few = refl
 two_end [] (y ∷ []) last few = grind (arith, nat_tests, two_step, two_none)
@@ -98,7 +98,7 @@ module _ (bytes : List ℕ) (after : After) (start n : ℕ) (within : start ≤ 
       → Whatever bytes after (λ chars. stands_alone chars start ≡ true)
   alone none last next follows = grind (arith, nat_tests, two_in bytes next start n within long enough, part, end_none, more_of)
 
--- The bytes that are looked at are those of the body and one more, if there is one.
+-- The bytes that are looked at are those of the body and the byte after it, if there is one.
 pub looked_at : (bytes : List ℕ) (start stop : ℕ) → start < stop → stop ≤ length bytes
     → take (min (length bytes) (stop + 1) - start) (drop start bytes) ≡ take (stop - start + 1) (drop start bytes)
 looked_at bytes start stop order within = grind (arith, nat_tests, length-drop, take_all)
@@ -131,7 +131,7 @@ pub whole_has : (xs : List ℕ) (f : Option Character) (fp start : ℕ) → miss
     → HasCheckByte xs × (check_miss xs start ≡ None)
 whole_has xs f fp start is = grind (arith, nat_tests)
 
--- If bytes that end too early become a body with more bytes, the body ends after them.
+-- If bytes that end too early become a body with more bytes after them, the body ends among the added bytes.
 pub whole_past : (xs ys : List ℕ) → IsTruncated xs → HasCheckByte (xs ++ ys) → length xs < body_length (xs ++ ys)
 whole_past xs ys truncated has = grind (arith, length-append, get_or_append_left)
 

@@ -38,7 +38,7 @@ pub bytes_from-heard : (bytes : List ℕ) (next : List Character) (start : ℕ) 
     → faultless_bytes (drop start (faultless bytes ++ next)) ≡ drop start bytes ++ faultless_bytes next
 bytes_from-heard bytes next start within = rw (drop-heard bytes next start within) (faultless_bytes-append (drop start bytes) next)
 
--- The miss of what is heard is that of its faultless bytes and the character after them.
+-- The miss of what is heard is found from its faultless bytes and the character after these bytes.
 pub miss_more : (xs : List ℕ) (rest : List Character) (start : ℕ) → body_miss start (faultless xs ++ rest)
     ≡ miss_in (xs ++ faultless_bytes rest) (slice_get (faultless xs ++ rest) (length (xs ++ faultless_bytes rest)))
     (start + length (xs ++ faultless_bytes rest)) start
@@ -135,7 +135,7 @@ pub body_header : (bytes : List ℕ) (after : After) (start : ℕ) → start ≤
 body_header bytes after start within whole =
     header_whatever bytes after start within (λ ys. header_sure (drop start bytes) ys (omega (arith, whole)) (λ _. omega (arith, whole)))
 
--- At the end, and before a character with fault bits, the faultless bytes are all of them.
+-- If nothing or a character with fault bits follows the bytes, the header that is heard is that of the bytes.
 pub ended_header : (bytes : List ℕ) (start : ℕ) → start ≤ length bytes → Whatever bytes End (KeepsHeader bytes start)
 ended_header bytes start within next ends = rw (bytes_from-heard bytes next start within, ends, append-nil (drop start bytes)) refl
 

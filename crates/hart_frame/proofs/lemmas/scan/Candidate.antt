@@ -48,7 +48,7 @@ pub never_more : (xs ys : List ℕ) → NeverBegin xs → NeverBegin (xs ++ ys)
 never_more xs ys never more f body rest is same =
     never (faultless ys ++ more) f body rest is (grind (arith, append_assoc, map-append))
 
--- Bytes that may begin a frame begin none if what follows cannot belong to a frame.
+-- Bytes that may begin a frame begin no frame if what follows cannot belong to one.
 pub nothing_open : (xs : List ℕ) (tail : List Character) → MayBegin xs → NothingFollows tail → BeginWithNone (faultless xs ++ tail)
 nothing_open xs tail (inl none) ends f body rest is same = grind (arith, preamble)
 nothing_open xs tail (inr (inl one)) ends f body rest is same = grind (arith, preamble)

@@ -48,7 +48,7 @@ pub next_ended : (chars : List Character) (ended : Bool) (from to : ℕ) (given 
     → (IsTrue ended → IsTrue closed) → AreNext chars ended from given to → AreNext chars closed from given to
 next_ended chars ended from to given closed says next = grind (arith)
 
--- The next frames of the rest of a list, moved by its place, are the next ones of the list from that place on.
+-- The next frames of the rest of a list, moved by the place where the rest begins, are the next ones of the list from there on.
 pub next_of_rest : (n : ℕ) (chars : List Character) (ended : Bool) (given : List Found) (to : ℕ) → n ≤ length chars
     → AreNext (drop n chars) ended 0 given to → AreNext chars ended n (map (moved n) given) (n + to)
 next_of_rest n chars ended given to within next = record {
@@ -72,7 +72,7 @@ pub next_frames : (chars : List Character) (ended : Bool) (from to : ℕ) (given
     → AreFrames chars to later → AreFrames chars from (given ++ later)
 next_frames chars ended from to given later next are = rw append-nil at (next.leads [] later (λ over. refl) (rw append-nil are))
 
--- Each frame of a list stops by its end, so all frames of an ended list are its next ones up to its end.
+-- Each frame of a list stops at or before the end of the list. So all frames of a list that has ended are its next ones up to that end.
 all_stop : (chars : List Character) (from : ℕ) (frames : List Found) → AreFrames chars from frames → All (StopsBy (length chars)) frames
 all_stop chars from frames (none place empty) = All-nil (StopsBy (length chars))
 all_stop chars from frames (first place found later is others) =
@@ -91,7 +91,7 @@ next_some chars ended from to found more next =
     let lies = StandsIn-within found chars from stands in
     (lies.after, lies.some, next.stops 0 found (omega arith))
 
--- WHERE THEY STAND
+-- WHERE THE NEXT FRAMES STAND
 -- There are no next frames up to a place if no frame begins before it, whatever follows.
 pub next_none : (chars : List Character) (ended : Bool) (from to : ℕ) → from ≤ to → to ≤ length chars
     → ((place : ℕ) → from ≤ place → place < to → (more : List Character) → (IsTrue ended → more ≡ [])
@@ -115,7 +115,7 @@ next_none chars ended from to order within never = record {
   stops = All-nil (StopsBy to);
 }
 
--- A frame whose two preamble bytes and body begin at a place is the next one from there up to its end.
+-- A frame whose two preamble bytes and body begin at a place is the next one from there up to the end of the frame.
 pub next_one : (chars : List Character) (ended : Bool) (place : ℕ) (f : FrameParts) (body : List ℕ) (rest : List Character)
     → place ≤ length chars → drop place chars ≡ faultless (255 ∷ 255 ∷ body) ++ rest → IsBody f body
     → AreNext chars ended place (record { start = place + 2; stop = place + 2 + length body; frame = f } ∷ []) (place + 2 + length body)
@@ -133,7 +133,7 @@ next_one chars ended place f body rest within parts is =
       stops = All-cons (StopsBy (place + 2 + length body)) found [] (omega arith) (All-nil (StopsBy (place + 2 + length body)));
     }
 
--- OF BYTES
+-- THE NEXT FRAMES OF BYTES
 -- Bytes have no next frames up to a place if no frame begins before it, whatever follows.
 pub next_to : (bytes : List ℕ) (ended : Bool) (from to : ℕ) → from ≤ to → to ≤ length bytes → NoneBeginThen bytes ended from to
     → AreNext (faultless bytes) ended from [] to

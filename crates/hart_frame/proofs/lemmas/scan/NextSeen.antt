@@ -156,7 +156,7 @@ module _ (bytes : List ℕ) (after : After) (next : List Character) (from start 
       let here = no_frame one found stands in
       omega (arith, at, low, here)) (inl clean)
 
-  -- A body after two preamble bytes at the asked place is that of a frame that stands there.
+  -- If a body stands at the asked place after two preamble bytes, the frame of this body stands there.
   stands_there : (f : FrameParts) (stop : ℕ) → FollowsTwo bytes from start → start ≤ stop → stop ≤ length bytes
       → IsBody f (slice_range bytes start stop)
       → StandsIn (record { start = start; stop = stop; frame = f }) (faultless bytes ++ next) from
@@ -262,12 +262,13 @@ le_or a b = grind arith
 lt_or : (a b : ℕ) → a ≤ b → (a < b) ⊎ (a ≡ b)
 lt_or a b order = grind arith
 
--- A place that is asked from `from` on is also asked from any other place before it.
+-- A place that is asked from `from` on is also asked from any other place before the asked one.
 asked_after : (bytes : List ℕ) (after : After) (from place start : ℕ) → place < start → IsAsked bytes after from start
     → IsAsked bytes after place start
 asked_after bytes after from place start order is = grind arith
 
--- If nothing is seen up to `place`, the next asked place after it is asked from `from` on too, and nothing is seen before it.
+-- If nothing is seen up to `place`, the next asked place after `place` is asked from `from` on too, and nothing is seen before that
+-- next place.
 pub next_is : (bytes : List ℕ) (after : After) (from place start : ℕ) → from ≤ place → AreSilent bytes after from place
     → IsNextAsked bytes after place (Some start) → IsAsked bytes after from start × SilentBefore bytes after from start
 next_is bytes after from place start order silent (is, least) = (
@@ -299,7 +300,7 @@ message_seen bytes after from start used view valid silent is two at more later 
     (message bytes after next from start may silent is (parts_of view.frame) used later two (omega (arith, at.order)) at.within at.body
     (rw same at are))
 
--- Nothing is seen up to the FF before an open place, and only the miss up to a missed place, whatever follows.
+-- Whatever follows, nothing is seen up to the FF before an open place, and up to a missed place only its miss is seen.
 pub open_seen : (bytes : List ℕ) (after : After) (from start used : ℕ) → SilentBefore bytes after from start
     → IsAsked bytes after from start → IsStandingAt bytes after from start (Open used)
     → Whatever bytes after (λ chars. Passes chars from used [])

@@ -21,7 +21,7 @@ use Rattle.hart_frame.proofs.lemmas.scan.Undecided.{undecided_before}
 abbrev scan_at : List ℕ → ℕ → Scan
 scan_at bytes place = record { first = place; held = faultless (drop place bytes); finished = false; drained = false }
 
--- Nothing is decided in bytes if no frame begins before some place and one may begin at it.
+-- Nothing is decided in bytes if no frame begins before some place and one may begin at that place.
 undecided_from : (xs : List ℕ) → IsOpenFrom xs 0 → IsUndecided (faultless xs)
 undecided_from xs ends =
     undecided_before (scan_at xs 0) (scan_at xs ends.place)

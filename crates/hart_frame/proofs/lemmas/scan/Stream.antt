@@ -12,7 +12,7 @@ use Rattle.hart_frame.proofs.lemmas.heard.Rest.{rest_frames}
 use Rattle.hart_frame.proofs.lemmas.heard.UnambiguousFrames.{AreFrames-one}
 use Rattle.hart_frame.proofs.lemmas.scan.Next.{next_ended, next_frames, next_grown, next_nothing, next_of_rest, next_then}
 
--- The frames given so far are the next ones of what was pushed, up to the first held character, and the rest of it is held.
+-- The frames given so far are the next ones of what was pushed, up to the first held character, and the rest of what was pushed is held.
 pub record IsStreamed (past : List Character) (scan : Scan) (given : List Found) : Type 0 where
   pub next : AreNext past scan.finished 0 given scan.first
   pub held : drop scan.first past ≡ scan.held
@@ -65,7 +65,7 @@ pub history_first : (past more : List Character) (scan : Scan) (given frames : L
 history_first past more scan given frames history ended are =
     grind (arith, AreFrames-found (past ++ more) scan.first, AreFrames-one, history_next past scan given history)
 
--- The characters that were let go and those that are held are as many as were pushed.
+-- The number of characters that were let go and the number that are held add up to the number that were pushed.
 pub history_length : (past : List Character) (scan : Scan) (given : List Found) → IsHistory past scan given
     → scan.first + length scan.held ≡ length past
 history_length past scan given history =

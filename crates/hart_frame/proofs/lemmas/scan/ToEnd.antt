@@ -18,7 +18,7 @@ pub record IsLookedAt (bytes : List ℕ) (first : ℕ) (ended : Bool) (found : S
   pub stands : MatchOption found.layout ((length bytes < found.place + 269) × MayBegin (drop found.place bytes))
       (λ layout. IsWhole layout (drop found.place bytes))
 
--- A search from `from` on finds such a place if no frame begins from `first` up to `from`.
+-- A search from `from` on finds a place that is `IsLookedAt` from `first` on, if no frame begins from `first` up to `from`.
 pub looked_from : (bytes : List ℕ) (first from : ℕ) (ended : Bool) (found : Sighting) → first ≤ from → NoneBeginThen bytes ended first from
     → IsSearched bytes from from found → IsLookedAt bytes first ended found
 looked_from bytes first from ended found after before is =

@@ -15,7 +15,8 @@ use Rattle.hart_frame.proofs.lemmas.heard.Rest.{none_moved, some_moved, stands_i
 use Rattle.hart_frame.proofs.lemmas.scan.Next.{next_frames, next_some}
 use Rattle.hart_frame.proofs.lemmas.scan.Scan.{moves_length}
 
--- If a list has the same frames from two places on, then for each frame from the first on one from the second starts no later.
+-- If a list has the same frames from `from` on as from `to` on, then for each frame that stands from `from` on there is one that
+-- stands from `to` on and starts no later.
 same_first : (chars : List Character) (from to : ℕ) (frames : List Found) (found : Found) → AreFrames chars from frames
     → AreFrames chars to frames → StandsIn found chars from → (g : Found) × StandsIn g chars to × (g.start ≤ found.start)
 same_first chars from to [] found (none n empty) new stands = absurd (empty found stands)
@@ -26,7 +27,7 @@ same_first chars from to (g ∷ later) found old new stands =
 held_parts : (s t : Scan) → (moves : MovesPast s t []) → s.held ≡ take moves.count s.held ++ t.held
 held_parts s t moves = rw moves.held (sym (take-append-drop moves.count s.held))
 
--- If a frame stands in what was held, one that starts no later stands in what is held after some characters are passed.
+-- If a frame stands in what was held, a frame that starts no later stands in what is held after some characters are passed.
 still_stands : (s t : Scan) (moves : MovesPast s t []) (found : Found) → StandsIn found s.held 0
     → (g : Found) × StandsIn g t.held 0 × (moves.count + g.start ≤ found.start)
 still_stands s t moves found stands =

@@ -1,4 +1,4 @@
--- No sighting is decided if different characters may follow, and with these different sightings come first.
+-- No sighting is decided if different characters may follow, with which different sightings come first.
 use Rattle.std.proofs.Common.{◌≡◌, ◌≢◌, ℕ, zero, suc, ◌+◌, ◌-◌, ◌<◌, ◌≤◌, ◌⊎◌, inl, inr, List, [], ◌∷◌, ◌++◌, length, drop, get_or}
 use Rattle.std.proofs.Common.{None, Some, Option, ◌∙◌, ap, sym, arith, refl, length-drop}
 use Rattle.std.proofs.lemmas.List.{append-nil, drop_more, get_or-drop, length-map}
@@ -162,7 +162,7 @@ undecided_used bytes from used (low, inr (inr (last, one, two))) =
     let long = length-drop used bytes in
     let here : (i ≡ 0) ⊎ (i ≡ 1) = grind arith in grind (arith, get_or-drop))
 
--- No sighting is decided in what is left where something is open.
+-- No sighting is decided in what is left from the preamble bytes before an open place on.
 pub open_undecided : (bytes : List ℕ) (after : After) (place from start used : ℕ) → All (λ byte. byte < 256) bytes
     → IsAsked bytes after place start → after ≡ More → IsStandingAt bytes after from start (Open used)
     → IsUndecidedSighting (faultless (drop used bytes))

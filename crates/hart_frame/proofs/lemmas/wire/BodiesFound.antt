@@ -1,4 +1,4 @@
--- Each list of bytes begins with a body, or begins with none.
+-- Each list of bytes begins with a body, or begins with no body.
 use Rattle.std.proofs.Common.{◌≡◌, ℕ, fold, bit_xor, ◌+◌, ◌-◌, ◌*◌, ◌/◌, ◌%◌, ◌<◌, ◌≤◌, ◌⊎◌, inl, inr, Bool, List, [], ◌∷◌}
 use Rattle.std.proofs.Common.{length, take, get_or, ltb, ◌∙◌, arith}
 use Rattle.std.proofs.lemmas.Bool.Decides.{nat_tests}
@@ -95,7 +95,7 @@ fit_decided bytes =
     let cases : (run < length bytes) ⊎ (length bytes ≤ run) = grind arith in
     grind (arith, nat_tests, prefix_len_passes (λ byte. ltb byte 256) bytes, prefix_len_stops (λ byte. ltb byte 256) bytes 0)
 
--- Bytes begin with a body, or they begin with none.
+-- Bytes begin with a body, or they begin with no body.
 pub body_decided : (bytes : List ℕ) → BodyAhead bytes ⊎ HasNoBody bytes
 body_decided bytes =
     let prefix = take (body_length bytes) bytes in

@@ -18,7 +18,7 @@ use Rattle.hart_frame.specs.wire.Refusal.{HasDelimiter, IsDelimiter}
 use Rattle.hart_frame.proofs.lemmas.wire.Refusal.{has_check, says}
 use Rattle.hart_frame.proofs.lemmas.wire.UnambiguousBodies.{address_type-lt, kind_code-is, length-address, spread}
 
--- The first byte of an address has the master bit on top and six bits of the address below.
+-- The first byte of an address has the master bit as bit 7, and six bits of the address as its lower six bits.
 first_read : (master : MasterId) (burst : Bool) (six byte : ℕ) → six < 64 → byte ≡ first_byte master burst six
     → (byte % 64 ≡ six) × (byte / 128 ≡ (elim master as (λ _. ℕ) [ Primary ↦ 1 | Secondary ↦ 0 ]))
 first_read Primary true six byte low is = grind arith
@@ -86,7 +86,7 @@ pub headers_are_those_of_frames-exactly : (bytes : List ℕ) → IsSome (header_
 unfolding header_in
 headers_are_those_of_frames-exactly bytes = grind (arith, nat_tests)
 
--- More bytes change no header once the command is reached, or once the first byte is no delimiter.
+-- Bytes that follow do not change the header if the command is reached already, or if the first byte is no delimiter.
 pub header_sure : (xs ys : List ℕ) → 0 < length xs → (IsDelimiter (delimiter_in xs) → command_place xs < length xs)
     → header_in (xs ++ ys) ≡ header_in xs
 unfolding header_in

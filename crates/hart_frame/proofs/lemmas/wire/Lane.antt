@@ -1,4 +1,4 @@
--- The exclusive or taken lane by lane, and then over all lanes, is that of all bytes.
+-- The exclusive or taken lane by lane, and then over all lanes, is the exclusive or of all bytes.
 use Rattle.std.proofs.Common.{◌≡◌, ℕ, zero, suc, ◌+◌, ◌*◌, ◌/◌, ◌<◌, ◌≤◌, List, [], ◌∷◌, refl, arith, fold, bit_xor, take, drop}
 use Rattle.std.proofs.Common.{length, get_or, mul_comm, take-add, take-append-drop}
 use Rattle.std.proofs.lemmas.Grind.{common_steps}
@@ -21,7 +21,7 @@ fold_moved : (start byte : ℕ) (bytes : List ℕ) → fold bit_xor (bit_xor sta
 fold_moved start byte [] = refl
 fold_moved start byte (first ∷ bytes) = grind (arith, common_steps, bit_xor, xor_comm, fold_moved (bit_xor start first) byte bytes)
 
--- The exclusive or of two equally long lists combined element by element is that of both lists, one after the other.
+-- If two equally long lists are combined element by element, the exclusive or of the result is that of both lists, one after the other.
 fold-zip2 : (start : ℕ) (xs ys : List ℕ) → length xs ≡ length ys
     → fold bit_xor start (zip2 bit_xor xs ys) ≡ fold bit_xor (fold bit_xor start xs) ys
 fold-zip2 start [] [] same = refl

@@ -62,7 +62,7 @@ even-is bytes check each small even =
 pub fits-is : (bytes : List ℕ) (fits : ℕ) → All (λ byte. byte < 256) bytes → IsCheckByte bytes fits → fits ≡ fold bit_xor 0 bytes
 fits-is bytes fits fit is = even-is bytes fits (fits_at bytes fit) is.byte (HasEvenParity-push bytes fits is)
 
--- The exclusive or of all bytes, with the last one applied again, is that of the bytes before it.
+-- The exclusive or of all bytes, and once more of the last byte, is the exclusive or of the bytes before the last one.
 pub before_last : (bytes : List ℕ) (n : ℕ) → n + 1 ≡ length bytes
     → bit_xor (fold bit_xor 0 bytes) (get_or bytes n 0) ≡ fold bit_xor 0 (take n bytes)
 before_last bytes n all = grind (arith, take_all, take_more bytes n 0, fold-append, xor_assoc, xor_self, xor_zero_r)

@@ -1,4 +1,4 @@
--- What bytes say does not change when more bytes follow.
+-- What bytes say about a body does not change when more bytes follow.
 use Rattle.std.proofs.Common.{◌≡◌, ◌≢◌, ℕ, ◌<◌, ◌≤◌, List, ◌++◌, length, take, arith, length-append}
 use Rattle.std.proofs.lemmas.List.{get_or_append_left, get_or-take, length-take-le, take-append-le}
 use Rattle.hart_frame.specs.declared.wire.fault.FrameFault.{FrameFault}
@@ -14,11 +14,11 @@ length_more xs ys within = grind (arith, get_or_append_left)
 pub HasGoodByteCount-more : (xs ys : List ℕ) → HasGoodByteCount xs → HasGoodByteCount (xs ++ ys)
 HasGoodByteCount-more xs ys has = grind (arith, length-append, get_or_append_left)
 
--- Bytes that are refused with a fault other than `Truncated` are refused with it whatever follows.
+-- Bytes that are refused with a fault other than `Truncated` are refused with the same fault, whatever follows.
 pub refused_more : (xs ys : List ℕ) (fault : FrameFault) → fault ≢ Truncated → IsRefusedWith xs fault → IsRefusedWith (xs ++ ys) fault
 refused_more xs ys fault decided refused = grind (arith, length-append, get_or_append_left, length_more, take-append-le)
 
--- What a list says of its check byte and its layout, a prefix that is long enough says too.
+-- A prefix that is long enough says the same of the check byte and the layout as the list.
 pub HasCheckByte-prefix : (xs ys : List ℕ) → HasCheckByte (xs ++ ys) → body_length (xs ++ ys) ≤ length xs
     → HasCheckByte xs × (body_length (xs ++ ys) ≡ body_length xs)
 HasCheckByte-prefix xs ys has long = grind (arith, get_or_append_left)

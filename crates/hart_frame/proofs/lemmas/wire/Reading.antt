@@ -93,7 +93,7 @@ wrong_shown xs (BadCheck len byte fits) is =
       are_bytes = rw all is.are_bytes;
     }
 
--- Fewer bytes than show what is wrong end too early for a body.
+-- Fewer bytes than are needed to show what is wrong end too early for a body.
 pub wrong_fewer : (xs : List ℕ) (w : Wrong) → IsWrong xs w → (fewer : ℕ) → fewer < shown_by w → IsTruncated (take fewer xs)
 wrong_fewer xs (BadDelimiter byte) is fewer below = inl (grind (arith, length-take))
 wrong_fewer xs (ShortReply len count) is fewer below =
@@ -101,7 +101,7 @@ wrong_fewer xs (ShortReply len count) is fewer below =
 wrong_fewer xs (BadCheck len byte fits) is fewer below =
     truncated_check xs fewer is.checked.0 (omega (arith, below, is.whole)) (omega (arith, below, is.whole, is.checked.1))
 
--- Bytes with something wrong are refused with the fault for it.
+-- Bytes with something wrong are refused with the fault that `fault_in` gives for it.
 pub wrong_refused : (xs : List ℕ) (w : Wrong) → IsWrong xs w → IsRefusedWith xs (fault_in w)
 wrong_refused xs (BadDelimiter byte) is = is.0
 wrong_refused xs (ShortReply len count) is = is.0
@@ -111,7 +111,7 @@ wrong_refused xs (BadCheck len byte fits) is =
     let odd = odd xs len is.are_bytes (omega (arith, is.whole)) (omega (arith, is.whole, is.checked.1)) differs in
     (is.checked, rw is.whole at odd)
 
--- Bytes end too early exactly if `Cut` says how they begin.
+-- Bytes end too early for a body exactly if they begin as `Cut` says.
 pub cut_truncated : (xs : List ℕ) (missing : Option ℕ) → IsPrefix xs (Cut missing) → IsTruncated xs
 cut_truncated xs None is = is.0
 cut_truncated xs (Some count) is = inr (inr (is.0, omega (arith, is.1, is.2)))
@@ -122,7 +122,7 @@ truncated_cut xs (inr (inl (has, early))) = (None, (inr (inl (has, early)), λ c
 truncated_cut xs (inr (inr (good, early))) =
     (Some (body_length xs - length xs), (good, omega (arith, early), omega (arith, early)))
 
--- Bytes that begin with a whole body reach its check byte, and its length is that of its layout and at most 267.
+-- Bytes that begin with a whole body reach its check byte. The length of the body is that of its layout, and at most 267.
 pub whole_has : (xs : List ℕ) (layout : Layout) → IsPrefix xs (Whole layout)
     → HasCheckByte xs × (body_length xs ≡ layout_length layout) × (layout_length layout ≤ 267)
 whole_has xs layout (within, is) =

@@ -1,4 +1,4 @@
--- The bytes that end too early for a body are those that can become one.
+-- Bytes end too early for a body exactly if they can become a body and begin with no body yet.
 use Rattle.std.proofs.Common.{◌≡◌, ℕ, fold, bit_xor, ◌+◌, ◌-◌, ◌<◌, ◌≤◌, List, [], ◌∷◌, ◌++◌, length, take, drop}
 use Rattle.std.proofs.Common.{get_or, replicate, refl, arith, length-append}
 use Rattle.std.proofs.Math.Seq.{take-append_seam}
@@ -16,7 +16,7 @@ use Rattle.hart_frame.proofs.lemmas.wire.Parity.{IsCheckByte-fold, fits_at}
 use Rattle.hart_frame.proofs.lemmas.wire.Prefix.{HasGoodByteCount-more, length_more}
 use Rattle.hart_frame.proofs.lemmas.wire.Refusal.{has_check, says}
 
--- Bytes are a body once their exclusive or is appended.
+-- Bytes become a body once their exclusive or is appended.
 abbrev pub Fitted : List ℕ → Type 0
 Fitted bytes = (frame : FrameParts) × IsBody frame (bytes ++ fold bit_xor 0 bytes ∷ [])
 
@@ -66,7 +66,7 @@ pub truncated_check : (xs : List ℕ) (fewer : ℕ) → HasGoodByteCount xs → 
     → IsTruncated (take fewer xs)
 truncated_check xs fewer has before within = grind (arith, length-take-le, truncated_count, get_or-take)
 
--- Bytes that can become a body and begin with none end too early.
+-- Bytes that can become a body, and begin with no body yet, end too early.
 pub IsTruncated-only : (bytes : List ℕ) → CanBecomeBody bytes → HasNoBody bytes → IsTruncated bytes
 IsTruncated-only bytes can none =
     let said = says (bytes ++ can.rest) can.frame can.count can.begins in

@@ -1,4 +1,4 @@
-//! Frames that are built in the memory of another frame, so that none is moved.
+//! Frames that are built in the memory of another frame, so that no frame is moved.
 ghost use Rattle.std.specs.Prelude.{◌≡◌, ◌≤◌, length};
 ghost use Rattle.hart_frame.specs.wire.FrameParts.{reply_parts, request_parts};
 

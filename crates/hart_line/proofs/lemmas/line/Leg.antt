@@ -1,4 +1,4 @@
--- What arrives in a leg, what it brings the device, and what is spoken.
+-- What arrives in a leg, what the leg brings the device, and what is spoken.
 use Rattle.hart_line.proofs.Common.{Bool, IsTrue, IsSome, IfSome, frame_if, ◌≡◌, ℕ, ◌≤◌, ap, refl, arith, Option, None, Some, List, [], ◌∷◌}
 use Rattle.hart_line.proofs.Common.{◌++◌, replicate, common_steps, MatchOption, option_to_list, MasterId, Character, FrameParts}
 use Rattle.hart_line.proofs.Common.{DeviceState, Brought, BringsBy, Garbled, NoMessage, OneFrame, IdentityParts, Process, Heard, Chars}

@@ -9,7 +9,7 @@ use Rattle.hart_line.proofs.lemmas.world.Steps.{entered, leads_more, marks_kept}
 use Rattle.hart_line.proofs.lemmas.world.Submitted.{made_more}
 use Rattle.hart_line.proofs.lemmas.line.Leg.{AreSpoken-append}
 
--- The events are well made and lead to a world. The line stands for it, and what was spoken in the events has been noted.
+-- The events are well made and lead to a world. The line stands for that world, and what was spoken in the events has been noted.
 pub record IsReached (start : Start) (events : List LineEvent) (line : LineState) (noted : List Spoken) : Type 0 where
   pub world : World
   pub is_last : IsLast start events world
@@ -55,7 +55,7 @@ reached_first device process primary secondary line is one other same master ano
       well_made = search rules;
     }
 
--- What such a line returns is what the events led to.
+-- What a line returns after these events is what they led to.
 pub reached_led : {start : Start} {events : List LineEvent} {line : LineState} {noted : List Spoken} (device : DeviceState)
     (outcomes : List Outcome) → (r : IsReached start events line noted) → device ≡ line.device → outcomes ≡ line.outcomes
     → Led start events device outcomes noted

@@ -5,7 +5,7 @@ use Rattle.hart_line.specs.line.Room.{HasRoomFor, LeavesRoom}
 use Rattle.hart_line.specs.world.Needs.{most_spoken}
 use Rattle.hart_line.proofs.lemmas.world.Steps.{along, turn_cases}
 
--- If there is room for the events from this one on, there is room for this one, and afterwards for those that follow.
+-- If there is room for the events from event `n` on, there is room for event `n`, and afterwards for the events after it.
 pub room_here : (events : List LineEvent) (n : ℕ) (unused : LineEvent) (line : LineState) → n < length events
     → HasRoomFor (drop n events) line → HasRoomFor (get_or events n unused ∷ []) line
 room_here events n unused line here room = grind (arith, common_steps, drop_more)

@@ -50,7 +50,7 @@ turn_answered start world who up sent answer process line after mid new s same s
     answered start world up (sent_by who (of_master who world.hands)) answer process line after mid new s same says.0
     (answers (sent_by who (of_master who world.hands)) says.1) count replies
 
--- An event in which nothing is spoken.
+-- An event in which nothing is spoken is carried out by a line that stands for the next world.
 pub silent_step : (start : Start) (world next : World) (event : LineEvent) (line : LineState) → Step start world event next
     → next.spoken ≡ world.spoken → line.spoken ≡ [] → Stands start next line → Stepped start world event line
 silent_step start world next event line step same silent stands = record {

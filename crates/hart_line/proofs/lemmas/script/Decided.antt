@@ -15,7 +15,7 @@ use Rattle.hart_line.proofs.lemmas.script.Rows.{no_leg, no_noise, no_turn, says_
 abbrev Decided : Type 0 → Type 0
 Decided P = P ⊎ (P → ⊥)
 
--- This holds for some value, or for none.
+-- A property holds for some value, or for no value.
 abbrev OneOrNone : {T : Type 0} → (T → Type 0) → Type 0
 OneOrNone {T} IsValue = ((value : T) × IsValue value) ⊎ HasNoValue IsValue
 

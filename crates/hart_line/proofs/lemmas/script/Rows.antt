@@ -65,11 +65,11 @@ abbrev pub IsOther : List ℕ → Type 0
 IsOther first = (first ≡ codes "submit" → ⊥) × (first ≡ codes "turn" → ⊥) × (first ≡ codes "protect" → ⊥)
     × (first ≡ codes "noise" → ⊥) × (first ≡ codes "restart" → ⊥)
 
--- So words that begin with it say no event.
+-- So words that begin with such a word say no event.
 pub says_none : (first : List ℕ) (words : List (List ℕ)) → IsOther first → HasNoValue (Says (first ∷ words))
 says_none first words other event said = grind arith
 
--- A word that is not items, nor `ok` or `lost`, is not the word of a leg.
+-- A word that is neither items nor `ok` nor `lost` is not the word of a leg.
 pub no_leg : (word : List ℕ) → (word ≡ codes "ok" → ⊥) × (word ≡ codes "lost" → ⊥) → HasNoValue (IsItemsWord word)
     → HasNoValue (IsLegWord word)
 no_leg word other none Clean is = other.0 is
@@ -87,14 +87,14 @@ no_noise word none (Noise chars) said = let same : said.0 ≡ word = grind arith
 no_noise word none event said = grind arith
 
 -- WHAT A WORD BRINGS ABOUT
--- If words say nothing whenever one certain word of them does, they have the fault of this word.
+-- If words say nothing whenever a certain one of them says nothing, they have the fault of this word.
 pub fault_of_word : {A B : Type 0} (words : List (List ℕ)) (k : ℕ) (word : List ℕ) (fault : RowFault) (IsPart : A → Type 0)
     (IsWhole : B → Type 0) → k < length words → get_or words k word ≡ word → (HasNoValue IsPart → HasNoValue IsWhole)
     → ReadsWords (word ∷ []) IsPart (Err fault) → ReadsWords words IsWhole (Err fault)
 fault_of_word words k word Bad IsPart IsWhole short here none reads = none reads
 fault_of_word words k word (Memory room) IsPart IsWhole short here none reads = grind arith
 
--- So a row has the fault of a word after its first one, if the row says nothing whenever this word does.
+-- So a row has the fault of a word after its first one, if the row says nothing whenever this word says nothing.
 pub fault_in_row : {A : Type 0} (row : List ℕ) (words given : List (List ℕ)) (k : ℕ) (word : List ℕ) (fault : RowFault)
     (IsPart : A → Type 0) → words ≡ given → k < length given → get_or given k word ≡ word
     → (HasNoValue IsPart → HasNoValue (Says (row ∷ given))) → ReadsWords (word ∷ []) IsPart (Err fault)

@@ -55,7 +55,7 @@ slice_set-cases : {A : Type 0} (xs : List A) (k : ℕ) (y : A) (n : ℕ) (x : A)
     → (slice_get xs n ≡ Some x) ⊎ ((n ≡ k) × (y ≡ x))
 slice_set-cases xs k y n x is = grind (arith, nat_tests, slice_get-set)
 
--- A reply that is the outcome of a turn was accepted in it: it came back, and is the device's answer to what was sent.
+-- A reply that is the outcome of a turn was accepted in that turn. It came back, and is the device's answer to what was sent.
 answers_sent : (state : DeviceState) (process : Process) (who : MasterId) (held : InHand) (brought : Brought)
     (returned : Option FrameParts) (accepted : Option Reply) (retries : ℕ) (reply : Reply) (sendings : ℕ)
     → (frame_in brought ≡ None) ⊎ (brought ≡ OneFrame (spoken_request who held).frame)

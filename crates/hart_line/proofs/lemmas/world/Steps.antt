@@ -25,7 +25,7 @@ pub none_reaches : (identity : IdentityParts) (heard : Heard) (brought : Brought
 none_reaches identity heard brought r = grind arith
 
 -- ONE STEP
--- A turn with a request in hand, which brings the device the frame of this request or none.
+-- A turn with a request in hand, which brings the device the frame of this request or no frame.
 pub record IsSending (start : Start) (world : World) (who : MasterId) (brought : Brought) (accepted : Option Reply) (next : World)
     : Type 0 where
   pub held : InHand
@@ -74,7 +74,7 @@ abbrev pub master_in : LineEvent → MasterId
 master_in (Turn who up down) = who
 master_in event = Primary
 
--- So each step enters the effect of what it brought the device into the executions and the marks.
+-- So the effect of what a step brought the device enters the executions and the marks.
 pub entered : (start : Start) (world : World) (event : LineEvent) (next : World) (step : Step start world event next) → (number : ℕ)
     × (next.executions
     ≡ executions_after (effect_on (state_of start.device world) (brought_in_step start world event next step)) number world.executions)
@@ -86,7 +86,7 @@ entered start world (Turn who up down) next step = elim (turn_cases start world 
 ]
 entered start world event next step = (0, grind arith, grind arith)
 
--- No mark is greater than the number of executions.
+-- After an effect, too, no mark is greater than the number of executions.
 pub marks_kept : (effect : Effect) (who : MasterId) (number : ℕ) (world next : World)
     → next.executions ≡ executions_after effect number world.executions
     → next.marks ≡ marks_after effect who (length world.executions) world.marks → MarksWithin world → MarksWithin next
@@ -115,7 +115,7 @@ leads_more start [] event world mid next run step = (next, subst (λ w. Step sta
 leads_more start (e ∷ events) event world mid next run step = (run.0, run.1, leads_more start events event run.0 mid next run.2 step)
 
 -- THE STATE OF THE DEVICE AFTER AN EFFECT
--- States are the same if their parts are.
+-- States are the same if their parts are the same.
 pub same_state : (a b : DeviceState) → a.identity ≡ b.identity → a.contents ≡ b.contents → a.counter ≡ b.counter
     → a.changed.primary ≡ b.changed.primary → a.changed.secondary ≡ b.changed.secondary → a.protected ≡ b.protected
     → a.cold_start ≡ b.cold_start → a ≡ b

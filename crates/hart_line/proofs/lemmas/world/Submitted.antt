@@ -69,7 +69,7 @@ made_more events n unused here made one =
     (All-append IsRequest (requests_of (take n events)) (requests_of (get_or events n unused ∷ [])) made one)
 
 -- HOW OFTEN
--- An effect adds at most one execution: of the submission that was sent.
+-- An effect adds at most one execution, and that is one of the submission that was sent.
 times_executed-more : (effect : Effect) (own number : ℕ) (executions : List Execution)
     → times_executed number (executions_after effect own executions) ≤ times_executed number executions + (if own == number then 1 else 0)
 times_executed-more effect own number executions = grind (arith, nat_tests, sum_by-append)

@@ -25,7 +25,7 @@ stands_at text n part line short is stripped =
     let parts = length-map (parts_of text) strip_carriage_return in
     let here : get_or (lines_of text) n line ≡ line = grind (arith, common_steps, get_or-map) in grind (arith, common_steps, get_or-map)
 
--- one more line, and the event that it says, if any
+-- one more line adds the event that it says, if any
 one_more : (number : ℕ) (lines : List (List (List ℕ))) (words : List (List ℕ)) (events : List LineEvent) (said : Option LineEvent)
     → AreEvents lines events → SaysLine number words (Ok said) → AreEvents (lines ++ words ∷ []) (events ++ option_to_list said)
 one_more number lines words events None before says = grind (arith, append-nil, filter-append)

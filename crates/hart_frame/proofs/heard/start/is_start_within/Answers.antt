@@ -24,7 +24,7 @@ differ-not a b answer e other = grind (arith, differ-no)
 of_some : (found : Option Character) (x y : Character) → found ≡ Some x → IfSome found (λ character. character ≡ y) → x ≡ y
 of_some found x y is known = grind arith
 
--- An element within a list is the same with any default.
+-- An element within a list is read the same, whatever the default is.
 get_or-other : (chars : List Character) (i : ℕ) (x d : Character) → i < length chars → x ≡ get_or chars i x → get_or chars i d ≡ x
 get_or-other chars i x d within is = get_or_default chars i d x within ∙ sym is
 

@@ -7,7 +7,7 @@ use Rattle.std.specs.Int.{bit_at}
 use Rattle.hart_frame.specs.heard.Character.{IsFaultBit, AreFaultBits}
 use Rattle.hart_frame.proofs.heard.character.Char.new.Goals as goal
 
--- Each bit of a byte that is not set in 141 is a fault bit.
+-- Each of the bits 0 to 7 that is not set in the number 141 is a fault bit.
 fault_bit : (bit : ℕ) → bit < 8 → bit_at 141 bit ≡ 0 → IsFaultBit bit
 fault_bit bit below e =
     let cases : (bit ≡ 0) ⊎ (bit ≡ 1) ⊎ (bit ≡ 2) ⊎ (bit ≡ 3) ⊎ (bit ≡ 4) ⊎ (bit ≡ 5) ⊎ (bit ≡ 6) ⊎ (bit ≡ 7) = grind arith in
@@ -26,7 +26,7 @@ AreFaultBits-from faults small none = record {
       fault_bit bit below (omega (arith, joined, set));
 }
 
--- In fault bits none of the bits of 141 is set.
+-- A byte of fault bits has none of the bits of 141 set.
 none_other : (faults : ℕ) → AreFaultBits faults → bit_and faults 141 ≡ 0
 none_other faults are =
     same_from_bits_below 8 (bit_and faults 141) 0 (omega (arith, and_le_l faults 141, are.byte)) (omega arith) (
