@@ -1,4 +1,4 @@
--- What the data bytes of a request ask, and which requests are well made (HCF_SPEC-127).
+-- What the data bytes of a request ask for, and which requests are well made (HCF_SPEC-127).
 use Rattle.std.specs.Prelude.{ℕ, ◌≡◌, ◌<◌, ◌≤◌, ◌⊎◌, List, [], length, Err, Option, Some, None}
 use Rattle.hart_values.specs.hart_date.Calendar.{IsDateBytes}
 use Rattle.hart_commands.specs.declared.request.Request.{Request}
@@ -30,8 +30,8 @@ IsRequest (IdentifyByLongTag long_tag) = length long_tag ≡ 32
 IsRequest (WriteLongTag long_tag) = length long_tag ≡ 32
 IsRequest _ = Unit {0}
 
--- Anything may follow the data of a request, with two exceptions: nothing after fewer than eight codes of Command 9, as it would be
--- read as another code, and nothing after Command 38 without a counter.
+-- Any bytes may follow the data of a request, with two exceptions. No byte may follow fewer than eight codes of Command 9, since it
+-- would be read as another code. No byte may follow Command 38 without a counter.
 abbrev pub MayFollow : Request → List ℕ → Type 0
 MayFollow (ReadVariables codes) rest = (length codes ≡ 8) ⊎ (rest ≡ [])
 MayFollow (ResetChanged None) rest = rest ≡ []

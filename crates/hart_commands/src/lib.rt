@@ -16,7 +16,7 @@
 //! the registers that a write sets. Whether a device answers is decided in `hart_device`. No call of this crate allocates.
 //!
 //! [`command_name`] names a command; [`request_rows`] and [`reply_rows`] name the fields of its data. [`needed_data`] returns how
-//! many data bytes a command needs; [`Request::data_len`] and [`Reply::data_len`] return how many a message has.
+//! many data bytes a command needs; [`Request::data_len`] and [`Reply::data_len`] return how many data bytes a message has.
 //!
 //! No other crate of `hart` calls [`is_write`] or [`CodeList::new`]: they are for programs that make requests. [`laws`] proves of
 //! the definitions alone that written data are read back, that fields cover the data, which commands write, and field widths.

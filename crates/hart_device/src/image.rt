@@ -72,13 +72,13 @@ impl<S: RegisterStore> Device<S> {
     }
 
     /// Makes a device with this identity from an image of version 1 or 2, with clear cold start bits. An image of version 1 has no
-    /// long tag: the device then gets the text of its tag and 24 spaces.
+    /// long tag: as its long tag, the device then gets the text of its tag and 24 spaces.
     ///
     /// # Errors
     ///
-    /// [`DeviceFault::BadLength`] if there are no bytes. Then [`DeviceFault::BadVersion`] for another version than 1 and 2. Then
-    /// [`DeviceFault::BadLength`] if that version has another length. Then [`DeviceFault::BadField`] for a polling address above 63, a
-    /// loop current mode above 1, bytes that are no date, or flags above 7.
+    /// [`DeviceFault::BadLength`] if there are no bytes. Then [`DeviceFault::BadVersion`] for a version other than 1 and 2. Then
+    /// [`DeviceFault::BadLength`] if images of that version have another length. Then [`DeviceFault::BadField`] for a polling
+    /// address above 63, a loop current mode above 1, bytes that are no date, or flags above 7.
     pub fn from_image(identity: Identity, image: &[u8]) -> Result<Self, DeviceFault>
         ensures accepted { IsOk result ↔ IsImage image.now }
         ensures kept { IfOk result (λ device. (device.identity ≡ identity) × IsImageOf device image.now) }

@@ -38,7 +38,7 @@ use hart_values::Bits32;
 use hart_values::laws::packed_text_and_bytes_determine_each_other;
 
 /// A command that is refused, or not answered, has no effect. A command without effect changes only the cold start bit of its
-/// master, which the reply shows and clears; without a reply it changes nothing.
+/// master, which the reply shows and clears. Without a reply, the command changes nothing.
 pub fn refused_commands_change_nothing()
     ensures refused { (state : DeviceState) (frame : FrameParts) → code_of state frame ≢ 0 → effect_of state frame ≡ Nothing }
     ensures silent { (state : DeviceState) (frame : FrameParts)
@@ -222,8 +222,8 @@ pub fn images_have_one_state()
 }
 
 /// The identity, an image and the cold start bits keep a device whole: a device made again from these three has the same state. The
-/// image may be the one that the device writes, or any other image of it in either version. It is an image of the device whichever
-/// cold start bits are set.
+/// image may be the one that the device writes, or any other image of it in either version. The cold start bits do not matter for
+/// this: each image is one of the device whichever of these bits are set.
 pub fn devices_are_kept_whole()
     ensures image { (state : DeviceState) → IsDevice state → IsImageOf state (image_of state) }
     ensures any_cold_start { (state : DeviceState) (image : List ℕ) (cold_start : EachMaster Bool)

@@ -19,11 +19,12 @@ abbrev pub flags_of : EachMaster Bool → Bool → ℕ
 flags_of changed protected =
     (if changed.primary then 1 else 0) + (if changed.secondary then 2 else 0) + (if protected then 4 else 0)
 
--- The registers of an image of version 1, in their order, are all but the long tag.
+-- The registers of an image of version 1, in their order, are all registers but the long tag.
 abbrev pub registers_of_version_1 : List Register
 registers_of_version_1 = Polling ∷ Mode ∷ Message ∷ Tag ∷ Descriptor ∷ Date ∷ Assembly ∷ []
 
--- The registers in an image of each version: version 1 has all but the long tag, version 2 has all, other versions are not known.
+-- The registers in an image of each version: version 1 has all registers but the long tag, version 2 has all registers, and other
+-- versions are not known.
 abbrev pub registers_of_version : ℕ → Option (List Register)
 registers_of_version version =
     if version == 1 then Some registers_of_version_1
@@ -43,8 +44,8 @@ abbrev pub image_bytes : ℕ → List Register → DeviceState → List ℕ
 image_bytes version listed state = version ∷ (flat_map (bytes_in state.contents) listed ++ image_ending state)
 
 -- Bytes are an image of a device's state if they are its image bytes in a known version. Every register of the state holds valid
--- bytes, and its counter is below 65536. If images of that version have no long tag, the state has the long tag of its tag. An
--- image has neither the identity of the device nor its cold start bits.
+-- bytes, and the counter of the state is below 65536. If images of that version have no long tag, the state has the long tag that
+-- belongs to its tag. An image has neither the identity of the device nor its cold start bits.
 pub record IsImageOf (state : DeviceState) (image : List ℕ) : Type 0 where
   pub contents : AreValid state.contents
   pub counter : state.counter < 2 ^ 16
