@@ -43,7 +43,7 @@ with_address (Polling number) frame = record frame { is_unique = false; polling_
 with_address (Unique numbers) frame =
     record frame { is_unique = true; polling_address = 0; expanded_type = numbers.expanded_type; device_id = numbers.device_id }
 
--- Numbers that are shown have at most three expansion bytes, and 0 for the other kind of address.
+-- Numbers that are shown have at most three expansion bytes. The numbers of the other kind of address are 0.
 pub record IsTidy (frame : HartFrame) : Type 0 where
   pub expansion : frame.expansion_len ≤ 3
   pub address : frame ≡ with_address (address_of frame.is_unique frame) frame

@@ -39,8 +39,8 @@ pub struct HartDevice {
 ///
 /// # Errors
 ///
-/// [`HART_BAD_FIELD`](crate::fault::HART_BAD_FIELD) if the polling address is above 63, the loop current mode is above 1 or the date is
-/// none. `device` is then as it was.
+/// [`HART_BAD_FIELD`](crate::fault::HART_BAD_FIELD) if the polling address is above 63, the loop current mode is above 1 or the
+/// date is not valid. `device` is then as it was.
 #[unsafe(no_mangle)]
 pub extern "C" fn hart_new_device(registers: &HartRegisters, device: &mut HartDevice) -> HartOutcome
     ensures { NewDeviceOutcome «registers».now device.old device.new result }
@@ -65,13 +65,13 @@ pub extern "C" fn hart_restart(device: &mut HartDevice)
     device.secondary_cold_start = true;
 }
 
-/// Lets a device hear a delivery, all that it hears at once, with this process. Carries out what the delivery asks, and updates
-/// `device`. Writes the reply as a message to the front of `reply`, and returns its length, 0 for silence.
+/// Lets a device hear a delivery, which is all that it hears at once, with this process. Carries out what the delivery asks, and
+/// updates `device`. Writes the reply as a message to the front of `reply`, and returns its length, or 0 if the device is silent.
 ///
 /// # Errors
 ///
-/// The first that holds of a fault of the identity, one of what is kept, a process without dynamic variables or with more than four,
-/// a fault of the characters, or no room for the reply. Nothing is then carried out or written.
+/// The first of these that holds: a fault of the identity, a fault of the kept device, a process without dynamic variables or with
+/// more than four, a fault of the characters, or no room for the reply. Nothing is then carried out or written.
 #[unsafe(no_mangle)]
 pub extern "C" fn hart_hear(
     identity: &HartIdentity,
@@ -136,7 +136,7 @@ fn keep(state: &Device<ImageRegisters>, device: &mut HartDevice)
     device.secondary_cold_start = state.cold_start(MasterId::Secondary);
 }
 
-/// Writes what a device says as a message to the front of `output`, and returns its length, 0 for silence.
+/// Writes what a device says as a message to the front of `output`, and returns its length, or 0 if the device is silent.
 fn say(said: Option<Frame>, preambles: u8, output: &mut [u8]) -> Result<usize, Fault>
     requires { IsPreambleCount preambles }
     ensures said { IfOk result (IsWritten (IsSaid said preambles) output.old output.new) }

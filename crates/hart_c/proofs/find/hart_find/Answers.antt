@@ -50,7 +50,7 @@ loop-taken-preserved c =
     let fill = c.fill-count.ensures in
     search (arith, rest, history, fill.tidy, fill.going, fill.waits, fill.few, fill.undecided, fill.so_far)
 
--- the next frames of the first `n` characters are those of all, if the scan goes on or no others are to come
+-- the next frames of the first `n` characters are the next frames of all characters, if the scan goes on or no others are to come
 next_of_all : (n : ℕ) (chars : List Character) (finished ended : Bool) (given : List Found) (used : ℕ)
     → (finished ≡ false) ⊎ (IsTrue ended × (n ≡ length chars)) → AreNext (take n chars) finished 0 given used
     → AreNext chars ended 0 given used

@@ -24,11 +24,11 @@ kept_apart array bytes start end from to order fits size other apart =
 abbrev pub register_at : ℕ → Register
 register_at place = slice_index_or registers place Polling
 
--- A register holds what it is given, if anything, and otherwise what it held.
+-- A register holds the bytes that it is given, if any, and otherwise the bytes that it held.
 abbrev pub given_to : (Register → Option (List ℕ)) → List ℕ → Register → List ℕ
 given_to given old register = unwrap_or (given register) (standing_for register old)
 
--- The registers before a place of the list have been written, and the others not yet.
+-- The registers before a place of the list have been written, and the other registers have not yet been written.
 abbrev pub AreWrittenBefore : ℕ → (Register → Option (List ℕ)) → List ℕ → List ℕ → Type 0
 AreWrittenBefore place given old now = (k : ℕ) → k < length registers
     → standing_for (register_at k) now
