@@ -1,4 +1,4 @@
-//! What one device replies to one write after another, and what it counts.
+//! What a device replies to successive writes, and the value of its counter after each.
 use super::addresses::{Asked, request_to};
 use super::*;
 use hart_commands::Register;
