@@ -16,11 +16,12 @@ use Rattle.hart_c.specs.{Find.char_of, Find.heard_checks, Messages.HasNoRoom, Me
 use Rattle.hart_c.specs.declared.{device.HartDevice.HartDevice, find.HartChar.HartChar, process.HartProcess.HartProcess}
 use Rattle.hart_c.specs.declared.{fault.HartOutcome.HartOutcome, identity.HartIdentity.HartIdentity, registers.HartRegisters.HartRegisters}
 
--- The image is the first `image_len` bytes.
+-- The image in a kept device is the first `image_len` bytes of its array.
 abbrev pub image_in : HartDevice → List ℕ
 image_in device = take device.image_len device.image
 
--- A kept device with this identity stands for a state if its image is an image of the state, and its cold start bits are the same.
+-- A kept device with this identity stands for a state if its image is an image of the state, and its cold start bits are the cold
+-- start bits of the state.
 pub record IsKept (parts : IdentityParts) (device : HartDevice) (state : DeviceState) : Type 0 where
   pub is_identity : AreIdentityParts parts
   pub identity : state.identity ≡ parts

@@ -37,7 +37,7 @@ SearchOutcome heard ended before after search =
     (HaveFaultBits heard × Finds (map char_of heard) ended before after search)
     ⊎ ((HaveFaultBits heard → ⊥) × (search ≡ record { used = 0; count = 0; fault = number_of BadFaultBits }) × (after ≡ before))
 
--- What was heard so far, whether it ended, which frames were found in it, and how much is used up. Each search adds to these four.
+-- What was heard so far, whether it ended, which frames were found in it, and how much is used up. Each search updates all four.
 pub data IsSearchedSoFar : List Character → Bool → List Found → ℕ → Type 0 where
   begin : IsSearchedSoFar [] false [] 0
   search : (heard piece : List Character) (before ended : Bool) (given found : List Found) (used further : ℕ)

@@ -47,7 +47,8 @@ pub record Accepts (numbers : HartFrame) (heard : List HartChar) (before after :
 abbrev pub accept_checks : HartFrame → List HartChar → List Check
 accept_checks numbers heard = send_checks numbers ++ heard_checks heard
 
--- The result has the response code and the device status of an accepted reply. Without a reply both are 0. A fault has its number.
+-- The result has the response code and the device status of an accepted reply. Without a reply both are 0. With a fault, it has the
+-- number of the fault.
 abbrev pub acceptance_of : Result (Option Reply) Fault → HartAcceptance
 acceptance_of (Ok (Some reply)) = record { is_accepted = true; code = reply.code; status = reply.status.0; fault = 0 }
 acceptance_of (Ok None) = record { is_accepted = false; code = 0; status = 0; fault = 0 }
@@ -58,7 +59,7 @@ abbrev pub AcceptOutcome : HartFrame → List HartChar → HartFrame → HartFra
 AcceptOutcome numbers heard before after =
     Outcome (accept_checks numbers heard) (Accepts numbers heard before after) (after ≡ before) acceptance_of
 
--- The numbers of a unique address. For a polling address, or none, they say that no unique address is given.
+-- The numbers of a unique address. For a polling address, or without an address, they say that no unique address is given.
 abbrev pub given_of : Option Address → HartUnique
 given_of (Some (Unique numbers)) = record { is_given = true; expanded_type = numbers.expanded_type; device_id = numbers.device_id }
 given_of _ = record { is_given = false; expanded_type = 0; device_id = 0 }

@@ -101,7 +101,7 @@ output_of given = record {
 abbrev pub HasVariables : HartProcess → Type 0
 HasVariables given = (1 ≤ given.variables_len) × (given.variables_len ≤ 4)
 
--- The numbers are those of a process if they have exactly its dynamic variables, and each of its other parts.
+-- The numbers stand for a process if they have exactly the dynamic variables of the process, and each of its other parts.
 pub record IsProcessOf (given : HartProcess) (process : Process) : Type 0 where
   pub loop_current : process.loop_current ≡ float_of given.loop_current
   pub percent_of_range : process.percent_of_range ≡ float_of given.percent_of_range

@@ -40,7 +40,7 @@ pub struct HartDevice {
 /// # Errors
 ///
 /// [`HART_BAD_FIELD`](crate::fault::HART_BAD_FIELD) if the polling address is above 63, the loop current mode is above 1 or the
-/// date is not valid. `device` is then as it was.
+/// date is not valid. `device` is then unchanged.
 #[unsafe(no_mangle)]
 pub extern "C" fn hart_new_device(registers: &HartRegisters, device: &mut HartDevice) -> HartOutcome
     ensures { NewDeviceOutcome «registers».now device.old device.new result }
@@ -54,7 +54,7 @@ pub extern "C" fn hart_new_device(registers: &HartRegisters, device: &mut HartDe
     outcome_of(Ok(usize::from(device.image_len)))
 }
 
-/// Records that the device was without power: sets both masters' cold start bits. All else stays as it is.
+/// Records that the device was without power: sets both masters' cold start bits. Nothing else changes.
 #[unsafe(no_mangle)]
 pub extern "C" fn hart_restart(device: &mut HartDevice)
     ensures set { device.new ≡ record device.old { primary_cold_start = true; secondary_cold_start = true } }

@@ -17,7 +17,7 @@ use hart_values::{Address, MasterId};
 /// # Errors
 ///
 /// The first of these that holds: a number of the address out of range, more than three expansion bytes, a reply without its status
-/// bytes, a number of preamble bytes outside 5 to 20, or no room (HCF_SPEC-081). The output is then as it was.
+/// bytes, a number of preamble bytes outside 5 to 20, or no room (HCF_SPEC-081). The output is then unchanged.
 #[unsafe(no_mangle)]
 pub extern "C" fn hart_encode(frame: &HartFrame, preambles: u8, output: &mut [u8]) -> HartOutcome
     ensures { EncodeOutcome frame.now preambles output.old output.new result }

@@ -57,7 +57,7 @@ const NO_ADDRESS: HartUnique = HartUnique {
 /// # Errors
 ///
 /// The first of these that holds: a fault of the frame, as [`hart_encode`](crate::hart_encode) returns it, a frame that is no
-/// request of a master, a request that may not be asked at its address, or a fault of the characters. `reply` is then as it was.
+/// request of a master, a request that may not be asked at its address, or a fault of the characters. `reply` is then unchanged.
 #[unsafe(no_mangle)]
 pub extern "C" fn hart_accept(
     request: &HartFrame,

@@ -117,7 +117,7 @@ named_in overwrite register = part_for register (written_by (command_of overwrit
 abbrev pub NamesValid : Overwrite → Type 0
 NamesValid overwrite = (register : Register) → IfSome (named_in overwrite register) (IsValidIn register)
 
--- A configuration write has an overwrite; every other request has none.
+-- A configuration write has an overwrite. No other request has one.
 abbrev pub overwrite_of : Request → Option Overwrite
 overwrite_of request = if is_write (command_of request) then Some request else None
 

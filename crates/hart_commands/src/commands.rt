@@ -48,8 +48,8 @@ pub fn reply_rows(command: u8) -> &'static [FieldRow]
     }
 }
 
-/// Returns how many data bytes a request of this command needs, or 0 if the command is not known (HCF_SPEC-127). Fewer bytes are
-/// refused with code 5, too few data bytes, except that Command 38 may have none.
+/// Returns how many data bytes a request of this command needs, or 0 if the command is not known (HCF_SPEC-127). A request with
+/// fewer bytes is refused with code 5, too few data bytes, except that Command 38 may have no data.
 #[tactic(auto, unfolding(crate::specs::Commands::known))]
 pub fn needed_data(command: u8) -> usize
     ensures { result ≡ needed_data command }

@@ -53,7 +53,7 @@ pub data Effect : Type 0 where
 
 -- An execution overwrites the registers, adds one to the counter (65535 is followed by 0) and sets both masters'
 -- configuration-changed bits, even if the registers held the same bytes before. A reset clears only the bit of the asking master.
--- All else stays as it is.
+-- Nothing else changes.
 abbrev pub after : MasterId → Effect → DeviceState → DeviceState
 after master Nothing state = state
 after master (Executes overwrite) state = record state {
@@ -63,10 +63,10 @@ after master (Executes overwrite) state = record state {
 }
 after master Resets state = record state { changed = with_master master false state.changed }
 
--- A restart after the device was without power sets both masters' cold start bits; all else stays as it is.
+-- A restart after the device was without power sets both masters' cold start bits. Nothing else changes.
 abbrev pub restarted : DeviceState → DeviceState
 restarted state = record state { cold_start = for_both true }
 
--- A reply with a response code shows its master the cold start bit, and the bit is then clear; all else stays as it is.
+-- A reply with a response code shows its master the cold start bit, and the bit is then clear. Nothing else changes.
 abbrev pub after_reply : MasterId → DeviceState → DeviceState
 after_reply master state = record state { cold_start = with_master master false state.cold_start }

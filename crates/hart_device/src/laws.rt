@@ -106,8 +106,8 @@ pub fn answers_are_replies()
 {}
 
 /// A restart sets both masters' cold start bits. A reply with a response code shows the bit of its master and clears it. The bit of
-/// the other master stays, and without a reply both bits stay. So after a restart only the first such reply to each master shows
-/// the bit, until the next restart.
+/// the other master is unchanged, and without a reply both bits are unchanged. So after a restart only the first such reply to each
+/// master shows the bit, until the next restart.
 pub fn cold_starts_are_shown_once()
     ensures shown { (state : DeviceState) (process : Process) (frame reply : FrameParts)
         → answer_of state process frame ≡ Some reply

@@ -21,8 +21,8 @@ pub record MatchesRequest (id : MasterId) (address : Address) (request : Request
   pub sender : frame.address ≡ address
   pub command : frame.command ≡ command_of request
 
--- A frame that answers the request is the reply that is read from the frame's payload, if a reply is read. From communication
--- faults, no reply is read.
+-- A frame that answers the request is the reply that is read from the frame's payload, if a reply is read. No reply is read from
+-- communication faults.
 pub record IsReplyTo (id : MasterId) (address : Address) (request : Request) (frame : FrameParts) (reply : Reply) : Type 0 where
   pub answers : MatchesRequest id address request frame
   pub read : reply_reading frame.command frame.payload ≡ Some reply

@@ -105,7 +105,8 @@ event_ticked retries reply_limit (Awaiting transaction time) character_times =
     else if nat_le transaction.sendings retries then Retry
     else NoReply transaction.sendings
 
--- A wait goes on with its new time, a request that is to be sent again stays in hand, and a request without a reply is dropped.
+-- A wait that is not over goes on with its new time, a request that is to be sent again stays in hand, and a request without a
+-- reply is dropped.
 abbrev pub hand_ticked : (retries reply_limit : ℕ) → Hand → ℕ → Hand
 hand_ticked retries reply_limit Empty character_times = Empty
 hand_ticked retries reply_limit (ToSend transaction) character_times = ToSend transaction

@@ -175,7 +175,7 @@ const PARTS: IdentityParts = IdentityParts {
     device_profile: 255,
 };
 
-/// What a row of `REFUSED` has refused.
+/// Parts of an identity or bytes of an image that are refused.
 enum Refused<'a> {
     /// Parts that make no identity.
     Parts(IdentityParts),

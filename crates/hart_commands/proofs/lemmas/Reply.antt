@@ -40,7 +40,7 @@ IsKept command read bytes content =
 abbrev pub Keeps : ℕ → (List ℕ → Option ReplyContent) → Type 0
 Keeps command read = (bytes : List ℕ) → IfSome (read bytes) (IsKept command read bytes)
 
--- a reading of `size` bytes keeps its content if it keeps it for every `size` bytes that are spelled one by one
+-- a reading of `size` bytes keeps every content if it keeps the content of any `size` bytes that are spelled one by one
 said : (command size : ℕ) (read : List ℕ → Option ReplyContent)
     → ((xs : List ℕ) → IfSome (read (spell size xs)) (λ content. (content_bytes content ≡ spell size xs) × IsParted command content))
     → Keeps command (having size None read)

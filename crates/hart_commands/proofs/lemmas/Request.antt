@@ -17,7 +17,7 @@ needing-append : (size : ℕ) (asked : List ℕ → Request) (bytes rest : List 
     → needing size asked (bytes ++ rest) ≡ Ok (asked bytes)
 needing-append size asked bytes rest long = grind (arith, common_steps, nat_tests, length-append, take_at)
 
--- at most eight codes are all taken, and nothing else is, if there are eight or nothing follows them
+-- if there are eight codes, or at most eight with nothing after them, all of them are taken, and nothing else
 take-codes : (codes rest : List ℕ) → length codes ≤ 8 → (length codes ≡ 8) ⊎ (rest ≡ []) → take 8 (codes ++ rest) ≡ codes
 take-codes codes rest few (inl eight) = take_at codes rest 8 eight
 take-codes codes rest few (inr none) = rw (none, append-nil) (take_all 8 codes few)

@@ -70,8 +70,9 @@ garbled_after chars (command ∷ byte_count ∷ after) master =
     }) else None
 garbled_after chars _ master = None
 
--- Characters begin with a garbled request if a master asks the device with the first six, and the rest of the request follows. A
--- request without any fault has this form too, but a delivery with such a request has a frame, and so brings no garbled request.
+-- Characters begin with a garbled request if a master asks the device with the first six, and the other characters of the request
+-- follow them. A request without any fault has this form too, but a delivery with such a request has a frame, and so brings no
+-- garbled request.
 abbrev pub garbled_request : IdentityParts → List Character → Option GarbledRequest
 garbled_request identity chars = option_and_then (garbled_after chars (drop 6 chars)) (asking_master identity (take 6 chars))
 

@@ -165,7 +165,7 @@ fn has_image<S: RegisterStore + Drop>(image: &[u8], other: &[u8]) -> Result<bool
     Ok(image_after::<S>(image)?.as_slice() == other)
 }
 
-/// Whether a device with each kind of store that goes on from `image` has the image `other`.
+/// Whether, for each kind of store, a device that goes on from `image` has the image `other`.
 fn have_image(image: &[u8], other: &[u8]) -> Result<bool, DeviceFault> {
     Ok(has_image::<FieldRegisters>(image, other)? && has_image::<ImageRegisters>(image, other)?)
 }

@@ -362,7 +362,7 @@ fn is_as_said(alloc: Global, row: &Row) -> Result<bool, Fail> {
     )
 }
 
-/// Fails the test unless each row of a table holds.
+/// Fails the test unless each row of a table leads to what the row says.
 fn hold_rows(rt: &(impl Abort + Eprint), alloc: Global, word: &str, rows: &[Row]) {
     for (number, row) in rows.iter().enumerate() {
         hold_ok(rt, is_as_said(alloc, row), word, number);

@@ -37,7 +37,7 @@ pub const REFUSED: &str = "submit P all 0\nsubmit S 37420A1B2C 16\nsubmit S 3742
 pub const ADDRESS_FAULTY: &str =
     "submit P 37420A1B2C 19 012345\nturn P FFFF82B7!40420A1B2C13030123453D ok";
 
-/// The address byte of a request is heard as another one, so that the check byte does not fit.
+/// The address byte of a request is heard as another byte, so that the check byte does not fit.
 pub const ADDRESS_REPLACED: &str =
     "submit P 37420A1B2C 19 012345\nturn P FFFF82B6420A1B2C13030123453D ok";
 
