@@ -249,8 +249,8 @@ hart_outcome hart_new_device(const hart_registers *registers, hart_device *devic
 void hart_restart(hart_device *device);
 
 /* Lets a device hear a delivery, which is all that came between two silences. Writes its reply, a whole message, to the front of `reply`, and
- * updates the device. Returns the length of the reply, or 0 if the device is silent; 287 bytes are room for any reply. The reply to a damaged
- * request has communication faults, if the delimiter and the unique address of the request are intact and no character is missing.
+ * updates the device. Returns the length of the reply, or 0 if the device is silent; 287 bytes are room for any reply. A damaged request
+ * gets a reply with communication faults if its delimiter and its unique address are intact and no character is missing.
  * Faults: HART_OUT_OF_RANGE, HART_BROADCAST_ADDRESS; HART_BAD_LENGTH (0 or above 86), HART_BAD_VERSION, HART_BAD_LENGTH, HART_BAD_FIELD;
  * HART_BAD_VARIABLES; HART_BAD_FAULT_BITS, HART_TOO_LONG (then send nothing); HART_NO_ROOM. A fault changes nothing. */
 hart_outcome hart_hear(const hart_identity *identity, const hart_process *process, const hart_char *heard, size_t heard_len,

@@ -1,4 +1,4 @@
--- What is heard, as a caller in C passes it, and what a search promises if the unused rest is passed again (own profile).
+-- What is heard, as a caller in C passes it, and what a search promises if the unused characters are passed again (own profile).
 use Rattle.std.specs.Prelude.{◌≤◌, ◌≡◌, ◌+◌, ◌<◌, ◌⊎◌, ◌++◌, List, [], ◌∷◌, length, ℕ, Bool, IsTrue, false, drop, map, take, All}
 use Rattle.hart_frame.specs.heard.Character.{AreFaultBits, Character}
 use Rattle.hart_frame.specs.{declared.heard.found.Found.Found, heard.Frames.IsUndecided, heard.Frames.moved, scan.Next.AreNext}
@@ -10,7 +10,8 @@ use Rattle.hart_c.specs.declared.{find.HartChar.HartChar, find.HartSearch.HartSe
 abbrev pub HaveFaultBits : List HartChar → Type 0
 HaveFaultBits heard = All (λ given. AreFaultBits given.faults) heard
 
--- A delivery is checked first for fault bits only, and then for at most 1,024 characters.
+-- First it is checked whether the characters of a delivery have fault bits only, and then whether there are at most 1,024
+-- characters.
 abbrev pub heard_checks : List HartChar → List Check
 heard_checks heard = needs (HaveFaultBits heard) BadFaultBits ∷ needs (length heard ≤ 1024) TooLong ∷ []
 

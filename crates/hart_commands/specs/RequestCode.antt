@@ -15,7 +15,7 @@ are_some (register ∷ registers) = true
 abbrev pub is_write : ℕ → Bool
 is_write command = are_some (written_by command)
 
--- Code 9 refuses Command 38 if it names a counter other than the device's; any other request with good data has code 0.
+-- Code 9 refuses Command 38 if the command names a counter other than the device's. Any other request with good data has code 0.
 abbrev pub counter_code : Request → ℕ → ℕ
 counter_code (ResetChanged (Some given)) counter = if given == counter then 0 else 9
 counter_code _ counter = 0

@@ -9,7 +9,7 @@ pub use Rattle.hart_commands.specs.Commands.{is_known, command_of}
 pub use Rattle.hart_commands.specs.Parts.{mode_byte, request_data}
 pub use Rattle.hart_commands.specs.RequestReading.{Reading}
 
--- Data are read as the row says; if there is no row they are refused with code 64.
+-- Data are read as the row says. Without a row, the data are refused with code 64.
 abbrev pub read_by : Option CommandRow → List ℕ → Reading
 read_by None bytes = Err 64
 read_by (Some row) bytes = asked row.command.needed row.asked bytes

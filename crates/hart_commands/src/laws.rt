@@ -38,7 +38,7 @@ pub fn written_data_are_their_request()
         → request_reading (command_of request) (request_data request) ≡ Ok request }
 {}
 
-/// If the data of a command are read as a request, it is a well-made request of that command.
+/// If the data of a command are read as a request, this request is well made, and is a request of that command.
 pub fn requests_have_their_command()
     ensures { (command : ℕ) (bytes : List ℕ) (request : Request)
         → request_reading command bytes ≡ Ok request → (command_of request ≡ command) × IsRequest request }

@@ -14,7 +14,7 @@ pub struct Reply {
     pub code: ResponseCode,
     /// The state of the device.
     pub status: DeviceStatus,
-    /// The content: the command's own with code 0, otherwise [`ReplyContent::Refused`].
+    /// The content: with code 0 a content of the command, and otherwise [`ReplyContent::Refused`].
     pub content: ReplyContent,
 }
 

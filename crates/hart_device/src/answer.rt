@@ -171,7 +171,7 @@ impl<S: RegisterStore> Device<S> {
         }
     }
 
-    /// Returns true if Command 11 names another tag, or Command 21 another long tag, than the device's.
+    /// Returns true if Command 11 names a tag other than the device's, or Command 21 a long tag other than the device's.
     fn names_another(&self, reading: &Result<Request, ResponseCode>) -> bool
         ensures { result ≡ names_another self.now reading.now }
     {
@@ -184,7 +184,7 @@ impl<S: RegisterStore> Device<S> {
         }
     }
 
-    /// Carries out a frame as it was judged.
+    /// Carries out the request that a frame was judged to ask, or nothing if the frame was refused.
     fn carry_out(&mut self, master: MasterId, judged: &Result<Request, ResponseCode>)
         ensures { self.new ≡ after master (asked_effect judged.now) self.old }
     {

@@ -26,7 +26,7 @@ has_fault bit chars = list_any (λ character. bit_at character.faults bit == 1) 
 abbrev pub is_odd : List Character → ℕ → Bool
 is_odd chars bit = count_by (λ character. bit_at character.byte bit == 1) chars % 2 == 1
 
--- Whether the exclusive or of the bytes is not zero: at least one of the eight bits is set in an odd number of them.
+-- Whether the exclusive or of the bytes is not zero: at least one of the eight bits is set in an odd number of the bytes.
 abbrev pub has_odd_bit : List Character → Bool
 has_odd_bit chars = list_any (is_odd chars) (0 ∷ 1 ∷ 2 ∷ 3 ∷ 4 ∷ 5 ∷ 6 ∷ 7 ∷ [])
 

@@ -45,7 +45,7 @@ variable_of_code process code =
     else if code == 245 then current_variable process
     else unwrap_or (dynamic_at process (place_of code)) missing_variable
 
--- The reading of a requested code: that code, and its variable.
+-- The reading of a requested code: the code itself, and the variable of this code.
 abbrev pub variable_reading : Process → ℕ → VariableReading
 variable_reading process code =
     let variable = variable_of_code process code in

@@ -1,4 +1,4 @@
--- The image of a device: the bytes that are kept of it while it is stopped (own profile).
+-- The image of a device: the bytes that are kept of the device while it is stopped (own profile).
 use Rattle.std.specs.Prelude.{◌≡◌, ◌≢◌, ℕ, ◌+◌, ◌-◌, ◌<◌, ◌^◌, ◌⊎◌, Bool, if◌then◌else◌, ◌==◌, Option, Some, None, List, [], ◌∷◌, ◌++◌}
 use Rattle.std.specs.Prelude.{length, drop, replicate, slice_index}
 use Rattle.std.specs.List.{Contains, flat_map, sum_by}
@@ -31,7 +31,7 @@ registers_of_version version =
     else if version == 2 then Some registers
     else None
 
--- The long tag of a tag is the text of the tag, followed by 24 spaces.
+-- The long tag that belongs to a tag is the text of the tag, followed by 24 spaces.
 abbrev pub IsLongTagOf : List ℕ → List ℕ → Type 0
 IsLongTagOf tag long_tag = (text : List ℕ) × IsPacked text tag × (long_tag ≡ text ++ replicate 24 0x20)
 
@@ -67,12 +67,12 @@ image_of state = image_bytes 2 registers state
 abbrev pub image_length : List Register → ℕ
 image_length listed = 1 + sum_by size_of listed + 2 + 1
 
--- An array has invalid bytes for one of these registers.
+-- An array has invalid bytes for at least one of these registers.
 abbrev pub HasBadRegister : List Register → List ℕ → Type 0
 HasBadRegister listed array = (register : Register) × Contains listed register × ¬ IsValidIn register (standing_for register array)
 
--- An image with these registers has a bad field if its bytes for one of them are invalid, or if its last byte, the flags, is above
--- 7.
+-- An image with these registers has a bad field if its bytes for one of these registers are invalid, or if its last byte, the
+-- flags, is above 7.
 abbrev pub HasBadField : List Register → List ℕ → Type 0
 HasBadField listed image = HasBadRegister listed (drop 1 image) ⊎ (7 < slice_index image (length image - 1))
 
