@@ -24,7 +24,7 @@ use hart_values::{EachMaster, MasterId};
 #[repr(C)]
 #[derive(Clone, Copy)]
 pub struct HartDevice {
-    /// Its image, of version 2 (86 bytes) or of version 1 (54). Only the first `image_len` bytes count.
+    /// The image of the device, of version 2 (86 bytes) or of version 1 (54 bytes). Only the first `image_len` bytes count.
     pub image: [u8; 86],
     /// How many bytes the image has.
     pub image_len: u8,
@@ -34,8 +34,8 @@ pub struct HartDevice {
     pub secondary_cold_start: bool,
 }
 
-/// Makes a new device with these register values, counter 0 and all bits clear. Writes what is kept of it to `device`, and returns
-/// the length of its image.
+/// Makes a new device with these register values, counter 0 and all bits clear. Writes what is kept of the new device to `device`,
+/// and returns the length of its image.
 ///
 /// # Errors
 ///

@@ -90,7 +90,7 @@ fn kind_of(is_reply: bool) -> FrameKind
     }
 }
 
-/// Returns the primary master, or the secondary one.
+/// Returns the primary master if `is_primary` is true, and otherwise the secondary one.
 fn master_of(is_primary: bool) -> MasterId
     ensures { result ≡ (if is_primary then MasterId.Primary else MasterId.Secondary) }
 {

@@ -45,8 +45,8 @@ pub(crate) struct ImageParts {
 }
 
 impl<S: RegisterStore> Device<S> {
-    /// Returns the image of the device, in version 2: all that it holds except its identity and its cold start bits.
-    /// [`Device::from_image`] reads it, and [`Device::restore_cold_start`] restores the cold start bits.
+    /// Returns the image of the device, in version 2: all that the device holds except its identity and its cold start bits.
+    /// [`Device::from_image`] reads this image, and [`Device::restore_cold_start`] restores the cold start bits.
     pub fn image(&self) -> Image
         ensures written { result ≡ image_of self.now }
         ensures image { IsImageOf self.now result }

@@ -123,8 +123,8 @@ pub fn cold_starts_are_shown_once()
         → (state_after state frame).cold_start ≡ state.cold_start }
 {}
 
-/// A list of characters has at most one garbled request for a device, and it is decidable whether it has one. The test for the
-/// device's own address accepts exactly the bytes of its unique address, for either master and with any burst bit.
+/// A list of characters has at most one garbled request for a device, and it is decidable whether the list has one. The test for
+/// the device's own address accepts exactly the bytes of its unique address, for either master and with any burst bit.
 pub fn garbled_requests_are_decided()
     ensures one { (identity : IdentityParts) (chars : List Character) (request other : GarbledRequest)
         → HasGarbled identity chars request → HasGarbled identity chars other → request ≡ other }
@@ -180,8 +180,9 @@ pub fn overwrites_absorb()
         → overwritten first (overwritten other (overwritten first old)) ≡ overwritten first (overwritten other old) }
 {}
 
-/// The registers of a list of overwrites result from applying them in order: each register holds the bytes of the last overwrite
-/// that names it, or else its initial bytes. An overwrite can be left out where the same one comes again later in the list.
+/// The registers of a list of overwrites result from applying these overwrites in order: each register holds the bytes of the last
+/// overwrite that names it, or else its initial bytes. An overwrite can be left out where the same one comes again later in the
+/// list.
 pub fn registers_of_lists()
     ensures each { (overwrites : List Overwrite) (initial : Contents) (register : Register)
         → bytes_in (registers_of overwrites initial) register
@@ -222,8 +223,8 @@ pub fn images_have_one_state()
 }
 
 /// The identity, an image and the cold start bits keep a device whole: a device made again from these three has the same state. The
-/// image may be the one that the device writes, or any other image of it in either version. The cold start bits do not matter for
-/// this: each image is one of the device whichever of these bits are set.
+/// image may be the one that the device writes, or any other image of it in either version. Each of these is an image of the device
+/// whichever cold start bits are set.
 pub fn devices_are_kept_whole()
     ensures image { (state : DeviceState) → IsDevice state → IsImageOf state (image_of state) }
     ensures any_cold_start { (state : DeviceState) (image : List ℕ) (cold_start : EachMaster Bool)
