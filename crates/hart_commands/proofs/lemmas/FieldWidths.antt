@@ -98,7 +98,7 @@ said : (code status : ℕ) (bytes : List ℕ) (reply : Reply) → reply_reading 
 unfolding replied
 said code status bytes reply read = grind (arith, nat_tests)
 
--- in the data that a reply to Command 9 is read from, each field has a width of its kind
+-- in the data that the content of a reply to Command 9 takes, each field has a width of its kind
 of_content : (bytes : List ℕ) (content : ReplyContent) → (content ≡ Refused) ⊎ (variables_reading bytes ≡ Some content)
     → Fit fields.variables (take (length (content_bytes content)) bytes)
 of_content bytes content (inl refused) = rw refused (All-nil HasWidthOfKind)

@@ -33,7 +33,7 @@ pub joined_values : (bytes : List ℕ) (vs : List UnitValue)
 joined_values bytes [] = sym (append-nil bytes)
 joined_values bytes (v ∷ vs) = ap (λ xs. bytes ++ v.unit ∷ xs) (joined_values v.value.0 vs)
 
--- bytes are joined from parts of one byte each
+-- if each byte is a part of its own, joining the parts gives the bytes
 pub joined_singles : (xs : List ℕ) → joined (map one xs) ≡ xs
 joined_singles [] = refl
 joined_singles (x ∷ []) = refl

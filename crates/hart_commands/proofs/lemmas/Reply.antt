@@ -65,7 +65,7 @@ in_groups _ some few bytes long = absurd (omega arith)
 dynamic : Keeps 3 dynamic_reading
 dynamic bytes = grind (arith, common_steps, nat_tests, in_groups)
 
--- a device status, one to eight variables and a time stamp that are all of the bytes are kept
+-- if a device status, one to eight variables and a time stamp are all of the bytes, they are kept
 in_variables : (groups : ℕ) → 0 < groups → groups < 9 → (bytes : List ℕ) → length bytes ≡ 5 + 8 * groups
     → IfSome (variables_reading bytes) (λ content. (content_bytes content ≡ bytes) × IsKept 9 variables_reading bytes content)
 unfolding known

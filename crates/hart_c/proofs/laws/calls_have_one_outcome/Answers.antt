@@ -83,7 +83,7 @@ one_said : (answer : Option FrameParts) (preambles : ℕ) (old new newer : List 
 one_said answer preambles old new newer len size is again =
     let same = one_saying answer preambles is.0 again.0 is.1 again.1 in grind (arith, same)
 
--- an answer that was written has room
+-- if an answer was written, it has room
 said_fits : (answer : Option FrameParts) (preambles : ℕ) (old new : List ℕ) (len : ℕ)
     → IsWritten (IsSaid answer preambles) old new len → HasNoRoom (IsSaid answer preambles) (length old) → ⊥
 said_fits answer preambles old new len is none =
