@@ -29,7 +29,8 @@ send_checks numbers =
     frame_checks numbers ++ needs ((request : Request) × IsAsked (frame_in numbers) request) NoRequest
     ∷ needs ((request : Request) × IsSent numbers request) WrongAddress ∷ []
 
--- If what is heard is accepted as the reply to a request, its frame is shown. If it is no such reply, `before` is unchanged.
+-- If what is heard is accepted as the reply to a request, its frame is shown. If it is no such reply, the frame that was shown
+-- before is unchanged.
 abbrev pub IsShownReply : MasterId → Address → Request → List Character → HartFrame → HartFrame → Option Reply → Type 0
 IsShownReply id address request chars before after None =
     ((reply : Reply) → IsAccepted id address request chars reply → ⊥) × (after ≡ before)
@@ -54,7 +55,8 @@ acceptance_of (Ok (Some reply)) = record { is_accepted = true; code = reply.code
 acceptance_of (Ok None) = record { is_accepted = false; code = 0; status = 0; fault = 0 }
 acceptance_of (Err fault) = record { is_accepted = false; code = 0; status = 0; fault = number_of fault }
 
--- The call returns the accepted reply, or that there is none. Or the call returns a fault, and `before` is unchanged.
+-- The call returns the accepted reply, or that there is none. Or the call returns a fault, and the frame that was shown before is
+-- unchanged.
 abbrev pub AcceptOutcome : HartFrame → List HartChar → HartFrame → HartFrame → HartAcceptance → Type 0
 AcceptOutcome numbers heard before after =
     Outcome (accept_checks numbers heard) (Accepts numbers heard before after) (after ≡ before) acceptance_of

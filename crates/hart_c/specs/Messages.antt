@@ -7,8 +7,8 @@ use Rattle.hart_c.specs.Faults.{AllPass, Check, Outcome, needs, needs_or, outcom
 use Rattle.hart_c.specs.declared.fault.Fault.TheVariants.{BadAddress, Frame, LongExpansion, NoRoom}
 use Rattle.hart_c.specs.{Numbers.IsTidy, Numbers.frame_in, declared.fault.HartOutcome.HartOutcome, declared.frame.HartFrame.HartFrame}
 
--- The frame at the front of the bytes is shown at place 0, and the call returns its length. Or the call returns a fault, and
--- `before` is unchanged.
+-- The frame at the front of the bytes is shown at place 0, and the call returns its length. Or the call returns a fault, and the
+-- frame that was shown before is unchanged.
 abbrev pub DecodeOutcome : List ℕ → HartFrame → HartFrame → HartOutcome → Type 0
 DecodeOutcome bytes before after =
     Outcome (needs_or ((frame : FrameParts) × (len : ℕ) × BeginsWithBody bytes frame len) (IsRefusedWith bytes) Frame ∷ [])

@@ -32,7 +32,8 @@ use Rattle.hart_commands.specs.declared.content.ReplyContent.TheVariants as repl
 use Rattle.hart_commands.specs.declared.register.Register.TheVariants as registers
 use Rattle.hart_commands.specs.declared.request.Request.TheVariants as requested
 
--- LISTS If items of `n` bytes each are written end to end, they are read back one by one.
+-- LISTS
+-- If items of `n` bytes each are written end to end, they are read back one by one.
 end_to_end : {X : Type 0} (n : ℕ) (bytes_of : X → List ℕ) (of : List ℕ → X) (Sized : X → Type 0)
     → ((x : X) → Sized x → length (bytes_of x) ≡ n) → ((x : X) → Sized x → of (bytes_of x) ≡ x)
     → (xs : List X) (rest : List ℕ) → All Sized xs
