@@ -1,4 +1,4 @@
--- What a caller in C accepts as a reply, as a master does (own profile).
+-- Which deliveries a caller in C accepts as a reply, in the same way as a master (own profile).
 use Rattle.std.specs.Prelude.{◌≡◌, ◌++◌, true, false, List, [], ◌∷◌, Option, None, Some, Result, Ok, Err, map}
 use Rattle.hart_values.specs.declared.{address.Address.Address, address.Address.TheVariants.Unique, master_id.MasterId.MasterId}
 use Rattle.hart_frame.specs.{heard.Character.Character, wire.FrameParts.FrameParts, wire.FrameParts.request_parts}

@@ -112,7 +112,7 @@ pub fn numbers_of_one_frame_are_written_alike()
         → EncodeOutcome frame preambles before after outcome → EncodeOutcome other preambles before after outcome }
 {}
 
-/// 287 bytes are room for any message: with that room, neither `hart_encode` nor `hart_hear` has the fault of no room.
+/// 287 bytes are room for any message: with that room, neither `hart_encode` nor `hart_hear` returns the fault `HART_NO_ROOM`.
 pub fn messages_of_287_bytes_have_room()
     ensures encode { (frame : HartFrame) (preambles : ℕ) (before after : List ℕ) (outcome : HartOutcome) → 287 ≤ length before
         → EncodeOutcome frame preambles before after outcome → outcome.fault ≢ 12 }

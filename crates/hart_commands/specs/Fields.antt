@@ -161,7 +161,8 @@ abbrev pub size_in : FieldSize → ℕ → Option ℕ
 size_in (Exactly size) left = if nat_lt left size then None else Some size
 size_in (AllBut after) left = if nat_lt after left then Some (left - after) else None
 
--- Splits bytes into those of the field, which come first, and those after the field, if there are enough bytes for the field.
+-- If there are enough bytes for a field of this size, splits them into the bytes of the field, which come first, and the bytes
+-- after the field.
 abbrev pub split : FieldSize → List ℕ → Option (List ℕ × List ℕ)
 split size bytes = option_map (λ n. (take n bytes, drop n bytes)) (size_in size (length bytes))
 

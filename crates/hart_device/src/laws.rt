@@ -217,7 +217,7 @@ pub fn images_have_one_state()
         → IsImageOf state image → IsImageOf other image → state.identity ≡ other.identity → state.cold_start ≡ other.cold_start
         → state ≡ other }
 {
-    // No-ops: their contracts say that the list has every register, and that bytes are the packed form of one text at most.
+    // No-ops: their contracts say that the list has every register, and that bytes are the packed form of at most one text.
     all_registers_are_listed_once();
     packed_text_and_bytes_determine_each_other();
 }

@@ -1,4 +1,4 @@
--- The fields of data have a number of bytes that their kind allows.
+-- Each field of data has a number of bytes that its kind allows.
 use Rattle.std.proofs.Common.{◌≡◌, ℕ, ◌+◌, ◌*◌, ◌<◌, ◌≤◌, ◌⊎◌, inl, inr, List, [], ◌∷◌, All, Option, None, Some, IfSome, take, drop, length}
 use Rattle.std.proofs.Common.{arith, length-drop, length-take, lit<, refl, rules}
 use Rattle.std.proofs.lemmas.Bool.Decides.{nat_tests}
