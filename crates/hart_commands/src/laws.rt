@@ -64,7 +64,8 @@ pub fn read_data_begin_as_written()
 {}
 
 /// Data are refused with code 5 exactly if they are too few for their command. So code 5 never refuses data of at least the needed
-/// length. If bytes are added to data refused with code 5, code 5 still refuses them as long as they are fewer than needed.
+/// length. If bytes are added to data that code 5 refuses, code 5 still refuses the longer data as long as these are fewer bytes
+/// than needed.
 pub fn too_few_data_are_fewer_than_needed()
     ensures exactly { (command : ℕ) (bytes : List ℕ) → (request_reading command bytes ≡ Err 5) ↔ AreTooFew command bytes }
     ensures enough { (command : ℕ) (bytes : List ℕ) → needed_data command ≤ length bytes → request_reading command bytes ≢ Err 5 }

@@ -196,7 +196,7 @@ pub(super) fn garbled_write() -> Option<[Char; MOST]> {
     chars_of(BAD_CHECK)
 }
 
-/// Byte strings, how often each is repeated, and its fault bits.
+/// Byte strings, how often each is repeated, and the fault bits of its characters.
 type Noise<'a> = &'a [(&'a [u8], usize, u8)];
 
 /// The body of a request for the identity at polling address 0.

@@ -1,4 +1,4 @@
-//! Compares the messages and misses that are seen while characters are heard with the messages and misses of the whole list.
+//! Checks that the messages and misses that are seen while characters are heard are the messages and misses of the whole list.
 use crate::rows::{hold, hold_ok};
 use hart_frame::{After, Char, Miss, NextSighting, Sighting, first_frame, next_sighting, why_none};
 use std::alloc::Global;

@@ -8,7 +8,7 @@ use Rattle.hart_c.specs.declared.fault.Fault.{Fault}
 use Rattle.hart_c.specs.declared.frame.HartFrame.{HartFrame}
 use Rattle.hart_c.proofs.laws.numbers_of_one_frame_are_written_alike.Goals as goal
 
--- if two structs of numbers have the same address, and the address of one is in range, so is that of the other
+-- if two structs of numbers have the same address, and the address of one is in range, so is the address of the other
 in_range : (is_unique is_other : Bool) (frame other : HartFrame) → address_of is_other other ≡ address_of is_unique frame
     → IsInRange is_unique frame → IsInRange is_other other
 in_range true true frame other same is = grind arith
