@@ -8,8 +8,8 @@ use Rattle.hart_commands.specs.declared.identity.IdentityContent.{IdentityConten
 use Rattle.hart_commands.specs.declared.reply.Reply.{Reply}
 use Rattle.hart_values.specs.address.AddressBytes.{is_broadcast}
 
--- The address of an identity has two numbers: the lower 14 bits of the expanded device type, and the device id. The bytes of both
--- hold the most significant byte first.
+-- The address of an identity has two numbers: the lower 14 bits of the expanded device type, and the device id. Each number is read
+-- with the most significant byte first.
 abbrev pub address_of : IdentityContent → Address
 address_of identity = Unique (record {
   expanded_type =
