@@ -3,7 +3,7 @@ use Rattle.std.proofs.Common.{◌≡◌, inl, inr, List, [], ◌∷◌, ◌++◌
 use Rattle.hart_c.specs.Faults.{AllPass, Check, IsFirstOf, needs, refused_if}
 use Rattle.hart_c.specs.declared.fault.Fault.{Fault}
 
--- a check that refuses with one fault, and refuses nothing that passes it
+-- a check that refuses with at most one fault, and refuses no call that passes the check
 pub record IsSound (check : Check) : Type 0 where
   pub one : (fault other : Fault) → check.refuses fault → check.refuses other → fault ≡ other
   pub not_both : (fault : Fault) → check.passes → check.refuses fault → ⊥
@@ -27,13 +27,13 @@ first_one (check ∷ checks) sound fault other (inl why) (inr because) = absurd 
 first_one (check ∷ checks) sound fault other (inr why) (inl because) = absurd (sound.0.not_both other why.0 because)
 first_one (check ∷ checks) sound fault other (inr why) (inr because) = first_one checks sound.1 fault other why.1 because.1
 
--- sound checks have no first fault if all are passed
+-- sound checks have no first fault if a call passes them all
 pub first_none : (checks : List Check) → AreSound checks → AllPass checks → (fault : Fault) → IsFirstOf checks fault → ⊥
 first_none [] sound passed fault why = why
 first_none (check ∷ checks) sound passed fault (inl why) = sound.0.not_both fault passed.0 why
 first_none (check ∷ checks) sound passed fault (inr why) = first_none checks sound.1 passed.1 fault why.1
 
--- the first fault of some checks stays the first with further checks after them
+-- the first fault of some checks is still the first fault if further checks follow them
 pub first_before : (checks others : List Check) (fault : Fault) → IsFirstOf checks fault → IsFirstOf (checks ++ others) fault
 first_before [] others fault why = absurd why
 first_before (check ∷ checks) others fault (inl why) = inl why

@@ -11,14 +11,15 @@ use Rattle.hart_c.specs.Faults.{number_of}
 use Rattle.hart_c.specs.declared.fault.Fault.TheVariants.{NoRoom}
 use Rattle.hart_c.specs.declared.{data.HartField.HartField, data.HartReading.HartReading, fault.HartOutcome.HartOutcome}
 
--- A name that fits is written to the front of the output. Otherwise the output stays; the fault is 15 for no name, 12 for no room.
+-- A name that fits is written to the front of the output. Otherwise the output is unchanged, and the fault is 15 if there is no
+-- name, or 12 if the name does not fit.
 abbrev pub NameOutcome : Option (List ℕ) → List ℕ → List ℕ → HartOutcome → Type 0
 NameOutcome None before after outcome = (outcome ≡ record { len = 0; fault = 15 }) × (after ≡ before)
 NameOutcome (Some name) before after outcome =
     ((length name ≤ length before) × (outcome ≡ record { len = length name; fault = 0 }) × (after ≡ name ++ drop (length name) before))
     ⊎ ((length before < length name) × (outcome ≡ record { len = 0; fault = number_of NoRoom }) × (after ≡ before))
 
--- The fields of a command are those of the data of its replies with code 0, or those of its request data.
+-- The fields of a command's reply data with code 0 (for `true`), or of its request data (for `false`).
 abbrev pub rows_for : Bool → ℕ → List Row
 rows_for true command = reply_rows command
 rows_for false command = request_rows command
@@ -44,11 +45,12 @@ placed start [] = []
 placed start (field ∷ fields) =
     record { start = start; len = length field.bytes; kind = kind_number field.kind } ∷ placed (start + length field.bytes) fields
 
--- The fields that stood in `before`, with the written ones over their front, as many as fit.
+-- The fields in `before`, with `written` over the first ones, as many as fit.
 abbrev pub written_over : List HartField → List HartField → List HartField
 written_over written before = take (length before) written ++ drop (length written) before
 
--- Fields are shown over the front of the old ones. Their number, the number of bytes taken, a code and a device status are told.
+-- Fields are written over the first ones of `before`. The result has their number, the number of bytes taken, a code and a device
+-- status.
 pub record IsShown (start : ℕ) (fields : List Field) (taken code status : ℕ) (before after : List HartField) (reading : HartReading)
     : Type 0 where
   pub told : reading ≡ record { count = length fields; taken = taken; code = code; status = status; fault = 0 }
@@ -59,7 +61,8 @@ abbrev pub request_fields : ℕ → List ℕ → Reading → List Field
 request_fields command bytes (Ok request) = fields_of (request_rows command) (take (length (request_data request)) bytes)
 request_fields command bytes (Err code) = []
 
--- Of a request that is read, the fields are shown and the bytes taken are told. Of a refused request, only the code is told.
+-- If a request is read, its fields are shown and the result has the number of bytes taken. If it is refused, the result has only
+-- the code.
 abbrev pub RequestShown : ℕ → List ℕ → Reading → List HartField → List HartField → HartReading → Type 0
 RequestShown command bytes (Ok request) before after reading =
     IsShown 0 (request_fields command bytes (Ok request)) (length (take (length (request_data request)) bytes)) 0 0 before after reading
@@ -74,7 +77,8 @@ abbrev pub reply_fields : ℕ → List ℕ → Reply → List Field
 reply_fields command payload reply =
     if reply.code == 0 then fields_of (reply_rows command) (take (length (content_bytes reply.content)) (drop 2 payload)) else []
 
--- The fields of a reply are shown from place 2 on, and its code and device status told. Without a reply the fault is 14.
+-- The fields of a reply are shown from place 2 on, and the result has its code and its device status. Without a reply the fault is
+-- 14.
 abbrev pub ReplyShown : ℕ → List ℕ → Option Reply → List HartField → List HartField → HartReading → Type 0
 ReplyShown command payload (Some reply) before after reading =
     IsShown 2 (reply_fields command payload reply) (length (reply_payload reply)) reply.code reply.status.0 before after reading
@@ -85,7 +89,8 @@ ReplyShown command payload None before after reading =
 abbrev pub ReplyOutcome : ℕ → List ℕ → List HartField → List HartField → HartReading → Type 0
 ReplyOutcome command payload = ReplyShown command payload (reply_reading command payload)
 
--- The place shown at an index is that of the field with this index: it has its name, kind, width and bytes, and follows the others.
+-- The place shown at an index is the place of the field with this index. The field has the name, kind and width of its row, its
+-- bytes stand at that place, and it follows the fields before it.
 pub record StandsAt (is_reply : Bool) (command first : ℕ) (fields : List Field) (bytes : List ℕ) (index : ℕ) (shown : HartField)
     : Type 0 where
   pub row : Row

@@ -16,11 +16,12 @@ use Rattle.hart_c.specs.{Find.char_of, Find.heard_checks, Messages.HasNoRoom, Me
 use Rattle.hart_c.specs.declared.{device.HartDevice.HartDevice, find.HartChar.HartChar, process.HartProcess.HartProcess}
 use Rattle.hart_c.specs.declared.{fault.HartOutcome.HartOutcome, identity.HartIdentity.HartIdentity, registers.HartRegisters.HartRegisters}
 
--- The image is the first `image_len` bytes.
+-- The image in a kept device is the first `image_len` bytes of its array.
 abbrev pub image_in : HartDevice → List ℕ
 image_in device = take device.image_len device.image
 
--- A kept device with this identity stands for a state if its image is an image of the state, and its cold start bits are the same.
+-- A kept device with this identity stands for a state if its image is an image of the state, and its cold start bits are the cold
+-- start bits of the state.
 pub record IsKept (parts : IdentityParts) (device : HartDevice) (state : DeviceState) : Type 0 where
   pub is_identity : AreIdentityParts parts
   pub identity : state.identity ≡ parts
@@ -37,20 +38,22 @@ device_of state = record {
   secondary_cold_start = state.cold_start.secondary;
 }
 
--- The same device with write protection set or clear: bit 2 of the flags, the last byte of the image. The bits above it are clear.
+-- The same device with write protection set or clear. Write protection is bit 2 of the flags, the last byte of the image. The bits
+-- above bit 2 are clear.
 abbrev pub with_protection : Bool → HartDevice → HartDevice
 with_protection protected device =
     let last = device.image_len - 1 in
     record device { image = slice_set device.image last (slice_index device.image last % 4 + (if protected then 4 else 0)) }
 
--- A new device with these registers and any identity is kept; or a register would not be valid, and what was kept stays.
+-- A new device with these registers and any identity is kept. If a register would not be valid, what was kept is unchanged.
 abbrev pub NewDeviceOutcome : HartRegisters → HartDevice → HartDevice → HartOutcome → Type 0
 NewDeviceOutcome given before after =
     Outcome (needs (AreValid (contents_of given)) (Device BadField) ∷ [])
     (λ len. (len ≡ 86) × (values : RegisterValues) × (values_of values ≡ contents_of given) × AreValid (contents_of given)
     × ((parts : IdentityParts) → after ≡ device_of (new_device parts values))) (after ≡ before) outcome_of
 
--- What a device hears: it is kept in a state, its process is passed, and a delivery brings it something.
+-- What a device hears. The device is kept in a state, its process is passed, and a delivery brings it a frame, a garbled request or
+-- no message.
 pub record IsHearing (identity : HartIdentity) (process : HartProcess) (heard : List HartChar) (device : HartDevice) : Type 0 where
   pub state : DeviceState
   pub measured : Process
@@ -60,12 +63,13 @@ pub record IsHearing (identity : HartIdentity) (process : HartProcess) (heard : 
   pub delivery : AllPass (heard_checks heard)
   pub brings : Brings (parts_of identity) (map char_of heard) brought
 
--- What a device says is its reply as a message, or no byte at all if it is silent.
+-- A device says its reply as a message, or no byte at all if the device is silent.
 abbrev pub IsSaid : Option FrameParts → ℕ → List ℕ → Type 0
 IsSaid None preambles bytes = bytes ≡ []
 IsSaid (Some reply) preambles bytes = IsMessage reply preambles bytes
 
--- A device says its answer to what a delivery brings, and is then in the state after that. Silence leaves the state as it was.
+-- A device says its answer to what a delivery brings, and is then in the state after that delivery. If the device is silent, its
+-- state is unchanged.
 pub record Hears (identity : HartIdentity) (process : HartProcess) (heard : List HartChar) (before after : HartDevice)
     (old new : List ℕ) (len : ℕ) : Type 0 where
   pub hearing : IsHearing identity process heard before
@@ -74,21 +78,24 @@ pub record Hears (identity : HartIdentity) (process : HartProcess) (heard : List
   pub kept : IsKept (parts_of identity) after (state_after_delivery hearing.state hearing.brought)
   pub silent : len ≡ 0 → state_after_delivery hearing.state hearing.brought ≡ hearing.state
 
--- First the identity is checked, then that the image has at most 86 bytes, and then that what is kept stands for some state.
+-- First the identity is checked, then whether the image has at most 86 bytes, and then whether the kept device stands for some
+-- state.
 abbrev pub state_checks : HartIdentity → HartDevice → List Check
 state_checks identity device =
     needs_or (AreIdentityParts (parts_of identity)) (IsIdentityFault (parts_of identity)) Device
     ∷ needs (device.image_len ≤ 86) (Device BadLength)
     ∷ needs_or ((state : DeviceState) × IsKept (parts_of identity) device state) (IsImageFault (image_in device)) Device ∷ []
 
--- The device is checked, then the process for one to four dynamic variables, then the characters, and then whether the reply fits.
+-- First the device is checked, then whether the process has one to four dynamic variables, then the characters, and then whether
+-- the reply fits.
 abbrev pub hear_checks : HartIdentity → HartProcess → List HartChar → HartDevice → ℕ → List Check
 hear_checks identity process heard device room =
     state_checks identity device ++ needs (HasVariables process) BadVariables
     ∷ heard_checks heard ++ refused_if ((hearing : IsHearing identity process heard device)
     × HasNoRoom (IsSaid (answer_to hearing.state hearing.measured hearing.brought) identity.response_preambles) room) NoRoom ∷ []
 
--- The device has heard, and the length of its reply is told; or a fault is told, and the kept device and the output are unchanged.
+-- The device has heard the delivery, and the call returns the length of its reply. Or the call returns a fault, and the kept device
+-- and the output are unchanged.
 abbrev pub HearOutcome : HartIdentity → HartProcess → List HartChar → HartDevice → HartDevice → List ℕ → List ℕ → HartOutcome → Type 0
 HearOutcome identity process heard before after old new =
     Outcome (hear_checks identity process heard before (length old)) (Hears identity process heard before after old new)

@@ -6,7 +6,7 @@ use Rattle.hart_c.specs.declared.fault.Fault.TheVariants.{BadAddress, BadFaultBi
 use Rattle.hart_c.specs.declared.fault.Fault.TheVariants.{Device, Frame, NoRoom, TooLong}
 use Rattle.hart_c.specs.declared.{fault.Fault.Fault, fault.HartOutcome.HartOutcome}
 
--- The numbers of all faults. Those of frames are the same as in hart_frame.
+-- The numbers of all faults. The faults of frames have the same numbers as in hart_frame.
 abbrev pub number_of : Fault → ℕ
 number_of (Frame fault) = frame_fault_number fault
 number_of BadAddress = 10
@@ -23,25 +23,25 @@ number_of TooLong = 22
 number_of NoRequest = 23
 number_of WrongAddress = 24
 
--- Without a fault, the number of bytes that were written is told. A fault is told by its number.
+-- Without a fault, the result has the number of bytes that were written. With a fault, it has the number of the fault.
 abbrev pub outcome_of : Result ℕ Fault → HartOutcome
 outcome_of (Ok len) = record { len = len; fault = 0 }
 outcome_of (Err fault) = record { len = 0; fault = number_of fault }
 
--- A check of a call: when the call passes it, and with which fault it refuses the call otherwise.
+-- A check of a call says when the call passes the check, and with which fault the check refuses the call otherwise.
 pub record Check : Type 1 where
   pub passes : Type 0
   pub refuses : Fault → Type 0
 
--- A condition must hold, or else this is the fault.
+-- A check that a condition holds. If it does not hold, this is the fault.
 abbrev pub needs : Type 0 → Fault → Check
 needs good fault = record { passes = good; refuses = λ told. (good → ⊥) × (told ≡ fault) }
 
--- A condition must not hold, or else this is the fault.
+-- A check that a condition does not hold. If it holds, this is the fault.
 abbrev pub refused_if : Type 0 → Fault → Check
 refused_if bad fault = record { passes = bad → ⊥; refuses = λ told. bad × (told ≡ fault) }
 
--- A condition must hold, or else the fault is one that a lower crate names.
+-- A check that a condition holds. If it does not hold, the fault is one that a lower crate names.
 abbrev pub needs_or : {F : Type 0} → Type 0 → (F → Type 0) → (F → Fault) → Check
 needs_or {F} good refuses named =
     record { passes = good; refuses = λ told. (fault : F) × refuses fault × (told ≡ named fault) }
@@ -56,7 +56,7 @@ abbrev pub AllPass : List Check → Type 0
 AllPass [] = Unit {0}
 AllPass (check ∷ checks) = check.passes × AllPass checks
 
--- A call has done its work, and tells the result; or it tells the first fault of its checks, and its output stays.
+-- A call has done its work, and returns the result. Or the call returns the first fault of its checks, and its output is unchanged.
 abbrev pub Outcome : {D T : Type 0} → List Check → (D → Type 0) → Type 0 → (Result D Fault → T) → T → Type 0
 Outcome {D} checks IsDone stays telling told =
     ((done : D) × IsDone done × (told ≡ telling (Ok done)))

@@ -1,4 +1,4 @@
--- What is heard, as a caller in C passes it, and what a search promises if the unused rest is passed again (own profile).
+-- What is heard, as a caller in C passes it, and what a search promises if the unused characters are passed again (own profile).
 use Rattle.std.specs.Prelude.{◌≤◌, ◌≡◌, ◌+◌, ◌<◌, ◌⊎◌, ◌++◌, List, [], ◌∷◌, length, ℕ, Bool, IsTrue, false, drop, map, take, All}
 use Rattle.hart_frame.specs.heard.Character.{AreFaultBits, Character}
 use Rattle.hart_frame.specs.{declared.heard.found.Found.Found, heard.Frames.IsUndecided, heard.Frames.moved, scan.Next.AreNext}
@@ -10,11 +10,13 @@ use Rattle.hart_c.specs.declared.{find.HartChar.HartChar, find.HartSearch.HartSe
 abbrev pub HaveFaultBits : List HartChar → Type 0
 HaveFaultBits heard = All (λ given. AreFaultBits given.faults) heard
 
--- A delivery is checked first for fault bits only, and then for at most 1,024 characters.
+-- First it is checked whether the characters of a delivery have fault bits only, and then whether there are at most 1,024
+-- characters.
 abbrev pub heard_checks : List HartChar → List Check
 heard_checks heard = needs (HaveFaultBits heard) BadFaultBits ∷ needs (length heard ≤ 1024) TooLong ∷ []
 
--- A search shows the next frames. With room for more it leaves at most 268 undecided characters, and none if the input ended.
+-- A search shows the next frames. If `frames` has room for more, the search leaves at most 268 characters, which are undecided, and
+-- none if the input ended.
 pub record Finds (chars : List Character) (ended : Bool) (before after : List HartFrame) (search : HartSearch) : Type 0 where
   pub within : search.count ≤ length after
   pub untouched : drop search.count after ≡ drop search.count before
@@ -29,13 +31,14 @@ pub record Finds (chars : List Character) (ended : Bool) (before after : List Ha
 abbrev pub char_of : HartChar → Character
 char_of given = record { byte = given.byte; faults = given.faults }
 
--- Of characters with fault bits only, the next frames are shown. Otherwise the fault is 13, and nothing is found, used up or shown.
+-- If the `faults` of all characters are fault bits only, the next frames are shown. Otherwise the fault is 13, and nothing is
+-- found, used up or shown.
 abbrev pub SearchOutcome : List HartChar → Bool → List HartFrame → List HartFrame → HartSearch → Type 0
 SearchOutcome heard ended before after search =
     (HaveFaultBits heard × Finds (map char_of heard) ended before after search)
     ⊎ ((HaveFaultBits heard → ⊥) × (search ≡ record { used = 0; count = 0; fault = number_of BadFaultBits }) × (after ≡ before))
 
--- What was heard so far, whether it ended, which frames were found in it, and how much is used up. Each search adds to these.
+-- What was heard so far, whether it ended, which frames were found in it, and how much is used up. Each search updates all four.
 pub data IsSearchedSoFar : List Character → Bool → List Found → ℕ → Type 0 where
   begin : IsSearchedSoFar [] false [] 0
   search : (heard piece : List Character) (before ended : Bool) (given found : List Found) (used further : ℕ)

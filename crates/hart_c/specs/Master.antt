@@ -1,4 +1,4 @@
--- What a caller in C accepts as a reply, as a master does (own profile).
+-- Which deliveries a caller in C accepts as a reply, in the same way as a master (own profile).
 use Rattle.std.specs.Prelude.{◌≡◌, ◌++◌, true, false, List, [], ◌∷◌, Option, None, Some, Result, Ok, Err, map}
 use Rattle.hart_values.specs.declared.{address.Address.Address, address.Address.TheVariants.Unique, master_id.MasterId.MasterId}
 use Rattle.hart_frame.specs.{heard.Character.Character, wire.FrameParts.FrameParts, wire.FrameParts.request_parts}
@@ -10,31 +10,34 @@ use Rattle.hart_c.specs.{Find.char_of, Messages.IsFrame, Numbers.IsTidy, Numbers
 use Rattle.hart_c.specs.{Find.heard_checks, Messages.frame_checks, declared.find.HartChar.HartChar, declared.frame.HartFrame.HartFrame}
 use Rattle.hart_c.specs.{declared.fault.Fault.Fault, declared.master.HartAcceptance.HartAcceptance, declared.master.HartUnique.HartUnique}
 
--- A master asks a request with a frame if the frame is a request frame, and its data are read as this request.
+-- A master asks a request with a frame if the frame is a request frame, and the data of the frame are read as this request.
 pub record IsAsked (frame : FrameParts) (request : Request) : Type 0 where
   pub parts : frame ≡ request_parts frame.master frame.address frame.command frame.payload
   pub reading : request_reading frame.command frame.payload ≡ Ok request
 
--- A master has sent a request with these numbers if their frame asks the request, and it may be asked at the address of the frame.
+-- A master has sent a request with these numbers if their frame asks the request, and the request may be asked at the frame's
+-- address.
 pub record IsSent (numbers : HartFrame) (request : Request) : Type 0 where
   pub is_frame : IsFrame numbers
   pub asked : IsAsked (frame_in numbers) request
   pub paired : may_ask (frame_in numbers).address request ≡ true
 
--- First the numbers are checked for being a frame, then the frame for asking a request, and then its address for that request.
+-- First it is checked whether the numbers are a frame, then whether the frame asks a request, and then whether this request may be
+-- asked at the frame's address.
 abbrev pub send_checks : HartFrame → List Check
 send_checks numbers =
     frame_checks numbers ++ needs ((request : Request) × IsAsked (frame_in numbers) request) NoRequest
     ∷ needs ((request : Request) × IsSent numbers request) WrongAddress ∷ []
 
--- What is heard is accepted as the reply to a request, and its frame is shown; or it is no such reply, and what was shown stays.
+-- If what is heard is accepted as the reply to a request, its frame is shown. If it is no such reply, the frame that was shown
+-- before is unchanged.
 abbrev pub IsShownReply : MasterId → Address → Request → List Character → HartFrame → HartFrame → Option Reply → Type 0
 IsShownReply id address request chars before after None =
     ((reply : Reply) → IsAccepted id address request chars reply → ⊥) × (after ≡ before)
 IsShownReply id address request chars before after (Some reply) =
     (accepted : IsAccepted id address request chars reply) × (found_in after ≡ accepted.found) × IsTidy after
 
--- A reply to the request that was sent is accepted, or no reply.
+-- A reply to the request that was sent is accepted, or no reply is accepted.
 pub record Accepts (numbers : HartFrame) (heard : List HartChar) (before after : HartFrame) (said : Option Reply) : Type 0 where
   pub request : Request
   pub sent : IsSent numbers request
@@ -45,18 +48,20 @@ pub record Accepts (numbers : HartFrame) (heard : List HartChar) (before after :
 abbrev pub accept_checks : HartFrame → List HartChar → List Check
 accept_checks numbers heard = send_checks numbers ++ heard_checks heard
 
--- The response code and the device status of an accepted reply are told. Without a reply both are 0. A fault is told by its number.
+-- The result has the response code and the device status of an accepted reply. Without a reply both are 0. With a fault, it has the
+-- number of the fault.
 abbrev pub acceptance_of : Result (Option Reply) Fault → HartAcceptance
 acceptance_of (Ok (Some reply)) = record { is_accepted = true; code = reply.code; status = reply.status.0; fault = 0 }
 acceptance_of (Ok None) = record { is_accepted = false; code = 0; status = 0; fault = 0 }
 acceptance_of (Err fault) = record { is_accepted = false; code = 0; status = 0; fault = number_of fault }
 
--- The call tells the accepted reply, or that there is none; or it tells a fault, and what was shown stays.
+-- The call returns the accepted reply, or that there is none. Or the call returns a fault, and the frame that was shown before is
+-- unchanged.
 abbrev pub AcceptOutcome : HartFrame → List HartChar → HartFrame → HartFrame → HartAcceptance → Type 0
 AcceptOutcome numbers heard before after =
     Outcome (accept_checks numbers heard) (Accepts numbers heard before after) (after ≡ before) acceptance_of
 
--- The numbers of a unique address. For a polling address, or none, they say that no unique address is given.
+-- The numbers of a unique address. For a polling address, or without an address, they say that no unique address is given.
 abbrev pub given_of : Option Address → HartUnique
 given_of (Some (Unique numbers)) = record { is_given = true; expanded_type = numbers.expanded_type; device_id = numbers.device_id }
 given_of _ = record { is_given = false; expanded_type = 0; device_id = 0 }

@@ -7,7 +7,8 @@ use Rattle.hart_c.specs.Faults.{AllPass, Check, Outcome, needs, needs_or, outcom
 use Rattle.hart_c.specs.declared.fault.Fault.TheVariants.{BadAddress, Frame, LongExpansion, NoRoom}
 use Rattle.hart_c.specs.{Numbers.IsTidy, Numbers.frame_in, declared.fault.HartOutcome.HartOutcome, declared.frame.HartFrame.HartFrame}
 
--- The frame at the front of the bytes is shown at place 0, and its length told; or a fault is told, and what was shown stays.
+-- The frame at the front of the bytes is shown at place 0, and the call returns its length. Or the call returns a fault, and the
+-- frame that was shown before is unchanged.
 abbrev pub DecodeOutcome : List ℕ → HartFrame → HartFrame → HartOutcome → Type 0
 DecodeOutcome bytes before after =
     Outcome (needs_or ((frame : FrameParts) × (len : ℕ) × BeginsWithBody bytes frame len) (IsRefusedWith bytes) Frame ∷ [])
@@ -18,7 +19,8 @@ abbrev pub IsInRange : Bool → HartFrame → Type 0
 IsInRange true frame = (frame.expanded_type < 2 ^ 14) × (frame.device_id < 2 ^ 24)
 IsInRange false frame = frame.polling_address < 64
 
--- A frame is checked for an address in range, then for at most three expansion bytes, and then for the two status bytes of a reply.
+-- First it is checked whether the address of a frame is in range, then whether it has at most three expansion bytes, and then
+-- whether a reply has its two status bytes.
 abbrev pub frame_checks : HartFrame → List Check
 frame_checks frame =
     needs (IsInRange frame.is_unique frame) BadAddress
@@ -29,22 +31,24 @@ frame_checks frame =
 abbrev pub IsFrame : HartFrame → Type 0
 IsFrame frame = AllPass (frame_checks frame)
 
--- The bytes to be written are more than there is room for.
+-- There is no room for all the bytes to be written.
 abbrev pub HasNoRoom : (List ℕ → Type 0) → ℕ → Type 0
 HasNoRoom ToWrite room = (bytes : List ℕ) × ToWrite bytes × (room < length bytes)
 
--- The bytes to be written fit. They stand at the front of the output, the rest of the output stays, and their number is told.
+-- The bytes to be written fit. They stand at the front of the output, the output after them is unchanged, and `len` is their
+-- number.
 abbrev pub IsWritten : (List ℕ → Type 0) → List ℕ → List ℕ → ℕ → Type 0
 IsWritten ToWrite before after len =
     (bytes : List ℕ) × ToWrite bytes × (length bytes ≤ length before) × (len ≡ length bytes) × (after ≡ bytes ++ drop len before)
 
--- First the frame is checked, then that there are 5 to 20 preamble bytes, and then that the message fits.
+-- First the frame is checked, then whether there are 5 to 20 preamble bytes, and then whether the message fits.
 abbrev pub encode_checks : HartFrame → ℕ → ℕ → List Check
 encode_checks frame preambles room =
     frame_checks frame ++ needs (IsPreambleCount preambles) (Frame BadPreamble)
     ∷ refused_if (HasNoRoom (IsMessage (frame_in frame) preambles) room) NoRoom ∷ []
 
--- A message of the frame is written, and its length is told; or a fault is told by its number, and the output is as it was.
+-- A message of the frame is written, and the call returns its length. Or the call returns the number of a fault, and the output is
+-- unchanged.
 abbrev pub EncodeOutcome : HartFrame → ℕ → List ℕ → List ℕ → HartOutcome → Type 0
 EncodeOutcome frame preambles before after =
     Outcome (encode_checks frame preambles (length before))

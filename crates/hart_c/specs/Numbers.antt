@@ -43,7 +43,7 @@ with_address (Polling number) frame = record frame { is_unique = false; polling_
 with_address (Unique numbers) frame =
     record frame { is_unique = true; polling_address = 0; expanded_type = numbers.expanded_type; device_id = numbers.device_id }
 
--- Numbers that are shown have at most three expansion bytes, and 0 for the other kind of address.
+-- Numbers that are shown have at most three expansion bytes. The numbers of the other kind of address are 0.
 pub record IsTidy (frame : HartFrame) : Type 0 where
   pub expansion : frame.expansion_len ≤ 3
   pub address : frame ≡ with_address (address_of frame.is_unique frame) frame
@@ -101,7 +101,7 @@ output_of given = record {
 abbrev pub HasVariables : HartProcess → Type 0
 HasVariables given = (1 ≤ given.variables_len) × (given.variables_len ≤ 4)
 
--- The numbers are those of a process if they have exactly its dynamic variables, and each of its other parts.
+-- The numbers stand for a process if they have exactly the dynamic variables of the process, and each of its other parts.
 pub record IsProcessOf (given : HartProcess) (process : Process) : Type 0 where
   pub loop_current : process.loop_current ≡ float_of given.loop_current
   pub percent_of_range : process.percent_of_range ≡ float_of given.percent_of_range

@@ -36,11 +36,11 @@ pub const HART_UNIT_CODE: u8 = 7;
 #[repr(C)]
 #[derive(Clone, Copy)]
 pub struct HartField {
-    /// The place of its first byte, from 0.
+    /// The place of the field's first byte, from 0.
     pub start: u8,
-    /// How many bytes it has.
+    /// How many bytes the field has.
     pub len: u8,
-    /// Its kind, one of [`HART_BYTES`] to [`HART_UNIT_CODE`].
+    /// The kind of the field, one of [`HART_BYTES`] to [`HART_UNIT_CODE`].
     pub kind: u8,
 }
 
@@ -94,12 +94,12 @@ pub extern "C" fn hart_read_request(
 }
 
 /// Reads the payload of a reply to this command, from its two status bytes on, and shows where the fields of its data stand, as far
-/// as there is room (HCF_SPEC-127). With another code than 0 there are no fields.
+/// as there is room (HCF_SPEC-127). With a code other than 0 there are no fields.
 ///
 /// # Errors
 ///
-/// [`HART_NO_REPLY`] if it is no reply to this command: if it has fewer than two bytes, if bit 7 of the first is set, if the command is
-/// not known, or if with code 0 the data are no content of the command. Nothing is then shown.
+/// [`HART_NO_REPLY`] if the payload is no reply to this command: if it has fewer than two bytes, if bit 7 of the first byte is set,
+/// if the command is not known, or if with code 0 the data are no content of the command. Nothing is then shown.
 #[unsafe(no_mangle)]
 pub extern "C" fn hart_read_reply(
     command: u8,

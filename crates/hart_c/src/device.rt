@@ -24,7 +24,7 @@ use hart_values::{EachMaster, MasterId};
 #[repr(C)]
 #[derive(Clone, Copy)]
 pub struct HartDevice {
-    /// Its image, of version 2 (86 bytes) or of version 1 (54). Only the first `image_len` bytes count.
+    /// The image of the device, of version 2 (86 bytes) or of version 1 (54 bytes). Only the first `image_len` bytes count.
     pub image: [u8; 86],
     /// How many bytes the image has.
     pub image_len: u8,
@@ -34,13 +34,13 @@ pub struct HartDevice {
     pub secondary_cold_start: bool,
 }
 
-/// Makes a new device with these register values, counter 0 and all bits clear. Writes what is kept of it to `device`, and returns
-/// the length of its image.
+/// Makes a new device with these register values, counter 0 and all bits clear. Writes what is kept of the new device to `device`,
+/// and returns the length of its image.
 ///
 /// # Errors
 ///
-/// [`HART_BAD_FIELD`](crate::fault::HART_BAD_FIELD) if the polling address is above 63, the loop current mode is above 1 or the date is
-/// none. `device` is then as it was.
+/// [`HART_BAD_FIELD`](crate::fault::HART_BAD_FIELD) if the polling address is above 63, the loop current mode is above 1 or the
+/// date is not valid. `device` is then unchanged.
 #[unsafe(no_mangle)]
 pub extern "C" fn hart_new_device(registers: &HartRegisters, device: &mut HartDevice) -> HartOutcome
     ensures { NewDeviceOutcome «registers».now device.old device.new result }
@@ -54,7 +54,7 @@ pub extern "C" fn hart_new_device(registers: &HartRegisters, device: &mut HartDe
     outcome_of(Ok(usize::from(device.image_len)))
 }
 
-/// Records that the device was without power: sets both masters' cold start bits. All else stays as it is.
+/// Records that the device was without power: sets both masters' cold start bits. Nothing else changes.
 #[unsafe(no_mangle)]
 pub extern "C" fn hart_restart(device: &mut HartDevice)
     ensures set { device.new ≡ record device.old { primary_cold_start = true; secondary_cold_start = true } }
@@ -65,13 +65,13 @@ pub extern "C" fn hart_restart(device: &mut HartDevice)
     device.secondary_cold_start = true;
 }
 
-/// Lets a device hear a delivery, all that it hears at once, with this process. Carries out what the delivery asks, and updates
-/// `device`. Writes the reply as a message to the front of `reply`, and returns its length, 0 for silence.
+/// Lets a device hear a delivery, which is all that it hears at once, with this process. Carries out what the delivery asks, and
+/// updates `device`. Writes the reply as a message to the front of `reply`, and returns its length, or 0 if the device is silent.
 ///
 /// # Errors
 ///
-/// The first that holds of a fault of the identity, one of what is kept, a process without dynamic variables or with more than four,
-/// a fault of the characters, or no room for the reply. Nothing is then carried out or written.
+/// The first of these that holds: a fault of the identity, a fault of the kept device, a process without dynamic variables or with
+/// more than four, a fault of the characters, or no room for the reply. Nothing is then carried out or written.
 #[unsafe(no_mangle)]
 pub extern "C" fn hart_hear(
     identity: &HartIdentity,
@@ -136,7 +136,7 @@ fn keep(state: &Device<ImageRegisters>, device: &mut HartDevice)
     device.secondary_cold_start = state.cold_start(MasterId::Secondary);
 }
 
-/// Writes what a device says as a message to the front of `output`, and returns its length, 0 for silence.
+/// Writes what a device says as a message to the front of `output`, and returns its length, or 0 if the device is silent.
 fn say(said: Option<Frame>, preambles: u8, output: &mut [u8]) -> Result<usize, Fault>
     requires { IsPreambleCount preambles }
     ensures said { IfOk result (IsWritten (IsSaid said preambles) output.old output.new) }

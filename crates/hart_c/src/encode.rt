@@ -16,8 +16,8 @@ use hart_values::{Address, MasterId};
 ///
 /// # Errors
 ///
-/// The first that holds: a number of the address out of range, more than three expansion bytes, a reply without its status bytes, a number
-/// of preamble bytes outside 5 to 20, or no room (HCF_SPEC-081). The output is then as it was.
+/// The first of these that holds: a number of the address out of range, more than three expansion bytes, a reply without its status
+/// bytes, a number of preamble bytes outside 5 to 20, or no room (HCF_SPEC-081). The output is then unchanged.
 #[unsafe(no_mangle)]
 pub extern "C" fn hart_encode(frame: &HartFrame, preambles: u8, output: &mut [u8]) -> HartOutcome
     ensures { EncodeOutcome frame.now preambles output.old output.new result }
@@ -65,7 +65,7 @@ pub(crate) fn frame_of(frame: &HartFrame) -> Result<Frame, Fault>
     .map_err(Fault::Frame)
 }
 
-/// Returns the address of these numbers, or `None` if one of them is out of range.
+/// Returns the address of these numbers, or `None` if a number of the address is out of range.
 fn address_of(frame: &HartFrame) -> Option<Address>
     ensures in_range { IsSome result ↔ IsInRange frame.now.is_unique frame.now }
     ensures same { IfSome result (λ address. address ≡ address_of frame.now.is_unique frame.now) }
@@ -90,7 +90,7 @@ fn kind_of(is_reply: bool) -> FrameKind
     }
 }
 
-/// Returns the primary master, or the secondary one.
+/// Returns the primary master if `is_primary` is true, and otherwise the secondary one.
 fn master_of(is_primary: bool) -> MasterId
     ensures { result ≡ (if is_primary then MasterId.Primary else MasterId.Secondary) }
 {

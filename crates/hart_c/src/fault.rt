@@ -36,7 +36,7 @@ pub const HART_LONG_EXPANSION: u8 = 11;
 /// The output has no room for what is to be written.
 pub const HART_NO_ROOM: u8 = 12;
 
-/// A character has another bit set than the fault bits.
+/// The `faults` of a character have a bit that is no fault bit.
 pub const HART_BAD_FAULT_BITS: u8 = 13;
 
 /// A payload is no reply to the command.
@@ -72,7 +72,7 @@ pub const HART_NO_REQUEST: u8 = 23;
 /// A request that may not be asked at this address.
 pub const HART_WRONG_ADDRESS: u8 = 24;
 
-/// How many bytes were written or read, or why none were.
+/// How many bytes were written or read, or why no byte was.
 #[repr(C)]
 #[derive(Clone, Copy)]
 pub struct HartOutcome {
@@ -93,7 +93,7 @@ pub(crate) enum Fault {
     LongExpansion,
     /// The output has no room for what is to be written.
     NoRoom,
-    /// A character has another bit set than the fault bits.
+    /// The `faults` of a character have a bit that is no fault bit.
     BadFaultBits,
     /// The fault of an identity, an image or the registers of a device.
     Device(DeviceFault),

@@ -19,7 +19,7 @@ const CHUNK: usize = 64;
 #[repr(C)]
 #[derive(Clone, Copy)]
 pub struct HartSearch {
-    /// How many of the passed elements are used up. Pass the rest again, followed by what comes next.
+    /// How many of the passed elements are used up. Pass the unused elements again, followed by what comes next.
     pub used: usize,
     /// How many frames were found.
     pub count: usize,
@@ -76,7 +76,7 @@ fn found_so_far(used: usize, count: usize) -> HartSearch
 ///
 /// # Errors
 ///
-/// [`HART_BAD_FAULT_BITS`] if a character has another bit than fault bits. Nothing is then found, used up or shown.
+/// [`HART_BAD_FAULT_BITS`] if the `faults` of a character have a bit that is no fault bit. Nothing is then found, used up or shown.
 #[unsafe(no_mangle)]
 pub extern "C" fn hart_find(heard: &[HartChar], ended: bool, frames: &mut [HartFrame]) -> HartSearch
     ensures { SearchOutcome heard.now ended frames.old frames.new result }
@@ -130,7 +130,8 @@ pub(crate) fn char_of(given: &HartChar) -> Char
     Char::new(given.byte, given.faults).unwrap()
 }
 
-/// Shows the next frames of a scanner from index `count` on, until there are no more or no room. Returns the index after the last.
+/// Shows the next frames of a scanner from index `count` on, until there are no more frames or no more room. Returns the index
+/// after the last shown frame.
 #[inline(always)]
 fn fill(scanner: &mut Scanner, frames: &mut [HartFrame], count: usize) -> usize
     requires room { count ≤ length frames.old }
@@ -158,7 +159,7 @@ fn fill(scanner: &mut Scanner, frames: &mut [HartFrame], count: usize) -> usize
     count
 }
 
-/// Shows the next frame of a scanner and returns true, or returns false if there is none.
+/// Shows the next frame of a scanner and returns true, or returns false if there is no next frame.
 #[inline(always)]
 fn give(scanner: &mut Scanner, frame: &mut HartFrame) -> bool
     ensures found { IsTrue result → Gives scanner.old scanner.new (found_in frame.new) }

@@ -20,11 +20,11 @@ pub struct HartFrame {
     pub expanded_type: u16,
     /// Whether the frame is a reply (ACK), not a request (STX).
     pub is_reply: bool,
-    /// Whether its master is the primary one.
+    /// Whether the master of the frame is the primary one.
     pub is_primary: bool,
     /// The burst bit.
     pub is_burst: bool,
-    /// Whether its address is a unique address of five bytes, not a polling address. Both numbers 0 mean broadcast.
+    /// Whether the address of the frame is a unique address of five bytes, not a polling address. Both numbers 0 mean broadcast.
     pub is_unique: bool,
     /// The polling address, at most 63; 0 for a unique address.
     pub polling_address: u8,
@@ -36,7 +36,7 @@ pub struct HartFrame {
     pub payload_len: u8,
     /// The expansion bytes; the first `expansion_len` count.
     pub expansion: [u8; 3],
-    /// The payload; that of a reply begins with its two status bytes. The first `payload_len` bytes count.
+    /// The payload. The payload of a reply begins with the two status bytes. The first `payload_len` bytes count.
     pub payload: [u8; 255],
 }
 

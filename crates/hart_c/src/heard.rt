@@ -1,4 +1,4 @@
-//! A delivery, all that is heard at once, as a caller in C passes it.
+//! A delivery, which is all that is heard at once, as a caller in C passes it.
 ghost use Rattle.std.specs.Prelude.{◌≡◌, ◌≤◌, ◌↔◌, IfErr, IfOk, IsTrue, map, take};
 ghost use Rattle.hart_c.specs.Find.{HaveFaultBits, char_of, heard_checks};
 ghost use Rattle.hart_c.specs.Faults.{AllPass, IsFirstOf};
@@ -19,7 +19,7 @@ pub(crate) struct Delivery {
 }
 
 impl Delivery {
-    /// Returns its characters.
+    /// Returns the characters of the delivery.
     pub fn as_slice(&self) -> &[Char]
         ensures { result.now ≡ take self.now.len self.now.chars }
     {

@@ -23,9 +23,9 @@ pub struct HartIdentity {
     pub response_preambles: u8,
     /// The revision of the device.
     pub device_revision: u8,
-    /// The revision of its software.
+    /// The revision of the device's software.
     pub software_revision: u8,
-    /// The revision of its hardware, at most 31.
+    /// The revision of the device's hardware, at most 31.
     pub hardware_revision: u8,
     /// The physical signalling code, at most 7.
     pub signalling_code: u8,

@@ -22,11 +22,11 @@ use hart_values::Address;
 #[repr(C)]
 #[derive(Clone, Copy)]
 pub struct HartAcceptance {
-    /// Whether its reply was heard.
+    /// Whether the reply to the request was heard.
     pub is_accepted: bool,
-    /// The response code of the reply, 0 being success; 0 if none was heard.
+    /// The response code of the reply, where 0 is success; also 0 if no reply was heard.
     pub code: u8,
-    /// The device status of the reply; 0 if none was heard.
+    /// The device status of the reply; 0 if no reply was heard.
     pub status: u8,
     /// 0, or why nothing was done.
     pub fault: u8,
@@ -36,7 +36,7 @@ pub struct HartAcceptance {
 #[repr(C)]
 #[derive(Clone, Copy)]
 pub struct HartUnique {
-    /// Whether there is one.
+    /// Whether the reply has a unique address.
     pub is_given: bool,
     /// The expanded device type, at most 16,383; 0 if there is no unique address.
     pub expanded_type: u16,
@@ -51,13 +51,13 @@ const NO_ADDRESS: HartUnique = HartUnique {
     device_id: 0,
 };
 
-/// Tells whether a delivery, all that was heard at once, is the reply to a request that was sent, as a master accepts it. If so,
-/// `reply` shows its frame and where the frame stands.
+/// Returns whether a delivery, which is all that was heard at once, is the reply to a request that was sent, as a master accepts
+/// it. If so, `reply` shows its frame and where the frame stands.
 ///
 /// # Errors
 ///
-/// The first that holds of a fault of the frame, as [`hart_encode`](crate::hart_encode) has it, a frame that is no request of a master,
-/// an address that is not asked this, or a fault of the characters. `reply` is then as it was.
+/// The first of these that holds: a fault of the frame, as [`hart_encode`](crate::hart_encode) returns it, a frame that is no
+/// request of a master, a request that may not be asked at its address, or a fault of the characters. `reply` is then unchanged.
 #[unsafe(no_mangle)]
 pub extern "C" fn hart_accept(
     request: &HartFrame,
@@ -150,7 +150,7 @@ fn asked_by(frame: &Frame) -> Result<Request, Fault>
     }
 }
 
-/// Returns the unique address in the payload of a reply to this command. There is one if the reply has code 0 and an identity whose
+/// Returns the unique address in the payload of a reply to this command. The reply has one if it has code 0 and an identity whose
 /// address is not broadcast. Replies to Commands 0, 11 and 21 have an identity.
 #[unsafe(no_mangle)]
 pub extern "C" fn hart_unique_of(command: u8, payload: &[u8]) -> HartUnique

@@ -12,8 +12,8 @@ use hart_commands::{FieldRow, command_name, reply_rows, request_rows};
 ///
 /// # Errors
 ///
-/// [`HART_UNKNOWN`] if the command is not known, [`HART_NO_ROOM`](crate::fault::HART_NO_ROOM) if the name does not fit. The output is then
-/// as it was.
+/// [`HART_UNKNOWN`] if the command is not known, [`HART_NO_ROOM`](crate::fault::HART_NO_ROOM) if the name does not fit. The output
+/// is then unchanged.
 #[unsafe(no_mangle)]
 pub extern "C" fn hart_command_name(command: u8, output: &mut [u8]) -> HartOutcome
     ensures { NameOutcome (command_name command) output.old output.new result }
@@ -21,13 +21,13 @@ pub extern "C" fn hart_command_name(command: u8, output: &mut [u8]) -> HartOutco
     write_name(command_name(command), output)
 }
 
-/// Writes the name of a field of a command to the front of `output`, without a final zero byte (HCF_SPEC-127). The index, from 0,
-/// is the one at which `hart_read_request` or `hart_read_reply` shows the field.
+/// Writes the name of a field of a command to the front of `output`, without a final zero byte (HCF_SPEC-127). The index, counted
+/// from 0, is the one at which `hart_read_request` or `hart_read_reply` shows the field.
 ///
 /// # Errors
 ///
-/// [`HART_UNKNOWN`] if the command is not known or has no such field, [`HART_NO_ROOM`](crate::fault::HART_NO_ROOM) if the name does not
-/// fit. The output is then as it was.
+/// [`HART_UNKNOWN`] if the command is not known or has no such field, [`HART_NO_ROOM`](crate::fault::HART_NO_ROOM) if the name does
+/// not fit. The output is then unchanged.
 #[unsafe(no_mangle)]
 pub extern "C" fn hart_field_name(
     is_reply: bool,

@@ -149,7 +149,7 @@ fn output_shown(output: &OutputValues) -> HartOutput
     }
 }
 
-/// Returns the process of these numbers, or `None` if they have no variable or more than four.
+/// Returns the process of these numbers, or `None` if these have no variable or more than four.
 pub(crate) fn process_of(given: &HartProcess) -> Option<Process>
     ensures accepted { IsSome result ↔ HasVariables given.now }
     ensures same { IfSome result (IsProcessOf given.now) }

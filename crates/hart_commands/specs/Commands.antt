@@ -1,4 +1,4 @@
--- The table of the commands, and what it says of each (HCF_SPEC-099, HCF_SPEC-127).
+-- The table of the commands, and what the table says of each command (HCF_SPEC-099, HCF_SPEC-127).
 use Prim.Native.String.{String}
 use Rattle.std.specs.Prelude.{ℕ, ◌==◌, ◌||◌, Bool, List, [], ◌∷◌, find, map, Ok, Option, is_some}
 use Rattle.std.specs.Option.{option_map, option_map_or}
@@ -20,31 +20,32 @@ use Rattle.hart_commands.specs.RequestReading.{Reading, needing, polling_reading
 use Rattle.hart_commands.specs.SensorBytes.{sensor_of}
 use Rattle.hart_commands.specs.Values.{unit_value_of}
 
--- How the data of a request are read: the request is always the same, or the needed bytes determine it, or the command has a
--- reading of its own.
+-- How the data of a request are read: the request is always the same, or the bytes that the command needs determine the request, or
+-- the command has a reading of its own.
 pub data Asked : Type 0 where
   Always : Request → Asked
   Needing : (List ℕ → Request) → Asked
   AskedBy : (List ℕ → Reading) → Asked
 
--- The request that the data ask for, or the code that refuses them, if their command needs this number of bytes.
+-- The request that `bytes` ask for, or the code that refuses them. Their command needs `needed` bytes.
 abbrev pub asked : ℕ → Asked → List ℕ → Reading
 asked needed (Always request) bytes = Ok request
 asked needed (Needing request) bytes = needing needed request bytes
 asked needed (AskedBy reading) bytes = reading bytes
 
--- How the data of a reply are read: the bytes of its fields determine the content, or the command has a reading of its own.
+-- How the data of a reply are read: the bytes of the reply's fields determine the content, or the command has a reading of its own.
 pub data Replied : Type 0 where
   Saying : (List ℕ → ReplyContent) → Replied
   SaidBy : (List ℕ → Option ReplyContent) → Replied
 
--- The content in reply data with these fields, if the data hold one.
+-- The content in reply data with these fields, if the data hold a content.
 unfoldable pub replied : List Row → Replied → List ℕ → Option ReplyContent
 replied fields (Saying content) bytes = saying (total fields) content bytes
 replied fields (SaidBy reading) bytes = reading bytes
 
--- A command has a number, a name, the fields of its request data, how many of those bytes it needs, the fields of its reply data
--- with code 0, and the registers that it writes. The first register gets the first part of the request data as written, and so on.
+-- A command has a number, a name, the fields of its request data, how many bytes of request data it needs, the fields of its reply
+-- data with code 0, and the registers that it writes. A write sets the first register to the first part of the written request
+-- data, and so on.
 pub record Command : Type 0 where
   pub number : ℕ
   pub name : List ℕ
@@ -115,7 +116,7 @@ commands =
     (SaidBy more_reading)
     ∷ []
 
--- The row of a command, if it has one.
+-- The row of the command with this number, if the table has one.
 abbrev pub command_row : ℕ → Option CommandRow
 command_row number = find (λ row. row.command.number == number) commands
 
@@ -131,19 +132,19 @@ may_be_broadcast number = (number == 11) || (number == 21)
 unfoldable pub known : ℕ → Option Command
 known number = option_map (λ row. row.command) (command_row number)
 
--- The name of a command, if it has one.
+-- The name of the command with this number, if the table has that command.
 abbrev pub command_name : ℕ → Option (List ℕ)
 command_name number = option_map (λ command. command.name) (known number)
 
--- The fields of a command's request data, none if it has no row.
+-- The fields of a command's request data, or none if the command has no row.
 abbrev pub request_rows : ℕ → List Row
 request_rows number = option_map_or (λ command. command.request) (known number) []
 
--- The fields of a command's reply data with code 0, none if it has no row.
+-- The fields of a command's reply data with code 0, or none if the command has no row.
 abbrev pub reply_rows : ℕ → List Row
 reply_rows number = option_map_or (λ command. command.reply) (known number) []
 
--- The registers that a command writes, none if it has no row.
+-- The registers that a command writes, or none if the command has no row.
 unfoldable pub written_by : ℕ → List Register
 written_by number = option_map_or (λ row. row.command.writes) (command_row number) []
 

@@ -17,6 +17,6 @@ IsWidthOf Date width = width ≡ 3
 IsWidthOf Float width = width ≡ 4
 IsWidthOf Variables width = (count : ℕ) × (0 < count) × (count ≤ 8) × (width ≡ 8 * count)
 
--- Whether the number of bytes of a field is one that its kind allows.
+-- Whether the kind of a field allows the field's number of bytes.
 abbrev pub HasWidthOfKind : Field → Type 0
 HasWidthOfKind field = IsWidthOf field.kind (length field.bytes)

@@ -155,12 +155,14 @@ long_tag = field "long tag" (Exactly 32) LatinText ∷ []
 abbrev pub counter : List Row
 counter = field "configuration change counter" (Exactly 2) Number ∷ []
 
--- How many of the `left` bytes a field takes: its exact size if there are enough, or all but the last `after` if there are more.
+-- How many of the `left` bytes a field takes. A field of exact size takes that size if there are enough bytes. A field of `AllBut
+-- after` takes all but the last `after` bytes if there are more than `after`.
 abbrev pub size_in : FieldSize → ℕ → Option ℕ
 size_in (Exactly size) left = if nat_lt left size then None else Some size
 size_in (AllBut after) left = if nat_lt after left then Some (left - after) else None
 
--- Splits bytes into those of the field, which come first, and the rest, if there are enough for the field.
+-- If there are enough bytes for a field of this size, splits them into the bytes of the field, which come first, and the bytes
+-- after the field.
 abbrev pub split : FieldSize → List ℕ → Option (List ℕ × List ℕ)
 split size bytes = option_map (λ n. (take n bytes, drop n bytes)) (size_in size (length bytes))
 

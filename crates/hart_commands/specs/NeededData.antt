@@ -3,10 +3,11 @@ use Rattle.std.specs.Prelude.{ℕ, ◌≡◌, ◌<◌, List, length}
 use Rattle.std.specs.Option.{option_map_or}
 use Rattle.hart_commands.specs.Commands.{command_row}
 
--- A command needs as many data bytes as its row says, and none if it has no row.
+-- A command needs as many data bytes as its row says, or no data if it has no row.
 abbrev pub needed_data : ℕ → ℕ
 needed_data number = option_map_or (λ row. row.command.needed) (command_row number) 0
 
--- Data are too few if they are fewer than their command needs; but Command 38 may have none, and then names no counter.
+-- Data are too few if they have fewer bytes than their command needs. As an exception, Command 38 may have no data, and then it
+-- names no counter.
 abbrev pub AreTooFew : ℕ → List ℕ → Type 0
 AreTooFew command bytes = (length bytes < needed_data command) × (command ≡ 38 → 0 < length bytes)

@@ -36,7 +36,7 @@ content_parts contents.Refused = []
 abbrev pub content_bytes : ReplyContent → List ℕ
 content_bytes content = joined (content_parts content)
 
--- The parts of the data of a request: none, if it has no data.
+-- The parts of the data of a request, or none if the request has no data.
 abbrev pub request_parts : Request → List (List ℕ)
 request_parts (requests.SetPolling address mode) = one address ∷ one (mode_byte mode) ∷ []
 request_parts (requests.ReadVariables codes) = codes ∷ []

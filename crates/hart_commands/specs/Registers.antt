@@ -35,7 +35,7 @@ pub record RegisterRow : Type 1 where
 abbrev pub Any : List ℕ → Type 0
 Any bytes = Unit {0}
 
--- The first byte has to be below a number.
+-- Bytes are valid if the first one is below `limit`.
 abbrev pub BeginsBelow : ℕ → List ℕ → Type 0
 BeginsBelow limit bytes = slice_index bytes 0 < limit
 
@@ -55,7 +55,7 @@ row_of LongTag = record { size = 32; IsValid = Any }
 abbrev pub size_of : Register → ℕ
 size_of register = (row_of register).size
 
--- Bytes are valid in a register if there are as many as it has and its row allows them.
+-- Bytes are valid in a register if their number is the register's size and the register's row allows them.
 abbrev pub IsValidIn : Register → List ℕ → Type 0
 IsValidIn register bytes = (length bytes ≡ size_of register) × (row_of register).IsValid bytes
 
@@ -102,14 +102,14 @@ AreValid contents = (register : Register) → IsValidIn register (bytes_in conte
 abbrev pub Overwrite : Type 0
 Overwrite = Request
 
--- The part whose place among the parts is the register's place among the registers, if there is one.
+-- The part that stands at the same place among the parts as the register among the registers, if there is such a part.
 abbrev pub part_for : Register → List Register → List (List ℕ) → Option (List ℕ)
 part_for register (first ∷ registers) (part ∷ parts) =
     if place_of first == place_of register then Some part else part_for register registers parts
 part_for register _ _ = None
 
--- The new bytes of a register, if the overwrite names it: the part of the request at the register's place in the list of the
--- registers that the command writes.
+-- The new bytes of a register, if the overwrite names that register. They are the part of the request at the place that the
+-- register has in the list of registers that the command writes.
 abbrev pub named_in : Overwrite → Register → Option (List ℕ)
 named_in overwrite register = part_for register (written_by (command_of overwrite)) (request_parts overwrite)
 
@@ -117,7 +117,7 @@ named_in overwrite register = part_for register (written_by (command_of overwrit
 abbrev pub NamesValid : Overwrite → Type 0
 NamesValid overwrite = (register : Register) → IfSome (named_in overwrite register) (IsValidIn register)
 
--- A configuration write has an overwrite; every other request has none.
+-- A configuration write has an overwrite. No other request has one.
 abbrev pub overwrite_of : Request → Option Overwrite
 overwrite_of request = if is_write (command_of request) then Some request else None
 
@@ -125,12 +125,13 @@ overwrite_of request = if is_write (command_of request) then Some request else N
 abbrev pub overwritten : Overwrite → Contents → Contents
 overwritten overwrite old = contents_by (λ register. unwrap_or (named_in overwrite register) (bytes_in old register))
 
--- The register's new bytes in the last overwrite that names it, if any overwrite in the list does.
+-- The register's new bytes in the last overwrite that names the register, if any overwrite in the list names it.
 abbrev pub last_named : List Overwrite → Register → Option (List ℕ)
 last_named [] register = None
 last_named (overwrite ∷ later) register = option_or (last_named later register) (named_in overwrite register)
 
--- Each register holds its new bytes from the last overwrite in the list that names it, or its initial bytes if none does.
+-- Each register holds its new bytes from the last overwrite in the list that names it, or its initial bytes if no overwrite names
+-- it.
 abbrev pub registers_of : List Overwrite → Contents → Contents
 registers_of overwrites initial =
     contents_by (λ register. unwrap_or (last_named overwrites register) (bytes_in initial register))

@@ -13,7 +13,7 @@ use Rattle.hart_commands.specs.IdentityBytes.{identity_of}
 abbrev pub saying : ℕ → (List ℕ → ReplyContent) → List ℕ → Option ReplyContent
 saying size content = having size None (λ xs. Some (content xs))
 
--- An identity has 22 bytes, the first of them 254.
+-- An identity has 22 bytes, and the first one is 254.
 abbrev pub identity_reading : List ℕ → Option ReplyContent
 identity_reading = having 22 None (λ xs. if slice_index xs 0 == 254 then Some (Identity (identity_of xs)) else None)
 
@@ -21,7 +21,7 @@ identity_reading = having 22 None (λ xs. if slice_index xs 0 == 254 then Some (
 abbrev pub current_of : List ℕ → ReplyContent
 current_of bytes = Current (float_at bytes 0) (float_at bytes 4)
 
--- A loop current, then at least one whole group of five bytes; only the first four groups are read.
+-- The data hold a loop current, and then at least one whole group of five bytes. Only the first four groups are read.
 abbrev pub dynamic_reading : List ℕ → Option ReplyContent
 dynamic_reading bytes =
     if nat_lt (length bytes) 9 then None
@@ -33,7 +33,8 @@ dynamic_reading bytes =
 abbrev pub polling_of : List ℕ → ReplyContent
 polling_of bytes = Polling (slice_index bytes 0) (slice_index bytes 1)
 
--- An extended device status, one to eight groups of eight bytes, and a time stamp of four bytes that ends the data.
+-- The data hold an extended device status, one to eight groups of eight bytes, and then a time stamp of four bytes, and nothing
+-- else.
 abbrev pub variables_reading : List ℕ → Option ReplyContent
 variables_reading bytes =
     let groups = (length bytes - 5) / 8 in
@@ -45,7 +46,7 @@ variables_reading bytes =
 abbrev pub tag_of : List ℕ → ReplyContent
 tag_of bytes = Tag (tag_in bytes) (descriptor_in bytes) (date_in bytes)
 
--- The additional status bytes: at least one is needed, and only the first 25 are read.
+-- The data hold additional status bytes. At least one byte is needed, and only the first 25 bytes are read.
 abbrev pub more_reading : List ℕ → Option ReplyContent
 more_reading [] = None
 more_reading (byte ∷ bytes) = Some (More (take 25 (byte ∷ bytes)))

@@ -6,7 +6,7 @@ use Rattle.hart_commands.specs.declared.request.Request.TheVariants.{ResetChange
 use Rattle.hart_commands.specs.Commands.{written_by}
 use Rattle.hart_commands.specs.RequestData.{Reading}
 
--- Whether the list has a register.
+-- Whether the list has at least one register.
 abbrev pub are_some : List Register → Bool
 are_some [] = false
 are_some (register ∷ registers) = true
@@ -15,12 +15,13 @@ are_some (register ∷ registers) = true
 abbrev pub is_write : ℕ → Bool
 is_write command = are_some (written_by command)
 
--- Code 9 refuses Command 38 if it names a counter other than the device's; any other request with good data has code 0.
+-- Code 9 refuses Command 38 if the command names a counter other than the device's. Any other request with good data has code 0.
 abbrev pub counter_code : Request → ℕ → ℕ
 counter_code (ResetChanged (Some given)) counter = if given == counter then 0 else 9
 counter_code _ counter = 0
 
--- The code of the data: bad data have the code that refuses them, and a request has the code of the counter that it names.
+-- The code of the data. Bad data have the code that refuses them. Data that are a request have the code of the counter that the
+-- request names.
 abbrev pub data_code : Reading → ℕ → ℕ
 data_code (Err code) counter = code
 data_code (Ok request) counter = counter_code request counter

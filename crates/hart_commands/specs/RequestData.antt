@@ -1,4 +1,4 @@
--- What the data bytes of a request ask, and which requests are well made (HCF_SPEC-127).
+-- What the data bytes of a request ask for, and which requests are well made (HCF_SPEC-127).
 use Rattle.std.specs.Prelude.{ℕ, ◌≡◌, ◌<◌, ◌≤◌, ◌⊎◌, List, [], length, Err, Option, Some, None}
 use Rattle.hart_values.specs.hart_date.Calendar.{IsDateBytes}
 use Rattle.hart_commands.specs.declared.request.Request.{Request}
@@ -9,7 +9,7 @@ pub use Rattle.hart_commands.specs.Commands.{is_known, command_of}
 pub use Rattle.hart_commands.specs.Parts.{mode_byte, request_data}
 pub use Rattle.hart_commands.specs.RequestReading.{Reading}
 
--- Data are read as the row says; if there is no row they are refused with code 64.
+-- Data are read as the row says. Without a row, the data are refused with code 64.
 abbrev pub read_by : Option CommandRow → List ℕ → Reading
 read_by None bytes = Err 64
 read_by (Some row) bytes = asked row.command.needed row.asked bytes
@@ -30,8 +30,8 @@ IsRequest (IdentifyByLongTag long_tag) = length long_tag ≡ 32
 IsRequest (WriteLongTag long_tag) = length long_tag ≡ 32
 IsRequest _ = Unit {0}
 
--- Anything may follow the data of a request, with two exceptions: nothing after fewer than eight codes of Command 9, as it would be
--- read as another code, and nothing after Command 38 without a counter.
+-- Any bytes may follow the data of a request, with two exceptions. No byte may follow fewer than eight codes of Command 9, since it
+-- would be read as another code. No byte may follow Command 38 without a counter.
 abbrev pub MayFollow : Request → List ℕ → Type 0
 MayFollow (ReadVariables codes) rest = (length codes ≡ 8) ⊎ (rest ≡ [])
 MayFollow (ResetChanged None) rest = rest ≡ []

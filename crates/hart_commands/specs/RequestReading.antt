@@ -27,7 +27,7 @@ polling_with address mode =
 abbrev pub mode_left_out : ℕ → ℕ
 mode_left_out address = if address == 0 then 1 else 0
 
--- Command 6 needs an address, and takes the mode after it if there is one.
+-- Command 6 needs an address. If a mode follows the address, the command takes this mode.
 abbrev pub polling_reading : List ℕ → Reading
 polling_reading [] = Err 5
 polling_reading (address ∷ []) = polling_with address (mode_left_out address)
@@ -45,7 +45,7 @@ tag_reading bytes =
     else if is_date (date_in bytes) then Ok (WriteTag (tag_in bytes) (descriptor_in bytes) (date_in bytes))
     else Err 9
 
--- Command 38 names no counter, or a counter of two bytes, the most significant first; one byte is too few.
+-- Command 38 names no counter, or a counter of two bytes, the most significant byte first. A single byte is too few.
 abbrev pub reset_reading : List ℕ → Reading
 reset_reading [] = Ok (ResetChanged None)
 reset_reading (high ∷ []) = Err 5

@@ -26,7 +26,7 @@ pub fn command_name(command: u8) -> Option<&'static str>
 }
 
 /// Returns the fields of this command's request data, in order. An unknown command has no fields. The fields cover the first
-/// [`Request::data_len`](crate::Request::data_len) bytes; cut off further bytes, which the command ignores.
+/// [`Request::data_len`](crate::Request::data_len) bytes. The caller has to cut off further bytes, which the command ignores.
 pub fn request_rows(command: u8) -> &'static [FieldRow]
     ensures { map seen result.now ≡ request_rows command }
 {
@@ -37,7 +37,8 @@ pub fn request_rows(command: u8) -> &'static [FieldRow]
 }
 
 /// Returns the fields of this command's reply data with response code 0, in order. An unknown command has no fields. The fields
-/// cover the first [`Reply::data_len`](crate::Reply::data_len) data bytes; cut off further data, which are ignored.
+/// cover the first [`Reply::data_len`](crate::Reply::data_len) data bytes. The caller has to cut off further data, which are
+/// ignored.
 pub fn reply_rows(command: u8) -> &'static [FieldRow]
     ensures { map seen result.now ≡ reply_rows command }
 {
@@ -47,8 +48,8 @@ pub fn reply_rows(command: u8) -> &'static [FieldRow]
     }
 }
 
-/// Returns how many data bytes a request of this command needs, or 0 if the command is not known (HCF_SPEC-127). Fewer bytes are
-/// refused with code 5, too few data bytes, except that Command 38 may have none.
+/// Returns how many data bytes a request of this command needs, or 0 if the command is not known (HCF_SPEC-127). A request with
+/// fewer bytes is refused with code 5, too few data bytes, except that Command 38 may have no data.
 #[tactic(auto, unfolding(crate::specs::Commands::known))]
 pub fn needed_data(command: u8) -> usize
     ensures { result ≡ needed_data command }
@@ -70,7 +71,8 @@ pub fn is_write(command: u8) -> bool
     }
 }
 
-/// Returns true if a command may be sent by broadcast: Commands 11 and 21 find a device by its tag or its long tag (own profile).
+/// Returns true if a command may be sent by broadcast. Only Commands 11 and 21 may, since they find a device by its tag or its long
+/// tag (own profile).
 pub fn may_be_broadcast(command: u8) -> bool
     ensures { result ≡ may_be_broadcast command }
 {

@@ -44,7 +44,8 @@ pub struct FieldRow {
 }
 
 impl FieldRow {
-    /// Splits data into the bytes of the field, which come first, and the rest. Returns `None` if there are too few bytes.
+    /// Splits data into the bytes of the field, which come first, and the bytes after the field. Returns `None` if there are too
+    /// few bytes.
     pub fn split<'a>(&self, bytes: &'a [u8]) -> Option<(&'a [u8], &'a [u8])>
         ensures { option_map (λ parts. (parts.0.now, parts.1.now)) result ≡ split self.now.size bytes.now }
     {

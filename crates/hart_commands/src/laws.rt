@@ -17,7 +17,7 @@ ghost use Rattle.hart_commands.specs.declared.content.ReplyContent.TheVariants.{
 
 use crate::{Register, Request};
 
-/// Every request is well made, whoever made it: the types of its parts ensure it.
+/// Every request is well made, whoever made it: the types of its parts ensure this.
 pub fn requests_are_well_made(request: &Request)
     ensures { IsRequest request.now }
 {
@@ -38,14 +38,15 @@ pub fn written_data_are_their_request()
         → request_reading (command_of request) (request_data request) ≡ Ok request }
 {}
 
-/// If the data of a command are read as a request, it is a well-made request of that command.
+/// If the data of a command are read as a request, this request is well made, and is a request of that command.
 pub fn requests_have_their_command()
     ensures { (command : ℕ) (bytes : List ℕ) (request : Request)
         → request_reading command bytes ≡ Ok request → (command_of request ≡ command) × IsRequest request }
 {}
 
-/// Data that are read as a request agree with the request's written data over the length that both have. They begin with all the
-/// written data, except for Command 6 without its mode: that is one byte, the first field.
+/// Data that are read as a request agree with the request's written data over the length of the shorter of the two. The data that
+/// are read begin with all the written data, except for Command 6 without its mode. In this case the data that are read are one
+/// byte, the first field.
 pub fn read_data_begin_as_written()
     ensures agree { (command : ℕ) (bytes : List ℕ) (request : Request) → All (λ byte. byte < 256) bytes
         → request_reading command bytes ≡ Ok request
@@ -63,7 +64,8 @@ pub fn read_data_begin_as_written()
 {}
 
 /// Data are refused with code 5 exactly if they are too few for their command. So code 5 never refuses data of at least the needed
-/// length. Data refused with code 5 are still refused with it when bytes are added, while they are fewer than needed.
+/// length. If bytes are added to data that code 5 refuses, code 5 still refuses the longer data as long as these are fewer bytes
+/// than needed.
 pub fn too_few_data_are_fewer_than_needed()
     ensures exactly { (command : ℕ) (bytes : List ℕ) → (request_reading command bytes ≡ Err 5) ↔ AreTooFew command bytes }
     ensures enough { (command : ℕ) (bytes : List ℕ) → needed_data command ≤ length bytes → request_reading command bytes ≢ Err 5 }
@@ -123,7 +125,7 @@ pub fn written_payloads_are_read_again()
         → reply.code ≢ 0 → reply.content ≡ Refused }
 {}
 
-/// A command has a name exactly if it is known, and no two commands have the same name.
+/// A command has a name exactly if the command is known, and no two commands have the same name.
 pub fn known_commands_have_names()
     ensures known { (command : ℕ) → is_some (command_name command) ≡ is_known command }
     ensures different { (command other : ℕ) → IsSome (command_name command) → command_name command ≡ command_name other

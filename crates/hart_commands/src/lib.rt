@@ -1,6 +1,6 @@
 //! What the data bytes of HART messages mean: requests, replies and what a write overwrites (HCF_SPEC-127).
 //!
-//! The definitions in `specs/` hold the table of the standard, one row for each command: what the data bytes of a request ask,
+//! The definitions in `specs/` hold the table of the standard, one row for each command: what the data bytes of a request ask for,
 //! which response code refuses them, and what the payload of a reply says. [`Request::read`] and [`Reply::read`] return exactly
 //! that; `write` goes the other way.
 //!
@@ -16,10 +16,11 @@
 //! the registers that a write sets. Whether a device answers is decided in `hart_device`. No call of this crate allocates.
 //!
 //! [`command_name`] names a command; [`request_rows`] and [`reply_rows`] name the fields of its data. [`needed_data`] returns how
-//! many data bytes a command needs; [`Request::data_len`] and [`Reply::data_len`] return how many a message has.
+//! many data bytes a command needs; [`Request::data_len`] and [`Reply::data_len`] return how many data bytes a message has.
 //!
 //! No other crate of `hart` calls [`is_write`] or [`CodeList::new`]: they are for programs that make requests. [`laws`] proves of
-//! the definitions alone that written data are read back, that fields cover the data, which commands write, and field widths.
+//! the definitions alone that written data are read back, that fields cover the data and have the width of their kind, and which
+//! commands are configuration writes.
 #![tactic(auto)]
 
 mod code_list;

@@ -14,13 +14,13 @@ pub struct Reply {
     pub code: ResponseCode,
     /// The state of the device.
     pub status: DeviceStatus,
-    /// The content: the command's own with code 0, otherwise [`ReplyContent::Refused`].
+    /// The content: with code 0 a content of the command, and otherwise [`ReplyContent::Refused`].
     pub content: ReplyContent,
 }
 
 impl Reply {
     /// Reads the reply to a command from a payload. Returns `None` if the payload has fewer than two bytes, if bit 7 of the first
-    /// is set, if [`Request::read`] does not know the command, or if the code is 0 and the data are no content of the command.
+    /// byte is set, if [`Request::read`] does not know the command, or if the code is 0 and the data are no content of the command.
     ///
     /// Data after the content are ignored, except that the data of Command 9 must end with the time stamp. With any code other than
     /// 0, all data are ignored.

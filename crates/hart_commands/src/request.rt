@@ -74,8 +74,9 @@ impl Request {
     ///
     /// # Errors
     ///
-    /// The first response code that applies and needs no device to decide: 64 if no request has this command; 5 if there are too few
-    /// bytes; for Command 6 2 for an address above 63, then 12 for a mode above 1; 9 for a bad date of Command 18.
+    /// The first response code that applies and needs no device to decide: code 64 if no request has this command; code 5 if there
+    /// are too few bytes; for Command 6, code 2 for an address above 63, then code 12 for a mode above 1; for Command 18, code 9
+    /// for a bad date.
     pub fn read(command: u8, bytes: &[u8]) -> Result<Self, ResponseCode>
         ensures read { result ≡ request_reading command bytes.now }
         ensures well_made { IfOk result IsRequest }

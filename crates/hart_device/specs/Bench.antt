@@ -29,8 +29,8 @@ bench_identity = record {
 abbrev pub eight_spaces : List ℕ
 eight_spaces = 0x82 ∷ 0x08 ∷ 0x20 ∷ 0x82 ∷ 0x08 ∷ 0x20 ∷ []
 
--- Its registers begin with polling address 0, the loop current enabled, texts of spaces, a date that is not set, final assembly
--- number 0, and a long tag of spaces.
+-- The registers of the bench device begin with polling address 0, the loop current enabled, texts of spaces, a date that is not
+-- set, final assembly number 0, and a long tag of spaces.
 abbrev pub bench_values : RegisterValues
 bench_values = record {
   polling = 0;
@@ -43,12 +43,12 @@ bench_values = record {
   long_tag = replicate 32 0x20;
 }
 
--- A float of four bytes, the most significant first.
+-- The float with these four bytes, the most significant first.
 abbrev pub float : ℕ → ℕ → ℕ → ℕ → Bits32
 float a b c d = record { 0 = a ∷ b ∷ c ∷ d ∷ [] }
 
--- Its process is at 12 mA, 50 percent and 25 degrees Celsius. It has one variable. The limits of the sensor are 0 and 200 degrees,
--- and the range is from 0 to 100.
+-- The process of the bench device is at 12 mA, 50 percent and 25 degrees Celsius, and has one variable. The limits of the sensor
+-- are 0 and 200 degrees, and the range is from 0 to 100.
 abbrev pub bench_process : Process
 bench_process = record {
   loop_current = float 0x41 0x40 0x00 0x00;

@@ -1,5 +1,6 @@
 -- What a contract sees of a device, and how a command, a reply and a restart change it (HCF_SPEC-099, HCF_SPEC-127; of the own
--- profile: Command 38 is no write, a write of the value that was there already counts, and each master has a cold start bit).
+-- profile: Command 38 is no write, a write of the bytes that a register already holds counts, and each master has a cold start
+-- bit).
 use Rattle.std.specs.Prelude.{ℕ, ◌<◌, ◌+◌, ◌%◌, ◌^◌, Bool, true, false}
 use Rattle.hart_values.specs.declared.master_id.MasterId.{MasterId}
 use Rattle.hart_values.specs.EachMaster.{with_master}
@@ -11,8 +12,8 @@ use Rattle.hart_device.specs.Identity.{AreIdentityParts}
 use Rattle.hart_device.specs.registers.Values.{values_of}
 
 -- The state of a device: its identity, register contents, configuration change counter, write protection, and two bits for each
--- master. The configuration-changed bit is set if the configuration has changed since this master last reset the bit. The cold
--- start bit is set from a restart on, until a reply with a response code has shown it to this master.
+-- master. The configuration-changed bit of a master is set if the configuration has changed since this master last reset the bit.
+-- The cold start bit of a master is set from a restart on, until a reply with a response code has shown it to this master.
 pub record DeviceState : Type 0 where
   pub identity : IdentityParts
   pub contents : Contents
@@ -51,8 +52,8 @@ pub data Effect : Type 0 where
   Resets : Effect
 
 -- An execution overwrites the registers, adds one to the counter (65535 is followed by 0) and sets both masters'
--- configuration-changed bits, even if the registers held these bytes before. A reset clears only the bit of the asking master.
--- All else stays as it is.
+-- configuration-changed bits, even if the registers held the same bytes before. A reset clears only the bit of the asking master.
+-- Nothing else changes.
 abbrev pub after : MasterId → Effect → DeviceState → DeviceState
 after master Nothing state = state
 after master (Executes overwrite) state = record state {
@@ -62,10 +63,10 @@ after master (Executes overwrite) state = record state {
 }
 after master Resets state = record state { changed = with_master master false state.changed }
 
--- A restart after the device was without power sets both masters' cold start bits; all else stays as it is.
+-- A restart after the device was without power sets both masters' cold start bits. Nothing else changes.
 abbrev pub restarted : DeviceState → DeviceState
 restarted state = record state { cold_start = for_both true }
 
--- A reply with a response code shows its master the cold start bit, and the bit is then clear; all else stays as it is.
+-- A reply with a response code shows its master the cold start bit, and the bit is then clear. Nothing else changes.
 abbrev pub after_reply : MasterId → DeviceState → DeviceState
 after_reply master state = record state { cold_start = with_master master false state.cold_start }

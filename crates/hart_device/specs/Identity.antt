@@ -18,7 +18,7 @@ pub record AreInRange (parts : IdentityParts) : Type 0 where
   pub hardware_revision : parts.hardware_revision < 32
   pub signalling_code : parts.signalling_code < 8
 
--- The numbers of the device's unique address are the lower 14 bits of its expanded device type, and its id.
+-- The numbers of the device's unique address are the lower 14 bits of the device's expanded device type, and the device id.
 abbrev pub own_numbers : IdentityParts → DeviceNumbers
 own_numbers parts = record { expanded_type = parts.expanded_device_type % 2 ^ 14; device_id = parts.device_id }
 

@@ -5,7 +5,7 @@ use Rattle.hart_values.specs.declared.bits32.Bits32.{Bits32}
 use Rattle.hart_device.specs.declared.process.Process.{Process}
 use Rattle.hart_device.specs.declared.process.ProcessVariable.{ProcessVariable}
 
--- The dynamic variables, one to four, are the first and the others.
+-- The dynamic variables of a process, one to four: the first one, and then the others.
 abbrev pub dynamic_variables : Process → List ProcessVariable
 dynamic_variables process = process.first ∷ process.others
 

@@ -1,4 +1,4 @@
-//! The answers of a device, and how they change it.
+//! The answers of a device to what it hears, and how the device changes.
 ghost use Rattle.std.specs.Prelude.{◌≡◌, ◌≤◌, ◌↔◌, length, false, true, IsSome, IsTrue, IfSome, MatchOption, None, Ok};
 ghost use Rattle.hart_commands.specs.ReplyData.{reply_payload};
 ghost use Rattle.hart_device.specs.Device.{after};
@@ -26,9 +26,10 @@ mod variables;
 const IDENTIFY: u8 = 0;
 
 impl<S: RegisterStore> Device<S> {
-    /// Hears a delivery, all that was heard at once, and returns the reply. If the delivery has exactly one frame, the device
-    /// receives that frame as [`Device::receive`] does. If it has no frame but a garbled request, the reply has the communication
-    /// faults of the request, and the device is unchanged. For any other delivery the device is silent (`None`) and unchanged.
+    /// Hears a delivery, which is all that was heard at once, and returns the reply. If the delivery has exactly one frame, the
+    /// device receives that frame as [`Device::receive`] does. If the delivery has no frame, but a garbled request, the reply has
+    /// the communication faults of the request, and the device is unchanged. For any other delivery the device is silent (`None`)
+    /// and unchanged.
     ///
     /// ```rust
     /// let mut device: Device<FieldRegisters> = Device::new(
@@ -53,8 +54,8 @@ impl<S: RegisterStore> Device<S> {
         }
     }
 
-    /// Returns the communication-fault reply to the garbled request of a delivery, or `None` if there is no such request. Use it
-    /// only for a delivery without a frame: a whole request also has the form of a garbled one.
+    /// Returns the communication-fault reply to the garbled request of a delivery, or `None` if there is no such request. Call this
+    /// only for a delivery without a frame, since a whole request also has the form of a garbled one.
     pub fn reply_to_garbled(&self, delivery: &[Char]) -> Option<Frame>
         ensures reply { MatchOption result ((request : GarbledRequest) → HasGarbled self.now.identity delivery.now request → ⊥)
             (λ reply. (request : GarbledRequest) × HasGarbled self.now.identity delivery.now request
@@ -64,10 +65,10 @@ impl<S: RegisterStore> Device<S> {
         Some(request.reply(&self.identity))
     }
 
-    /// Receives a frame and returns the reply, or `None` for silence, which changes nothing.
+    /// Receives a frame and returns the reply, or `None` if the device is silent. A frame without a reply changes nothing.
     ///
-    /// The reply describes the state after the command. Whatever its response code, it shows the master's cold start bit and clears
-    /// it. A command with another code than 0 changes nothing else.
+    /// The reply describes the state after the command. Whatever its response code, the reply shows the master's cold start bit and
+    /// clears this bit. A command with a code other than 0 changes nothing else.
     pub fn receive(&mut self, frame: &Frame, process: &Process) -> Option<Frame>
         ensures answer { result ≡ answer_of self.old process.now frame.now }
         ensures state { self.new ≡ state_after self.old frame.now }
@@ -80,8 +81,8 @@ impl<S: RegisterStore> Device<S> {
         }
     }
 
-    /// Like [`Device::receive`], but writes the reply to `reply` and returns true. For silence it returns false, and `reply` is
-    /// unchanged.
+    /// Like [`Device::receive`], but writes the reply to `reply` and returns true. If the device is silent, it returns false and
+    /// leaves `reply` unchanged.
     pub fn receive_into(&mut self, frame: &Frame, process: &Process, reply: &mut Frame) -> bool
         ensures answers { IsTrue result ↔ IsSome (answer_of self.old process.now frame.now) }
         ensures answer { IfSome (answer_of self.old process.now frame.now) (λ answer. reply.new ≡ answer) }
@@ -112,7 +113,7 @@ impl<S: RegisterStore> Device<S> {
         true
     }
 
-    /// Judges a frame: returns the request to carry out, or the code that refuses it, or `None` for silence.
+    /// Judges a frame: returns the request to carry out, or the code that refuses the request, or `None` if the device is silent.
     fn judge(&self, frame: &Frame) -> Option<Result<Request, ResponseCode>>
         ensures { MatchOption result (is_answered self.now frame.now ≡ false)
             (λ judged. (is_answered self.now frame.now ≡ true) × (judged ≡ judged_of self.now frame.now)) }
@@ -129,7 +130,7 @@ impl<S: RegisterStore> Device<S> {
         }
     }
 
-    /// Returns true if the device answers a frame with this reading and this code.
+    /// Returns true if the device answers a frame that has this reading and this code.
     fn answers(
         &self,
         frame: &Frame,
@@ -145,7 +146,8 @@ impl<S: RegisterStore> Device<S> {
             && !(frame.address().is_broadcast() && code != ResponseCode::SUCCESS)
     }
 
-    /// Returns true for a request without expansion bytes, if the device answers its command at its address.
+    /// Returns true if the frame is a request without expansion bytes, and the device answers the frame's command at the frame's
+    /// address.
     fn is_addressed(&self, frame: &Frame) -> bool
         ensures { result ≡ is_addressed self.now frame.now }
     {
@@ -169,7 +171,7 @@ impl<S: RegisterStore> Device<S> {
         }
     }
 
-    /// Returns true if Command 11 names another tag, or Command 21 another long tag, than the device's.
+    /// Returns true if Command 11 names a tag other than the device's, or Command 21 a long tag other than the device's.
     fn names_another(&self, reading: &Result<Request, ResponseCode>) -> bool
         ensures { result ≡ names_another self.now reading.now }
     {
@@ -182,7 +184,7 @@ impl<S: RegisterStore> Device<S> {
         }
     }
 
-    /// Carries out a frame as it was judged.
+    /// Carries out the request that a frame was judged to ask, or nothing if the frame was refused.
     fn carry_out(&mut self, master: MasterId, judged: &Result<Request, ResponseCode>)
         ensures { self.new ≡ after master (asked_effect judged.now) self.old }
     {

@@ -87,7 +87,8 @@ impl<S: RegisterStore> Device<S> {
         }
     }
 
-    /// Restarts the device: to each master, only the next reply with a response code shows a cold start. Nothing else changes.
+    /// Restarts the device. The next reply with a response code to each master shows a cold start, and the replies after it do not.
+    /// Nothing else changes.
     pub fn restart(&mut self)
         ensures { self.new ≡ restarted self.old }
     {

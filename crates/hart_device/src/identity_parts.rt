@@ -1,4 +1,4 @@
-/// The numbers of a device's identity (HCF_SPEC-127). [`Identity::new`](crate::Identity::new) says which are accepted.
+/// The numbers of a device's identity (HCF_SPEC-127). [`Identity::new`](crate::Identity::new) says which numbers are accepted.
 #[derive(Clone, Copy, Debug, PartialEq, Eq)]
 pub struct IdentityParts {
     /// The expanded device type. Its lower 14 bits are in the unique address.
@@ -11,9 +11,9 @@ pub struct IdentityParts {
     pub response_preambles: u8,
     /// The revision of the device.
     pub device_revision: u8,
-    /// The revision of its software.
+    /// The revision of the device's software.
     pub software_revision: u8,
-    /// The revision of its hardware, at most 31.
+    /// The revision of the device's hardware, at most 31.
     pub hardware_revision: u8,
     /// The physical signalling code, at most 7.
     pub signalling_code: u8,

@@ -1,4 +1,4 @@
-//! The image of a device: the bytes that are kept of it while it is stopped (own profile).
+//! The image of a device: the bytes that are kept of the device while it is stopped (own profile).
 ghost use Rattle.std.specs.Prelude.{◌≡◌, ◌<◌, ◌^◌, ◌↔◌, ◌⊎◌, [], ◌∷◌, ◌++◌, false, IsOk, IfOk, IfErr, IfSome, IfNone, length, slice_index};
 ghost use Rattle.hart_commands.specs.Registers.{AreValid};
 ghost use Rattle.hart_device.specs.Identity.{two_bytes};
@@ -45,8 +45,8 @@ pub(crate) struct ImageParts {
 }
 
 impl<S: RegisterStore> Device<S> {
-    /// Returns the image of the device, in version 2: all that it holds except its identity and its cold start bits.
-    /// [`Device::from_image`] reads it, and [`Device::restore_cold_start`] restores the cold start bits.
+    /// Returns the image of the device, in version 2: all that the device holds except its identity and its cold start bits.
+    /// [`Device::from_image`] reads this image, and [`Device::restore_cold_start`] restores the cold start bits.
     pub fn image(&self) -> Image
         ensures written { result ≡ image_of self.now }
         ensures image { IsImageOf self.now result }
@@ -72,13 +72,13 @@ impl<S: RegisterStore> Device<S> {
     }
 
     /// Makes a device with this identity from an image of version 1 or 2, with clear cold start bits. An image of version 1 has no
-    /// long tag: the device then gets the text of its tag and 24 spaces.
+    /// long tag: as its long tag, the device then gets the text of its tag and 24 spaces.
     ///
     /// # Errors
     ///
-    /// [`DeviceFault::BadLength`] if there are no bytes. Then [`DeviceFault::BadVersion`] for another version than 1 and 2. Then
-    /// [`DeviceFault::BadLength`] if that version has another length. Then [`DeviceFault::BadField`] for a polling address above 63, a
-    /// loop current mode above 1, bytes that are no date, or flags above 7.
+    /// [`DeviceFault::BadLength`] if there are no bytes. Then [`DeviceFault::BadVersion`] for a version other than 1 and 2. Then
+    /// [`DeviceFault::BadLength`] if images of that version have another length. Then [`DeviceFault::BadField`] for a polling
+    /// address above 63, a loop current mode above 1, bytes that are no date, or flags above 7.
     pub fn from_image(identity: Identity, image: &[u8]) -> Result<Self, DeviceFault>
         ensures accepted { IsOk result ↔ IsImage image.now }
         ensures kept { IfOk result (λ device. (device.identity ≡ identity) × IsImageOf device image.now) }

@@ -38,7 +38,7 @@ use hart_values::Bits32;
 use hart_values::laws::packed_text_and_bytes_determine_each_other;
 
 /// A command that is refused, or not answered, has no effect. A command without effect changes only the cold start bit of its
-/// master, which the reply shows and clears; without a reply it changes nothing.
+/// master, which the reply shows and clears. Without a reply, the command changes nothing.
 pub fn refused_commands_change_nothing()
     ensures refused { (state : DeviceState) (frame : FrameParts) → code_of state frame ≢ 0 → effect_of state frame ≡ Nothing }
     ensures silent { (state : DeviceState) (frame : FrameParts)
@@ -106,8 +106,8 @@ pub fn answers_are_replies()
 {}
 
 /// A restart sets both masters' cold start bits. A reply with a response code shows the bit of its master and clears it. The bit of
-/// the other master stays, and without a reply both bits stay. So after a restart only the first such reply to each master shows
-/// the bit, until the next restart.
+/// the other master is unchanged, and without a reply both bits are unchanged. So after a restart only the first such reply to each
+/// master shows the bit, until the next restart.
 pub fn cold_starts_are_shown_once()
     ensures shown { (state : DeviceState) (process : Process) (frame reply : FrameParts)
         → answer_of state process frame ≡ Some reply
@@ -123,8 +123,8 @@ pub fn cold_starts_are_shown_once()
         → (state_after state frame).cold_start ≡ state.cold_start }
 {}
 
-/// A list of characters has at most one garbled request for a device, and it is decidable whether it has one. The test for the
-/// device's own address accepts exactly the bytes of its unique address, for either master and with any burst bit.
+/// A list of characters has at most one garbled request for a device, and it is decidable whether the list has one. The test for
+/// the device's own address accepts exactly the bytes of its unique address, for either master and with any burst bit.
 pub fn garbled_requests_are_decided()
     ensures one { (identity : IdentityParts) (chars : List Character) (request other : GarbledRequest)
         → HasGarbled identity chars request → HasGarbled identity chars other → request ≡ other }
@@ -180,8 +180,9 @@ pub fn overwrites_absorb()
         → overwritten first (overwritten other (overwritten first old)) ≡ overwritten first (overwritten other old) }
 {}
 
-/// The registers of a list of overwrites result from applying them in order: each register holds the bytes of the last overwrite
-/// that names it, or else its initial bytes. An overwrite can be left out where the same one comes again later in the list.
+/// The registers of a list of overwrites result from applying these overwrites in order: each register holds the bytes of the last
+/// overwrite that names it, or else its initial bytes. An overwrite can be left out where the same one comes again later in the
+/// list.
 pub fn registers_of_lists()
     ensures each { (overwrites : List Overwrite) (initial : Contents) (register : Register)
         → bytes_in (registers_of overwrites initial) register
@@ -216,14 +217,14 @@ pub fn images_have_one_state()
         → IsImageOf state image → IsImageOf other image → state.identity ≡ other.identity → state.cold_start ≡ other.cold_start
         → state ≡ other }
 {
-    // No-ops: their contracts say that the list has every register, and that bytes are the packed form of one text at most.
+    // No-ops: their contracts say that the list has every register, and that bytes are the packed form of at most one text.
     all_registers_are_listed_once();
     packed_text_and_bytes_determine_each_other();
 }
 
 /// The identity, an image and the cold start bits keep a device whole: a device made again from these three has the same state. The
-/// image may be the one that the device writes, or any other image of it in either version. It is an image of the device whichever
-/// cold start bits are set.
+/// image may be the one that the device writes, or any other image of it in either version. Each of these is an image of the device
+/// whichever cold start bits are set.
 pub fn devices_are_kept_whole()
     ensures image { (state : DeviceState) → IsDevice state → IsImageOf state (image_of state) }
     ensures any_cold_start { (state : DeviceState) (image : List ℕ) (cold_start : EachMaster Bool)

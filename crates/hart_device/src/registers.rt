@@ -18,7 +18,7 @@ pub mod values;
 pub trait RegisterStore {
     ghost contents: { Self → Contents };
 
-    /// Makes a store in which each register holds its value.
+    /// Makes a store in which each register holds its value in `values`.
     fn with(values: &RegisterValues) -> Self
         ensures held { (register : Register) → bytes_in (contents result) register ≡ bytes_in (values_of values.now) register }
         ensures valid { AreValid (contents result) };

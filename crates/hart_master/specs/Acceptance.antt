@@ -12,8 +12,8 @@ use Rattle.hart_commands.specs.ReplyData.{reply_reading}
 use Rattle.hart_commands.specs.declared.request.Request.{Request}
 use Rattle.hart_commands.specs.declared.reply.Reply.{Reply}
 
--- A frame answers a request that a master sends to an address if it is an ACK without expansion bytes, with this master's bit, this
--- address and the command of the request; the burst bit is ignored.
+-- A frame answers a request that a master sends to an address if the frame is an ACK without expansion bytes, with this master's
+-- bit, this address and the command of the request. The burst bit is ignored.
 pub record MatchesRequest (id : MasterId) (address : Address) (request : Request) (frame : FrameParts) : Type 0 where
   pub kind : frame.kind ≡ Ack
   pub expansion : frame.expansion ≡ []
@@ -21,7 +21,8 @@ pub record MatchesRequest (id : MasterId) (address : Address) (request : Request
   pub sender : frame.address ≡ address
   pub command : frame.command ≡ command_of request
 
--- A frame that answers the request is the reply that is read from its payload, if one is read. With communication faults, none is.
+-- A frame that answers the request is the reply that is read from the frame's payload, if a reply is read. No reply is read from
+-- communication faults.
 pub record IsReplyTo (id : MasterId) (address : Address) (request : Request) (frame : FrameParts) (reply : Reply) : Type 0 where
   pub answers : MatchesRequest id address request frame
   pub read : reply_reading frame.command frame.payload ≡ Some reply

@@ -24,20 +24,21 @@ pub record MasterState : Type 0 where
   pub reply_limit : ℕ
   pub hand : Hand
 
--- How often the request in hand was sent; 0 if there is none.
+-- How often the request in hand was sent, or 0 if no request is in hand.
 abbrev pub sendings_of : Hand → ℕ
 sendings_of Empty = 0
 sendings_of (ToSend transaction) = transaction.sendings
 sendings_of (Awaiting transaction time) = transaction.sendings
 
--- A request that is to be sent was sent at most `retries` times so far; one whose reply is awaited was sent at least once and at
--- most `retries + 1` times.
+-- A request that is to be sent was sent at most `retries` times so far. A request whose reply is awaited was sent at least once and
+-- at most `retries + 1` times.
 abbrev pub IsWithin : ℕ → Hand → Type 0
 IsWithin retries Empty = Unit {0}
 IsWithin retries (ToSend transaction) = transaction.sendings ≤ retries
 IsWithin retries (Awaiting transaction time) = (0 < transaction.sendings) × (transaction.sendings ≤ retries + 1)
 
--- A submission is rejected if a request is in hand, or else if the new request may not be sent to the address.
+-- A submission is rejected with `Pending` if a request is in hand. Otherwise it is rejected with `WrongAddress` if the new request
+-- may not be sent to the address.
 abbrev pub result_submitted : Hand → Address → Request → Result (Unit {0}) Rejected
 result_submitted Empty address request =
     if may_ask address request then Ok tt else Err (record { fault = WrongAddress; request = request })
@@ -58,19 +59,19 @@ frame_sent id (ToSend transaction) =
     Some (request_parts id transaction.address (command_of transaction.request) (request_data transaction.request))
 frame_sent id (Awaiting transaction time) = None
 
--- A request that is sent has one sending more, and its reply is awaited from then on.
+-- A request that is sent counts one more sending, and its reply is awaited from then on.
 abbrev pub hand_sent : Hand → Hand
 hand_sent Empty = Empty
 hand_sent (ToSend transaction) = Awaiting (record transaction { sendings = transaction.sendings + 1 }) 0
 hand_sent (Awaiting transaction time) = Awaiting transaction time
 
--- A delivery brings a reply if one is awaited and the delivery is accepted as this reply.
+-- A delivery brings a reply if a reply is awaited and the delivery is accepted as this reply.
 abbrev pub DeliveryBrings : MasterId → Hand → List Character → Reply → Type 0
 DeliveryBrings id Empty delivery reply = ⊥
 DeliveryBrings id (ToSend transaction) delivery reply = ⊥
 DeliveryBrings id (Awaiting transaction time) delivery reply = IsAccepted id transaction.address transaction.request delivery reply
 
--- A frame brings a reply if one is awaited and the frame is this reply.
+-- A frame brings a reply if a reply is awaited and the frame is this reply.
 abbrev pub FrameBrings : MasterId → Hand → FrameParts → Reply → Type 0
 FrameBrings id Empty frame reply = ⊥
 FrameBrings id (ToSend transaction) frame reply = ⊥
@@ -95,7 +96,7 @@ abbrev pub time_ticked : ℕ → ℕ → ℕ
 time_ticked time character_times = min (time + character_times) 255
 
 -- Below the reply limit, a reply is still awaited. From the limit on, the request is to be sent again if it was sent at most
--- `retries` times; otherwise it has no reply.
+-- `retries` times; otherwise the request has no reply.
 abbrev pub event_ticked : (retries reply_limit : ℕ) → Hand → ℕ → MasterEvent
 event_ticked retries reply_limit Empty character_times = Nothing
 event_ticked retries reply_limit (ToSend transaction) character_times = Nothing
@@ -104,7 +105,8 @@ event_ticked retries reply_limit (Awaiting transaction time) character_times =
     else if nat_le transaction.sendings retries then Retry
     else NoReply transaction.sendings
 
--- A wait goes on with its new time, a request that is to be sent again stays in hand, and a request without a reply is dropped.
+-- A wait that is not over goes on with its new time, a request that is to be sent again stays in hand, and a request without a
+-- reply is dropped.
 abbrev pub hand_ticked : (retries reply_limit : ℕ) → Hand → ℕ → Hand
 hand_ticked retries reply_limit Empty character_times = Empty
 hand_ticked retries reply_limit (ToSend transaction) character_times = ToSend transaction

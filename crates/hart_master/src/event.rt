@@ -5,7 +5,7 @@ use hart_commands::Reply;
 pub enum MasterEvent {
     /// This reply was accepted, after this number of sendings.
     Answered(Reply, u8),
-    /// Nothing: no request is in hand, its reply is still awaited, or the request is due to be sent.
+    /// Nothing: no request is in hand, or the request in hand is due to be sent, or its reply is still awaited.
     Nothing,
     /// The reply did not come in time, and the request is due to be sent again.
     Retry,

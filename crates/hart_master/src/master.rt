@@ -21,8 +21,8 @@ const MOST_RETRIES: u8 = 15;
 
 /// One of the two masters, with one request in hand or none.
 ///
-/// A request is submitted and then sent. The master waits for the reply until the reply limit, and then sends the request again, at
-/// most `retries + 1` times in all.
+/// A request is submitted and then sent. The master waits for the reply until the reply limit, and then sends the request again. It
+/// sends a request at most `retries + 1` times in all.
 #[derive(Debug, Drop)]
 pub struct Master {
     id: MasterId,
@@ -80,7 +80,7 @@ impl Master {
         matches!(self.hand, Hand::Empty)
     }
 
-    /// Returns how often the request in hand was sent, 0 if there is none.
+    /// Returns how often the request in hand was sent, or 0 if no request is in hand.
     pub fn sendings(&self) -> u8
         ensures counted { result ≡ sendings_of self.now.hand }
         ensures at_most { result ≤ self.now.retries + 1 }
@@ -91,13 +91,13 @@ impl Master {
         }
     }
 
-    /// Takes a request for this address in hand.
+    /// Takes in hand a request to this address.
     ///
     /// # Errors
     ///
-    /// [`MasterFault::Pending`] if one is in hand already, whatever the address. Then [`MasterFault::WrongAddress`] for a polling
-    /// address with a command other than 0, and for broadcast with a command other than 11 and 21. The fault returns the request, and
-    /// the master is unchanged.
+    /// [`MasterFault::Pending`] if a request is in hand already, whatever the address. Then [`MasterFault::WrongAddress`] for a
+    /// polling address with a command other than 0, and for broadcast with a command other than 11 and 21. The fault returns the
+    /// request, and the master is unchanged.
     pub fn submit(&mut self, address: Address, request: Request) -> Result<(), Rejected>
         ensures result { result ≡ result_submitted self.old.hand address request }
         ensures state { self.new ≡ record self.old { hand = hand_submitted self.old.hand address request } }
@@ -180,8 +180,8 @@ impl Master {
         }
     }
 
-    /// Hears a delivery. If it has exactly one frame, that frame is received as by [`Master::receive`]. Otherwise the result is
-    /// [`MasterEvent::Nothing`], and nothing changes.
+    /// Hears a delivery. If the delivery has exactly one frame, the master receives that frame as [`Master::receive`] does.
+    /// Otherwise the result is [`MasterEvent::Nothing`], and nothing changes.
     pub fn hear(&mut self, delivery: &[Char]) -> MasterEvent
         ensures event { IsHeard self.old.hand (DeliveryBrings self.old.id self.old.hand delivery.now) result }
         ensures state { self.new ≡ record self.old { hand = hand_heard self.old.hand result } }
@@ -190,7 +190,7 @@ impl Master {
         ensures nothing { ((reply : Reply) → DeliveryBrings self.old.id self.old.hand delivery.now reply → ⊥)
             → result ≡ MasterEvent.Nothing }
     {
-        // A master that awaits nothing does not search what it hears.
+        // A master that awaits no reply does not search the delivery for frames.
         if !matches!(self.hand, Hand::Awaiting(..)) {
             return MasterEvent::Nothing;
         }
@@ -224,10 +224,10 @@ impl Master {
         MasterEvent::Answered(reply, sendings)
     }
 
-    /// Lets some character times pass. 255 means 255 or more.
+    /// Lets this number of character times pass. A number of 255 means 255 or more.
     ///
     /// While a reply is awaited, the times add up to 255 at most. Once they reach the reply limit, the result is
-    /// [`MasterEvent::Retry`] and the request is due again; but if it was sent `retries + 1` times, the result is
+    /// [`MasterEvent::Retry`] and the request is due again; but if the request was sent `retries + 1` times, the result is
     /// [`MasterEvent::NoReply`] and the request is no longer in hand. Otherwise the result is [`MasterEvent::Nothing`].
     pub fn tick(&mut self, character_times: u8) -> MasterEvent
         ensures event { result ≡ event_ticked self.old.retries self.old.reply_limit self.old.hand character_times }
@@ -236,7 +236,7 @@ impl Master {
         } }
         ensures given_up { (sendings : ℕ) → result ≡ MasterEvent.NoReply sendings → sendings ≡ self.old.retries + 1 }
         ensures sent_again { result ≡ MasterEvent.Retry → sendings_of self.new.hand ≤ self.old.retries }
-        // So 255 character times end every wait.
+        // The reply limit is at most 255, so 255 character times end every wait.
         ensures limit_fits { self.old.reply_limit ≤ 255 }
     {
         match mem::replace(&mut self.hand, Hand::Empty) {
@@ -256,8 +256,8 @@ impl Master {
         }
     }
 
-    /// Ends the wait for a reply to a request, which was taken out of the hand. The request is due again, unless it was sent
-    /// `retries + 1` times.
+    /// Ends the wait for the reply to a request. The request was taken out of the hand. The request is due again, unless it was
+    /// sent `retries + 1` times.
     fn end_wait(&mut self, transaction: Transaction) -> MasterEvent
         requires { self.old.hand ≡ hands.Empty }
         ensures event { result ≡

@@ -4,9 +4,10 @@ ghost use Rattle.hart_master.specs.Unique.{address_of, unique_in};
 use hart_commands::{IdentityContent, Reply, ReplyContent};
 use hart_values::Address;
 
-/// Returns the unique address of an identity with code 0, or `None` for any other reply and for the broadcast address.
+/// Returns the unique address of the identity in a reply with code 0. Returns `None` for any other reply, and for the broadcast
+/// address.
 ///
-/// An address has only the lower 14 bits of the expanded device type.
+/// The unique address has only the lower 14 bits of the expanded device type.
 pub fn unique_of(reply: &Reply) -> Option<Address>
     ensures { result ≡ unique_in reply.now }
 {

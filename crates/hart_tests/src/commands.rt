@@ -89,7 +89,7 @@ fn needs(command: u8, needed: usize) -> bool {
         && (needed == 0 || request_is(command, fewer, Err(5)))
 }
 
-/// Whether a payload of `len` bytes is a reply to a command, and one with a byte fewer is not.
+/// Whether a payload of `len` bytes is a reply to a command, and a payload of one byte less is not.
 fn is_replied_with(command: u8, len: usize) -> bool {
     let payload = PAYLOAD.get(..len).unwrap_or(&[]);
     let Some((_, shorter)) = payload.split_last() else {
@@ -164,13 +164,13 @@ const IDENTITY: [u8; 27] = [
     0x00, 0x00, 0x00, 0x00, 0x37, 0x00, 0x37, 0x01, 0x55, 0x55, 0x55,
 ];
 
-/// Two status bytes, and that identity with another first byte.
+/// Two status bytes, and the identity in `IDENTITY` with another first byte.
 const NO_IDENTITY: [u8; 24] = [
     0x00, 0x00, 0xFD, 0x37, 0x42, 0x05, 0x07, 0x01, 0x02, 0x18, 0x00, 0x0A, 0x1B, 0x2C, 0x05, 0x04,
     0x00, 0x00, 0x00, 0x00, 0x37, 0x00, 0x37, 0x01,
 ];
 
-/// Commands and payloads, and how many bytes of the payload the reply in it is written back as, if it holds one.
+/// Commands and payloads. If the payload holds a reply, the row says how many bytes of the payload this reply is written back as.
 const REPLIES: &[(u8, &[u8], Option<usize>)] = &[
     (0, &IDENTITY, Some(2 + 22)),
     (0, &NO_IDENTITY, None),
@@ -236,7 +236,7 @@ fn replies_say_their_content(rt: HostRuntime) {
     assert!(rt; says(19, &[0x07, 0x40], 7, 0x40, &ReplyContent::Refused));
 }
 
-/// Each register, and the bytes that a write of `TAG` puts into it, if it does.
+/// Each register, and the bytes that a write of `TAG` puts into it, if it puts any.
 const NAMED: &[(Register, Option<&[u8]>)] = &[
     (Register::Polling, None),
     (Register::Mode, None),
@@ -253,7 +253,7 @@ const NAMED: &[(Register, Option<&[u8]>)] = &[
     (Register::LongTag, None),
 ];
 
-/// Whether a write command with these data puts the wanted bytes into a register, or leaves it if `want` is `None`.
+/// Whether a write command with these data puts the wanted bytes into a register, or does not set the register if `want` is `None`.
 fn writes(command: u8, bytes: &[u8], register: Register, want: Option<&[u8]>) -> bool {
     match Request::read(command, bytes) {
         Ok(request) => match writes_of(&request) {
@@ -271,7 +271,8 @@ fn a_write_names_its_registers(rt: HostRuntime) {
     }
 }
 
-/// Whether Command 22 with a long tag writes just this long tag, and a reply to Command 20 with it says just this one.
+/// Whether Command 22 with a long tag writes exactly this long tag, and a reply to Command 20 with this long tag says exactly this
+/// one.
 fn is_long_tag(long_tag: [u8; 32]) -> bool {
     let mut payload = Payload::new();
     payload.extend_from_slice(&[0; 2]);

@@ -58,7 +58,7 @@ const PROTECTED: &[Row] = &[
     ),
 ];
 
-/// A new bench device.
+/// Returns a new bench device.
 fn bench_device() -> Device<FieldRegisters> {
     Device::new(bench::identity(), &bench::register_values())
 }
@@ -70,12 +70,12 @@ fn request(command: u8, data: &[u8]) -> Result<Frame, Fail> {
     Ok(Frame::request(MasterId::Primary, own, command, payload))
 }
 
-/// The reply of a device to this request, with the measured values of the bench device.
+/// Returns the reply of a device to this request, with the measured values of the bench device.
 fn asked(device: &mut Device<FieldRegisters>, command: u8, data: &[u8]) -> Result<Frame, Fail> {
     asked_at(device, command, data, &bench::process())
 }
 
-/// The reply of a device to this request, with these measured values.
+/// Returns the reply of a device to this request, with these measured values.
 fn asked_at(
     device: &mut Device<FieldRegisters>,
     command: u8,
@@ -92,7 +92,7 @@ fn replies(device: &mut Device<FieldRegisters>, row: &Row) -> Result<bool, Fail>
     Ok(asked(device, *command, data)?.payload() == *payload)
 }
 
-/// Whether a write-protected bench device replies as a row says, counts nothing, and stays protected.
+/// Whether a write-protected bench device replies as a row says, leaves its counter unchanged, and stays protected.
 fn replies_protected(row: &Row) -> Result<bool, Fail> {
     let mut device = bench_device();
     device.protect(true);
@@ -115,7 +115,8 @@ fn is_unknown(command: u8) -> bool {
     Request::read(command, &[]).err() == Some(ResponseCode::COMMAND_NOT_IMPLEMENTED)
 }
 
-/// Whether a bench device refuses a command as not implemented exactly if it is unknown. For even commands it is protected.
+/// Whether a bench device refuses a command as not implemented exactly if it is unknown. The device is protected if the number of
+/// the command is even.
 fn is_met_by_number(command: u8) -> Result<bool, Fail> {
     let mut device = bench_device();
     device.protect(command % 2 == 0);
@@ -174,7 +175,7 @@ const PARTS: IdentityParts = IdentityParts {
     device_profile: 255,
 };
 
-/// What is refused.
+/// Parts of an identity or bytes of an image that are refused.
 enum Refused<'a> {
     /// Parts that make no identity.
     Parts(IdentityParts),
@@ -182,10 +183,10 @@ enum Refused<'a> {
     Bytes(&'a [u8]),
 }
 
-/// What is refused, and the number and the text of the fault.
+/// Parts or bytes that are refused, and the number and the text of the fault.
 type RefusedRow<'a> = (Refused<'a>, u8, &'a str);
 
-/// Parts that differ from `PARTS` and make no identity, and bytes that are no image, with a row for each reason.
+/// Parts that differ from `PARTS` and make no identity, and bytes that are no image, with a row for each reason to refuse them.
 const REFUSED: &[RefusedRow] = &[
     (
         Refused::Parts(IdentityParts {

@@ -1,6 +1,6 @@
 //! The examples in doc comments, as they stand there: `tools/doc_examples.py` compares them.
 //!
-//! What an example takes as given is made above it.
+//! The values that an example takes as given are made above the example.
 use crate::rows::chars_of_items;
 use hart_cli::{Plain, dump};
 use hart_commands::{Reply, ReplyContent, Request};

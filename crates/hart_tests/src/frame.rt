@@ -195,12 +195,12 @@ fn the_longest_message_has_287_bytes(rt: HostRuntime) -> Result<(), Fail> {
     Ok(())
 }
 
-/// The lengths that are tried, most of them at or next to a multiple of 32.
+/// The lengths that are tried. Most of these are at or next to a multiple of 32.
 const CHECKED_LENGTHS: &[usize] = &[0, 1, 31, 32, 33, 63, 64, 65, 255, 267, MOST_CHECKED];
 
 const MOST_CHECKED: usize = 1000;
 
-/// Bytes of many values.
+/// Returns bytes of many values.
 fn checked_bytes() -> [u8; MOST_CHECKED] {
     let mut bytes = [0; MOST_CHECKED];
     for (place, byte) in bytes.iter_mut().enumerate() {

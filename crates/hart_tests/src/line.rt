@@ -55,7 +55,7 @@ fn faults_have_numbers_and_texts(rt: HostRuntime) -> Result<(), Fail> {
     Ok(())
 }
 
-/// Each leg and its word.
+/// Each leg, and its word in a script.
 const LEGS: &[(Leg, &str)] = &[(Leg::Up, "up"), (Leg::Down, "down"), (Leg::Noise, "noise")];
 
 #[test]
@@ -159,7 +159,7 @@ fn is_read_as(alloc: Global, text: &[u8], want: Result<&str, usize>) -> Result<b
     })
 }
 
-/// Whether this command, submitted without data, is read if it makes a request without them, and is a bad line otherwise.
+/// Whether this command, submitted without data, is read if the command makes a request without data, and is a bad line otherwise.
 fn is_read_if_asked(alloc: Global, command: u8) -> Result<bool, Fail> {
     let text = format!(in alloc; "submit P 37420A1B2C {command}")?;
     let want = if Request::read(command, &[]).is_ok() {

@@ -20,7 +20,7 @@ fn faults_have_numbers_and_texts(rt: HostRuntime) {
     }
 }
 
-/// Retries and reply limits, and the fault with which they are refused, if they are.
+/// Retries and reply limits, and the fault with which they are refused, if they are refused.
 const LIMITS: &[(u8, u8, Option<MasterFault>)] = &[
     (0, 1, None),
     (15, 255, None),
@@ -36,14 +36,14 @@ fn masters_have_limits(rt: HostRuntime) {
     }
 }
 
-/// The address bytes of a polling address; below, those of a device and of broadcast.
+/// The address bytes of a polling address. Below are the address bytes of a device, and of broadcast.
 const POLLING: &[u8] = &[0x80];
 
 const DEVICE: &[u8] = &[0xB7, 0x42, 0x0A, 0x1B, 0x2C];
 
 const ALL: &[u8] = &[0x80, 0x00, 0x00, 0x00, 0x00];
 
-/// Address bytes, a command and its data, and the fault with which an idle master refuses the submission, if it does.
+/// Address bytes, a command and its data, and the fault with which an idle master refuses the submission, if it refuses it.
 type Submission<'a> = (&'a [u8], u8, &'a [u8], Option<MasterFault>);
 
 const SUBMISSIONS: &[Submission] = &[
@@ -60,13 +60,13 @@ const SUBMISSIONS: &[Submission] = &[
     (DEVICE, 21, &[0x20; 32], None),
 ];
 
-/// The address of these bytes.
+/// Returns the address of these bytes.
 fn address_of(bytes: &[u8]) -> Result<Address, Fail> {
     let (_, _, address) = Address::read(bytes).ok_or("one byte or five")?;
     Ok(address)
 }
 
-/// The request of a command with these data.
+/// Returns the request of a command with these data.
 fn request_of(command: u8, data: &[u8]) -> Result<Request, Fail> {
     Ok(Request::read(command, data).ok().ok_or("bad data")?)
 }
@@ -78,7 +78,8 @@ fn refuses_another(master: &mut Master) -> Result<bool, Fail> {
     Ok(rejected.fault == MasterFault::Pending && rejected.request == Request::ReadPrimary)
 }
 
-/// Whether an idle master takes a submission and then refuses another, or refuses it with the fault of its row and stays idle.
+/// Whether an idle master takes a submission and then refuses another one, or refuses the first with the fault of its row and stays
+/// idle.
 fn is_taken_or_refused(submission: &Submission) -> Result<bool, Fail> {
     let (address, command, data, want) = *submission;
     let mut master = Master::new(MasterId::Secondary, 3, 41)?;
@@ -104,7 +105,7 @@ enum Call {
     Sends,
     /// `send`: no frame.
     StaysSilent,
-    /// `tick` with this many character times: nothing happens.
+    /// `tick` with this number of character times: nothing happens.
     Waits(u8),
     /// `tick`: the request is to be sent again.
     Retries(u8),
@@ -157,7 +158,7 @@ fn a_request_is_sent_twice_and_given_up(rt: HostRuntime) -> Result<(), Fail> {
     Ok(())
 }
 
-/// The reply with the bench device's identity to the primary master; below, to the secondary.
+/// The reply with the bench device's identity to the primary master. The reply to the secondary master is below.
 const TO_PRIMARY: &[u8] = &[
     0xFF, 0xFF, 0xFF, 0xFF, 0xFF, 0x06, 0x80, 0x00, 0x18, 0x00, 0x00, 0xFE, 0x37, 0x42, 0x05, 0x07,
     0x01, 0x02, 0x18, 0x00, 0x0A, 0x1B, 0x2C, 0x05, 0x04, 0x00, 0x00, 0x00, 0x00, 0x37, 0x00, 0x37,
@@ -176,7 +177,8 @@ const IDENTITY: &[u8] = &[
     0x00, 0x00, 0x00, 0x00, 0x37, 0x00, 0x37, 0x01,
 ];
 
-/// Replies of the bench device to Command 19: communication faults; below, response code 32, and the assembly number.
+/// Replies of the bench device to Command 19. This one has communication faults. Below are one with response code 32, and one with
+/// the assembly number.
 const FAULTY: &[u8] = &[
     0xFF, 0xFF, 0xFF, 0xFF, 0xFF, 0x86, 0xB7, 0x42, 0x0A, 0x1B, 0x2C, 0x13, 0x02, 0x88, 0x00, 0xD7,
 ];
@@ -221,7 +223,7 @@ fn heard(first: &[u8], second: &[u8]) -> Option<[Char; 80]> {
     Some(chars)
 }
 
-/// The primary master, with a request in hand.
+/// Returns the primary master, with a request in hand.
 fn with_request(address: &[u8], request: Request) -> Result<Master, Fail> {
     let mut master = Master::new(MasterId::Primary, 1, 33)?;
     let submitted = master.submit(address_of(address)?, request);
@@ -241,7 +243,7 @@ fn event_of(command: u8, payload: Option<&[u8]>) -> Result<MasterEvent, Fail> {
     Ok(answered.ok_or("either a code or content")?)
 }
 
-/// Returns whether a master accepts nothing before it sends, and whether it then accepts just the wanted reply.
+/// Returns whether a master accepts nothing before it sends, and whether it then accepts exactly the wanted reply.
 fn accepts(row: &Heard) -> Result<(bool, bool), Fail> {
     let (address, command, data, first, second, want) = *row;
     let chars = heard(first, second).ok_or("characters")?;
@@ -277,7 +279,8 @@ fn a_reply_to_the_other_master_is_not_accepted(rt: HostRuntime) -> Result<(), Fa
     Ok(())
 }
 
-/// The payload of an identity whose expanded device type has its upper two bits set; below, of one whose address is broadcast.
+/// The payload of an identity whose expanded device type has its upper two bits set. Below is the payload of an identity whose
+/// address is broadcast.
 const LONG_TYPE: &[u8] = &[
     0x00, 0x00, 0xFE, 0xFF, 0x42, 0x05, 0x07, 0x01, 0x02, 0x18, 0x00, 0x0A, 0x1B, 0x2C, 0x05, 0x04,
     0x00, 0x00, 0x00, 0x00, 0x37, 0x00, 0x37, 0x01,

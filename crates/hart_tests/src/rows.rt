@@ -1,4 +1,4 @@
-//! Helpers that compare results with what tests expect. What is proved here is not proved again in each test.
+//! Helpers that compare results with what tests expect. A contract that is proved here is not proved again in each test.
 use hart_frame::Char;
 use hart_line::leading_item;
 use std::alloc::{AllocError, Global};
@@ -6,7 +6,7 @@ use std::fmt::Display;
 use std::process::{Abort, Termination};
 use std::test::Fail;
 
-/// Fails a test unless `holds`. The failure names the row of a table, or what else `word` says, by its number.
+/// Fails a test unless `holds` is true. The failure names by its number the row of a table, or whatever else `word` says.
 pub fn hold(rt: &impl Abort, holds: bool, word: &str, number: usize) {
     assert!(rt; holds, "of {word} {number}");
 }
@@ -23,7 +23,7 @@ pub fn hold_ok(rt: &(impl Abort + Eprint), holds: Result<bool, Fail>, word: &str
     hold(rt, holds, word, number);
 }
 
-/// Whether a value is displayed by this text.
+/// Whether a value is displayed as this text.
 pub fn has_text(alloc: Global, value: &impl Display, text: &str) -> Result<bool, Fail> {
     let written = format!(in alloc; "{value}")?;
     Ok(written.as_str() == text)
@@ -43,7 +43,7 @@ pub fn write_chars(chars: &mut [Char], heard: &[u16]) -> Option<()> {
     Some(())
 }
 
-/// The exclusive or of bytes, taken one after another.
+/// Returns the exclusive or of bytes, taken one after another.
 pub fn exclusive_or(bytes: &[u8]) -> u8 {
     let mut all = 0;
     for byte in bytes {
@@ -85,7 +85,7 @@ pub fn chars_of_items(alloc: Global, text: &str) -> Result<Vec<Char>, Fail> {
     }
 }
 
-/// The bytes of characters, whatever their faults.
+/// Returns the bytes of characters, whatever their faults.
 pub fn bytes_of(alloc: Global, chars: &[Char]) -> Result<Vec<u8>, Fail> {
     let mut bytes = Vec::new(alloc);
     for character in chars {

@@ -47,7 +47,7 @@ fn addresses_are_read(rt: HostRuntime) -> Result<(), Fail> {
 
 #[test]
 fn only_both_numbers_zero_are_broadcast(rt: HostRuntime) -> Result<(), Fail> {
-    // An address leaves out the upper two bits of the type.
+    // A unique address leaves out the upper two bits of the device type.
     assert!(rt; Address::unique(0x4000, 0)?.is_broadcast());
     assert!(rt; !Address::unique(0x0001, 0)?.is_broadcast());
     assert!(rt; !Address::polling(0)?.is_broadcast());

@@ -1,4 +1,4 @@
--- The fields of data have a number of bytes that their kind allows.
+-- Each field of data has a number of bytes that its kind allows.
 use Rattle.std.proofs.Common.{◌≡◌, ℕ, ◌+◌, ◌*◌, ◌<◌, ◌≤◌, ◌⊎◌, inl, inr, List, [], ◌∷◌, All, Option, None, Some, IfSome, take, drop, length}
 use Rattle.std.proofs.Common.{arith, length-drop, length-take, lit<, refl, rules}
 use Rattle.std.proofs.lemmas.Bool.Decides.{nat_tests}
@@ -24,7 +24,7 @@ use Rattle.hart_commands.proofs.lemmas.Reply.{variables_whole}
 use Rattle.hart_commands.proofs.lemmas.Rows.{of_known}
 use Rattle.hart_commands.specs.Fields as fields
 
--- whether a field of this size has a width of its kind in all data
+-- whether a field of this kind and size has a width of this kind, in any data
 abbrev pub Suits : FieldKind → FieldSize → Type 0
 Suits kind (Exactly size) = IsWidthOf kind size
 Suits Bytes (AllBut after) = Unit {0}
@@ -37,19 +37,19 @@ AreSuited these = AllByRecursion (λ row. Suits row.kind row.size) these
 abbrev pub Fit : List Row → List ℕ → Type 0
 Fit these bytes = All HasWidthOfKind (fields_of these bytes)
 
--- fields fit if that of the first row has a width of its kind, and those of the other rows fit the later bytes
+-- fields fit if the field of the first row has a width of its kind, and the fields of the other rows fit in the bytes after it
 with_field : (row : Row) (others : List Row) (bytes : List ℕ) (n : ℕ) → size_in row.size (length bytes) ≡ Some n
     → IsWidthOf row.kind (length (take n bytes)) → Fit others (drop n bytes) → Fit (row ∷ others) bytes
 with_field row others bytes n size first rest = rw size (All-cons HasWidthOfKind _ _ first rest)
 
--- the field of a row whose size suits its kind has a width of the kind
+-- if the size of a field suits its kind, the field has a width of this kind
 width : (kind : FieldKind) (size : FieldSize) (bytes : List ℕ) (n : ℕ) → Suits kind size → size_in size (length bytes) ≡ Some n
     → IsWidthOf kind (length (take n bytes))
 width kind (Exactly size) bytes n suits e = grind (arith, common_steps, nat_tests)
 width Bytes (AllBut after) bytes n suits e = grind (arith, common_steps, nat_tests)
 width _ (AllBut after) bytes n suits e = absurd suits
 
--- the fields of rows fit if the first row suits its kind, and the fields of the others fit
+-- the fields of rows fit if the size of the first row suits its kind, and the fields of the other rows fit
 step : (row : Row) (others : List Row) (bytes : List ℕ) (size : Option ℕ) → size_in row.size (length bytes) ≡ size
     → Suits row.kind row.size → ((rest : List ℕ) → Fit others rest) → Fit (row ∷ others) bytes
 step row others bytes None e suits rest = rw e (All-nil HasWidthOfKind)
@@ -63,7 +63,7 @@ widths (row ∷ others) bytes suited = step row others bytes _ refl suited.0 (λ
 requests_suited : AllByRecursion (λ row. AreSuited row.command.request) commands
 requests_suited = search rules
 
--- a reply has the fields of device variables for Command 9, or rows that all suit their kind
+-- whether the command is Command 9 with the fields of device variables in its reply, or the size of each reply row suits its kind
 abbrev pub SuitsReplies : Command → Type 0
 SuitsReplies command = ((command.number ≡ 9) × (command.reply ≡ fields.variables)) ⊎ AreSuited command.reply
 
@@ -92,13 +92,13 @@ pub fields_have_the_width_of_their_kind-request : (command : ℕ) (bytes : List 
 fields_have_the_width_of_their_kind-request command bytes =
     of_request (known command) command bytes (of_known (λ told. AreSuited told.request) command requests_suited)
 
--- a reply to Command 9 says device variables, or is a refusal
+-- a reply to Command 9 holds device variables, or is a refusal
 said : (code status : ℕ) (bytes : List ℕ) (reply : Reply) → reply_reading 9 (code ∷ status ∷ bytes) ≡ Some reply
     → (reply.content ≡ Refused) ⊎ (variables_reading bytes ≡ Some reply.content)
 unfolding replied
 said code status bytes reply read = grind (arith, nat_tests)
 
--- the data taken of a reply to Command 9 have fields with a width of their kind
+-- in the data that the content of a reply to Command 9 takes, each field has a width of its kind
 of_content : (bytes : List ℕ) (content : ReplyContent) → (content ≡ Refused) ⊎ (variables_reading bytes ≡ Some content)
     → Fit fields.variables (take (length (content_bytes content)) bytes)
 of_content bytes content (inl refused) = rw refused (All-nil HasWidthOfKind)

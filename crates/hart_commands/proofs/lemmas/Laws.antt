@@ -1,4 +1,5 @@
--- The laws of requests, of replies, of fields, of registers and of overwrites, for the proofs of this crate and of those above.
+-- The laws of requests, of replies, of fields, of registers and of overwrites, for the proofs of this crate and of the crates above
+-- it.
 use Rattle.std.proofs.Common.{arith, ◌≡◌, ◌≢◌, ℕ, AllPairs, Contains, IsSome, IsTrue, List, [], ◌∷◌, ◌++◌, Ok, Some, length, take, refl}
 use Rattle.std.proofs.Common.{lit<, rules}
 use Rattle.std.proofs.Common.{ap, append-nil}

@@ -27,13 +27,13 @@ whole n xs long = take_all n xs (omega (arith, long))
 pub by_spelling : (n : ℕ) (P : List ℕ → Type 0) → ((xs : List ℕ) → P (spell n xs)) → (xs : List ℕ) → length xs ≡ n → P xs
 by_spelling n P each xs long = subst P (spelled n xs long) (each xs)
 
--- the parts of values with units, after other bytes, join to these bytes and those of the values
+-- if the parts of values with units are joined after other bytes, the result is these bytes, then the bytes of the values
 pub joined_values : (bytes : List ℕ) (vs : List UnitValue)
     → joined (bytes ∷ flat_map unit_value_parts vs) ≡ bytes ++ flat_map unit_value_bytes vs
 joined_values bytes [] = sym (append-nil bytes)
 joined_values bytes (v ∷ vs) = ap (λ xs. bytes ++ v.unit ∷ xs) (joined_values v.value.0 vs)
 
--- bytes are joined from parts of one byte each
+-- if each byte is a part of its own, joining the parts gives the bytes
 pub joined_singles : (xs : List ℕ) → joined (map one xs) ≡ xs
 joined_singles [] = refl
 joined_singles (x ∷ []) = refl

@@ -1,4 +1,5 @@
--- What is read from a payload is written as its first bytes and read again, and its fields are its parts.
+-- A reply that is read from a payload is written as the first bytes of that payload, and read back. The fields of its data are the
+-- parts of its content.
 use Rattle.std.proofs.Common.{◌≡◌, ◌≢◌, ℕ, ◌-◌, ◌/◌, zero, suc, ◌+◌, ◌*◌, ◌<◌, ◌≤◌, List, [], ◌∷◌, take, drop, length, map, Option, Some}
 use Rattle.std.proofs.Common.{None, IfSome, refl, ap}
 use Rattle.std.proofs.Common.{arith, true, ltb, eqb, sym, length-take, slice_index}
@@ -30,7 +31,7 @@ use Rattle.hart_commands.specs.Fields as fields
 abbrev pub IsParted : ℕ → ReplyContent → Type 0
 IsParted command content = field_bytes (fields_of (reply_rows command) (content_bytes content)) ≡ content_parts content
 
--- a content that was read from bytes is written as the first of them and read again, and its fields are its parts
+-- a content that was read from bytes is written as the first of these bytes and read back, and its fields are its parts
 abbrev pub IsKept : ℕ → (List ℕ → Option ReplyContent) → List ℕ → ReplyContent → Type 0
 IsKept command read bytes content =
     (content_bytes content ≡ take (length (content_bytes content)) bytes) × (read (content_bytes content) ≡ Some content)
@@ -39,7 +40,7 @@ IsKept command read bytes content =
 abbrev pub Keeps : ℕ → (List ℕ → Option ReplyContent) → Type 0
 Keeps command read = (bytes : List ℕ) → IfSome (read bytes) (IsKept command read bytes)
 
--- a reading of `size` bytes keeps its content if it does so for these bytes one by one
+-- a reading of `size` bytes keeps every content if it keeps the content of any `size` bytes that are spelled one by one
 said : (command size : ℕ) (read : List ℕ → Option ReplyContent)
     → ((xs : List ℕ) → IfSome (read (spell size xs)) (λ content. (content_bytes content ≡ spell size xs) × IsParted command content))
     → Keeps command (having size None read)
@@ -64,7 +65,7 @@ in_groups _ some few bytes long = absurd (omega arith)
 dynamic : Keeps 3 dynamic_reading
 dynamic bytes = grind (arith, common_steps, nat_tests, in_groups)
 
--- a device status, one to eight variables and a time stamp that are all of the bytes are kept
+-- if a device status, one to eight variables and a time stamp are all of the bytes, they are kept
 in_variables : (groups : ℕ) → 0 < groups → groups < 9 → (bytes : List ℕ) → length bytes ≡ 5 + 8 * groups
     → IfSome (variables_reading bytes) (λ content. (content_bytes content ≡ bytes) × IsKept 9 variables_reading bytes content)
 unfolding known
@@ -81,7 +82,7 @@ in_variables _ some few bytes long = absurd (omega arith)
 variables : Keeps 9 variables_reading
 variables bytes = grind (arith, common_steps, nat_tests, in_variables ((length bytes - 5) / 8))
 
--- bytes read as device variables are five, and eight more for each of one to eight variables
+-- bytes that are read as device variables have a length of five, and eight more for each of one to eight variables
 variables_sized : (bytes : List ℕ) (content : ReplyContent) → variables_reading bytes ≡ Some content
     → (0 < (length bytes - 5) / 8) × ((length bytes - 5) / 8 < 9) × (length bytes ≡ 5 + 8 * ((length bytes - 5) / 8))
 variables_sized bytes content e = grind (arith, nat_tests)
@@ -95,7 +96,7 @@ variables_whole bytes content e =
     let is = rw e at (in_variables groups some few bytes long) in
     (is.0, (groups, some, omega arith, long))
 
--- the first `n` bytes of a list are the first `m`, where `m` is their number
+-- if a list has `m` bytes among its first `n`, these are its first `m` bytes
 front : (n : ℕ) (xs : List ℕ) → take n xs ≡ take (length (take n xs)) xs
 front n xs = grind (arith, common_steps)
 
@@ -116,7 +117,7 @@ own : AllByRecursion KeepsOwn commands
 unfolding known replied
 own = search (identity, dynamic, variables, more, said)
 
--- the reply that is read from a payload by a row of the table, which may be a refusal
+-- the reply that a row of the table reads from a payload, if any; the reply may be a refusal
 abbrev pub reply_by : Option CommandRow → ℕ → List ℕ → Option Reply
 reply_by row command (code ∷ status ∷ bytes) =
     let saying : ReplyContent → Reply =

@@ -12,12 +12,12 @@ use Rattle.hart_commands.specs.declared.request.Request.{Request}
 use Rattle.hart_commands.specs.declared.request.Request.TheVariants.{SetPolling, ReadVariables, ResetChanged, WriteTag}
 use Rattle.hart_commands.proofs.lemmas.Parts.{spelled}
 
--- as many bytes as a request needs are read, whatever follows
+-- if there are as many bytes as a request needs, they are read, whatever follows them
 needing-append : (size : ℕ) (asked : List ℕ → Request) (bytes rest : List ℕ) → length bytes ≡ size
     → needing size asked (bytes ++ rest) ≡ Ok (asked bytes)
 needing-append size asked bytes rest long = grind (arith, common_steps, nat_tests, length-append, take_at)
 
--- up to eight codes are all that is taken, if they are eight or nothing follows
+-- if there are eight codes, or at most eight with nothing after them, all of them are taken, and nothing else
 take-codes : (codes rest : List ℕ) → length codes ≤ 8 → (length codes ≡ 8) ⊎ (rest ≡ []) → take 8 (codes ++ rest) ≡ codes
 take-codes codes rest few (inl eight) = take_at codes rest 8 eight
 take-codes codes rest few (inr none) = rw (none, append-nil) (take_all 8 codes few)

@@ -15,7 +15,7 @@ use Rattle.hart_commands.specs.declared.request.Request.{Request}
 use Rattle.hart_commands.specs.declared.request.Request.TheVariants.{ReadVariables, ResetChanged, WriteTag}
 use Rattle.hart_commands.proofs.lemmas.Parts.{spelled, whole}
 
--- a row that takes all bytes that are left has a field of these bytes
+-- a row that takes all remaining bytes has a field of these bytes
 pub all_left : (name : String) (kind : FieldKind) (bytes : List ℕ) → 0 < length bytes
     → field_bytes (fields_of (field name (AllBut 0) kind ∷ []) bytes) ≡ bytes ∷ []
 all_left name kind bytes some = grind (arith, common_steps, nat_tests, take_all)

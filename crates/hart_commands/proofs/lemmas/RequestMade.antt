@@ -1,4 +1,5 @@
--- What is read from data: a well-made request of the command whose data come first, or a code that refuses them.
+-- What is read from data: a well-made request of the command, or a code that refuses the data. The data begin with the data of the
+-- written request, or are the data of Command 6 without the mode.
 use Rattle.std.proofs.Common.{◌≡◌, ◌↔◌, ℕ, Bool, true, false, ◌<◌, ◌≤◌, ◌⊎◌, All, List, [], ◌++◌, get_or, take, drop, length, Ok, Err}
 use Rattle.std.proofs.Common.{refl, arith}
 use Rattle.std.proofs.Common.{append_assoc, eqb, length-drop, length-take-le}
@@ -18,12 +19,12 @@ use Rattle.hart_commands.specs.TagBytes.{tag_in, descriptor_in, date_in}
 use Rattle.hart_commands.specs.declared.request.Request.{Request}
 use Rattle.hart_commands.proofs.lemmas.Rows.{by_row}
 
--- data begin with the data of the written request, or are an address without the mode that is written after it
+-- data begin with the data of the written request, or are a polling address without the mode that is written after it
 abbrev pub AreBegun : ℕ → List ℕ → List ℕ → Type 0
 AreBegun command bytes written =
     (take (length written) bytes ≡ written) ⊎ ((command ≡ 6) × (length bytes ≡ 1) × (length written ≡ 2) × (bytes ≡ take 1 written))
 
--- what is read from data of a command that is known or not, and that needs `size` bytes
+-- what holds of a reading of `bytes` for a command that needs `size` bytes; `known` says whether the command is known
 abbrev pub IsGiven : Bool → ℕ → ℕ → List ℕ → Reading → Type 0
 IsGiven known size command bytes (Ok request) =
     (command_of request ≡ command) × IsRequest request × (known ≡ true)
@@ -33,7 +34,7 @@ IsGiven known size command bytes (Err code) =
     ((code ≡ 64) ↔ (known ≡ false)) × ((code ≡ 5) ↔ ((length bytes < size) × (command ≡ 38 → 0 < length bytes)))
     × (0 < code) × (code < 128)
 
--- what is read from all data of a known command
+-- `IsGiven` holds of what `asked` reads from any data of a known command
 abbrev pub Gives : ℕ → ℕ → (List ℕ → Reading) → Type 0
 Gives size command asked = (bytes : List ℕ) → IsGiven true size command bytes (asked bytes)
 
@@ -58,7 +59,7 @@ tag bytes =
     whole : tag_in bytes ++ descriptor_in bytes ++ date_in bytes ≡ take 21 bytes
     whole = rw (take-add 6 15 bytes, take-add 12 3 (drop 6 bytes), drop-drop 12 6 bytes, append_assoc) refl
 
--- what a row must have to read requests of its own command number
+-- what a row has to satisfy, so that it reads requests of its own command number
 abbrev pub Own : ℕ → ℕ → Asked → Type 0
 Own command size (Always request) = (size ≡ 0) × (command_of request ≡ command) × IsRequest request × (request_data request ≡ [])
 Own command size request = Gives size command (asked size request)

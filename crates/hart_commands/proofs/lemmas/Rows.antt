@@ -12,7 +12,8 @@ by_row P Q [] number all none some = none
 by_row P Q (row ∷ rows) number all none some =
     grind (arith, nat_tests, some row, by_row P Q rows number all.1 none some)
 
--- Mapping the first row that passes a test gives the first that passes among the mapped rows.
+-- If a test is made on mapped rows, finding the first row and then mapping it gives the same as mapping all rows and then finding
+-- the first.
 pub find-map : {X Y : Type 0} (v : X → Y) (p : Y → Bool) (xs : List X) → option_map v (find (λ x. p (v x)) xs) ≡ find p (map v xs)
 find-map v p [] = refl
 find-map v p (x ∷ xs) = grind (arith, find-map v p xs)

@@ -2,8 +2,9 @@
 use crate::FieldSize::{AllBut, Exactly};
 use crate::{FieldKind, FieldRow, Register};
 
-/// A command: its number, its name, the fields of its request data, how many of those bytes it needs, the fields of its reply data
-/// with code 0, and the registers that it writes. The first register gets the first part of the request data as written, and so on.
+/// A command: its number, its name, the fields of its request data, how many bytes of request data it needs, the fields of its
+/// reply data with code 0, and the registers that it writes. A write sets the first register to the first part of the written
+/// request data, and so on.
 pub struct Command {
     pub number: u8,
     pub name: &'static str,

@@ -38,7 +38,7 @@ fn data_code(reading: &Result<Request, ResponseCode>, counter: u16) -> ResponseC
     }
 }
 
-/// Returns 9 if the request names a counter other than `counter`, and otherwise 0.
+/// Returns code 9 if the request names a counter other than `counter`, and otherwise code 0.
 fn counter_code(request: &Request, counter: u16) -> ResponseCode
     ensures { result ≡ counter_code request.now counter }
 {

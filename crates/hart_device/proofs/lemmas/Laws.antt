@@ -1,4 +1,4 @@
--- The laws of devices, for the proofs of this crate and of those above.
+-- The laws of devices, for the proofs of this crate and of the crates above it.
 use Rattle.std.proofs.Common.{arith, ◌≡◌, ◌≢◌, refl, rules, false, true, ℕ, List, [], Ok, Some, slice_get}
 use Rattle.std.proofs.lemmas.Bool.Decides.{nat_tests}
 use Rattle.std.proofs.lemmas.Grind.{common_steps}

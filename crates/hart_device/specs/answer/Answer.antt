@@ -31,7 +31,7 @@ abbrev pub is_request : FrameKind → Bool
 is_request Stx = true
 is_request Ack = false
 
--- Two unique addresses are the same if both of their numbers are.
+-- Two unique addresses are the same if both of their numbers are the same.
 abbrev pub same_numbers : DeviceNumbers → DeviceNumbers → Bool
 same_numbers a b = (a.expanded_type == b.expanded_type) && (a.device_id == b.device_id)
 
@@ -42,8 +42,8 @@ is_paired state (Polling number) command = (command == 0) && (slice_index state.
 is_paired state (Unique numbers) command =
     same_numbers numbers (own_numbers state.identity) || (may_be_broadcast command && is_broadcast (Unique numbers))
 
--- A frame is for the device if it is a request without expansion bytes, and the device accepts its command at its address. The
--- burst bit is ignored.
+-- A frame is for the device if it is a request without expansion bytes, and the device accepts the frame's command at the frame's
+-- address. The burst bit is ignored.
 abbrev pub is_addressed : DeviceState → FrameParts → Bool
 is_addressed state frame =
     is_request frame.kind && (length frame.expansion == 0) && is_paired state frame.address frame.command
@@ -63,8 +63,8 @@ names_another state (Ok (IdentifyByTag tag)) = not (bytes_eq state.contents.tag 
 names_another state (Ok (IdentifyByLongTag long_tag)) = not (bytes_eq state.contents.long_tag long_tag)
 names_another state _ = false
 
--- A frame is answered if it is for the device and names no other device by tag or long tag. A broadcast frame is answered only with
--- code 0.
+-- A frame is answered if it is for the device and names no other device by tag or long tag. A broadcast frame is answered only if
+-- its code is 0.
 abbrev pub is_answered : DeviceState → FrameParts → Bool
 is_answered state frame =
     is_addressed state frame && not (names_another state (reading_of frame))
@@ -91,12 +91,13 @@ effect_of state frame =
 abbrev pub after_command : DeviceState → FrameParts → DeviceState
 after_command state frame = after frame.master (effect_of state frame) state
 
--- After an answered frame, the device is in the state after the command and then the reply. After any other frame its state stays.
+-- After an answered frame, the device is in the state that follows the command and then the reply. Any other frame leaves the state
+-- unchanged.
 abbrev pub state_after : DeviceState → FrameParts → DeviceState
 state_after state frame = if is_answered state frame then after_reply frame.master (after_command state frame) else state
 
--- A frame without effect changes at most the cold start bit of its master. This bit is clear if the frame was answered, since the
--- reply has shown it, and otherwise as it was.
+-- A frame without effect changes at most the cold start bit of its master. If the frame was answered, this bit is clear, since the
+-- reply has shown it. Otherwise the bit is unchanged.
 abbrev pub after_refusal : DeviceState → FrameParts → DeviceState
 after_refusal state frame = record state {
   cold_start = if is_answered state frame then with_master frame.master false state.cold_start else state.cold_start;

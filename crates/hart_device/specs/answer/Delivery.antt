@@ -17,8 +17,8 @@ pub data Brought : Type 0 where
   Garbled : (request : GarbledRequest) → Brought
   NoMessage : Brought
 
--- A delivery with exactly one frame brings that frame, and one with more frames brings no message. A delivery without a frame
--- brings its garbled request, or no message if it has no garbled request.
+-- A delivery with exactly one frame brings that frame, and a delivery with more frames brings no message. A delivery without a
+-- frame brings its garbled request, or no message if it has no garbled request.
 abbrev pub BringsBy : IdentityParts → List Character → List Found → Brought → Type 0
 BringsBy identity delivery (found ∷ []) brought = brought ≡ OneFrame found.frame
 BringsBy identity delivery [] (OneFrame frame) = ⊥
@@ -32,14 +32,14 @@ pub record Brings (identity : IdentityParts) (delivery : List Character) (brough
   pub are_frames : AreFrames delivery 0 frames
   pub by_frames : BringsBy identity delivery frames brought
 
--- The device answers the frame that is brought, replies to a garbled request with its communication faults, and is silent if
--- there is no message.
+-- The device answers the frame that a delivery brings, replies to a garbled request with the communication faults of the request,
+-- and is silent if the delivery brings no message.
 abbrev pub answer_to : DeviceState → Process → Brought → Option FrameParts
 answer_to state process (OneFrame frame) = answer_of state process frame
 answer_to state process (Garbled request) = Some (garbled_reply state.identity request)
 answer_to state process NoMessage = None
 
--- If a delivery brings a frame, the state afterwards is the state after that frame. Otherwise the state stays.
+-- If a delivery brings a frame, the state afterwards is the state after that frame. Otherwise the state is unchanged.
 abbrev pub state_after_delivery : DeviceState → Brought → DeviceState
 state_after_delivery state (OneFrame frame) = state_after state frame
 state_after_delivery state (Garbled request) = state

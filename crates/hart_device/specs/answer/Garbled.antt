@@ -1,5 +1,5 @@
--- Requests that a device heard with faults, and its replies to them (HCF_SPEC-081, HCF_SPEC-099; which of them it answers is of the
--- own profile).
+-- Requests that a device heard with faults, and its replies to them (HCF_SPEC-081, HCF_SPEC-099; which of these requests it answers
+-- is of the own profile).
 use Rattle.std.specs.Prelude.{◌≡◌, ◌+◌, ◌%◌, ◌==◌, ◌&&◌, if◌then◌else◌, ℕ, Bool, false, List, [], ◌∷◌, ◌++◌, Option, None, Some}
 use Rattle.std.specs.Prelude.{length, map, slice_index, take, drop, count_by, nat_lt}
 use Rattle.std.specs.Int.{bit_at}
@@ -26,12 +26,13 @@ has_fault bit chars = list_any (λ character. bit_at character.faults bit == 1) 
 abbrev pub is_odd : List Character → ℕ → Bool
 is_odd chars bit = count_by (λ character. bit_at character.byte bit == 1) chars % 2 == 1
 
--- Whether the exclusive or of the bytes is not zero: at least one of the eight bits is set in an odd number of them.
+-- Whether the exclusive or of the bytes is not zero: at least one of the eight bits is set in an odd number of the bytes.
 abbrev pub has_odd_bit : List Character → Bool
 has_odd_bit chars = list_any (is_odd chars) (0 ∷ 1 ∷ 2 ∷ 3 ∷ 4 ∷ 5 ∷ 6 ∷ 7 ∷ [])
 
--- The communication faults of characters. Each of hex 40 vertical parity, 20 overrun, 10 framing and 02 buffer overflow is set if
--- at least one character has this bit, and 08 longitudinal parity is set if the exclusive or of the bytes is not zero.
+-- The communication faults of characters. Each of the bits hex 40 (vertical parity), 20 (overrun), 10 (framing) and 02 (buffer
+-- overflow) is set if at least one character has this fault bit. The bit 08 (longitudinal parity) is set if the exclusive or of the
+-- bytes is not zero.
 abbrev pub communication_faults : List Character → ℕ
 communication_faults chars =
     bit_if (has_fault 6 chars) 0x40
@@ -40,15 +41,16 @@ communication_faults chars =
     + bit_if (has_odd_bit chars) 0x08
     + bit_if (has_fault 1 chars) 0x02
 
--- The bytes of an address name the device itself if they are the bytes of its numbers. The two top bits of the first byte, the
--- master and the burst bit, may have any value.
+-- The bytes of an address name the device itself if they are the bytes of the device's numbers. The two top bits of the first byte
+-- (the master bit and the burst bit) may have any value.
 abbrev pub is_own_address : IdentityParts → List ℕ → Bool
 is_own_address identity (first ∷ others) =
     bytes_eq (first % 64 ∷ others) (two_bytes (own_numbers identity).expanded_type ++ three_bytes identity.device_id)
 is_own_address identity [] = false
 
--- The master that asks the device with six characters, if they are without faults the delimiter hex 82 of a request to a unique
--- address and then the device's own address. The top bit of the address is set for the primary master and clear for the secondary.
+-- The master that asks the device with six characters, if these have no faults, and are the delimiter hex 82 of a request to a
+-- unique address and then the device's own address. The top bit of the address is set for the primary master and clear for the
+-- secondary.
 abbrev pub asking_master : IdentityParts → List Character → Option MasterId
 asking_master identity (delimiter ∷ others) =
     let address : List ℕ = map (λ character. character.byte) others in
@@ -57,8 +59,8 @@ asking_master identity (delimiter ∷ others) =
 asking_master identity [] = None
 
 -- After its head of six characters, a garbled request of a master has a command, a byte count, as many payload characters as the
--- byte count says, and a check byte, all with any faults. The command is the byte that was heard in its place. The communication
--- faults are those of all characters of the request.
+-- byte count says, and a check byte. Each of these may have any faults. The command is the byte that was heard in the place of the
+-- command. The communication faults are those of all characters of the request.
 abbrev pub garbled_after : List Character → List Character → MasterId → Option GarbledRequest
 garbled_after chars (command ∷ byte_count ∷ after) master =
     if nat_lt byte_count.byte (length after) then Some (record {
@@ -68,19 +70,21 @@ garbled_after chars (command ∷ byte_count ∷ after) master =
     }) else None
 garbled_after chars _ master = None
 
--- Characters begin with a garbled request if a master asks the device with the first six, and the rest of the request follows. A
--- request without any fault has this form too, but a delivery with it has a frame, and so brings no garbled request.
+-- Characters begin with a garbled request if a master asks the device with the first six, and the other characters of the request
+-- follow them. A request without any fault has this form too, but a delivery with such a request has a frame, and so brings no
+-- garbled request.
 abbrev pub garbled_request : IdentityParts → List Character → Option GarbledRequest
 garbled_request identity chars = option_and_then (garbled_after chars (drop 6 chars)) (asking_master identity (take 6 chars))
 
--- A list of characters has a garbled request if one begins at its first start. No later start is looked at.
+-- A list of characters has a garbled request if a garbled request begins at the first place where a body may start. No later place
+-- is looked at.
 pub record HasGarbled (identity : IdentityParts) (chars : List Character) (request : GarbledRequest) : Type 0 where
   pub start : ℕ
   pub first_start : IsFirstStart start chars
   pub begins : garbled_request identity (drop start chars) ≡ Some request
 
--- The communication-fault reply to a garbled request is an ACK to its master, with the device's own address, the command that was
--- heard, and two bytes: hex 80 joined with the communication faults, then 00.
+-- The communication-fault reply to a garbled request is an ACK to the master of the request, with the device's own address, the
+-- command that was heard, and two bytes: hex 80 joined with the communication faults, then 00.
 abbrev pub garbled_reply : IdentityParts → GarbledRequest → FrameParts
 garbled_reply identity request = record {
   kind = Ack;

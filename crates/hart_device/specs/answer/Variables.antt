@@ -1,5 +1,5 @@
 -- The device variables that Command 9 asks for by their codes (HCF_SPEC-127; of the own profile: the classification and status of
--- 244 and 245, and 0 to 3 as codes of the dynamic variables).
+-- the variables 244 and 245, and 0 to 3 as codes of the dynamic variables).
 use Rattle.std.specs.Prelude.{ℕ, ◌-◌, ◌==◌, ◌&&◌, nat_lt, if◌then◌else◌, [], ◌∷◌, Option, Some, None, slice_get, unwrap_or}
 use Rattle.hart_commands.specs.declared.value.VariableReading.{VariableReading}
 use Rattle.hart_device.specs.declared.process.Process.{Process}
@@ -32,7 +32,7 @@ place_of code =
     else if nat_lt 245 code && nat_lt code 250 then Some (code - 246)
     else None
 
--- The dynamic variable at a place, if it is there.
+-- The dynamic variable at a place, if the process has a variable there.
 abbrev pub dynamic_at : Process → Option ℕ → Option ProcessVariable
 dynamic_at process None = None
 dynamic_at process (Some place) = slice_get (dynamic_variables process) place
@@ -45,7 +45,7 @@ variable_of_code process code =
     else if code == 245 then current_variable process
     else unwrap_or (dynamic_at process (place_of code)) missing_variable
 
--- The reading of a requested code: that code, and its variable.
+-- The reading of a requested code: the code itself, and the variable of this code.
 abbrev pub variable_reading : Process → ℕ → VariableReading
 variable_reading process code =
     let variable = variable_of_code process code in

@@ -1,4 +1,4 @@
--- The image of a device: the bytes that are kept of it while it is stopped (own profile).
+-- The image of a device: the bytes that are kept of the device while it is stopped (own profile).
 use Rattle.std.specs.Prelude.{◌≡◌, ◌≢◌, ℕ, ◌+◌, ◌-◌, ◌<◌, ◌^◌, ◌⊎◌, Bool, if◌then◌else◌, ◌==◌, Option, Some, None, List, [], ◌∷◌, ◌++◌}
 use Rattle.std.specs.Prelude.{length, drop, replicate, slice_index}
 use Rattle.std.specs.List.{Contains, flat_map, sum_by}
@@ -19,18 +19,19 @@ abbrev pub flags_of : EachMaster Bool → Bool → ℕ
 flags_of changed protected =
     (if changed.primary then 1 else 0) + (if changed.secondary then 2 else 0) + (if protected then 4 else 0)
 
--- The registers of an image of version 1, in their order, are all but the long tag.
+-- The registers of an image of version 1, in their order, are all registers but the long tag.
 abbrev pub registers_of_version_1 : List Register
 registers_of_version_1 = Polling ∷ Mode ∷ Message ∷ Tag ∷ Descriptor ∷ Date ∷ Assembly ∷ []
 
--- The registers in an image of each version: version 1 has all but the long tag, version 2 has all, other versions are not known.
+-- The registers in an image of each version: version 1 has all registers but the long tag, version 2 has all registers, and other
+-- versions are not known.
 abbrev pub registers_of_version : ℕ → Option (List Register)
 registers_of_version version =
     if version == 1 then Some registers_of_version_1
     else if version == 2 then Some registers
     else None
 
--- The long tag of a tag is the text of the tag, followed by 24 spaces.
+-- The long tag that belongs to a tag is the text of the tag, followed by 24 spaces.
 abbrev pub IsLongTagOf : List ℕ → List ℕ → Type 0
 IsLongTagOf tag long_tag = (text : List ℕ) × IsPacked text tag × (long_tag ≡ text ++ replicate 24 0x20)
 
@@ -43,8 +44,8 @@ abbrev pub image_bytes : ℕ → List Register → DeviceState → List ℕ
 image_bytes version listed state = version ∷ (flat_map (bytes_in state.contents) listed ++ image_ending state)
 
 -- Bytes are an image of a device's state if they are its image bytes in a known version. Every register of the state holds valid
--- bytes, and its counter is below 65536. If images of that version have no long tag, the state has the long tag of its tag. An
--- image has neither the identity of the device nor its cold start bits.
+-- bytes, and the counter of the state is below 65536. If images of that version have no long tag, the state has the long tag that
+-- belongs to its tag. An image has neither the identity of the device nor its cold start bits.
 pub record IsImageOf (state : DeviceState) (image : List ℕ) : Type 0 where
   pub contents : AreValid state.contents
   pub counter : state.counter < 2 ^ 16
@@ -66,12 +67,12 @@ image_of state = image_bytes 2 registers state
 abbrev pub image_length : List Register → ℕ
 image_length listed = 1 + sum_by size_of listed + 2 + 1
 
--- An array has invalid bytes for one of these registers.
+-- An array has invalid bytes for at least one of these registers.
 abbrev pub HasBadRegister : List Register → List ℕ → Type 0
 HasBadRegister listed array = (register : Register) × Contains listed register × ¬ IsValidIn register (standing_for register array)
 
--- An image with these registers has a bad field if its bytes for one of them are invalid, or if its last byte, the flags, is above
--- 7.
+-- An image with these registers has a bad field if its bytes for one of these registers are invalid, or if its last byte, the
+-- flags, is above 7.
 abbrev pub HasBadField : List Register → List ℕ → Type 0
 HasBadField listed image = HasBadRegister listed (drop 1 image) ⊎ (7 < slice_index image (length image - 1))
 

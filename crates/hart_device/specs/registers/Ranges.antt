@@ -28,7 +28,7 @@ standing_for register array = slice_range array (start_of register) (end_of regi
 abbrev pub contents_in : List ℕ → Contents
 contents_in array = contents_by (λ register. standing_for register array)
 
--- An array has invalid bytes for some register other than the long tag, for which any bytes are valid.
+-- An array has invalid bytes for some register other than the long tag. Any bytes are valid for the long tag.
 abbrev pub HoldsInvalid : List ℕ → Type 0
 HoldsInvalid array = (register : Register) × (register ≢ LongTag) × ¬ IsValidIn register (standing_for register array)
 

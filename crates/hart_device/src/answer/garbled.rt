@@ -19,11 +19,11 @@ use hart_values::{Address, CommFaults, MasterId, Status};
 /// A request to a device, heard with faults.
 #[derive(Clone, Copy, Debug, PartialEq, Eq)]
 pub struct GarbledRequest {
-    /// The master that its address names.
+    /// The master that the address of the request names.
     pub master: MasterId,
     /// The command, as it was heard.
     pub command: u8,
-    /// The communication faults of all its characters.
+    /// The communication faults of all characters of the request.
     pub faults: CommFaults,
 }
 
@@ -65,7 +65,7 @@ fn garbled_at(identity: &Identity, chars: &[Char]) -> Option<GarbledRequest>
     })
 }
 
-/// Returns the master whose request to the device with this identity has this head of six characters, or `None`.
+/// Returns the master if this head of six characters is that of a request to the device with this identity, and otherwise `None`.
 fn asking_master(identity: &Identity, head: &[Char]) -> Option<MasterId>
     ensures { result ≡ asking_master identity.now head.now }
 {
@@ -110,7 +110,7 @@ fn communication_faults(chars: &[Char]) -> CommFaults
     CommFaults::new(faults).unwrap()
 }
 
-/// Returns a fault bit, or 0 if none of the characters has it.
+/// Returns the fault bit `fault` if one of the characters has it, and otherwise 0.
 fn fault_if(chars: &[Char], fault: u8) -> u8
     ensures { (bit : ℕ) → fault ≡ 2 ^ bit → result ≡ bit_if (has_fault bit chars.now) fault }
 {

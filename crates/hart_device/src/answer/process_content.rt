@@ -45,7 +45,7 @@ pub(crate) fn classes(process: &Process) -> [u8; 4]
     ]
 }
 
-/// Returns the classification of the dynamic variable at a place, or 0 if there is none.
+/// Returns the classification of the dynamic variable at a place, or 0 if the process has no variable there.
 fn class_at(process: &Process, place: u8) -> u8
     ensures { result ≡ class_at process.now place }
 {

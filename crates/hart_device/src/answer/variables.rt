@@ -7,12 +7,12 @@ use crate::{Process, ProcessVariable};
 use hart_commands::{CodeList, ShortList, VariableReading};
 use hart_values::Bits32;
 
-/// The code of the percent of range, and that of its unit.
+/// The code of the percent of range, and the code of its unit.
 const PERCENT_OF_RANGE: u8 = 244;
 
 const PERCENT: u8 = 57;
 
-/// The code of the loop current, and that of its unit.
+/// The code of the loop current, and the code of its unit.
 const LOOP_CURRENT: u8 = 245;
 
 const MILLIAMPERE: u8 = 39;

@@ -24,7 +24,7 @@ pub(crate) struct Flags {
 }
 
 impl Flags {
-    /// Reads the flags of a byte, or returns `None` if it is above 7.
+    /// Reads the flags of a byte, or returns `None` if the byte is above 7.
     pub fn from_byte(byte: u8) -> Option<Self>
         ensures accepted { IsSome result ↔ (byte ≤ 7) }
         ensures kept { IfSome result (λ flags. flags_of flags.changed flags.protected ≡ byte) }

@@ -49,7 +49,7 @@ impl RegisterStore for ImageRegisters {
 }
 
 impl ImageRegisters {
-    /// Returns the values of the registers, or `None` if one of them holds invalid bytes. Any bytes are valid in the long tag.
+    /// Returns the values of the registers, or `None` if a register holds invalid bytes. Any bytes are valid in the long tag.
     pub(crate) fn values(&self) -> Option<RegisterValues>
         ensures kept { IfSome result (λ values. values_of values ≡ contents_in self.now.bytes) }
         ensures valid { IfSome result (λ values. AreValid (values_of values)) }

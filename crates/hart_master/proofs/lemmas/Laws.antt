@@ -1,4 +1,4 @@
--- The laws of replies, for the proofs of this crate and of those above.
+-- The laws of replies, for the proofs of this crate and of the crates above it.
 use Rattle.std.proofs.Common.{◌≡◌, ◌≤◌, arith, rules, slice_index}
 use Rattle.std.proofs.lemmas.Bool.Decides.{nat_tests}
 use Rattle.hart_values.specs.declared.address.Address.{Address}

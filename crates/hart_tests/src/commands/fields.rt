@@ -5,10 +5,10 @@ use hart_commands::{FieldRow, reply_rows, request_rows};
 /// Fields of data, each with its name and its bytes.
 type Named = &'static [(&'static str, &'static [u8])];
 
-/// A command, whether the data are those of a reply, the data, and their fields.
+/// A command, whether the data belong to a reply, the data, and their fields.
 type Data = (u8, bool, &'static [u8], Named);
 
-/// Data of worked messages, and data with a byte more than their fields.
+/// Data of worked messages, and data with one byte more than their fields have.
 const FIELDS: &[Data] = &[
     (
         0,

@@ -48,7 +48,7 @@ enum Values {
     Fixed,
 }
 
-/// The bench device with these values.
+/// Returns the bench device with these values.
 fn device_of(values: Values) -> Result<Device<FieldRegisters>, Fail> {
     let new = bench::register_values();
     let held = match values {
@@ -119,12 +119,12 @@ const ROWS: &[Row] = &[
     (Values::New, Asked::Own, 21, LAST_IS_ANOTHER, None),
 ];
 
-/// Whether a device replies as its row says, protected and not.
+/// Whether a device replies as its row says, both if it is protected and if it is not.
 fn answers_in_both(row: &Row) -> Result<bool, Fail> {
     Ok(answers(row, false)? && answers(row, true)?)
 }
 
-/// Whether a device, protected or not, replies as its row says, with the address of the request, and counts nothing.
+/// Whether a device, protected or not, replies as its row says, with the address of the request, and leaves its counter unchanged.
 fn answers(row: &Row, protected: bool) -> Result<bool, Fail> {
     let (values, asked, command, data, payload) = *row;
     let frame = request_to(asked, MasterId::Secondary, command, data)?;

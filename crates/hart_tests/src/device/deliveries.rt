@@ -4,7 +4,7 @@ use super::*;
 use crate::rows::{exclusive_or, write_faultless};
 use hart_frame::{Message, encode};
 
-/// The place in an image where the final assembly number begins, which a row here writes.
+/// The place in an image where the final assembly number begins. A row of `EXCHANGES` writes this number.
 const ASSEMBLY: usize = 48;
 
 /// What stands in an image of a bench device: the final assembly number, and then the counter and the flags.
@@ -50,7 +50,7 @@ const EXCHANGES: &[Exchange] = &[
 /// How many characters the longer request has.
 pub(super) const MOST: usize = 17;
 
-/// How many of the five preamble bytes may be lost: two have to stand before the delimiter.
+/// How many of the five preamble bytes may be lost. Two preamble bytes have to stand before the delimiter.
 const SPARE: usize = 3;
 
 /// Each set of fault bits that is not empty.
@@ -65,7 +65,8 @@ fn chars_of(request: &[u8]) -> Option<[Char; MOST]> {
     Some(chars)
 }
 
-/// Whether a new bench device replies to a delivery with `reply`, or is silent if that is empty, and then holds `held`.
+/// Whether a new bench device replies to a delivery with `reply`, or is silent if `reply` is empty, and whether its image then has
+/// `held`.
 fn leads_to(delivery: &[Char], reply: &[u8], held: Held) -> Result<bool, Fail> {
     let mut device = bench_device();
     let mut message = Message::new();
@@ -79,7 +80,7 @@ fn leads_to(delivery: &[Char], reply: &[u8], held: Held) -> Result<bool, Fail> {
 }
 
 /// Returns the message of a communication-fault reply of the bench device, with this first address byte, this command and this
-/// first status byte. FB is the exclusive or of the other bytes.
+/// first status byte. `FB` is the exclusive or of the other bytes.
 fn faulty_reply(address: u8, command: u8, status: u8) -> [u8; 16] {
     let check = exclusive_or(&[0xFB, address, command, status]);
     [
@@ -100,9 +101,9 @@ fn reply_to_change(place: usize, byte: u8, faults: u8) -> Option<[u8; 16]> {
     }
 }
 
-/// Whether a request with one changed character has the effect that it must. At the spare preamble bytes the change has no effect.
-/// At every later place the read request, which is for a polling address, meets silence, and the write request meets its
-/// communication faults or silence.
+/// Whether a request with one changed character has the effect that it must have. At the spare preamble bytes the change has no
+/// effect. At every later place the read request, which is for a polling address, gets no reply, and the write request gets a reply
+/// with its communication faults, or none.
 fn is_met_at(exchange: &Exchange, place: usize, byte: u8, faults: u8) -> Result<bool, Fail> {
     let mut chars = chars_of(exchange.request).ok_or("characters")?;
     let character = chars.get_mut(place).ok_or("a place")?;
@@ -119,13 +120,13 @@ fn is_met_at(exchange: &Exchange, place: usize, byte: u8, faults: u8) -> Result<
     leads_to(delivery, &[], UNCHANGED)
 }
 
-/// Whether the first `len` characters of a request lead to this reply, and to this in the image.
+/// Whether the first `len` characters of a request lead to this reply, and whether the image of the device then has `held`.
 fn lead_to(request: &[u8], len: usize, reply: &[u8], held: Held) -> Result<bool, Fail> {
     let chars = chars_of(request).ok_or("characters")?;
     leads_to(chars.get(..len).ok_or("too long")?, reply, held)
 }
 
-/// Whether a request that ends before a place is met with silence.
+/// Whether the device is silent to a request that ends before a place.
 fn is_silent_before(exchange: &Exchange, place: usize) -> Result<bool, Fail> {
     lead_to(exchange.request, place, &[], UNCHANGED)
 }
@@ -154,7 +155,8 @@ fn is_met_with_fault_bits(exchange: &Exchange, place: usize, byte: u8) -> Result
     Ok(met)
 }
 
-/// Whether a request leads to what it must if it ends before a place, or has another character than this byte there.
+/// Whether a request has the effect that it must have if it ends before a place, or if it has a character other than this byte
+/// there.
 fn is_met_with_damage(exchange: &Exchange, place: usize, byte: u8) -> Result<bool, Fail> {
     let cut = is_silent_before(exchange, place)?;
     let other = is_met_with_other_bytes(exchange, place, byte)?;
@@ -162,7 +164,7 @@ fn is_met_with_damage(exchange: &Exchange, place: usize, byte: u8) -> Result<boo
     Ok(cut && other && faulty)
 }
 
-/// Holds each place of a request to `is_met_with_damage`.
+/// Fails the test unless `is_met_with_damage` holds at each place of a request.
 fn hold_places(rt: &(impl Abort + Eprint), exchange: &Exchange) {
     for (place, byte) in exchange.request.iter().enumerate() {
         let met = is_met_with_damage(exchange, place, *byte);
@@ -194,13 +196,14 @@ pub(super) fn garbled_write() -> Option<[Char; MOST]> {
     chars_of(BAD_CHECK)
 }
 
-/// Byte strings, how often each is repeated, and its fault bits.
+/// Byte strings, how often each is repeated, and the fault bits of its characters.
 type Noise<'a> = &'a [(&'a [u8], usize, u8)];
 
 /// The body of a request for the identity at polling address 0.
 const IDENTIFY: &[u8] = &[0x02, 0x80, 0x00, 0x00, 0x82];
 
-/// A false start, and the first preamble byte of the next one. This FF is the byte count of the first: 255 bytes of payload.
+/// A false start, and the first preamble byte of the next start. This FF is also the byte count of the false start: 255 bytes of
+/// payload.
 const FALSE_START: &[u8] = &[0xFF, 0xFF, 0x82, 0xB7, 0x42, 0x0A, 0x1B, 0x2C, 0x13, 0xFF];
 
 /// The longest body up to its payload of 255 bytes: it has expansion bytes and the broadcast address.
@@ -302,7 +305,7 @@ const GARBLED: &[Delivered] = &[
     (&[(FALSE_START, 1, 0), (&[0x00], 255, 0)], &[]),
 ];
 
-/// A garbled request after noise, and before it; after another start; and beside a whole frame.
+/// A garbled request after noise, before noise, after another start, and beside a whole frame.
 const BESIDE: &[Delivered] = &[
     (&[(&[0x55, 0xFF, 0x00], 1, 0), (BAD_CHECK, 1, 0)], FAULTY),
     (&[(BAD_CHECK, 1, 0), (&[0x55], 100, 0)], FAULTY),
@@ -325,7 +328,7 @@ fn push_part(chars: &mut Vec<Char>, bytes: &[u8], faults: u8) -> Result<(), Fail
     Ok(())
 }
 
-/// The characters of noise.
+/// Returns the characters of noise.
 fn chars_of_noise(alloc: Global, noise: Noise) -> Result<Vec<Char>, Fail> {
     let mut chars = Vec::new(alloc);
     for (bytes, times, faults) in noise {
@@ -342,7 +345,7 @@ fn noise_leads_to(alloc: Global, noise: Noise, reply: &[u8]) -> Result<bool, Fai
     leads_to(chars.as_slice(), reply, UNCHANGED)
 }
 
-/// Holds each row of a table to its reply.
+/// Fails the test unless each row of a table gets its reply.
 fn hold_replies(rt: &(impl Abort + Eprint), alloc: Global, word: &str, rows: &[Delivered]) {
     for (row, (noise, reply)) in rows.iter().enumerate() {
         let met = noise_leads_to(alloc, noise, reply);

@@ -1,4 +1,4 @@
-//! Images of both versions: which are refused, and how a device goes on from the others.
+//! Images of both versions: which images are refused, and how a device goes on from the images that are accepted.
 use super::*;
 
 /// An image of version 1 of a new bench device.
@@ -46,7 +46,7 @@ pub(super) fn image_fault(image: &[u8]) -> Option<DeviceFault> {
     Device::<ImageRegisters>::from_image(bench::identity(), image).err()
 }
 
-/// Bytes that make an image a bad one, the places where they begin in version 1 and in version 2, and the fault.
+/// Bytes that make an image bad, the places where they begin in version 1 and in version 2, and the fault.
 type BadImage<'a> = (&'a [u8], usize, usize, DeviceFault);
 
 /// Unknown versions, and bad values of the polling address, the loop current mode, the date and the flags.
@@ -108,7 +108,8 @@ fn bad_images_are_refused(rt: HostRuntime) {
     }
 }
 
-/// How the image ends from which a device goes on, what the device replies to a write, and how its image ends afterwards.
+/// The last bytes of the image that a device goes on from, what the device replies to a write, and the last bytes of its image
+/// afterwards.
 type GoesOn<'a> = ([u8; 3], &'a [u8], [u8; 3]);
 
 /// Devices that go on from an image: without and with write protection, with the greatest counter, and after a write.
@@ -131,7 +132,7 @@ const GOES_ON: &[GoesOn] = &[
     ),
 ];
 
-/// Whether a device that goes on from the image of a row does as the row says, and another device goes on from its image.
+/// Whether a device that goes on from the image of a row does as the row says, and another device goes on from that device's image.
 fn goes_on<S: RegisterStore + Drop>(row: &GoesOn) -> Result<bool, Fail> {
     let (before, payload, after) = row;
     let image = image_with(IMAGE_2, ENDING, before);
@@ -164,7 +165,7 @@ fn has_image<S: RegisterStore + Drop>(image: &[u8], other: &[u8]) -> Result<bool
     Ok(image_after::<S>(image)?.as_slice() == other)
 }
 
-/// Whether devices with both kinds of store that go on from `image` have the image `other`.
+/// Whether, for each kind of store, a device that goes on from `image` has the image `other`.
 fn have_image(image: &[u8], other: &[u8]) -> Result<bool, DeviceFault> {
     Ok(has_image::<FieldRegisters>(image, other)? && has_image::<ImageRegisters>(image, other)?)
 }
@@ -186,7 +187,7 @@ const MIGRATED: &[Migrated] = &[
     (53, &[0x07], b"        "),
 ];
 
-/// Returns the version 2 image of a device that went on from a version 1 image. Its long tag is this text and spaces.
+/// Returns the version 2 image of a device that went on from a version 1 image. The long tag of the device is this text and spaces.
 fn migrated(image: &[u8; 54], text: &[u8; 8]) -> [u8; 86] {
     let held = image_with(IMAGE_2, 1, &image[1..51]);
     let tagged = image_with(held, LONG_TAG, text);
@@ -210,7 +211,7 @@ fn keep_long_tag(group: u8) -> Result<bool, Fail> {
     Ok(have_image(&image, &image)?)
 }
 
-/// Whether devices that go on from the version 1 image of a row have its version 2 image.
+/// Whether devices that go on from the version 1 image of a row have the version 2 image that results.
 fn migrate(row: &Migrated) -> Result<bool, Fail> {
     let (place, bytes, text) = *row;
     let image = image_with(IMAGE_1, place, bytes);

@@ -1,4 +1,4 @@
-//! What shows a restart to a master, and what does not.
+//! Which replies show a restart to a master, and which do not.
 use super::addresses::{Asked, request_to};
 use super::deliveries::garbled_write;
 use super::*;
@@ -122,7 +122,7 @@ fn is_shown_once(
     )
 }
 
-/// Returns a device that goes on from the image and the cold start bits of another one.
+/// Returns a device that goes on from the image and the cold start bits of another device.
 fn kept(device: &Device<FieldRegisters>) -> Result<Device<FieldRegisters>, Fail> {
     let mut other = Device::from_image(bench::identity(), device.image().as_slice())?;
     other.restore_cold_start(EachMaster {
@@ -133,7 +133,7 @@ fn kept(device: &Device<FieldRegisters>) -> Result<Device<FieldRegisters>, Fail>
 }
 
 /// Whether a device shows a cold start once after a restart, for each command of a row, and keeps its protection. A device that
-/// goes on from it must do the same.
+/// goes on from the image and the cold start bits of the first one must do the same.
 fn is_shown_after_restart(rt: &impl Abort, row: &Row) -> Result<bool, Fail> {
     let (protected, _, [first, last], ..) = *row;
     let mut shown = true;

@@ -1,4 +1,4 @@
-//! Worked messages: what a new bench device replies to a delivery. `hart answer` is held to the same rows.
+//! Worked messages: what a new bench device replies to a delivery. The tests of `hart answer` use the same rows.
 use super::*;
 use crate::rows::{bytes_of, chars_of_items};
 use hart_frame::{Message, encode};
@@ -12,7 +12,7 @@ pub const REPLY: &str = "FF FF FF FF FF 86 B7 42 0A 1B 2C ";
 /// A request and its reply, both from the command on, and the device's counter afterwards.
 pub type OwnRow<'a> = (&'a str, &'a str, u16);
 
-/// At least one row for each command, in the order of their numbers.
+/// At least one row for each command, in the order of the command numbers.
 pub const OWN: &[OwnRow] = &[
     (
         "00 00 4A",
@@ -121,10 +121,10 @@ pub const OWN: &[OwnRow] = &[
     ),
 ];
 
-/// What is heard, and the reply to it, which is nothing if the device keeps silent.
+/// What is heard, and the reply to it. The reply is empty if the device is silent.
 pub type Heard<'a> = (&'a str, &'a str);
 
-/// Requests to a polling address and to all devices, and garbled ones.
+/// Requests to a polling address, requests to all devices, and garbled requests.
 pub const HEARD: &[Heard] = &[
     ("FF FF FF FF FF 02 80 00 00 82", FOUND_BY_PRIMARY),
     ("FF FF 02 00 00 00 02", FOUND_BY_SECONDARY),
@@ -153,7 +153,7 @@ pub const FOUND_BY_PRIMARY: &str =
 const FOUND_BY_SECONDARY: &str =
     "FF FF FF FF FF 06 00 00 18 00 00 FE 37 42 05 07 01 02 18 00 0A 1B 2C 05 04 00 00 00 00 37 00 37 01 B1";
 
-/// Whether a new bench device replies to what is heard with this message, and has this counter afterwards.
+/// Whether a new bench device that hears `heard` replies with this message, and has this counter afterwards.
 fn replies_so(alloc: Global, heard: &str, reply: &str, counter: u16) -> Result<bool, Fail> {
     let delivery = chars_of_items(alloc, heard)?;
     let want = chars_of_items(alloc, reply)?;

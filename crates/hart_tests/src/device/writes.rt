@@ -1,4 +1,4 @@
-//! What one device replies to one write after another, and what it counts.
+//! What a device replies to successive writes, and the value of its counter after each.
 use super::addresses::{Asked, request_to};
 use super::*;
 use hart_commands::Register;
@@ -97,7 +97,7 @@ fn takes(device: &mut Device<FieldRegisters>, step: &Step) -> Result<bool, Fail>
     )
 }
 
-/// Whether a device is silent when a command goes to all devices with the long tag that it had before.
+/// Whether a device is silent when a command goes to all devices with the long tag that this device had before.
 fn is_silent_to_former(device: &mut Device<FieldRegisters>, command: u8) -> Result<bool, Fail> {
     let former = request_to(Asked::All, MasterId::Primary, command, &[0x20; 32])?;
     Ok(device.receive(&former, &bench::process()).is_none())

@@ -1,4 +1,4 @@
-//! Headers that are heard at missed places.
+//! Headers that are heard at places where a message was missed.
 use super::sighting::next_of;
 use super::*;
 

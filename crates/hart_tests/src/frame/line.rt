@@ -56,7 +56,7 @@ const INSIDE: &[u16] = &[
 
 /// Characters, how many are heard, the place to search from, and where the first frame starts and stops.
 ///
-/// The high byte of a character is its fault bits. Faultless characters 00 follow those of a row.
+/// The high byte of a character is its fault bits. Faultless characters 00 follow the characters of a row.
 type Heard<'a> = (&'a [u16], usize, usize, Option<(usize, usize)>);
 
 const HEARD: &[Heard] = &[
@@ -123,7 +123,7 @@ fn the_first_frame_is_found(rt: HostRuntime) {
 enum Frames {
     NoFrame,
     Several,
-    /// One, with this start and this stop.
+    /// Exactly one frame, with this start and this stop.
     Alone(usize, usize),
 }
 

@@ -1,10 +1,10 @@
-//! Compares the messages and misses that are seen one after another with those of the whole list.
+//! Checks that the messages and misses that are seen while characters are heard are the messages and misses of the whole list.
 use crate::rows::{hold, hold_ok};
 use hart_frame::{After, Char, Miss, NextSighting, Sighting, first_frame, next_sighting, why_none};
 use std::alloc::Global;
 use std::test::Fail;
 
-/// A message by its start and its stop, or the place of a miss.
+/// A message, given by its start and its stop, or a miss, given by its place.
 #[derive(Clone, Copy, PartialEq, Eq)]
 enum Seen {
     Message(u64, u64),
@@ -170,7 +170,8 @@ fn moved(miss: Miss, places: usize) -> Option<Miss> {
     })
 }
 
-/// Returns the next sighting from `from` on; `None` if `from` lies past the bytes, they are too many, or the damage has no fault.
+/// Returns the next sighting from `from` on; `None` if `from` lies past the bytes, if the bytes are too many, or if the damage has
+/// no fault.
 pub fn next_of(bytes: &[u8], after: After, from: usize) -> Option<NextSighting<'_>> {
     if from > bytes.len() || bytes.len() > MOST_BYTES {
         return None;
@@ -279,7 +280,7 @@ fn is_crossed(chars: &[Char], place: usize) -> bool {
     })
 }
 
-/// Whether the decided sightings of a row's characters are those of the row.
+/// Whether the decided sightings of a row's characters are the sightings of the row.
 fn sees(alloc: Global, row: &Row) -> Result<bool, Fail> {
     let (heard_chars, more, want) = row;
     let mut chars = Vec::new(alloc);
@@ -302,14 +303,15 @@ const BYTES: &[u8] = &[
     0xFF, 0xFF, 0x02, 0x06, 0x80, 0x00, 0x00, 0x01, 0x02, 0x82, 0xFD, 0x7D,
 ];
 
-/// The next number of a sequence that looks random.
+/// Returns the next number of a pseudorandom sequence.
 fn next_number(number: u64) -> u64 {
     number
         .wrapping_mul(6_364_136_223_846_793_005)
         .wrapping_add(1_442_695_040_888_963_407)
 }
 
-/// Appends a byte that a number chooses: one of `BYTES`, or the check byte that fits the last bytes; a few with a fault.
+/// Appends a byte that a number chooses: one of `BYTES`, or the check byte that fits the last bytes. A few of these characters have
+/// a fault.
 fn push_some(chars: &mut Vec<Char>, number: u64) -> Result<(), Fail> {
     let choice = (number / 65_536 % 64) as usize;
     let mut byte = *BYTES.get(choice % 12).unwrap_or(&0);
@@ -334,8 +336,8 @@ fn begins(all: &[Seen], first: &[Seen]) -> bool {
     all.get(..first.len()) == Some(first)
 }
 
-/// Whether the characters that a number stands for, heard at once or by pieces, have the sightings of the whole list. Those that
-/// are decided before the end must be the first of them.
+/// Whether the characters that a number stands for, heard at once or in pieces, have the sightings of the whole list. The sightings
+/// that are decided before the end must be the first ones of these.
 fn is_whole(alloc: Global, number: u64) -> Result<bool, Fail> {
     let mut chars = Vec::new(alloc);
     let mut state = number;

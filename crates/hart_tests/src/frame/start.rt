@@ -1,4 +1,4 @@
-//! Tests which is the first place at which a body may start.
+//! Tests of the first place at which a body may start.
 use crate::rows::{hold, write_chars};
 use hart_frame::{Char, first_start};
 
@@ -15,7 +15,7 @@ const STARTS: &[Row] = &[
     (&[0xFF, 0xFF, 0xFF, 0x00, 0xFF, 0xFF, 0x82], Some(3)),
 ];
 
-/// Returns the first place at which a body may start; the outer `None` if these are no characters, or more than seven.
+/// Returns the first place at which a body may start; the outer `None` if `heard` is no list of characters, or has more than seven.
 fn start_in(heard: &[u16]) -> Option<Option<usize>> {
     let mut chars = [Char::new(0, 0)?; 7];
     write_chars(&mut chars, heard)?;

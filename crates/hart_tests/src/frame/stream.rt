@@ -1,4 +1,4 @@
-//! Compares the frames of a scanner with those found in the whole list.
+//! Compares the frames of a scanner with the frames found in the whole list.
 use super::*;
 use crate::rows::{bytes_of, char_of};
 use std::alloc::Global;
@@ -36,7 +36,7 @@ const ONE: &[u16] = &[0xFF, 0xFF, 0x02, 0x80, 0x00, 0x00, 0x82];
 /// A message whose check byte is FF.
 const ENDS_WITH_FF: &[u16] = &[0xFF, 0xFF, 0x02, 0x80, 0x7D, 0x00, 0xFF];
 
-/// A false start, and the first FF of the next one.
+/// A false start, and the first FF of the next start.
 const FALSE: &[u16] = &[0xFF, 0xFF, 0x82, 0xB7, 0x42, 0x0A, 0x1B, 0x2C, 0x13, 0xFF];
 
 /// Characters, and where their last frame stops.
@@ -76,7 +76,7 @@ const HEARD: &[(Parts, usize)] = &[
     (&[(INSIDE, 1), (&[0x40FF], 1), (ONE, 1)], 28),
 ];
 
-/// Long noise and many false starts, and the one frame that ends them, if any: its start, and what it is read as.
+/// Long noise and many false starts, and the single frame at their end, if there is one: its start, and what it is read as.
 const NOISE: &[(Parts, Option<(usize, Read)>)] = &[
     (&[(&[0xFF], 100_000)], None),
     (
@@ -104,14 +104,14 @@ const NOISE: &[(Parts, Option<(usize, Read)>)] = &[
     (&[(FALSE, 2000)], None),
 ];
 
-/// The chunk sizes that are tried: how many characters are pushed together at most.
+/// The chunk sizes that are tried. A chunk size is the greatest number of characters that are pushed together.
 const RUNS: &[usize] = &[1, 2, 3, 7, 100, MOST_RUN];
 
 const MOST_RUN: usize = 1000;
 
 const MOST_PUSHED: u64 = 200_000;
 
-/// The characters of some parts.
+/// Returns the characters of some parts.
 fn heard(alloc: Global, parts: Parts) -> Result<Vec<Char>, Fail> {
     let mut chars = Vec::new(alloc);
     for (part, times) in parts {
@@ -130,7 +130,8 @@ fn push_part(chars: &mut Vec<Char>, part: &[u16]) -> Result<(), Fail> {
     Ok(())
 }
 
-/// Takes the frames that are ready. Returns where the last one stops, if they are the next frames of the whole list after `from`.
+/// Takes the frames that are ready. Returns where the last of these frames stops, if they are the next frames of the whole list
+/// after `from`.
 fn taken(scanner: &mut Scanner, chars: &[Char], from: usize) -> Option<usize> {
     let mut stop = from;
     for _ in 0..=chars.len() {
@@ -209,7 +210,7 @@ fn by_chunks(chars: &[Char], size: usize, chunks: Chunks) -> Option<usize> {
     last_taken(&mut scanner, chars, stop)
 }
 
-/// Writes the first characters as bytes, up to one with faults or the end of `bytes`. Returns their number.
+/// Writes the first characters as bytes, up to a character with faults or the end of `bytes`. Returns how many it wrote.
 fn write_bytes(bytes: &mut [u8], chars: &[Char]) -> usize {
     let mut count: usize = 0;
     for (place, character) in bytes.iter_mut().zip(chars) {
@@ -251,13 +252,13 @@ fn push_chars(scanner: &mut Scanner, chars: &[Char], size: usize) -> Option<usiz
     Some(scanner.push_chars(chunk))
 }
 
-/// Whether the last frame of a list stops at `stop`, by chunks of each size in `RUNS`.
+/// Whether the last frame of a list stops at `stop`, if the list is pushed by chunks of each size in `RUNS`.
 fn stops_by_chunks_at(chars: &[Char], stop: usize, chunks: Chunks) -> bool {
     RUNS.iter()
         .all(|size| by_chunks(chars, *size, chunks) == Some(stop))
 }
 
-/// Whether the last frame of a list stops at `stop`, character by character and by chunks of bytes.
+/// Whether the last frame of a list stops at `stop`, if the list is pushed character by character and by chunks of bytes.
 fn stops_at(chars: &[Char], stop: usize) -> bool {
     by_character(chars) == Some(stop) && stops_by_chunks_at(chars, stop, Chunks::Bytes)
 }
@@ -305,7 +306,8 @@ fn a_view_waits_for_the_false_message_around_it(rt: HostRuntime) -> Result<(), F
     Ok(())
 }
 
-/// Returns where the first frame stops, if it is the wanted one and ends the characters, or 0 if no frame is wanted or found.
+/// Returns where the first frame stops, if it is the wanted frame and the characters end with it, or 0 if no frame is wanted or
+/// found.
 fn noise_stop(chars: &[Char], want: &Option<(usize, Read)>) -> Option<usize> {
     match (first_frame(chars, 0), want) {
         (None, None) => Some(0),

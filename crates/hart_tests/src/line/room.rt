@@ -1,4 +1,4 @@
-//! Scripts of many kinds and lengths. All are carried out if there is memory.
+//! Scripts of many kinds and lengths. All of these scripts are carried out if there is enough memory.
 use super::carried::{carried_out, new_device};
 use super::*;
 use crate::rows::text_of;
@@ -25,7 +25,7 @@ const LEGS: &[&str] = &[
     "FF00!10 00FF!40",
 ];
 
-/// The master of a turn, and what was submitted to the other master before.
+/// The master of a turn, and what was submitted before to the other master.
 const MASTERS: &[(&str, &str)] = &[
     ("P", ""),
     ("S", ""),
@@ -45,7 +45,7 @@ struct Growing<'a> {
     spoken: usize,
 }
 
-/// Numbers next to those at which lists and counts may change their size, and others.
+/// Numbers near those at which lists and counts may change their size, and other numbers.
 const TIMES: &[usize] = &[0, 1, 9, 10, 63, 64, 65, 255, 256, 257, 300, 2500];
 
 const GROWING: &[Growing] = &[
@@ -123,7 +123,7 @@ fn have_outcomes(
     Ok(outcomes == submissions)
 }
 
-/// Holds submissions to an outcome each, with one to four turns of a master after them.
+/// Fails the test unless submissions have an outcome each, with one to four turns of a master after them.
 fn take_turns(
     rt: &impl Abort,
     alloc: Global,
@@ -170,7 +170,7 @@ fn is_carried_out(alloc: Global, growing: &Growing, times: usize) -> Result<bool
     )
 }
 
-/// Lets a text grow, and holds it to being carried out in full at each length.
+/// Lets a text grow, and fails the test unless the text is carried out in full at each length.
 fn grow(rt: &(impl Abort + Eprint), alloc: Global, growing: &Growing) {
     for times in growing.times {
         let holds = is_carried_out(alloc, growing, *times);
@@ -178,7 +178,7 @@ fn grow(rt: &(impl Abort + Eprint), alloc: Global, growing: &Growing) {
     }
 }
 
-/// Submits a command to each master, whose turns are heard as each row of `LEGS` says.
+/// Submits a command to each master. The turns of the master are heard as each row of `LEGS` says.
 fn send_on_each_leg(rt: &impl Abort, alloc: Global, command: &str) -> Result<(), Fail> {
     for legs in LEGS {
         send_by_each(rt, alloc, command, *legs)?;
@@ -194,7 +194,7 @@ fn ask(command: u8, len: usize) -> bool {
     }
 }
 
-/// Returns how many zeros a command needs to be a request, if it is known. With one zero less it is no request.
+/// Returns how many zeros a command needs to be a request, if the command is known. With one zero less it is no request.
 fn needed(command: u8) -> Option<usize> {
     for len in 0..=ZEROS.len() {
         if ask(command, len) && (len == 0 || !ask(command, len - 1)) {
@@ -228,7 +228,7 @@ fn every_command_has_room(rt: HostRuntime) -> Result<(), Fail> {
     Ok(())
 }
 
-/// Sizes that no script above asks for. There must be room for each.
+/// Sizes of memory that no script above asks for. There must be room for each size.
 const ROOMS: &[usize] = &[1, 31, 7_777, 1_048_577];
 
 #[test]

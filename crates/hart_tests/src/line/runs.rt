@@ -20,7 +20,7 @@ enum Fate<'a> {
 struct Row<'a> {
     /// The counter and the flags at the end of the image that the device goes on from; its registers are the bench device's.
     ending: [u8; 3],
-    /// How often the primary master retries at most.
+    /// The greatest number of retries of the primary master.
     retries: u8,
     script: &'a str,
     fates: &'a [Fate<'a>],
@@ -58,7 +58,7 @@ const LONG_TAG: &[u8] = &[
     0x0E, 0x0F,
 ];
 
-/// Scripts, and what comes of them.
+/// Scripts, and what they lead to.
 const ROWS: &[Row] = &[
     NOTHING,
     Row {
@@ -362,7 +362,7 @@ fn is_as_said(alloc: Global, row: &Row) -> Result<bool, Fail> {
     )
 }
 
-/// Holds each row of a table to what it says.
+/// Fails the test unless each row of a table leads to what the row says.
 fn hold_rows(rt: &(impl Abort + Eprint), alloc: Global, word: &str, rows: &[Row]) {
     for (number, row) in rows.iter().enumerate() {
         hold_ok(rt, is_as_said(alloc, row), word, number);

@@ -18,11 +18,11 @@ pub const RESET_OVERTAKEN: &str = "submit P 37420A1B2C 38 0001\nsubmit S 37420A1
 
 pub const WRITTEN: &str = "submit P 37420A1B2C 19 012345\nturn P ok ok";
 
-/// The polling address moves between two sendings to the old one.
+/// The polling address changes between two sendings to the old polling address.
 pub const ADDRESS_MOVES: &str = "submit P @0 0\nsubmit S 37420A1B2C 6 0501\n\
     turn P ok lost\nturn S ok ok\nturn P ok ok";
 
-/// No request comes through, in four turns and then in one; below, no reply does, in two.
+/// No request is heard in four turns, and in the second script in one turn. In the third script, no reply is heard in two turns.
 pub const REQUESTS_LOST: &str = "submit P 37420A1B2C 19 012345\n\
     turn P lost ok\nturn P lost ok\nturn P lost ok\nturn P lost ok";
 
@@ -37,7 +37,7 @@ pub const REFUSED: &str = "submit P all 0\nsubmit S 37420A1B2C 16\nsubmit S 3742
 pub const ADDRESS_FAULTY: &str =
     "submit P 37420A1B2C 19 012345\nturn P FFFF82B7!40420A1B2C13030123453D ok";
 
-/// The address byte of a request is heard as another one, so that the check byte does not fit.
+/// The address byte of a request is heard as another byte, so that the check byte does not fit.
 pub const ADDRESS_REPLACED: &str =
     "submit P 37420A1B2C 19 012345\nturn P FFFF82B6420A1B2C13030123453D ok";
 
@@ -58,7 +58,8 @@ pub const PREAMBLE_FAULTY: &str =
 pub const CHECK_REPLACED: &str = "submit P 37420A1B2C 19 012345\n\
     turn P FFFF82B7420A1B2C13030123453C ok\nturn P ok ok";
 
-/// A request is heard with another check byte; the reply is lost, then damaged. Noise is heard as such a request of either master.
+/// A request is heard with another check byte; the reply is lost, then damaged. Noise is heard as a request of either master with
+/// another check byte.
 pub const COMMUNICATION_FAULTS: &str =
     "submit P 37420A1B2C 19 012345\nsubmit S 37420A1B2C 19 012345\n\
     turn P FFFF82B7420A1B2C13030123453C lost\n\
@@ -75,7 +76,7 @@ pub const REPLY_HEARD: &str = "submit P 37420A1B2C 19 012345\n\
     turn P FFFF82B7420A1B2C13030123453C FFFF86B7420A1B2C13028800D7!02\n\
     turn P FFFF82B7420A1B2C13030123453C FFFF86B7420A1B2C13028800D6";
 
-/// The same characters in turns without a request in hand.
+/// The characters of `REPLY_HEARD`, in turns without a request in hand.
 pub const REPLY_HEARD_UNASKED: &str =
     "turn P FFFF82B7420A1B2C13030123453C FFFF86B7420A1B2C13028800D7\n\
     turn S FFFF82B7420A1B2C13030123453C FFFF86B7420A1B2C13028800D7!02\n\
@@ -87,7 +88,7 @@ pub const GARBLED_NOISE: &str = "noise FFFF82B7420A1B2C13030123453C";
 pub const RESTART_SHOWN: &str = "restart\nsubmit P 37420A1B2C 19 012345\nturn P ok ok\n\
     submit P 37420A1B2C 7\nturn P ok ok\nsubmit S 37420A1B2C 7\nturn S ok ok";
 
-/// After two restarts, a communication-fault reply and silence do not show them, but a reply that refuses a request does.
+/// After two restarts, a communication-fault reply and silence do not show the restarts, but a reply that refuses a request does.
 pub const RESTART_REFUSED: &str =
     "restart\nprotect on\nrestart\nnoise FFFF82B7420A1B2C13030123453C\n\
     submit P 37420A1B2D 7\nturn P ok ok\nsubmit P 37420A1B2C 19 012345\nturn P ok ok\n\
@@ -101,7 +102,7 @@ pub const RESTART_LOST: &str =
 pub const RESTART_MEANWHILE: &str =
     "submit P 37420A1B2C 19 012345\nturn P ok lost\nrestart\nturn P ok ok\nturn S ok ok";
 
-/// Command 21 asks all devices for the one with this long tag. Then another long tag is written and read.
+/// Command 21 asks all devices which one has this long tag. Then another long tag is written and read.
 pub const LONG_TAG_WRITTEN: &str =
     "submit P all 21 2020202020202020202020202020202020202020202020202020202020202020\n\
     turn P ok ok\n\

@@ -2,7 +2,8 @@
 use super::*;
 use crate::rows::text_of;
 
-/// A text in which a part is repeated; and a letter for each event of its script, or the number of its first bad line.
+/// A text in which a part is repeated, and what it is read as: a letter for each event of its script, or the number of its first
+/// bad line.
 struct Long<'a> {
     prefix: &'a str,
     part: &'a str,

@@ -14,7 +14,7 @@ const WRITTEN_HEARD: &str = "submit P 37420A1B2C 19 012345\n\
 const OTHER_FAULT_HEARD: &str = "submit P 37420A1B2C 19 012345\n\
     turn P FFFF82B7420A1B2C13030123453C FFFF86B7420A1B2C1302C0009F";
 
-/// Both of these, in turns without a request in hand.
+/// The two scripts below are like the two above, but in turns without a request in hand.
 const WRITTEN_HEARD_UNASKED: &str =
     "turn P FFFF82B7420A1B2C13030123453C FFFF86B7420A1B2C130500400123457F";
 
@@ -28,7 +28,7 @@ const ANOTHER_REPLY: &str = "submit P @0 0\nturn P ok FFFF06800002000084";
 const ANOTHER_REQUEST: &str = "submit P 37420A1B2C 19 012345\n\
     turn P FFFF82B7420A1B2C13030123463E ok";
 
-/// A script, the number of the event at which it stops, and the leg.
+/// A script, the number of the event at which it stops, and the leg with the undetected damage.
 type Row<'a> = (&'a str, usize, Leg);
 
 const UNDETECTED: &[Row] = &[

@@ -8,7 +8,7 @@ use Rattle.hart_c.specs.Data.{kind_number, placed, written_over}
 use Rattle.hart_c.specs.declared.data.HartField.{HartField}
 use Rattle.hart_c.proofs.data.show_fields.Goals as goal
 
--- showing one more field sets its place after those already shown
+-- showing one more field sets its place after the places that are already shown
 shown_next : (count place : ℕ) (fields after whole : List HartField) (these others : List Field) (field : Field)
     → after ≡ slice_set fields count (record { start = place; len = length field.bytes; kind = kind_number field.kind })
     → these ≡ field ∷ others → take count fields ++ written_over (placed place these) (drop count fields) ≡ whole
@@ -16,7 +16,7 @@ shown_next : (count place : ℕ) (fields after whole : List HartField) (these ot
 shown_next count place fields after whole these others field is all before =
     grind (arith, common_steps, take_more_set, drop-set-lt, append_assoc)
 
--- the fields from a row on are the field of that row and those of the rows after it
+-- the fields from a row on are the field of that row and the fields of the rows after it
 row_at : (rows : List FieldRow) (i : ℕ) (d : FieldRow) (bytes field after : List ℕ) → i < length rows
     → split (get_or rows i d).size bytes ≡ Some (field, after)
     → (length field + length after ≡ length bytes) × (fields_of (map seen (drop i rows)) bytes

@@ -21,24 +21,24 @@ use Rattle.hart_c.proofs.Kept.{devices_are_kept-kept}
 use Rattle.hart_c.proofs.device.hear.Goals.{In_ok-process}
 use Rattle.hart_c.proofs.device.hear.Goals as goal
 
--- a delivery leaves the identity of a device as it is
+-- a delivery leaves the identity of a device unchanged
 stays : (state : DeviceState) (brought : Brought) → (state_after_delivery state brought).identity ≡ state.identity
 stays state brought = grind (arith, frames_leave_identity_and_protection-identity)
 
--- without a reply, the state stays as it is
+-- without a reply, the state is unchanged
 silent_if : (is_answered : Bool) (reply : FrameParts) (state after : DeviceState) → (if is_answered then Some reply else None) ≡ None
     → (if is_answered then after else state) ≡ state
 silent_if true reply state after none = cc
 silent_if false reply state after none = refl
 
--- a delivery that is not answered leaves the state as it is
+-- a delivery that is not answered leaves the state unchanged
 unanswered : (state : DeviceState) (process : Process) (brought : Brought) → answer_to state process brought ≡ None
     → state_after_delivery state brought ≡ state
 unanswered state process (OneFrame frame) none = silent_if (is_answered state frame) _ state _ none
 unanswered state process (Garbled request) none = cc
 unanswered state process NoMessage none = refl
 
--- if an answer was written with no bytes, there was no answer
+-- if no bytes were written for an answer, there was no answer
 unsaid : (answer : Option FrameParts) (preambles : ℕ) (old new : List ℕ) (len : ℕ) → IsPreambleCount preambles
     → IsWritten (IsSaid answer preambles) old new len → len ≡ 0 → answer ≡ None
 unsaid None preambles old new len counts said none = refl

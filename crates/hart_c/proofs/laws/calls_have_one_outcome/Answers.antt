@@ -30,7 +30,7 @@ use Rattle.hart_c.proofs.Kept.{devices_are_kept-one_state}
 use Rattle.hart_c.proofs.laws.calls_have_one_outcome.Goals.{After-bytes_have_one_image_fault}
 use Rattle.hart_c.proofs.laws.calls_have_one_outcome.Goals as goal
 
--- an outcome is unique if success is, if the fault is, and if they exclude each other
+-- an outcome is unique if the success is unique, if the fault is unique, and if success and fault exclude each other
 one_outcome : {A B C D R : Type 0} → (A → C → R) → (A → D → ⊥) → (B → C → ⊥) → (B → D → R) → A ⊎ B → C ⊎ D → R
 one_outcome both free none one is again = grind arith
 
@@ -70,20 +70,20 @@ returns-clause-new_devices c given before after other outcome another =
     one_outcome (λ is again. let parts : IdentityParts = grind (arith, common_steps) in grind (arith, is.1.4 parts, again.1.4 parts))
     (λ is why. grind (arith, is.1.3)) (λ why is. grind (arith, is.1.3)) (λ why again. grind arith)
 
--- an answer says one list of bytes
+-- an answer says at most one list of bytes
 one_saying : (answer : Option FrameParts) (preambles : ℕ) (bytes other : List ℕ) → IsSaid answer preambles bytes
     → IsSaid answer preambles other → bytes ≡ other
 one_saying None preambles bytes other is again = is ∙ sym again
 one_saying (Some reply) preambles bytes other is again = one_message reply preambles bytes other is again
 
--- an answer is written in one way
+-- an answer is written in at most one way
 one_said : (answer : Option FrameParts) (preambles : ℕ) (old new newer : List ℕ) (len size : ℕ)
     → IsWritten (IsSaid answer preambles) old new len → IsWritten (IsSaid answer preambles) old newer size
     → (len ≡ size) × (new ≡ newer)
 one_said answer preambles old new newer len size is again =
     let same = one_saying answer preambles is.0 again.0 is.1 again.1 in grind (arith, same)
 
--- an answer that was written has room
+-- if an answer was written, it has room
 said_fits : (answer : Option FrameParts) (preambles : ℕ) (old new : List ℕ) (len : ℕ)
     → IsWritten (IsSaid answer preambles) old new len → HasNoRoom (IsSaid answer preambles) (length old) → ⊥
 said_fits answer preambles old new len is none =
@@ -91,7 +91,7 @@ said_fits answer preambles old new len is none =
 
 -- for a device that hears a delivery in a process
 module _ (identity : HartIdentity) (process : HartProcess) (heard : List HartChar) (device : HartDevice) where
-  -- the state, the process and what is brought are determined by the numbers
+  -- the numbers determine the state, the process and what the delivery brings
   one_hearing : (is again : IsHearing identity process heard device)
       → (is.state ≡ again.state) × (is.measured ≡ again.measured) × (is.brought ≡ again.brought)
   one_hearing is again =

@@ -13,7 +13,7 @@ use Rattle.hart_c.specs.Device.{IsKept}
 use Rattle.hart_c.specs.declared.device.HartDevice.{HartDevice}
 use Rattle.hart_c.proofs.laws.kept_bytes_are_what_they_say.Goals as goal
 
--- the kept bytes are those before the last one, and the flags in the last one
+-- the kept bytes are the bytes before the last one, and then the flags in the last byte
 last_is : (image front : List ℕ) (len flags : ℕ) → length image ≡ 86 → len ≤ 86 → take len image ≡ front ++ flags ∷ []
     → (0 < len) × (take (len - 1) image ≡ front) × (slice_index image (len - 1) ≡ flags)
 last_is image front len flags long fits written =

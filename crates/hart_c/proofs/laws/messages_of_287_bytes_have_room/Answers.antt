@@ -39,7 +39,7 @@ reply_fits : AreShort → (reply : Option FrameParts) (preambles room : ℕ) →
 reply_fits short None preambles room few enough (bytes, silent, long) = grind (arith, silent, long)
 reply_fits short (Some reply) preambles room few enough none = frame_fits short reply preambles room few enough none
 
--- with room for 287 bytes, no delivery that a device hears is refused for want of room
+-- with room for 287 bytes, no delivery that a device hears is refused for lack of room
 hear_fits : AreShort → (identity : HartIdentity) (process : HartProcess) (heard : List HartChar) (device : HartDevice) (room : ℕ)
     (fault : Fault) → 287 ≤ room → IsFirstOf (hear_checks identity process heard device room) fault → fault ≡ NoRoom → ⊥
 hear_fits short id process heard device room fault enough

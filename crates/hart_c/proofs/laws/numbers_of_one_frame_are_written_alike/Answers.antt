@@ -8,7 +8,7 @@ use Rattle.hart_c.specs.declared.fault.Fault.{Fault}
 use Rattle.hart_c.specs.declared.frame.HartFrame.{HartFrame}
 use Rattle.hart_c.proofs.laws.numbers_of_one_frame_are_written_alike.Goals as goal
 
--- numbers of the same address are in range together
+-- if two structs of numbers have the same address, and the address of one is in range, so is the address of the other
 in_range : (is_unique is_other : Bool) (frame other : HartFrame) → address_of is_other other ≡ address_of is_unique frame
     → IsInRange is_unique frame → IsInRange is_other other
 in_range true true frame other same is = grind arith
@@ -16,7 +16,7 @@ in_range true false frame other same is = cc
 in_range false true frame other same is = cc
 in_range false false frame other same is = grind arith
 
--- equal frames have payloads that are long enough together
+-- if two frames are equal, and the payload of one is long enough, so is the payload of the other
 is_long : (parts others : FrameParts) → others ≡ parts → IsLongEnough parts.kind parts.payload → IsLongEnough others.kind others.payload
 is_long parts others same = let P : FrameParts → Type 0 = λ these. IsLongEnough these.kind these.payload in subst P (sym same)
 

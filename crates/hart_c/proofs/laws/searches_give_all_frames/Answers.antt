@@ -9,14 +9,14 @@ use Rattle.hart_frame.proofs.lemmas.Laws.{next_frames_are_all-nothing, next_fram
 use Rattle.hart_c.specs.Find.{begin, search}
 use Rattle.hart_c.proofs.laws.searches_give_all_frames.Goals as goal
 
--- the frames that were given stay the next ones when more is heard
+-- the frames that were given are still the next frames when more is heard
 still_next : (heard piece : List Character) (was ended : Bool) (given : List Found) (used : ℕ)
     → (IsTrue was → (piece ≡ []) × IsTrue ended) → AreNext heard was 0 given used → AreNext (heard ++ piece) ended 0 given used
 still_next heard piece false ended given used stays before = next_frames_are_all-grown heard piece ended 0 used given before
 still_next heard piece true true given used stays before = rw ((stays refl).0, append-nil) before
 still_next heard piece true false given used stays before = let over = (stays refl).1 in absurd cc
 
--- one more search gives the next frames after those given before
+-- one more search gives the next frames after the frames that were given before
 next_more : (heard piece : List Character) (was ended : Bool) (given found : List Found) (used further : ℕ)
     → (IsTrue was → (piece ≡ []) × IsTrue ended) → AreNext heard was 0 given used → AreNext (drop used heard ++ piece) ended 0 found further
     → AreNext (heard ++ piece) ended 0 (given ++ map (moved used) found) (used + further)
@@ -26,7 +26,7 @@ next_more heard piece was ended given found used further stays before now =
     next_frames_are_all-onward (heard ++ piece) ended 0 used (used + further) given (map (moved used) found) first
     (next_frames_are_all-moved used (heard ++ piece) ended found further first.within rest)
 
--- after every search the frames given are the next ones, and in the end they are all frames
+-- after every search the frames that were given are the next frames, and in the end they are all frames
 pub returns-clause-next : goal.returns-clause-next
 returns-clause-next c heard ended given used begin = next_frames_are_all-nothing [] false 0 (omega arith)
 returns-clause-next c heard ended given used (search past piece was end frames found gone further before stays now) =

@@ -19,13 +19,13 @@ use Rattle.hart_c.specs.Numbers.{IsTidy, address_of, found_in, frame_in}
 use Rattle.hart_c.specs.declared.frame.HartFrame.{HartFrame}
 use Rattle.hart_c.proofs.laws.shown_frames_can_be_written.Goals as goal
 
--- numbers whose address a body has are in range
+-- if a body has the address of some numbers, these numbers are in range
 in_range : (is_unique : Bool) (frame : HartFrame) (master : MasterId) (burst : Bool) (bytes : List ℕ)
     → IsAddressBytes master burst (address_of is_unique frame) bytes → IsInRange is_unique frame
 in_range true frame master burst bytes is = grind arith
 in_range false frame master burst bytes is = is.0
 
--- numbers that show the frame of a body are a frame that can be written
+-- if numbers show the frame of a body, these numbers are a frame that can be written
 shown : (frame : HartFrame) (body : List ℕ) → IsBody (frame_in frame) body → IsTidy frame → IsFrame frame
 shown frame body is tidy =
     (in_range frame.is_unique frame _ _ _ is.checked_part.address_bytes, (tidy.expansion, (is.checked_part.payload_fits, tt)))

@@ -13,7 +13,7 @@ named_if_known : (command : ℕ) → is_some (command_name command) ≡ is_known
 unfolding known
 named_if_known command = grind (arith, nat_tests)
 
--- the number of the first row with a name
+-- the number of the first row that has this name
 abbrev pub number_of : List ℕ → Option ℕ
 number_of name = option_map (λ row. row.command.number) (find (λ row. bytes_eq row.command.name name) commands)
 

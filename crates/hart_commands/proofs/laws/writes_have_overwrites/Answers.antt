@@ -29,7 +29,7 @@ returns-clause-every_part c (WriteAssembly assembly) write = refl
 returns-clause-every_part c (WriteLongTag long_tag) write = refl
 returns-clause-every_part c _ write = cc
 
--- Only a command that writes a register has a part of its data for a register.
+-- If a part of the data is for a register, the command writes a register.
 only : (register : Register) (written : List Register) (parts : List (List ℕ)) → IsSome (part_for register written parts)
     → IsTrue (are_some written)
 only register [] parts some = cc

@@ -19,12 +19,12 @@ no_fault : (bit : ℕ) (bytes : List ℕ) → has_fault bit (faultless bytes) �
 no_fault bit [] = refl
 no_fault bit (byte ∷ bytes) = grind (arith, nat_tests, bit_at-zero, no_fault bit bytes)
 
--- faultless characters have a bit as often as their bytes
+-- among faultless characters, a bit is set as often as among their bytes
 counted : (bit : ℕ) (bytes : List ℕ) → count_by (λ (c : Character). bit_at c.byte bit == 1) (faultless bytes) ≡ bit_count bit bytes
 counted bit [] = refl
 counted bit (byte ∷ bytes) = simp (sum_by-cons, counted bit bytes)
 
--- of the characters of a whole body, an even number has each bit
+-- each bit is set in an even number of the characters of a whole body
 none_odd : (bit : ℕ) (bytes : List ℕ) → bit < 8 → HasEvenParity bytes → is_odd (faultless bytes) bit ≡ false
 none_odd bit bytes small parity = grind (arith, nat_tests, counted bit bytes, parity.even bit small)
 

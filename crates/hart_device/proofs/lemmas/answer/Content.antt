@@ -1,4 +1,4 @@
--- What a device replies with code 0 to a well-made request is read again from its bytes.
+-- The content that a device replies with code 0 to a well-made request is read again from the bytes of that content.
 use Rattle.std.proofs.Common.{◌≡◌, ℕ, zero, suc, ◌*◌, ◌/◌, ◌<◌, ◌≤◌, List, [], ◌∷◌, ◌++◌, length, map, min, Some, All, get_or}
 use Rattle.std.proofs.Common.{refl, arith, append_assoc, append-nil, length-append}
 use Rattle.std.proofs.lemmas.Bool.Decides.{nat_tests}
@@ -33,7 +33,7 @@ use Rattle.hart_commands.specs.declared.register.Register.TheVariants as registe
 use Rattle.hart_commands.specs.declared.request.Request.TheVariants as requested
 
 -- LISTS
--- Items of `n` bytes each that are written end to end are read back one by one.
+-- If items of `n` bytes each are written end to end, they are read back one by one.
 end_to_end : {X : Type 0} (n : ℕ) (bytes_of : X → List ℕ) (of : List ℕ → X) (Sized : X → Type 0)
     → ((x : X) → Sized x → length (bytes_of x) ≡ n) → ((x : X) → Sized x → of (bytes_of x) ≡ x)
     → (xs : List X) (rest : List ℕ) → All Sized xs
@@ -81,14 +81,14 @@ variables_said status variables time some few all float =
     (λ v is. omega (arith, length-append v.value.0 (v.status ∷ []))) (λ v is. rw (← spelled 4 v.value.0 is) refl)
     variables time all in grind (arith, common_steps, nat_tests, length-append, drop_at)
 
--- The dynamic variables and the variable of each code have values of four bytes.
+-- The values of the dynamic variables, and of the variable of each code, have four bytes.
 dynamic_floats : (process : Process) → IsProcess process → All (λ variable. IsFloat variable.value) (dynamic_variables process)
 dynamic_floats process is = All-cons (λ (v : ProcessVariable). IsFloat v.value) process.first process.others is.first is.others
 
 variable_is_float : (process : Process) → IsProcess process → (code : ℕ) → IsFloat (variable_of_code process code).value
 variable_is_float process is code = grind (arith, dynamic_floats process is, get_or_from_slice_get, slice_get_within)
 
--- What a device replies with code 0 to a well-made request is read again.
+-- The content that a device replies with code 0 to a well-made request is read again.
 pub content_again : (state : DeviceState) (process : Process) → AreValid state.contents → IsProcess process → (request : Request)
     → IsRequest request → IsReadAgain (command_of request) (reply_content state process request)
 unfolding commands.replied

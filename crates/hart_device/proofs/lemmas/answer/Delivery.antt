@@ -1,4 +1,4 @@
--- A delivery brings a device one thing. If that is a garbled request, the reply to it is the answer.
+-- A delivery brings a device a frame, a garbled request or no message. The answer to a garbled request is the reply to it.
 use Rattle.std.proofs.Common.{◌≡◌, inl, inr, List, [], ◌∷◌, ap, ◌∙◌, refl, Option, None, Some, arith}
 use Rattle.std.proofs.lemmas.Grind.{common_steps}
 use Rattle.std.specs.Option.{MatchOption}
@@ -19,7 +19,7 @@ pub deliveries_bring_one-one : (identity : IdentityParts) (chars : List Characte
     → Brings identity chars a → Brings identity chars b → a ≡ b
 deliveries_bring_one-one identity chars a b p q = grind (arith, common_steps, frames_are_unambiguous-one_list, garbled_one)
 
--- every delivery brings something, whatever frames it has
+-- every delivery brings a frame, a garbled request or no message, whatever frames it has
 BringsBy-found : (identity : IdentityParts) (chars : List Character) (frames : List Found)
     → (brought : Brought) × BringsBy identity chars frames brought
 BringsBy-found identity chars [] = elim (garbled_decided identity chars) [

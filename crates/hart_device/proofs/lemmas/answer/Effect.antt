@@ -1,4 +1,4 @@
--- What a command does to a device. Its answer begins with its code.
+-- What a command does to a device. The answer to a command begins with the code of the command.
 use Rattle.std.proofs.Common.{◌≡◌, ◌≢◌, ℕ, arith, slice_get, Bool, true, false, ◌==◌, ◌&&◌, if◌then◌else◌, Option, None, Some, IfSome, Ok}
 use Rattle.std.proofs.Common.{Err, refl}
 use Rattle.std.proofs.lemmas.Bool.Decides.{nat_tests}
@@ -30,7 +30,7 @@ pub without_effect : (answered : Bool) (master : MasterId) (effect : Effect) (st
     ≡ record state { cold_start = if answered then with_master master false state.cold_start else state.cold_start }
 without_effect answered master effect state nothing = grind arith
 
--- The effect of an answered frame is what the frame is judged to ask.
+-- The effect of an answered frame is the effect that its judgement asks for.
 pub effect_is_asked : (state : DeviceState) (frame : FrameParts) → is_answered state frame ≡ true
     → effect_of state frame ≡ asked_effect (judged_of state frame)
 effect_is_asked state frame answered = grind (arith, nat_tests)
@@ -41,7 +41,7 @@ pub write_executes : (request : Request) (overwrite : Overwrite) → overwrite_o
 unfolding written_by
 write_executes request overwrite is = grind arith
 
--- An overwrite is executed only with an answer of code 0, and it is that of the write that was asked.
+-- An overwrite is executed only if the answer has code 0. It is the overwrite of the write that was asked.
 executes_if : (reading : Reading) (answered : Bool) (code : ℕ) (overwrite : Overwrite)
     → (if answered && (code == 0) then asked_effect reading else Nothing) ≡ Executes overwrite
     → (answered ≡ true) × (code ≡ 0) × (request : Request) × (reading ≡ Ok request) × (overwrite_of request ≡ Some overwrite)
@@ -71,7 +71,7 @@ writes_execute_their_overwrite-well_made state frame overwrite is =
 pub code_good : (state : DeviceState) (frame : FrameParts) → code_of state frame ≡ 0 → data_code (reading_of frame) state.counter ≡ 0
 code_good state frame is = grind arith
 
--- What a frame is judged to ask has the code of the frame.
+-- The judgement of a frame has the code of the frame.
 code_if : (reading : Reading) (counter code : ℕ) → (code ≡ 0 → data_code reading counter ≡ 0)
     → judged_code (if code == 0 then reading else Err code) ≡ code
 code_if reading counter code good = grind (arith, nat_tests)
@@ -79,7 +79,7 @@ code_if reading counter code good = grind (arith, nat_tests)
 judged_has_code : (state : DeviceState) (frame : FrameParts) → judged_code (judged_of state frame) ≡ code_of state frame
 judged_has_code state frame = code_if (reading_of frame) state.counter (code_of state frame) (code_good state frame)
 
--- The content of a reply is what is asked if the code is 0, and a refusal otherwise.
+-- The content of a reply is the content that was asked for if the code is 0, and a refusal otherwise.
 content_judged : (state : DeviceState) (process : Process) (code : ℕ) (reading : Reading)
     → asked_content state process (if code == 0 then reading else Err code)
     ≡ (if code == 0 then asked_content state process reading else Refused)

@@ -1,4 +1,4 @@
--- A list of characters has at most one garbled request, and its address is the device's own.
+-- A list of characters has at most one garbled request, and the address of this request is the device's own.
 use Rattle.std.proofs.Common.{nat_lt, if◌then◌else◌, not, ◌≡◌, ℕ, ◌<◌, ◌%◌, ◌⊎◌, ◌↔◌, inl, inr, List, [], ◌∷◌, ◌++◌, All, drop, None, Some}
 use Rattle.std.proofs.Common.{Bool, IsTrue, refl, arith, Option, MatchOption, sym}
 use Rattle.std.proofs.lemmas.Bool.Decides.{nat_tests}
@@ -51,7 +51,7 @@ garbled_decided identity chars = elim (first_starts_are_decided-decided chars) [
     go None none = inr none
     go (Some request) has = inl (request, has)
 
--- each first byte is that of an address with some master bit and burst bit
+-- each byte is the first byte of an address with some master bit and burst bit
 first_of : (first : ℕ) → first < 256 → (master : MasterId) × (burst : Bool) × (first ≡ first_byte master burst (first % 64))
 first_of first small = (if nat_lt first 128 then Secondary else Primary, not (nat_lt (first % 128) 64), grind (arith, nat_tests))
 

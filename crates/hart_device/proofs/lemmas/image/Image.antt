@@ -1,4 +1,5 @@
--- What an image says, and that it says only that.
+-- What an image says of a state. An image has no fault, and it determines the state except for the identity and the cold start
+-- bits.
 use Rattle.std.proofs.Common.{◌≡◌, ◌≢◌, suc, ℕ, ◌-◌, ◌^◌, ◌<◌, ◌≤◌, ◌⊎◌, inl, inr, refl, sym, ◌∙◌, subst, arith, Bool, true, Some, List}
 use Rattle.std.proofs.Common.{[], ◌∷◌}
 use Rattle.std.proofs.Common.{◌++◌, drop, length, slice_index, Option, IfSome, IfNone, IfOk, IfErr}
@@ -74,12 +75,12 @@ written_is state valid counter = record {
   written = refl;
 }
 
--- An image of a state is also one of the state with other cold start bits.
+-- An image of a state is also an image of the same state with other cold start bits.
 pub devices_are_kept_whole-any_cold_start : (state : DeviceState) (image : List ℕ) (cold_start : EachMaster Bool) → IsImageOf state image
     → IsImageOf (record state { cold_start = cold_start }) image
 devices_are_kept_whole-any_cold_start state image cold_start is = grind (arith, common_steps, written)
 
--- What stands for a register in an image is what the register holds.
+-- The bytes that stand for a register in an image are the bytes that the register holds.
 held_in_image : (state : DeviceState) (image : List ℕ) (is : IsImageOf state image) (register : Register) → Contains is.listed register
     → standing_for register (drop 1 image) ≡ bytes_in state.contents register
 held_in_image state image is register there =
@@ -123,7 +124,7 @@ pub last_is : (version : ℕ) (prefix end : List ℕ) → length end ≡ 3
 last_is version prefix end three =
     grind (arith, common_steps, elements)
 
--- A register that ends within some bytes has the same bytes if others follow.
+-- A register that ends within some bytes has the same bytes if other bytes follow them.
 pub before_others : (register : Register) (prefix others : List ℕ) → end_of register ≤ length prefix
     → standing_for register (prefix ++ others) ≡ standing_for register prefix
 before_others register prefix others fits = grind (arith, common_steps, between_is, take-append-le)
@@ -137,7 +138,7 @@ pub bad_field : (version : ℕ) (listed : List Register) → registers_of_versio
 bad_field version listed known array prefix end long three has whole bad =
     (listed, known, grind (arith, common_steps), grind (arith, has, whole, last_is))
 
--- If nothing was read, the fault is the right one; if something was, what is known of it is kept.
+-- If nothing was read, the fault is the right one. If something was read, what is known of it is kept.
 pub refused_or : {A E Bad : Type 0} (P : E → Type 0) (read : Option A) (fault : E) → IfNone read Bad → (Bad → P fault)
     → IfErr (ok_or read fault) P
 refused_or P read fault bad gives = grind (arith, gives)

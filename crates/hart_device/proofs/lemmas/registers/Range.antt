@@ -9,7 +9,7 @@ use Rattle.hart_commands.specs.declared.register.Register.{Register}
 use Rattle.hart_commands.specs.declared.register.Register.TheVariants.{Polling}
 use Rattle.hart_device.specs.registers.Ranges.{end_of, standing_for, start_of}
 
--- Whether the first register of a list starts at a place, and each other one where the one before it ends.
+-- Whether the first register of a list starts at a place, and each other register starts where the register before it ends.
 abbrev pub end_to_end : ℕ → List Register → Bool
 end_to_end from [] = true
 end_to_end from (register ∷ later) = (start_of register == from) && end_to_end (end_of register) later

@@ -13,7 +13,7 @@ use Rattle.hart_commands.proofs.lemmas.Laws.{all_registers_are_listed_once-every
 use Rattle.hart_device.specs.registers.Ranges.{contents_in, standing_for}
 use Rattle.hart_device.proofs.lemmas.registers.Registers.{bytes_in-contents_by}
 
--- Writing in a range leaves every range that lies apart from it as it was.
+-- Writing in a range leaves unchanged every range that lies apart from the written one.
 pub kept_apart : (array bytes : List ℕ) (start end other_start other_end : ℕ) → start ≤ end → end ≤ length array
     → length bytes ≡ end - start → other_start ≤ other_end → (end ≤ other_start) ⊎ (other_end ≤ start)
     → slice_range (put_mid start (end - start) array bytes) other_start other_end ≡ slice_range array other_start other_end
@@ -24,11 +24,11 @@ kept_apart array bytes start end from to order fits size other apart =
 abbrev pub register_at : ℕ → Register
 register_at place = slice_index_or registers place Polling
 
--- A register holds what it is given, if anything, and otherwise what it held.
+-- A register holds the bytes that it is given, if any, and otherwise the bytes that it held.
 abbrev pub given_to : (Register → Option (List ℕ)) → List ℕ → Register → List ℕ
 given_to given old register = unwrap_or (given register) (standing_for register old)
 
--- The registers before a place of the list have been written, and the others not yet.
+-- The registers before a place of the list have been written, and the other registers have not yet been written.
 abbrev pub AreWrittenBefore : ℕ → (Register → Option (List ℕ)) → List ℕ → List ℕ → Type 0
 AreWrittenBefore place given old now = (k : ℕ) → k < length registers
     → standing_for (register_at k) now
