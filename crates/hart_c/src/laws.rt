@@ -137,9 +137,8 @@ pub fn kept_bytes_are_what_they_say()
 {}
 
 /// A call that can fail is deterministic: for the same arguments its contract allows one result and one shown frame or written
-/// output, if the output keeps its length, as a slice does. So with the same arguments a call has at most one fault, and no fault
-/// if it can succeed. The searches for frames are not among these calls: how much a search uses up is open where no frame depends
-/// on it.
+/// output. So with the same arguments a call has at most one fault, and no fault if it can succeed. The searches for frames are
+/// not among these calls: how much a search uses up is open where no frame depends on it.
 pub fn calls_have_one_outcome()
     ensures decode { (bytes : List ℕ) (before after other : HartFrame) (outcome another : HartOutcome)
         → DecodeOutcome bytes before after outcome → DecodeOutcome bytes before other another

@@ -83,7 +83,8 @@ pub fn encode_text<W: Sink>(
     Ok(())
 }
 
-/// Words have at most one text or one first bad word, and never both. So they determine what `encode_text` writes and returns.
+/// Words have at most one text or one first bad word, and never both. So, unless a write fails, they determine what `encode_text`
+/// writes and returns.
 pub fn one_encoding()
     ensures one_text { (words : MessageWords) (xs ys : List ℕ) → IsEncoding words xs → IsEncoding words ys → xs ≡ ys }
     ensures one_bad_word { (words : MessageWords) (m n : ℕ) → IsFirstBad words m → IsFirstBad words n → m ≡ n }

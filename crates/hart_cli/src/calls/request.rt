@@ -79,8 +79,8 @@ pub fn request<W: Sink>(
     Ok(())
 }
 
-/// Words have at most one text, one first bad word or one bad field, and never two of the three. So they determine what `request`
-/// writes and returns.
+/// Words have at most one text, one first bad word or one bad field, and never two of the three. So, unless a write
+/// fails, they determine what `request` writes and returns.
 pub fn one_request()
     ensures one_text { (words : Given) (xs ys : List ℕ) → IsRequestText words xs → IsRequestText words ys → xs ≡ ys }
     ensures one_bad_word { (words : Given) (m n : ℕ) → IsFirstBadWord words m → IsFirstBadWord words n → m ≡ n }

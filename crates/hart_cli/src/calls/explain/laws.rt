@@ -5,7 +5,7 @@ ghost use Rattle.std.specs.Prelude.{drop, length, option_map, set, take};
 ghost use Rattle.hart_frame.specs.heard.Character.{Character, faultless};
 ghost use Rattle.hart_frame.specs.heard.Frames.{AreFrames};
 ghost use Rattle.hart_frame.specs.heard.InTheWay.{FollowsOnePreamble, HasBodyAt, HasFaultsAt, IsInTheWay, bytes_from};
-ghost use Rattle.hart_frame.specs.heard.Place.{HasFrameUpTo, StandsIn};
+ghost use Rattle.hart_frame.specs.heard.Place.{HasFrameUpTo};
 ghost use Rattle.hart_frame.specs.heard.Sighting.{Missed, header_at, miss_in_whole, missed, seen_miss, sightings, two_begin_in_body};
 ghost use Rattle.hart_frame.specs.heard.Start.{IsStart};
 ghost use Rattle.hart_frame.specs.declared.heard.found.Found.{Found};
@@ -64,7 +64,7 @@ pub fn explanations_name_the_messages_of_dump()
 /// what follows. After the last message, the explanation is what is said of the places up to the end.
 ///
 /// A gap between messages has one line for each place where the definition has a miss, in the order of the places. A second line
-/// follows that line if a header is heard at the place. Let the tail be the characters from the end of the last message on. Each
+/// follows that line exactly if a header is heard at the place. Let the tail be the characters from the end of the last message on. Each
 /// place of the gap where a body may start in the tail has a line. Any other place has a line only if just one preamble byte stands
 /// before it.
 pub fn every_start_outside_messages_has_one_line()
@@ -98,8 +98,8 @@ pub fn every_start_outside_messages_has_one_line()
 /// that byte. If a line names a character with fault bits, the character at the named place has the named fault bits. If the
 /// missing characters follow, which are any bytes and then their check byte, a frame stands at the line's place and ends with the
 /// check byte. If a line says that only one `FF` stands before its place, just one stands right before that place in the tail. A
-/// whole body stands at that place, and ends before two `FF` in a row begin. If the characters up to the command stay and any
-/// others follow them, a frame that stands at the place has the header that the second line says.
+/// whole body stands at that place, and ends before two `FF` in a row begin. If the characters from the place up to the
+/// command stay and any others follow them, a body that stands at the place has the header that the second line says.
 pub fn hints_of_explanations_are_right()
     ensures in_the_way { (chars : List Character) (from stop place : ℕ) (miss : Miss) (header : Option HeaderParts)
         → All (λ character. character.byte < 256) chars
@@ -122,10 +122,11 @@ pub fn hints_of_explanations_are_right()
         → Contains (missed chars from stop) (Missed place OnePreamble header)
         → FollowsOnePreamble (drop from chars) (place - from) × HasBodyAt chars place
         × (two_begin_in_body (drop from chars) (place - from) ≡ false) }
-    ensures seems { (chars others : List Character) (from stop place : ℕ) (miss : Miss) (header : HeaderParts) (found : Found)
+    ensures seems { (chars others : List Character) (from stop place : ℕ) (miss : Miss) (header : HeaderParts)
         → Contains (missed chars from stop) (Missed place miss (Some header))
-        → take (place + command_place (bytes_from chars place) + 1) others ≡ take (place + command_place (bytes_from chars place) + 1) chars
-        → StandsIn found others 0 → found.start ≡ place → header ≡ header_of found.frame }
+        → take (command_place (bytes_from chars place) + 1) (drop place others)
+        ≡ take (command_place (bytes_from chars place) + 1) (drop place chars)
+        → (body : HasBodyAt others place) → header ≡ header_of body.frame }
 {
     every_start_has_a_frame_or_a_miss();
     misses_are_in_the_way();

@@ -160,5 +160,5 @@ returns-clause-alone c chars from stop place header small has =
     )
 
 pub returns-clause-seems : goal.returns-clause-seems
-returns-clause-seems c chars others from stop place miss header found has same stands at =
-    header_of_all chars others place header found (missed_header chars from stop place miss (Some header) has) same stands at
+returns-clause-seems c chars others from stop place miss header has same body =
+    header_of_all chars others place header (missed_header chars from stop place miss (Some header) has) same body
