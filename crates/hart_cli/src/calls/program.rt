@@ -40,8 +40,8 @@ pub const NO_CALL: u8 = 2;
 /// `answer`, `dump`, `explain`, `serve` and `sim` read from `reader` and write to `writer`; `encode` and `request` read only their
 /// words. At status 0 nothing goes to `errors`. At status 1 the line of the call's fault goes to `errors`, or a beginning of that
 /// line if `errors` failed. Status 2 says that clap found no matches for the words; no clause says so. Then reader and writer are
-/// not touched, and clap's own text goes to `errors`, even if the text is help. No clause says what clap's text is. A failed write to `errors` ends
-/// the text there, and does not change the status.
+/// not touched, and clap's own text goes to `errors`, even if the text is help. No clause says what clap's text is. A failed
+/// write to `errors` ends the text there, and does not change the status.
 pub fn program<R: Source, W: Sink, E: Sink>(
     alloc: Global,
     words: &[String],
