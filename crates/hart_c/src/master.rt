@@ -44,7 +44,7 @@ pub struct HartUnique {
     pub device_id: u32,
 }
 
-/// The numbers if there is no unique address.
+/// The `HartUnique` of a reply that has no unique address.
 const NO_ADDRESS: HartUnique = HartUnique {
     is_given: false,
     expanded_type: 0,

@@ -21,6 +21,6 @@ other_address = faultless (255 ∷ 255 ∷ 2 ∷ 129 ∷ 0 ∷ 0 ∷ 130 ∷ [])
 abbrev pub other_request : List Character
 other_request = faultless (255 ∷ 255 ∷ 2 ∷ 129 ∷ 0 ∷ 0 ∷ 131 ∷ [])
 
--- FF FF 02 FF FF 00 82: the parity is not even, but two FF are heard in a row after the delimiter.
+-- FF FF 02 FF FF 00 82: the parity is not even. Yet this damage is of neither kind, since two FF are heard in a row after the delimiter.
 abbrev pub preamble_in_body : List Character
 preamble_in_body = faultless (255 ∷ 255 ∷ 2 ∷ 255 ∷ 255 ∷ 0 ∷ 130 ∷ [])

@@ -50,7 +50,7 @@ undecided_nothing first comes =
     let none = seen_to_the_end [] false [] (λ more later closed are. are) in
     let (later, is) = comes [] [] none in absurd cc
 
--- what is said of sightings and then of later ones is what is said of both in one list
+-- the text about some sightings, followed by the text about later ones, is the text about all of them in one list
 pub text_on : (first used : ℕ) (seen given : List Seen)
     → text_from first seen ++ text_from (first + used) given ≡ text_from first (seen ++ map (moved_seen used) given)
 text_on first used seen given = rw (map-append, flat_map-append, moved_twice first used given) refl

@@ -73,7 +73,7 @@ pub fn push_status(text: &mut Kept, command: u8, first: u8, second: u8)
     }
 }
 
-/// Adds the line of the response code to a command.
+/// Adds to `text` the line for a response code that answers this command.
 fn push_code_line(text: &mut Kept, command: u8, code: u8)
     requires { length text.old + 89 ≤ 32768 }
     ensures line { text.new ≡ text.old ++ said_line (codes "response code") (code_words command code) }

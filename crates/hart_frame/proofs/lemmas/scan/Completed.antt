@@ -40,7 +40,7 @@ says_alone xs more alone =
     let clear : two_begin_in_body (faultless xs ++ more) 0 ≡ false = grind (arith, nat_tests) in
     record { has = both.0; check = both.1; clear = rw (faultless_bytes-append xs more) at clear }
 
--- Bytes that end too early are no body that stands alone if nothing follows.
+-- If bytes end too early for a body and nothing follows them, they are not a body that stands alone.
 pub not_yet : (xs : List ℕ) → IsTruncated xs → stands_alone (faultless xs ++ []) 0 ≡ false
 not_yet xs truncated = elim (bool_cases (stands_alone (faultless xs ++ []) 0)) [
   | inr not ↦ not

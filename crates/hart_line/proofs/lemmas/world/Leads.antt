@@ -34,7 +34,7 @@ Reaches-one identity heard sent a b s t =
     let same = AreHeard-one heard sent s.chars t.chars s.are_heard t.are_heard in
     deliveries_bring_one-one identity t.chars a b (rw same at (brings_among s.among)) (brings_among t.among)
 
--- Damage that is detected is not undetected.
+-- If what is heard arrives (`Arrives`), its damage is not undetected.
 arrived_detected : {heard : Heard} {sent : Option SpokenFrame} {arrived : Option FrameParts} → Arrives heard sent arrived
     → IsUndetected heard sent → ⊥
 arrived_detected a u = grind (arith, AreHeard-one, frames_are_unambiguous-one_list)
