@@ -1,5 +1,6 @@
 //! Words of a request that name the fields of its data.
 
+mod dates;
 mod refused;
 
 use super::call::{Call, Named};

@@ -191,100 +191,6 @@ const TEXTS: &[Row] = &[
     ),
 ];
 
-/// Dates that do not exist, or that a device cannot hold.
-const DATES: &[Row] = &[
-    (
-        "P",
-        "37420A1B2C",
-        "18",
-        &["tag=X", "descriptor=Y", "date=2026-02-30"],
-        5,
-        "",
-        (8, "bad word 6: no date"),
-    ),
-    (
-        "P",
-        "37420A1B2C",
-        "18",
-        &["tag=X", "descriptor=Y", "date=1899-12-31"],
-        5,
-        "",
-        (8, "bad word 6: no date"),
-    ),
-    (
-        "P",
-        "37420A1B2C",
-        "18",
-        &["tag=X", "descriptor=Y", "date=2156-01-01"],
-        5,
-        "",
-        (8, "bad word 6: no date"),
-    ),
-    (
-        "P",
-        "37420A1B2C",
-        "18",
-        &["tag=X", "descriptor=Y", "date="],
-        5,
-        "",
-        (8, "bad word 6: no date"),
-    ),
-    (
-        "P",
-        "37420A1B2C",
-        "18",
-        &["tag=X", "descriptor=Y", "date=Not set"],
-        5,
-        "",
-        (8, "bad word 6: no date"),
-    ),
-    (
-        "P",
-        "37420A1B2C",
-        "18",
-        &["tag=X", "descriptor=Y", "date=2026-11-27T10:00"],
-        5,
-        "",
-        (8, "bad word 6: no date"),
-    ),
-    (
-        "P",
-        "37420A1B2C",
-        "18",
-        &["tag=X", "descriptor=Y", "date=2026-11-27T10:00+01:00"],
-        5,
-        "",
-        (8, "bad word 6: no date"),
-    ),
-    (
-        "P",
-        "37420A1B2C",
-        "18",
-        &["tag=X", "descriptor=Y", "date=2026-11-27[u-ca=iso8601]"],
-        5,
-        "",
-        (8, "bad word 6: no date"),
-    ),
-    (
-        "P",
-        "37420A1B2C",
-        "18",
-        &["tag=X", "descriptor=Y", "date=20261127"],
-        5,
-        "",
-        (8, "bad word 6: no date"),
-    ),
-    (
-        "P",
-        "37420A1B2C",
-        "18",
-        &["tag=X", "descriptor=Y", "date=+002026-11-27"],
-        5,
-        "",
-        (8, "bad word 6: no date"),
-    ),
-];
-
 /// Numbers and bytes that do not fit their field, and one that the command refuses.
 const NUMBERS: &[Row] = &[
     (
@@ -389,13 +295,6 @@ fn bad_names_are_refused(rt: HostRuntime) {
 #[test]
 fn bad_texts_are_refused(rt: HostRuntime) {
     for (number, row) in TEXTS.iter().enumerate() {
-        hold_ok(&rt, is_written(&rt, rt.alloc(), *row), "row", number);
-    }
-}
-
-#[test]
-fn bad_dates_are_refused(rt: HostRuntime) {
-    for (number, row) in DATES.iter().enumerate() {
         hold_ok(&rt, is_written(&rt, rt.alloc(), *row), "row", number);
     }
 }
