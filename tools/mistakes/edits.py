@@ -5,7 +5,7 @@ import os
 import re
 from typing import NamedTuple
 
-from mistakes.functions import constants_in, functions_in, modules_of_types, source_files
+from mistakes.functions import functions_in, modules_of_types, source_files
 
 FOLDERS = ("mistakes", "must-fail")
 
@@ -102,11 +102,10 @@ class Texts:
 
 
 def mistake_of(edit):
-    """Finds the functions whose bodies an edit changes, by the tree as it stands. One that changes more than bodies stands alone, unless it
-    changes only constants that a single function uses."""
+    """Finds the functions whose bodies an edit changes, by the tree as it stands. One that changes more than bodies stands alone."""
     modules = modules_of_types(edit.crate)
-    found, is_alone, places = {}, False, Texts(edit.crate).apply(edit)
-    for file, line, text in places:
+    found, is_alone = {}, False
+    for file, line, text in Texts(edit.crate).apply(edit):
         functions = functions_in(file, text, modules)
         if any(it.contract <= line < it.body for it in functions) or re.match(r" *ghost\b", text.split("\n")[line]):
             raise BadEdit(f"it changes a contract, in line {line + 1} of {file}")
@@ -114,49 +113,10 @@ def mistake_of(edit):
         is_alone = is_alone or not inside
         found.update({it.path: it for it in inside[-1:]})
     if edit.refused_at:
-        function = function_at(edit, modules)
-        return Mistake(edit, (function,), not changes_constants_of(function, edit, places, modules))
+        return Mistake(edit, (function_at(edit, modules),), True)
     if not found:
         raise BadEdit("it changes no body of a function, and has no line `refused-at:` that names the function whose goal fails")
     return Mistake(edit, tuple(found.values()), is_alone)
-
-
-def changes_constants_of(function, edit, places, modules):
-    """Whether an edit changes only constants, and this function alone uses them, itself or through other constants.
-
-    Then the proof of no other function sees the change."""
-    changed = [[it.name for it in constants_in(text) if it.first <= line <= it.last] for _, line, text in places]
-    texts = Texts(edit.crate)
-    code = {file: texts.text(file) for file in source_files(edit.crate)}
-    constants = [it for text in code.values() for it in constants_in(text)]
-    names = {name for of_line in changed for name in of_line}
-    for _ in constants:
-        names |= {it.name for it in constants if names & words_of(it.text)}
-    using = {it for file, text in code.items() for it in users_in(file, text, names, modules)}
-    return all(changed) and using == {function.path} and not names & words_of_definitions(edit.crate)
-
-
-def users_in(file, text, names, modules):
-    """The paths of the functions of a file whose text has one of these words, and the file itself if it stands elsewhere in its code."""
-    lines, functions = text.split("\n"), functions_in(file, text, modules)
-    found = {it.path for it in functions if names & words_of("\n".join(lines[it.first : it.last + 1]))}
-    parts = [(it.first, it.last) for it in [*functions, *constants_in(text)]]
-    others = [it for at, it in enumerate(lines) if not any(first <= at <= last for first, last in parts)]
-    is_elsewhere = names & words_of("\n".join(it for it in others if not re.match(r" *(//|(pub )?use )", it)))
-    return found | {file} if is_elsewhere else found
-
-
-def words_of(text):
-    return set(re.findall(r"\w+", text))
-
-
-def words_of_definitions(crate):
-    """The words of the definitions and proofs of a crate, which may name a constant too."""
-    found = set()
-    for path in glob.glob(f"{crate}/specs/**/*.antt", recursive=True) + glob.glob(f"{crate}/proofs/**/*.antt", recursive=True):
-        with open(path, encoding="utf-8") as it:
-            found |= words_of(it.read())
-    return found
 
 
 def function_at(edit, modules):

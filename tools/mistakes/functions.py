@@ -9,18 +9,6 @@ BLOCK = re.compile(r"(?:pub(?:\([^)]*\))? )?(impl|trait|mod)\b(.*) \{$")
 DECLARED = re.compile(r"^(?:pub(?:\([^)]*\))? )?(?:struct|enum) (\w+)", re.M)
 
 
-CONSTANT = re.compile(r"( *)(?:pub(?:\([^)]*\))? )?(?:const|static) (\w+):")
-
-
-class Constant(NamedTuple):
-    """A constant: its name, the lines on which it starts and ends, and its text."""
-
-    name: str
-    first: int
-    last: int
-    text: str
-
-
 class Function(NamedTuple):
     """A function with a body: its path below the crate, and the lines on which it, its contract and its body start, and on which it ends."""
 
@@ -128,15 +116,4 @@ def functions_in(file, text, modules):
         parts = head and parts_of(lines, number, head[1])
         if parts:
             found.append(Function(joined(owner, head[2]), file, number, *parts))
-    return found
-
-
-def constants_in(text):
-    """The constants of a file. The last line of one stands no further in than the first, and ends with a semicolon."""
-    lines, found = text.split("\n"), []
-    for first, line in enumerate(lines):
-        head = CONSTANT.match(line)
-        if head:
-            last = next(at for at in range(first, len(lines)) if lines[at].endswith(";") and not lines[at].startswith(f"{head[1]} "))
-            found.append(Constant(head[2], first, last, "\n".join(lines[first : last + 1])))
     return found
