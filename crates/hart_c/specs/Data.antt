@@ -45,7 +45,7 @@ placed start [] = []
 placed start (field ∷ fields) =
     record { start = start; len = length field.bytes; kind = kind_number field.kind } ∷ placed (start + length field.bytes) fields
 
--- The fields in `before`, with `written` over the first ones, as many as fit.
+-- The list `before`, with the fields of `written` in place of its first ones. Fields of `written` that do not fit are left out.
 abbrev pub written_over : List HartField → List HartField → List HartField
 written_over written before = take (length before) written ++ drop (length written) before
 

@@ -337,7 +337,7 @@ fn begins(all: &[Seen], first: &[Seen]) -> bool {
 }
 
 /// Whether the characters that a number stands for, heard at once or in pieces, have the sightings of the whole list. The sightings
-/// that are decided before the end must be the first ones of these.
+/// that are decided before the end must be the first sightings of the whole list.
 fn is_whole(alloc: Global, number: u64) -> Result<bool, Fail> {
     let mut chars = Vec::new(alloc);
     let mut state = number;

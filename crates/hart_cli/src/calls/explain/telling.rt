@@ -246,8 +246,8 @@ impl Telling {
         Ok(())
     }
 
-    /// Drops the characters that are told: the first `used` of the held ones and of those that came after them. At most 268 are
-    /// still held.
+    /// Drops the first `used` characters, which are told. The held characters are counted first, and then those that came after
+    /// them. At most 268 stay held.
     fn let_go(&mut self, used: usize)
         requires places { self.old.first + used < 2 ^ 64 }
         requires few { length (drop used self.old.held) ≤ 268 }

@@ -57,7 +57,8 @@ header_read bytes parts is =
     grind (arith, nat_tests, is.delimiter, is.within, is.command)
 
 -- Bytes that begin with a body have the header of its frame.
-pub headers_are_those_of_frames-body : (bytes : List ℕ) (f : FrameParts) (len : ℕ) → BeginsWithBody bytes f len → header_in bytes ≡ Some (header_of f)
+pub headers_are_those_of_frames-body : (bytes : List ℕ) (f : FrameParts) (len : ℕ) → BeginsWithBody bytes f len
+    → header_in bytes ≡ Some (header_of f)
 headers_are_those_of_frames-body bytes f len begins =
     let part = begins.body.checked_part in
     let said = says bytes f len begins in
@@ -82,7 +83,8 @@ headers_are_those_of_frames-body bytes f len begins =
     })
 
 -- Bytes have a header exactly if they begin with a delimiter of this profile and reach the command.
-pub headers_are_those_of_frames-exactly : (bytes : List ℕ) → IsSome (header_in bytes) ↔ (HasDelimiter bytes × (command_place bytes < length bytes))
+pub headers_are_those_of_frames-exactly : (bytes : List ℕ)
+    → IsSome (header_in bytes) ↔ (HasDelimiter bytes × (command_place bytes < length bytes))
 unfolding header_in
 headers_are_those_of_frames-exactly bytes = grind (arith, nat_tests)
 
@@ -92,5 +94,6 @@ pub header_sure : (xs ys : List ℕ) → 0 < length xs → (IsDelimiter (delimit
 unfolding header_in
 header_sure xs ys some reach = grind (arith, nat_tests, length-append, get_or_append_left)
 
-pub headers_are_those_of_frames-stays : (xs ys : List ℕ) (parts : HeaderParts) → header_in xs ≡ Some parts → header_in (xs ++ ys) ≡ Some parts
+pub headers_are_those_of_frames-stays : (xs ys : List ℕ) (parts : HeaderParts) → header_in xs ≡ Some parts
+    → header_in (xs ++ ys) ≡ Some parts
 headers_are_those_of_frames-stays xs ys parts is = grind (arith, headers_are_those_of_frames-exactly xs, header_sure xs ys)

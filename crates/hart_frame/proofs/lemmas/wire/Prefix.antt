@@ -18,7 +18,7 @@ HasGoodByteCount-more xs ys has = grind (arith, length-append, get_or_append_lef
 pub refused_more : (xs ys : List ℕ) (fault : FrameFault) → fault ≢ Truncated → IsRefusedWith xs fault → IsRefusedWith (xs ++ ys) fault
 refused_more xs ys fault decided refused = grind (arith, length-append, get_or_append_left, length_more, take-append-le)
 
--- A prefix that is long enough says the same of the check byte and the layout as the list.
+-- A prefix of bytes that is long enough has the check byte and the layout of all the bytes.
 pub HasCheckByte-prefix : (xs ys : List ℕ) → HasCheckByte (xs ++ ys) → body_length (xs ++ ys) ≤ length xs
     → HasCheckByte xs × (body_length (xs ++ ys) ≡ body_length xs)
 HasCheckByte-prefix xs ys has long = grind (arith, get_or_append_left)

@@ -94,7 +94,7 @@ alone_is : (chars : List Character) (place : ℕ) → seen_miss chars place ≡ 
     → two_begin_in_body chars place ≡ false
 alone_is chars place seen follows = let one = one_preamble-yes chars place follows in grind (arith, one)
 
--- every miss except `OnePreamble` is told where a body may start
+-- a miss other than `OnePreamble` is told only for a place where a body may start
 started : (start : ℕ) (chars : List Character) (miss : Miss) → IsStart start chars ⊎ (miss ≡ OnePreamble) → miss ≢ OnePreamble
     → IsStart start chars
 started start chars miss either other = grind arith
