@@ -1,6 +1,5 @@
--- What a contract sees of a device, and how a command, a reply and a restart change it (HCF_SPEC-099, HCF_SPEC-127; of the own
--- profile: Command 38 is no write, a write of the bytes that a register already holds counts, and each master has a cold start
--- bit).
+-- The state of a device in contracts, and how a command, a reply and a restart change it (HCF_SPEC-099, HCF_SPEC-127; own profile:
+-- Command 38 is no write, a write counts even if the register already holds its bytes, and each master has a cold start bit).
 use Rattle.std.specs.Prelude.{ℕ, ◌<◌, ◌+◌, ◌%◌, ◌^◌, Bool, true, false}
 use Rattle.hart_values.specs.declared.master_id.MasterId.{MasterId}
 use Rattle.hart_values.specs.EachMaster.{with_master}
@@ -67,6 +66,6 @@ after master Resets state = record state { changed = with_master master false st
 abbrev pub restarted : DeviceState → DeviceState
 restarted state = record state { cold_start = for_both true }
 
--- A reply with a response code shows its master the cold start bit, and the bit is then clear. Nothing else changes.
+-- A reply with a response code shows the cold start bit of its master and clears this bit. Nothing else changes.
 abbrev pub after_reply : MasterId → DeviceState → DeviceState
 after_reply master state = record state { cold_start = with_master master false state.cold_start }

@@ -27,9 +27,9 @@ const IDENTIFY: u8 = 0;
 
 impl<S: RegisterStore> Device<S> {
     /// Hears a delivery, which is all that was heard at once, and returns the reply. If the delivery has exactly one frame, the
-    /// device receives that frame as [`Device::receive`] does. If the delivery has no frame, but a garbled request, the reply has
-    /// the communication faults of the request, and the device is unchanged. For any other delivery the device is silent (`None`)
-    /// and unchanged.
+    /// device receives that frame as [`Device::receive`] does. If the delivery has no frame, but a garbled request (a request to
+    /// this device, heard with faults), the reply has the communication faults of the request, and the device is unchanged. For any
+    /// other delivery the device is silent (`None`) and unchanged.
     ///
     /// ```rust
     /// let mut device: Device<FieldRegisters> = Device::new(
@@ -55,7 +55,7 @@ impl<S: RegisterStore> Device<S> {
     }
 
     /// Returns the communication-fault reply to the garbled request of a delivery, or `None` if there is no such request. Call this
-    /// only for a delivery without a frame, since a whole request also has the form of a garbled one.
+    /// only for a delivery without a frame, since a whole request also has the form of a garbled request.
     pub fn reply_to_garbled(&self, delivery: &[Char]) -> Option<Frame>
         ensures reply { MatchOption result ((request : GarbledRequest) → HasGarbled self.now.identity delivery.now request → ⊥)
             (λ reply. (request : GarbledRequest) × HasGarbled self.now.identity delivery.now request
@@ -130,7 +130,8 @@ impl<S: RegisterStore> Device<S> {
         }
     }
 
-    /// Returns true if the device answers a frame that has this reading and this code.
+    /// Returns true if the device answers a frame with this reading (its request, or the code that refuses its data) and this
+    /// response code.
     fn answers(
         &self,
         frame: &Frame,
@@ -184,7 +185,7 @@ impl<S: RegisterStore> Device<S> {
         }
     }
 
-    /// Carries out the request that a frame was judged to ask, or nothing if the frame was refused.
+    /// Carries out the request of a judged frame. Does nothing if the frame was refused.
     fn carry_out(&mut self, master: MasterId, judged: &Result<Request, ResponseCode>)
         ensures { self.new ≡ after master (asked_effect judged.now) self.old }
     {

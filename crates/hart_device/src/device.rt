@@ -87,8 +87,8 @@ impl<S: RegisterStore> Device<S> {
         }
     }
 
-    /// Restarts the device. The next reply with a response code to each master shows a cold start, and the replies after it do not.
-    /// Nothing else changes.
+    /// Restarts the device. After that, the first reply with a response code to each master shows a cold start; later replies do
+    /// not. Nothing else changes.
     pub fn restart(&mut self)
         ensures { self.new ≡ restarted self.old }
     {

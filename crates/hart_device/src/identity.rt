@@ -38,8 +38,8 @@ impl Identity {
     /// # Errors
     ///
     /// [`DeviceFault::OutOfRange`] if the device id is above 16,777,215, a number of preamble bytes is outside 5 to 20, the
-    /// hardware revision is above 31 or the signalling code is above 7. Then [`DeviceFault::BroadcastAddress`] if the lower 14 bits
-    /// of the device type are 0, and the device id is 0.
+    /// hardware revision is above 31 or the signalling code is above 7. Otherwise [`DeviceFault::BroadcastAddress`] if the lower 14
+    /// bits of the device type and the device id are both 0.
     pub fn new(parts: IdentityParts) -> Result<Self, DeviceFault>
         ensures accepted { IsOk result ↔ AreIdentityParts parts }
         ensures kept { IfOk result (λ identity. identity ≡ parts) }
@@ -106,7 +106,7 @@ fn is_in_range(parts: &IdentityParts) -> bool
         && parts.signalling_code < 1 << 3
 }
 
-/// Returns the unique address made of two numbers: the lower 14 bits of the device type, and the device id.
+/// Returns the unique address. Its two numbers are the lower 14 bits of the device type, and the device id.
 fn address_of(parts: &IdentityParts) -> UniqueAddress
     requires { parts.now.device_id < 2 ^ 24 }
     ensures { result ≡ own_numbers parts.now }

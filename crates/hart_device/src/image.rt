@@ -21,7 +21,7 @@ mod flags;
 /// An image: 86 bytes in version 2, and 54 in version 1, which has no long tag.
 pub type Image = ByteList<86>;
 
-/// The version that has every register but the long tag.
+/// The version that has every register except the long tag.
 const VERSION_1: u8 = 1;
 
 /// The version that has every register.
@@ -72,13 +72,13 @@ impl<S: RegisterStore> Device<S> {
     }
 
     /// Makes a device with this identity from an image of version 1 or 2, with clear cold start bits. An image of version 1 has no
-    /// long tag: as its long tag, the device then gets the text of its tag and 24 spaces.
+    /// long tag. The long tag of the device is then the text of its tag, followed by 24 spaces.
     ///
     /// # Errors
     ///
-    /// [`DeviceFault::BadLength`] if there are no bytes. Then [`DeviceFault::BadVersion`] for a version other than 1 and 2. Then
-    /// [`DeviceFault::BadLength`] if images of that version have another length. Then [`DeviceFault::BadField`] for a polling
-    /// address above 63, a loop current mode above 1, bytes that are no date, or flags above 7.
+    /// The first of these that applies: [`DeviceFault::BadLength`] if there are no bytes; [`DeviceFault::BadVersion`] for a version
+    /// other than 1 and 2; [`DeviceFault::BadLength`] if images of that version have another length; [`DeviceFault::BadField`] for
+    /// a polling address above 63, a loop current mode above 1, bytes that are no date, or flags above 7.
     pub fn from_image(identity: Identity, image: &[u8]) -> Result<Self, DeviceFault>
         ensures accepted { IsOk result ↔ IsImage image.now }
         ensures kept { IfOk result (λ device. (device.identity ≡ identity) × IsImageOf device image.now) }

@@ -49,8 +49,8 @@ pub fn refused_commands_change_nothing()
         → is_answered state frame ≡ false → state_after state frame ≡ state }
 {}
 
-/// An answer is a reply to the frame, and the first byte of its payload is the frame's response code. Silence means that the frame
-/// is not answered.
+/// An answer is a reply to the frame, and the first byte of its payload is the response code for the frame. If the device is
+/// silent, the frame is not answered.
 pub fn answers_give_their_code()
     ensures answered { (state : DeviceState) (process : Process) (frame reply : FrameParts)
         → answer_of state process frame ≡ Some reply
@@ -94,8 +94,8 @@ fn serial_numbers_have_three_bytes(sensor: &SensorContent)
     sensor.serial_number.as_slice();
 }
 
-/// To a known command, a device with valid contents and a well-made process gives a well-made reply, and a master reads the answer
-/// as that reply.
+/// If a device with valid contents and a well-made process answers a known command, its reply is well made, and a master reads the
+/// answer as this reply.
 pub fn answers_are_replies()
     ensures well_made { (state : DeviceState) (process : Process) (frame : FrameParts)
         → AreValid state.contents → IsProcess process → is_known frame.command ≡ true → IsReply (reply_of state process frame) }
@@ -123,8 +123,8 @@ pub fn cold_starts_are_shown_once()
         → (state_after state frame).cold_start ≡ state.cold_start }
 {}
 
-/// A list of characters has at most one garbled request for a device, and it is decidable whether the list has one. The test for
-/// the device's own address accepts exactly the bytes of its unique address, for either master and with any burst bit.
+/// A list of characters has at most one garbled request for a device, and whether it has one is decided. The test for the device's
+/// own address accepts exactly the bytes of its unique address, for either master and with any burst bit.
 pub fn garbled_requests_are_decided()
     ensures one { (identity : IdentityParts) (chars : List Character) (request other : GarbledRequest)
         → HasGarbled identity chars request → HasGarbled identity chars other → request ≡ other }
@@ -149,7 +149,8 @@ pub fn frames_leave_identity_and_protection()
     ensures protected { (state : DeviceState) (frame : FrameParts) → (state_after state frame).protected ≡ state.protected }
 {}
 
-/// A configuration write answered with code 0 executes its own well-made overwrite, and nothing else executes an overwrite.
+/// A configuration write answered with code 0 executes its own well-made overwrite (the registers that it sets, with their new
+/// bytes). Nothing else executes an overwrite.
 pub fn writes_execute_their_overwrite()
     ensures executes { (state : DeviceState) (frame : FrameParts) (request : Request) (overwrite : Overwrite)
         → is_answered state frame ≡ true → code_of state frame ≡ 0
@@ -163,7 +164,8 @@ pub fn writes_execute_their_overwrite()
         → effect_of state frame ≡ Executes overwrite → IsRequest overwrite }
 {}
 
-/// Command 38 answered with code 0 resets, and nothing else does. If the command names a counter, it is the device's counter.
+/// Command 38 answered with code 0 resets the configuration-changed bit of its master, and nothing else does. If the command names
+/// a counter, it is the device's counter.
 pub fn resets_name_this_counter()
     ensures resets { (state : DeviceState) (frame : FrameParts) (counter : Option ℕ)
         → is_answered state frame ≡ true → code_of state frame ≡ 0 → reading_of frame ≡ Ok (ResetChanged counter)
@@ -181,8 +183,8 @@ pub fn overwrites_absorb()
 {}
 
 /// The registers of a list of overwrites result from applying these overwrites in order: each register holds the bytes of the last
-/// overwrite that names it, or else its initial bytes. An overwrite can be left out where the same one comes again later in the
-/// list.
+/// overwrite that names it, or else its initial bytes. If the same overwrite comes again later in the list, the earlier one can be
+/// left out.
 pub fn registers_of_lists()
     ensures each { (overwrites : List Overwrite) (initial : Contents) (register : Register)
         → bytes_in (registers_of overwrites initial) register
@@ -202,7 +204,7 @@ pub fn images_have_no_fault()
         → IsImageOf state image → IsImageFault image fault → ⊥ }
 {}
 
-/// Bytes have one image fault at most.
+/// Bytes have at most one image fault.
 pub fn bytes_have_one_image_fault()
     ensures { (image : List ℕ) (fault other : DeviceFault)
         → IsImageFault image fault → IsImageFault image other → fault ≡ other }
@@ -217,14 +219,15 @@ pub fn images_have_one_state()
         → IsImageOf state image → IsImageOf other image → state.identity ≡ other.identity → state.cold_start ≡ other.cold_start
         → state ≡ other }
 {
-    // No-ops: their contracts say that the list has every register, and that bytes are the packed form of at most one text.
+    // These calls do nothing, but their contracts are needed: they say that the list has every register, and that bytes are the
+    // packed form of at most one text.
     all_registers_are_listed_once();
     packed_text_and_bytes_determine_each_other();
 }
 
-/// The identity, an image and the cold start bits keep a device whole: a device made again from these three has the same state. The
-/// image may be the one that the device writes, or any other image of it in either version. Each of these is an image of the device
-/// whichever cold start bits are set.
+/// A device that is made again from its identity, an image and its cold start bits has the same state. Any image of the device will
+/// do: the image that the device writes, or another image of it, in either version. Its images do not depend on its cold start
+/// bits.
 pub fn devices_are_kept_whole()
     ensures image { (state : DeviceState) → IsDevice state → IsImageOf state (image_of state) }
     ensures any_cold_start { (state : DeviceState) (image : List ℕ) (cold_start : EachMaster Bool)

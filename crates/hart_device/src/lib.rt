@@ -2,7 +2,8 @@
 //! afterwards.
 //!
 //! A [`Device`] has an [`Identity`], registers in a [`RegisterStore`], a configuration change counter, a configuration-changed bit
-//! and a cold start bit for each master, and write protection. What it measures is passed with each request, as a [`Process`].
+//! and a cold start bit for each master, and write protection. The caller passes what the device measures with each request, as a
+//! [`Process`].
 //!
 //! ```rust
 //! let mut device: Device<FieldRegisters> = Device::new(
@@ -20,11 +21,12 @@
 //! The program `hart` uses the device of [`bench`]. Use [`Identity::new`] and [`RegisterStore`] for devices of your own. No call of
 //! this crate allocates. No crate of `hart` cites these [`laws`]: `overwrites_absorb`, `frames_leave_identity_and_protection`,
 //! `cold_starts_are_shown_once`, `garbled_requests_are_decided` and `devices_are_kept_whole`. They are for whoever proves more
-//! about a device, and the last one is for whoever keeps a device as bytes.
+//! about a device, and `devices_are_kept_whole` is also for whoever stores a device as bytes.
 //!
 //! The root exports the device and what it is made with. The modules:
 //!
-//! - `registers`: the trait of a register store, and two stores: one field for each register, and one array for all.
+//! - `registers`: the trait of a register store, and two stores. One has a field for each register, the other one array for all
+//!   registers.
 //! - `answer`: which frames are answered, with what, and how that changes the device.
 //! - `image`: the bytes that are kept of a device while it is stopped.
 #![tactic(auto)]

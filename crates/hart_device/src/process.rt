@@ -1,4 +1,5 @@
-//! What a device measures and knows of its parts. All of it is passed with each request, so a device holds none of it.
+//! What a device measures, and what it knows of its parts, such as its sensor. The caller passes all this with each request, so a
+//! device holds none of it.
 ghost use Rattle.std.specs.Prelude.{◌≡◌};
 ghost use Rattle.hart_device.specs.Process.{extended_device_status, has_more_status, is_any_set};
 

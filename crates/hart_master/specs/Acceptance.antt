@@ -21,13 +21,13 @@ pub record MatchesRequest (id : MasterId) (address : Address) (request : Request
   pub sender : frame.address ≡ address
   pub command : frame.command ≡ command_of request
 
--- A frame that answers the request is the reply that is read from the frame's payload, if a reply is read. No reply is read from
--- communication faults.
+-- A frame is a reply to the request if it answers the request and its payload is read as this reply. A payload with communication
+-- faults is not read as a reply.
 pub record IsReplyTo (id : MasterId) (address : Address) (request : Request) (frame : FrameParts) (reply : Reply) : Type 0 where
   pub answers : MatchesRequest id address request frame
   pub read : reply_reading frame.command frame.payload ≡ Some reply
 
--- A delivery is accepted as a reply if it has exactly one frame, and this frame is that reply.
+-- A delivery (all that was heard at once) is accepted as a reply if it has exactly one frame, and this frame is the reply.
 pub record IsAccepted (id : MasterId) (address : Address) (request : Request) (delivery : List Character) (reply : Reply) : Type 0 where
   pub found : Found
   pub alone : AreFrames delivery 0 (found ∷ [])

@@ -1,4 +1,4 @@
--- What a contract sees of a master, and what its calls return and change (HCF_SPEC-081; own profile: the limits).
+-- The state of a master in contracts, and what its calls return and change (HCF_SPEC-081; own profile: the limits).
 use Rattle.std.specs.Prelude.{◌≡◌, ◌≤◌, ◌<◌, ℕ, ◌+◌, min, nat_le, nat_lt, if◌then◌else◌, List, Option, None, Some, Result, Ok, Err}
 use Rattle.hart_values.specs.declared.master_id.MasterId.{MasterId}
 use Rattle.hart_values.specs.declared.address.Address.{Address}
@@ -52,7 +52,8 @@ hand_submitted Empty address request =
 hand_submitted (ToSend transaction) address request = ToSend transaction
 hand_submitted (Awaiting transaction time) address request = Awaiting transaction time
 
--- A request that is to be sent is sent with its written data, and nothing else is sent.
+-- The frame that is sent is that of the request that is to be sent, with its written data. If no request is to be sent, there is no
+-- frame.
 abbrev pub frame_sent : MasterId → Hand → Option FrameParts
 frame_sent id Empty = None
 frame_sent id (ToSend transaction) =
@@ -77,7 +78,8 @@ FrameBrings id Empty frame reply = ⊥
 FrameBrings id (ToSend transaction) frame reply = ⊥
 FrameBrings id (Awaiting transaction time) frame reply = IsReplyTo id transaction.address transaction.request frame reply
 
--- The event is `Answered`, with the reply that was brought and the number of sendings, or `Nothing` if no reply was brought.
+-- What the master returns after hearing: `Answered`, with the reply that was brought and the number of sendings, or `Nothing` if no
+-- reply was brought.
 abbrev pub IsHeard : Hand → (Reply → Type 0) → MasterEvent → Type 0
 IsHeard hand Brought (Answered reply sendings) = Brought reply × (sendings ≡ sendings_of hand)
 IsHeard hand Brought Nothing = (reply : Reply) → Brought reply → ⊥

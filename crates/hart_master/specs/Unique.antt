@@ -23,6 +23,7 @@ abbrev pub address_in : ReplyContent → Option Address
 address_in (Identity identity) = if is_broadcast (address_of identity) then None else Some (address_of identity)
 address_in _ = None
 
--- The unique address in a reply is the one in its content if the code is 0. With any other code, the reply has no unique address.
+-- The unique address in a reply with code 0 is the unique address in its content. With any other code, the reply has no unique
+-- address.
 abbrev pub unique_in : Reply → Option Address
 unique_in reply = if reply.code == 0 then address_in reply.content else None

@@ -1,11 +1,11 @@
 use hart_commands::Reply;
 
-/// What became of the request in hand.
+/// What became of the request that the master holds (has in hand).
 #[derive(Debug, Drop, PartialEq, Eq)]
 pub enum MasterEvent {
     /// This reply was accepted, after this number of sendings.
     Answered(Reply, u8),
-    /// Nothing: no request is in hand, or the request in hand is due to be sent, or its reply is still awaited.
+    /// Nothing new: no request is in hand, the request in hand is due to be sent, or the reply to it is still awaited.
     Nothing,
     /// The reply did not come in time, and the request is due to be sent again.
     Retry,

@@ -12,7 +12,7 @@ ghost use Rattle.hart_master.specs.Acceptance.{IsAccepted, IsReplyTo};
 
 use hart_frame::laws::{every_list_has_frames, frames_are_unambiguous};
 
-/// A frame is exactly one reply to a request, or is no reply to it.
+/// A frame is either exactly one reply to a request, or no reply to this request.
 pub fn replies_are_decided()
     ensures one_reply { (id : MasterId) (address : Address) (request : Request) (frame : FrameParts) (r s : Reply)
         → IsReplyTo id address request frame r → IsReplyTo id address request frame s → r ≡ s }
@@ -21,7 +21,8 @@ pub fn replies_are_decided()
         ⊎ ((reply : Reply) → IsReplyTo id address request frame reply → ⊥) }
 {}
 
-/// A delivery is accepted as exactly one reply or as none. Its frames decide which.
+/// A delivery (all that was heard at once) is either accepted as exactly one reply, or not accepted. The frames of the delivery
+/// decide this.
 pub fn acceptance_is_decided()
     ensures one_reply { (id : MasterId) (address : Address) (request : Request) (delivery : List Character) (r s : Reply)
         → IsAccepted id address request delivery r → IsAccepted id address request delivery s → r ≡ s }
@@ -34,7 +35,7 @@ pub fn acceptance_is_decided()
         (found : Found) (reply : Reply) → AreFrames delivery 0 (found ∷ [])
         → IsAccepted id address request delivery reply → IsReplyTo id address request found.frame reply }
 {
-    // No-ops: their contracts are used below.
+    // These calls do nothing: only their contracts are needed.
     every_list_has_frames();
     frames_are_unambiguous();
     replies_are_decided();
@@ -49,6 +50,6 @@ pub fn communication_faults_are_no_reply()
         (reply : Reply) → AreFrames delivery 0 (found ∷ []) → 128 ≤ slice_index found.frame.payload 0
         → IsAccepted id address request delivery reply → ⊥ }
 {
-    // No-op: its contract is used below.
+    // This call does nothing: only its contract is needed.
     acceptance_is_decided();
 }

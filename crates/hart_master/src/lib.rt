@@ -1,7 +1,8 @@
-//! A master of a HART line: one request in hand, how often it is sent, and which reply is accepted (HCF_SPEC-081).
+//! A master of a HART line: it holds at most one request (the request in hand), sends this request one or more times, and accepts
+//! the reply (HCF_SPEC-081).
 //!
-//! A [`Master`] does no input or output. Its caller submits a request, sends the frame that [`Master::send`] returns, and passes in
-//! what is then heard, or the time that passes in silence.
+//! A [`Master`] does no input or output. Its caller submits a request, sends the frame that [`Master::send`] returns, and then
+//! passes in what it hears, or how long nothing was heard.
 //!
 //! ```rust
 //! let mut master = Master::new(MasterId::Primary, 1, 33)?;
@@ -12,7 +13,7 @@
 //! assert_eq!(rt; master.tick(33), MasterEvent::NoReply(2));
 //! ```
 //!
-//! The program `hart` does not call [`unique_of`]. It is for programs that search for devices with this library.
+//! The program `hart` does not call [`unique_of`]. This function is for programs that search for devices with this library.
 //!
 //! No call of this crate allocates.
 #![tactic(auto)]

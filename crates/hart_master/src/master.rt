@@ -21,8 +21,8 @@ const MOST_RETRIES: u8 = 15;
 
 /// One of the two masters, with one request in hand or none.
 ///
-/// A request is submitted and then sent. The master waits for the reply until the reply limit, and then sends the request again. It
-/// sends a request at most `retries + 1` times in all.
+/// The caller submits a request, and the master sends it. If no reply comes within the reply limit, the master sends the request
+/// again. It sends a request at most `retries + 1` times in all.
 #[derive(Debug, Drop)]
 pub struct Master {
     id: MasterId,
@@ -95,8 +95,8 @@ impl Master {
     ///
     /// # Errors
     ///
-    /// [`MasterFault::Pending`] if a request is in hand already, whatever the address. Then [`MasterFault::WrongAddress`] for a
-    /// polling address with a command other than 0, and for broadcast with a command other than 11 and 21. The fault returns the
+    /// [`MasterFault::Pending`] if a request is in hand already, whatever the address. Otherwise [`MasterFault::WrongAddress`] for
+    /// a polling address with a command other than 0, and for broadcast with a command other than 11 and 21. The error contains the
     /// request, and the master is unchanged.
     pub fn submit(&mut self, address: Address, request: Request) -> Result<(), Rejected>
         ensures result { result ≡ result_submitted self.old.hand address request }
@@ -117,9 +117,9 @@ impl Master {
         Err(Rejected { fault, request })
     }
 
-    /// Returns the frame of the request in hand if the request is due, and awaits the reply from then on. The frame is an STX of
-    /// this master with the burst bit clear, no expansion bytes and the data of the request. If nothing is due, the result is
-    /// `None` and nothing changes.
+    /// Returns the frame of the request in hand if this request is due to be sent. From then on the master awaits the reply. The
+    /// frame is an STX of this master with the burst bit clear, no expansion bytes and the data of the request. If nothing is due,
+    /// the result is `None` and nothing changes.
     pub fn send(&mut self) -> Option<Frame>
         ensures frame { result ≡ frame_sent self.old.id self.old.hand }
         ensures state { self.new ≡ record self.old { hand = hand_sent self.old.hand } }
@@ -200,8 +200,8 @@ impl Master {
         }
     }
 
-    /// Receives a frame. If it is the awaited reply, returns the reply and the number of sendings, and drops the request. Otherwise
-    /// the result is [`MasterEvent::Nothing`], and nothing changes.
+    /// Receives a frame. If the frame is the awaited reply, returns the reply and the number of sendings, and drops the request.
+    /// Otherwise the result is [`MasterEvent::Nothing`], and nothing changes.
     ///
     /// A reply is an ACK without expansion bytes. It has this master's bit and the request's address and command, and
     /// [`Reply::read`](hart_commands::Reply::read) accepts its payload. Its burst bit is ignored.
@@ -226,9 +226,9 @@ impl Master {
 
     /// Lets this number of character times pass. A number of 255 means 255 or more.
     ///
-    /// While a reply is awaited, the times add up to 255 at most. Once they reach the reply limit, the result is
-    /// [`MasterEvent::Retry`] and the request is due again; but if the request was sent `retries + 1` times, the result is
-    /// [`MasterEvent::NoReply`] and the request is no longer in hand. Otherwise the result is [`MasterEvent::Nothing`].
+    /// While a reply is awaited, the times of these calls add up, to 255 at most. When the sum reaches the reply limit, the request
+    /// is due again, and the result is [`MasterEvent::Retry`]. If the request was already sent `retries + 1` times, the master
+    /// drops it instead, and the result is [`MasterEvent::NoReply`]. In all other cases the result is [`MasterEvent::Nothing`].
     pub fn tick(&mut self, character_times: u8) -> MasterEvent
         ensures event { result ≡ event_ticked self.old.retries self.old.reply_limit self.old.hand character_times }
         ensures state { self.new ≡ record self.old {
@@ -256,8 +256,8 @@ impl Master {
         }
     }
 
-    /// Ends the wait for the reply to a request. The request was taken out of the hand. The request is due again, unless it was
-    /// sent `retries + 1` times.
+    /// Ends the wait for the reply to a request, which the caller has taken out of the hand. The request is due again, unless it
+    /// was already sent `retries + 1` times.
     fn end_wait(&mut self, transaction: Transaction) -> MasterEvent
         requires { self.old.hand ≡ hands.Empty }
         ensures event { result ≡

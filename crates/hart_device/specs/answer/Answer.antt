@@ -70,7 +70,7 @@ is_answered state frame =
     is_addressed state frame && not (names_another state (reading_of frame))
     && not (is_broadcast frame.address && not (code_of state frame == 0))
 
--- An overwrite is executed. Without an overwrite there is no effect.
+-- The effect of an overwrite is that it is executed. Without an overwrite there is no effect.
 abbrev pub executed : Option Overwrite → Effect
 executed None = Nothing
 executed (Some overwrite) = Executes overwrite
@@ -109,7 +109,7 @@ asked_content state process (Ok request) = reply_content state process request
 asked_content state process (Err code) = Refused
 
 -- The reply to an answered frame has the code of the frame and the device status after the command. With code 0 it also has the
--- requested data, from the state after the command. So a reply still shows the cold start bit that it clears.
+-- requested data, from the state after the command. The cold start bit is cleared only after that, so the reply still shows it.
 abbrev pub reply_of : DeviceState → Process → FrameParts → Reply
 reply_of state process frame = record {
   command = frame.command;
@@ -124,7 +124,7 @@ abbrev pub answer_of : DeviceState → Process → FrameParts → Option FramePa
 answer_of state process frame =
     if is_answered state frame then Some (reply_parts frame (reply_payload (reply_of state process frame))) else None
 
--- For private calls only: the request of a frame and its code, joined in one judgement.
+-- For private calls only: the request of a frame and its response code, joined in one value, the judgement.
 
 -- The judgement of an answered frame: its request if the code is 0, and otherwise the code that refuses it.
 abbrev pub judged_of : DeviceState → FrameParts → Reading

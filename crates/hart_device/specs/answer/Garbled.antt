@@ -41,16 +41,16 @@ communication_faults chars =
     + bit_if (has_odd_bit chars) 0x08
     + bit_if (has_fault 1 chars) 0x02
 
--- The bytes of an address name the device itself if they are the bytes of the device's numbers. The two top bits of the first byte
--- (the master bit and the burst bit) may have any value.
+-- The bytes of an address name the device itself if they have the two numbers of the device's unique address. The two top bits of
+-- the first byte (the master bit and the burst bit) may have any value.
 abbrev pub is_own_address : IdentityParts → List ℕ → Bool
 is_own_address identity (first ∷ others) =
     bytes_eq (first % 64 ∷ others) (two_bytes (own_numbers identity).expanded_type ++ three_bytes identity.device_id)
 is_own_address identity [] = false
 
--- The master that asks the device with six characters, if these have no faults, and are the delimiter hex 82 of a request to a
--- unique address and then the device's own address. The top bit of the address is set for the primary master and clear for the
--- secondary.
+-- The master that asks the device, read from the first six characters of a request. These must have no faults, and be the delimiter
+-- hex 82 of a request to a unique address, followed by the device's own address. The top bit of the address is set for the primary
+-- master, and clear for the secondary.
 abbrev pub asking_master : IdentityParts → List Character → Option MasterId
 asking_master identity (delimiter ∷ others) =
     let address : List ℕ = map (λ character. character.byte) others in
@@ -58,9 +58,9 @@ asking_master identity (delimiter ∷ others) =
     then Some (if nat_lt (slice_index address 0) 128 then Secondary else Primary) else None
 asking_master identity [] = None
 
--- After its head of six characters, a garbled request of a master has a command, a byte count, as many payload characters as the
--- byte count says, and a check byte. Each of these may have any faults. The command is the byte that was heard in the place of the
--- command. The communication faults are those of all characters of the request.
+-- After its first six characters, a garbled request has a command, a byte count, as many payload characters as the byte count says,
+-- and a check byte. Each of these may have any faults. The command is taken as it was heard. The communication faults are those of
+-- all characters of the request.
 abbrev pub garbled_after : List Character → List Character → MasterId → Option GarbledRequest
 garbled_after chars (command ∷ byte_count ∷ after) master =
     if nat_lt byte_count.byte (length after) then Some (record {

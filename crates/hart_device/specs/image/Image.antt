@@ -19,12 +19,12 @@ abbrev pub flags_of : EachMaster Bool → Bool → ℕ
 flags_of changed protected =
     (if changed.primary then 1 else 0) + (if changed.secondary then 2 else 0) + (if protected then 4 else 0)
 
--- The registers of an image of version 1, in their order, are all registers but the long tag.
+-- The registers of an image of version 1, in their order, are all registers except the long tag.
 abbrev pub registers_of_version_1 : List Register
 registers_of_version_1 = Polling ∷ Mode ∷ Message ∷ Tag ∷ Descriptor ∷ Date ∷ Assembly ∷ []
 
--- The registers in an image of each version: version 1 has all registers but the long tag, version 2 has all registers, and other
--- versions are not known.
+-- The registers in an image of each version: version 1 has all registers except the long tag, version 2 has all registers, and
+-- other versions are not known.
 abbrev pub registers_of_version : ℕ → Option (List Register)
 registers_of_version version =
     if version == 1 then Some registers_of_version_1
@@ -76,8 +76,8 @@ HasBadRegister listed array = (register : Register) × Contains listed register 
 abbrev pub HasBadField : List Register → List ℕ → Type 0
 HasBadField listed image = HasBadRegister listed (drop 1 image) ⊎ (7 < slice_index image (length image - 1))
 
--- Bytes are refused as an image for the first of these that holds: there are no bytes (a bad length); the version is not known; the
--- length is not that of an image of this version; a field is bad.
+-- Bytes are refused as an image for the first of these reasons that holds: there are no bytes (a bad length); the version is not
+-- known; the length is not that of an image of this version; a field is bad.
 abbrev pub IsImageFault : List ℕ → DeviceFault → Type 0
 IsImageFault [] BadLength = Unit {0}
 IsImageFault (version ∷ rest) BadVersion = registers_of_version version ≡ None

@@ -42,7 +42,7 @@ impl GarbledRequest {
 
 /// Finds the garbled request to the device with this identity in a delivery, or returns `None`.
 ///
-/// It looks only at the first place where a body may start.
+/// The search looks only at the first place where a body may start.
 pub(crate) fn garbled_in(identity: &Identity, delivery: &[Char]) -> Option<GarbledRequest>
     ensures { MatchOption result ((request : GarbledRequest) → HasGarbled identity.now delivery.now request → ⊥)
         (HasGarbled identity.now delivery.now) }
@@ -65,7 +65,8 @@ fn garbled_at(identity: &Identity, chars: &[Char]) -> Option<GarbledRequest>
     })
 }
 
-/// Returns the master if this head of six characters is that of a request to the device with this identity, and otherwise `None`.
+/// Returns the master that asks, if these six characters are the delimiter and the address of a request to the device with this
+/// identity, and otherwise `None`.
 fn asking_master(identity: &Identity, head: &[Char]) -> Option<MasterId>
     ensures { result ≡ asking_master identity.now head.now }
 {

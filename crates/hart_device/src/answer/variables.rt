@@ -79,7 +79,7 @@ fn variable_of_code(process: &Process, code: u8) -> ProcessVariable
     }
 }
 
-/// Returns the dynamic variable at a place, counted from 0, or `None` if it is absent.
+/// Returns the dynamic variable at a place, counted from 0, or `None` if the process has no variable there.
 pub(crate) fn dynamic_variable(process: &Process, place: u8) -> Option<ProcessVariable>
     ensures { result ≡ slice_get (dynamic_variables process.now) place }
 {

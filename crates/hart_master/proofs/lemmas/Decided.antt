@@ -13,7 +13,7 @@ use Rattle.hart_commands.specs.declared.reply.Reply.{Reply}
 use Rattle.hart_commands.specs.declared.request.Request.{Request}
 use Rattle.hart_master.specs.Acceptance.{IsReplyTo, IsAccepted, MatchesRequest}
 
--- there is a reply with a property, or there is none
+-- there is a reply with a property, or no such reply
 abbrev pub OneOrNone : (Reply → Type 0) → Type 0
 OneOrNone P = ((reply : Reply) × P reply) ⊎ ((reply : Reply) → P reply → ⊥)
 
@@ -30,7 +30,7 @@ reply_decided id address request frame =
     grind (arith, nil_from_length) in
     grind (arith, reading_decided (reply_reading frame.command frame.payload))
 
--- a delivery with one frame is accepted only as the reply that the frame is
+-- if a delivery with one frame is accepted as a reply, the frame is this reply
 pub acceptance_is_decided-by_its_frame : (id : MasterId) (address : Address) (request : Request) (delivery : List Character)
     (found : Found) (reply : Reply) → AreFrames delivery 0 (found ∷ [])
     → IsAccepted id address request delivery reply → IsReplyTo id address request found.frame reply

@@ -10,7 +10,7 @@ use Rattle.hart_device.proofs.image.read_version_1.Goals as goal
 pub returns-then-rest-clause-refused : goal.returns-then-rest-clause-refused
 returns-then-rest-clause-refused c = (registers_of_version_1, refl, λ same. absurd (c.if-rest.true (omega (arith, same))))
 
--- Every register but the long tag stands in the 50 bytes of the registers of version 1, whatever follows these bytes.
+-- Every register except the long tag stands in the 50 bytes of the registers of version 1, whatever follows these bytes.
 stands_before : (prefix others : List ℕ) → length prefix ≡ 50 → (register : Register) → register ≢ LongTag
     → standing_for register (prefix ++ others) ≡ standing_for register prefix
 stands_before prefix others len register differ = grind (arith, common_steps, before_others)

@@ -1,4 +1,4 @@
--- The content that a device replies with code 0 to a well-made request is read again from the bytes of that content.
+-- If a device replies with code 0 to a well-made request, the content of the reply is read back from its bytes.
 use Rattle.std.proofs.Common.{◌≡◌, ℕ, zero, suc, ◌*◌, ◌/◌, ◌<◌, ◌≤◌, List, [], ◌∷◌, ◌++◌, length, map, min, Some, All, get_or}
 use Rattle.std.proofs.Common.{refl, arith, append_assoc, append-nil, length-append}
 use Rattle.std.proofs.lemmas.Bool.Decides.{nat_tests}
@@ -53,7 +53,7 @@ end_to_end n bytes_of of Sized size back (x ∷ xs) rest all =
     )
 
 -- CONTENTS
--- The content of a command is read again from its bytes.
+-- The content of a reply to a command is read back from its bytes.
 abbrev pub IsReadAgain : ℕ → ReplyContent → Type 0
 IsReadAgain command content = content_reading command (content_bytes content) ≡ Some content
 
@@ -81,14 +81,14 @@ variables_said status variables time some few all float =
     (λ v is. omega (arith, length-append v.value.0 (v.status ∷ []))) (λ v is. rw (← spelled 4 v.value.0 is) refl)
     variables time all in grind (arith, common_steps, nat_tests, length-append, drop_at)
 
--- The values of the dynamic variables, and of the variable of each code, have four bytes.
+-- The value of each dynamic variable, and of the variable of each code, has four bytes.
 dynamic_floats : (process : Process) → IsProcess process → All (λ variable. IsFloat variable.value) (dynamic_variables process)
 dynamic_floats process is = All-cons (λ (v : ProcessVariable). IsFloat v.value) process.first process.others is.first is.others
 
 variable_is_float : (process : Process) → IsProcess process → (code : ℕ) → IsFloat (variable_of_code process code).value
 variable_is_float process is code = grind (arith, dynamic_floats process is, get_or_from_slice_get, slice_get_within)
 
--- The content that a device replies with code 0 to a well-made request is read again.
+-- The content of a reply with code 0 to a well-made request is read back from its bytes.
 pub content_again : (state : DeviceState) (process : Process) → AreValid state.contents → IsProcess process → (request : Request)
     → IsRequest request → IsReadAgain (command_of request) (reply_content state process request)
 unfolding commands.replied

@@ -16,7 +16,7 @@ use Rattle.hart_device.specs.answer.Garbled.{HasGarbled, garbled_request, is_own
 use Rattle.hart_device.specs.declared.answer.garbled.GarbledRequest.{GarbledRequest}
 use Rattle.hart_device.specs.declared.identity_parts.IdentityParts.{IdentityParts}
 
--- the garbled request of a list is found at each first start of the list
+-- if a list has a first start, its garbled request begins there
 pub has_at : (identity : IdentityParts) (chars : List Character) (request : GarbledRequest) (start : ℕ) → IsFirstStart start chars
     → HasGarbled identity chars request → garbled_request identity (drop start chars) ≡ Some request
 has_at identity chars request start first has =

@@ -1,4 +1,4 @@
--- What a device replies to a known command is read again from its payload.
+-- A device's reply to a known command is read back from its payload.
 use Rattle.std.proofs.Common.{◌≡◌, ℕ, ◌<◌, List, ◌==◌, Some, Ok, Err, refl, subst, arith, Bool, true}
 use Rattle.std.proofs.lemmas.Bool.Decides.{nat_tests}
 use Rattle.std.proofs.lemmas.Grind.{common_steps}

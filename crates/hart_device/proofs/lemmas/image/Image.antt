@@ -29,7 +29,7 @@ use Rattle.hart_device.specs.registers.Values.{values_of}
 use Rattle.hart_device.proofs.lemmas.registers.Range.{end_to_end, filled, length_written, written}
 use Rattle.hart_device.proofs.lemmas.registers.Registers.{bytes_in-contents_by, same_contents}
 
--- What holds of the registers of version 1 and of all registers holds of the registers of every known version.
+-- If a property holds of the registers of version 1 and of all registers, it holds of the registers of every known version.
 by_version : (P : List Register → Type 0) → P registers_of_version_1 → P registers → (version : ℕ) (listed : List Register)
     → registers_of_version version ≡ Some listed → P listed
 by_version P first second version listed known = grind (arith, nat_tests)
@@ -124,7 +124,7 @@ pub last_is : (version : ℕ) (prefix end : List ℕ) → length end ≡ 3
 last_is version prefix end three =
     grind (arith, common_steps, elements)
 
--- A register that ends within some bytes has the same bytes if other bytes follow them.
+-- If a register ends within some bytes, other bytes after them do not change the bytes of the register.
 pub before_others : (register : Register) (prefix others : List ℕ) → end_of register ≤ length prefix
     → standing_for register (prefix ++ others) ≡ standing_for register prefix
 before_others register prefix others fits = grind (arith, common_steps, between_is, take-append-le)

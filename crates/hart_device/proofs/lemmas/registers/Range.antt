@@ -28,7 +28,7 @@ filled array from (register ∷ later) ends spans =
       filled array (end_of register) later,
     )
 
--- What is written for each register, one after the other, stands in its range.
+-- If the bytes of each register are written one after the other, the range of each register holds its bytes.
 pub written : (bytes : Register → List ℕ) (before after : List ℕ) (held : List Register) → end_to_end (length before) held ≡ true
     → ((register : Register) → length (bytes register) ≡ size_of register)
     → (k : ℕ) (d : Register) → k < length held
@@ -42,7 +42,7 @@ pub next_register : (place : ℕ) → place < length registers
     → take (place + 1) registers ≡ take place registers ++ slice_index_or registers place Polling ∷ []
 next_register place within = grind (arith, common_steps)
 
--- What is written for all registers is as long as their sizes together.
+-- The number of bytes written for all registers is the sum of the registers' sizes.
 pub length_written : (bytes : Register → List ℕ) → ((register : Register) → length (bytes register) ≡ size_of register)
     → (held : List Register) → length (flat_map bytes held) ≡ sum_by size_of held
 length_written bytes sizes [] = refl

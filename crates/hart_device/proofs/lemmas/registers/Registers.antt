@@ -25,7 +25,7 @@ bytes_in-registers_of overwrites initial = grind (arith, common_steps, bytes_in-
 pub unwrap_or-option_or : {A : Type 0} (a b : Option A) (d : A) → unwrap_or (option_or a b) d ≡ unwrap_or a (unwrap_or b d)
 unwrap_or-option_or a b d = grind arith
 
--- A new overwrite at the end is the last one to name its registers.
+-- An overwrite that is appended to a list is the last overwrite that names its registers.
 pub last_named-append : (overwrites : List Overwrite) (overwrite : Overwrite) (register : Register)
     → last_named (overwrites ++ overwrite ∷ []) register ≡ option_or (named_in overwrite register) (last_named overwrites register)
 last_named-append [] overwrite register = grind arith

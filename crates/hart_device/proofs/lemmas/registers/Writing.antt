@@ -13,7 +13,7 @@ use Rattle.hart_commands.proofs.lemmas.Laws.{all_registers_are_listed_once-every
 use Rattle.hart_device.specs.registers.Ranges.{contents_in, standing_for}
 use Rattle.hart_device.proofs.lemmas.registers.Registers.{bytes_in-contents_by}
 
--- Writing in a range leaves unchanged every range that lies apart from the written one.
+-- Writing in one range does not change any range that lies apart from it.
 pub kept_apart : (array bytes : List ℕ) (start end other_start other_end : ℕ) → start ≤ end → end ≤ length array
     → length bytes ≡ end - start → other_start ≤ other_end → (end ≤ other_start) ⊎ (other_end ≤ start)
     → slice_range (put_mid start (end - start) array bytes) other_start other_end ≡ slice_range array other_start other_end

@@ -7,7 +7,7 @@ use Rattle.hart_device.specs.answer.Garbled.{asking_master}
 use Rattle.hart_device.specs.declared.identity_parts.IdentityParts.{IdentityParts}
 use Rattle.hart_device.proofs.answer.garbled.asking_master.Goals as goal
 
--- if a character of the head has a fault, no master is found that asks
+-- if a character of the head has a fault, no asking master is found
 faulty : (identity : IdentityParts) (head : List Character) (are_faultless : Bool)
     → (IsTrue are_faultless ↔ All (λ character. character.faults ≡ 0) head) → are_faultless ≡ false → asking_master identity head ≡ None
 faulty identity [] are_faultless by is = refl
