@@ -45,12 +45,12 @@ placed start [] = []
 placed start (field ∷ fields) =
     record { start = start; len = length field.bytes; kind = kind_number field.kind } ∷ placed (start + length field.bytes) fields
 
--- The list `before`, with the fields of `written` in place of its first ones. Fields of `written` that do not fit are left out.
+-- The list `before`, with the fields of `written` in place of its first fields. Fields of `written` that do not fit are left out.
 abbrev pub written_over : List HartField → List HartField → List HartField
 written_over written before = take (length before) written ++ drop (length written) before
 
--- Fields are written over the first ones of `before`. The result has their number, the number of bytes taken, a code and a device
--- status.
+-- Fields are written over the first fields of `before`. The result has the number of all fields, the number of bytes taken, a code
+-- and a device status.
 pub record IsShown (start : ℕ) (fields : List Field) (taken code status : ℕ) (before after : List HartField) (reading : HartReading)
     : Type 0 where
   pub told : reading ≡ record { count = length fields; taken = taken; code = code; status = status; fault = 0 }

@@ -45,7 +45,8 @@ with_protection protected device =
     let last = device.image_len - 1 in
     record device { image = slice_set device.image last (slice_index device.image last % 4 + (if protected then 4 else 0)) }
 
--- A new device with these registers and any identity is kept. If a register would not be valid, what was kept is unchanged.
+-- The call writes what is kept of a new device with these registers and any identity. If a register would hold invalid bytes, the
+-- kept device is unchanged.
 abbrev pub NewDeviceOutcome : HartRegisters → HartDevice → HartDevice → HartOutcome → Type 0
 NewDeviceOutcome given before after =
     Outcome (needs (AreValid (contents_of given)) (Device BadField) ∷ [])
@@ -63,12 +64,12 @@ pub record IsHearing (identity : HartIdentity) (process : HartProcess) (heard : 
   pub delivery : AllPass (heard_checks heard)
   pub brings : Brings (parts_of identity) (map char_of heard) brought
 
--- A device says its reply as a message, or no byte at all if the device is silent.
+-- What a device sends: the message of its reply, or no byte if the device is silent.
 abbrev pub IsSaid : Option FrameParts → ℕ → List ℕ → Type 0
 IsSaid None preambles bytes = bytes ≡ []
 IsSaid (Some reply) preambles bytes = IsMessage reply preambles bytes
 
--- A device says its answer to what a delivery brings, and is then in the state after that delivery. If the device is silent, its
+-- A device sends its answer to what a delivery brings, and is then in the state after that delivery. If the device is silent, its
 -- state is unchanged.
 pub record Hears (identity : HartIdentity) (process : HartProcess) (heard : List HartChar) (before after : HartDevice)
     (old new : List ℕ) (len : ℕ) : Type 0 where

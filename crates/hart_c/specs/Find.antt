@@ -15,8 +15,8 @@ HaveFaultBits heard = All (λ given. AreFaultBits given.faults) heard
 abbrev pub heard_checks : List HartChar → List Check
 heard_checks heard = needs (HaveFaultBits heard) BadFaultBits ∷ needs (length heard ≤ 1024) TooLong ∷ []
 
--- A search shows the next frames. If `frames` has room for more, the search leaves at most 268 characters, which are undecided, and
--- none if the input ended.
+-- A search shows the next frames. If `frames` has room for more, the search leaves at most 268 characters, in which no frame is
+-- decided, or none if the input ended.
 pub record Finds (chars : List Character) (ended : Bool) (before after : List HartFrame) (search : HartSearch) : Type 0 where
   pub within : search.count ≤ length after
   pub untouched : drop search.count after ≡ drop search.count before
@@ -27,7 +27,7 @@ pub record Finds (chars : List Character) (ended : Bool) (before after : List Ha
   pub undecided : search.count < length after → ended ≡ false → IsUndecided (drop search.used chars)
   pub fault : search.fault ≡ 0
 
--- The character of the numbers.
+-- The character that the numbers describe.
 abbrev pub char_of : HartChar → Character
 char_of given = record { byte = given.byte; faults = given.faults }
 

@@ -15,7 +15,7 @@ pub record IsAsked (frame : FrameParts) (request : Request) : Type 0 where
   pub parts : frame ≡ request_parts frame.master frame.address frame.command frame.payload
   pub reading : request_reading frame.command frame.payload ≡ Ok request
 
--- A master has sent a request with these numbers if their frame asks the request, and the request may be asked at the frame's
+-- A master has sent a request with these numbers if their frame asks the request, and the request may be sent to the frame's
 -- address.
 pub record IsSent (numbers : HartFrame) (request : Request) : Type 0 where
   pub is_frame : IsFrame numbers
@@ -23,7 +23,7 @@ pub record IsSent (numbers : HartFrame) (request : Request) : Type 0 where
   pub paired : may_ask (frame_in numbers).address request ≡ true
 
 -- First it is checked whether the numbers are a frame, then whether the frame asks a request, and then whether this request may be
--- asked at the frame's address.
+-- sent to the frame's address.
 abbrev pub send_checks : HartFrame → List Check
 send_checks numbers =
     frame_checks numbers ++ needs ((request : Request) × IsAsked (frame_in numbers) request) NoRequest

@@ -14,7 +14,8 @@ DecodeOutcome bytes before after =
     Outcome (needs_or ((frame : FrameParts) × (len : ℕ) × BeginsWithBody bytes frame len) (IsRefusedWith bytes) Frame ∷ [])
     (λ len. BeginsWithBody bytes (frame_in after) len × (after.start ≡ 0) × (after.stop ≡ len) × IsTidy after) (after ≡ before) outcome_of
 
--- The numbers of an address are in range: 14 bits and 24 bits of a unique address, 6 bits of a polling address.
+-- The numbers of an address are in range: a unique address has a type of at most 14 bits and an id of at most 24 bits, a polling
+-- address has at most 6 bits.
 abbrev pub IsInRange : Bool → HartFrame → Type 0
 IsInRange true frame = (frame.expanded_type < 2 ^ 14) × (frame.device_id < 2 ^ 24)
 IsInRange false frame = frame.polling_address < 64

@@ -17,7 +17,7 @@ abbrev pub address_of : Bool → HartFrame → Address
 address_of true frame = Unique (record { expanded_type = frame.expanded_type; device_id = frame.device_id })
 address_of false frame = Polling frame.polling_address
 
--- The frame of the numbers: a reply is an ACK, and any other frame an STX.
+-- The frame that the numbers describe: a reply is an ACK, and any other frame an STX.
 abbrev pub frame_in : HartFrame → FrameParts
 frame_in frame = record {
   kind = if frame.is_reply then Ack else Stx;
@@ -29,7 +29,7 @@ frame_in frame = record {
   payload = take frame.payload_len frame.payload;
 }
 
--- The frame of the numbers, and where it stands.
+-- The frame that the numbers describe, and where it stands.
 abbrev pub found_in : HartFrame → Found
 found_in frame = record { start = frame.start; stop = frame.stop; frame = frame_in frame }
 
@@ -48,7 +48,7 @@ pub record IsTidy (frame : HartFrame) : Type 0 where
   pub expansion : frame.expansion_len ≤ 3
   pub address : frame ≡ with_address (address_of frame.is_unique frame) frame
 
--- The parts of the identity of the numbers.
+-- The parts of the identity that the numbers describe.
 abbrev pub parts_of : HartIdentity → IdentityParts
 parts_of identity = record {
   expanded_device_type = identity.expanded_device_type;
@@ -70,12 +70,12 @@ parts_of identity = record {
 abbrev pub float_of : List ℕ → Bits32
 float_of bytes = record { 0 = bytes }
 
--- The variable of the numbers.
+-- The variable that the numbers describe.
 abbrev pub variable_of : HartVariable → ProcessVariable
 variable_of given =
     record { classification = given.classification; unit = given.unit; value = float_of given.value; status = given.status }
 
--- The sensor of the numbers.
+-- The sensor that the numbers describe.
 abbrev pub sensor_of : HartSensor → SensorContent
 sensor_of given = record {
   serial_number = given.serial_number;
@@ -85,7 +85,7 @@ sensor_of given = record {
   minimum_span = float_of given.minimum_span;
 }
 
--- The loop current output of the numbers.
+-- The loop current output that the numbers describe.
 abbrev pub output_of : HartOutput → OutputValues
 output_of given = record {
   alarm_code = given.alarm_code;

@@ -32,7 +32,7 @@ pub const HART_LATIN_TEXT: u8 = 6;
 /// The code of a unit in one byte.
 pub const HART_UNIT_CODE: u8 = 7;
 
-/// Where a field stands in what was passed, and its kind.
+/// Where a field stands in the bytes that were passed, and its kind.
 #[repr(C)]
 #[derive(Clone, Copy)]
 pub struct HartField {
@@ -48,9 +48,9 @@ pub struct HartField {
 #[repr(C)]
 #[derive(Clone, Copy)]
 pub struct HartReading {
-    /// How many fields there are. Those that have room are shown.
+    /// How many fields there are. Only fields that have room in the array are shown.
     pub count: usize,
-    /// How many bytes are taken. Unless the data are refused, later bytes are ignored.
+    /// How many bytes were read. Unless the data are refused, the bytes after them are ignored.
     pub taken: usize,
     /// For a reply its response code; for a request the response code that refuses it, or 0.
     pub code: u8,
@@ -62,7 +62,7 @@ pub struct HartReading {
 
 /// Reads the data of a request of this command, and shows where its fields stand, as far as there is room (HCF_SPEC-127).
 ///
-/// A refused request has no fields. Its code is the first of these that holds: 64 for an unknown command, 5 for too few bytes, 2
+/// A refused request has no fields. Its code is the first of these that applies: 64 for an unknown command, 5 for too few bytes, 2
 /// for Command 6 with an address above 63, 12 for Command 6 with a mode above 1, 9 for Command 18 with a bad date.
 #[unsafe(no_mangle)]
 pub extern "C" fn hart_read_request(

@@ -20,7 +20,7 @@ use hart_device::{Device, DeviceFault, Identity, ImageRegisters, bench};
 use hart_frame::{Frame, Message, encode};
 use hart_values::{EachMaster, MasterId};
 
-/// What is kept of a device: all that it holds except its identity.
+/// What the caller keeps of a device: all that it holds except its identity.
 #[repr(C)]
 #[derive(Clone, Copy)]
 pub struct HartDevice {
@@ -34,8 +34,8 @@ pub struct HartDevice {
     pub secondary_cold_start: bool,
 }
 
-/// Makes a new device with these register values, counter 0 and all bits clear. Writes what is kept of the new device to `device`,
-/// and returns the length of its image.
+/// Makes a new device with these register values, counter 0 and all bits clear. Writes what the caller keeps of it to `device`, and
+/// returns the length of its image.
 ///
 /// # Errors
 ///
@@ -48,7 +48,7 @@ pub extern "C" fn hart_new_device(registers: &HartRegisters, device: &mut HartDe
     let Some(values) = values_of(registers) else {
         return outcome_of(Err(Fault::Device(DeviceFault::BadField)));
     };
-    // What is kept of a device does not include its identity, so any identity serves.
+    // What the caller keeps does not include the identity, so any identity will do here.
     let new = Device::<ImageRegisters>::new(bench::identity(), &values);
     keep(&new, device);
     outcome_of(Ok(usize::from(device.image_len)))
@@ -65,7 +65,7 @@ pub extern "C" fn hart_restart(device: &mut HartDevice)
     device.secondary_cold_start = true;
 }
 
-/// Lets a device hear a delivery, which is all that it hears at once, with this process. Carries out what the delivery asks, and
+/// Lets a device with this process hear a delivery, which is all that it hears at once. Carries out what the delivery asks, and
 /// updates `device`. Writes the reply as a message to the front of `reply`, and returns its length, or 0 if the device is silent.
 ///
 /// # Errors
@@ -109,7 +109,7 @@ fn hear(
     Ok(len)
 }
 
-/// Returns the device in its kept state.
+/// Returns the device whose state the caller keeps.
 fn kept_state(identity: &HartIdentity, device: &HartDevice) -> Result<Device<ImageRegisters>, Fault>
     ensures kept { IfOk result (IsKept (parts_of identity.now) device.now) }
     ensures refused { IfErr result (IsFirstOf (state_checks identity.now device.now)) }
@@ -125,7 +125,7 @@ fn kept_state(identity: &HartIdentity, device: &HartDevice) -> Result<Device<Ima
     Ok(state)
 }
 
-/// Writes what is kept of a device to `device`.
+/// Writes what the caller keeps of a device to `device`.
 fn keep(state: &Device<ImageRegisters>, device: &mut HartDevice)
     ensures { device.new ≡ device_of state.now }
 {
@@ -136,7 +136,7 @@ fn keep(state: &Device<ImageRegisters>, device: &mut HartDevice)
     device.secondary_cold_start = state.cold_start(MasterId::Secondary);
 }
 
-/// Writes what a device says as a message to the front of `output`, and returns its length, or 0 if the device is silent.
+/// Writes the reply of a device as a message to the front of `output`, and returns its length, or 0 if the device is silent.
 fn say(said: Option<Frame>, preambles: u8, output: &mut [u8]) -> Result<usize, Fault>
     requires { IsPreambleCount preambles }
     ensures said { IfOk result (IsWritten (IsSaid said preambles) output.old output.new) }

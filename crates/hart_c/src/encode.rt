@@ -11,8 +11,8 @@ use crate::output::{outcome_of, put};
 use hart_frame::{Expansion, Frame, FrameKind, Message, Payload, encode};
 use hart_values::{Address, MasterId};
 
-/// Writes a frame as a message to the front of `output`: this number of preamble bytes and its body. 287 bytes are room for any
-/// message. `start` and `stop` of the frame are ignored.
+/// Writes a frame as a message to the front of `output`: this number of preamble bytes and its body. An output of 287 bytes has
+/// room for any message. `start` and `stop` of the frame are ignored.
 ///
 /// # Errors
 ///
@@ -43,7 +43,7 @@ fn write_message(frame: &HartFrame, preambles: u8, output: &mut [u8]) -> Result<
     put(message.as_slice(), output)
 }
 
-/// Returns the frame of these numbers.
+/// Returns the frame that these numbers describe.
 pub(crate) fn frame_of(frame: &HartFrame) -> Result<Frame, Fault>
     ensures same { IfOk result (λ made. made ≡ frame_in frame.now) }
     ensures frame { IfOk result (λ made. IsFrame frame.now) }
@@ -65,7 +65,7 @@ pub(crate) fn frame_of(frame: &HartFrame) -> Result<Frame, Fault>
     .map_err(Fault::Frame)
 }
 
-/// Returns the address of these numbers, or `None` if a number of the address is out of range.
+/// Returns the address that these numbers describe, or `None` if a number of the address is out of range.
 fn address_of(frame: &HartFrame) -> Option<Address>
     ensures in_range { IsSome result ↔ IsInRange frame.now.is_unique frame.now }
     ensures same { IfSome result (λ address. address ≡ address_of frame.now.is_unique frame.now) }

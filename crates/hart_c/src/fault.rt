@@ -6,7 +6,7 @@ ghost use Rattle.hart_c.specs.Faults.{number_of};
 use hart_device::DeviceFault;
 use hart_frame::FrameFault;
 
-/// All is well.
+/// No fault.
 pub const HART_OK: u8 = 0;
 
 /// A reply with a payload of fewer than two bytes, so without its two status bytes.
@@ -69,10 +69,10 @@ pub const HART_TOO_LONG: u8 = 22;
 /// A frame that is no request of a master.
 pub const HART_NO_REQUEST: u8 = 23;
 
-/// A request that may not be asked at this address.
+/// A request that may not be sent to this address.
 pub const HART_WRONG_ADDRESS: u8 = 24;
 
-/// How many bytes were written or read, or why no byte was.
+/// How many bytes were written or read, or why the call did nothing.
 #[repr(C)]
 #[derive(Clone, Copy)]
 pub struct HartOutcome {
@@ -103,7 +103,7 @@ pub(crate) enum Fault {
     TooLong,
     /// The frame is no request of a master.
     NoRequest,
-    /// The request may not be asked at this address.
+    /// The request may not be sent to this address.
     WrongAddress,
 }
 

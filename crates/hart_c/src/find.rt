@@ -38,7 +38,7 @@ pub struct HartChar {
 }
 
 /// Finds the next frames in bytes that were heard without faults, as many as `frames` has room for, and returns how many bytes are
-/// used up. `ended` says that nothing more comes.
+/// used up. `ended` is true if no more bytes come.
 #[unsafe(no_mangle)]
 pub extern "C" fn hart_find_in_bytes(
     bytes: &[u8],
@@ -122,7 +122,7 @@ fn copy_front(heard: &[HartChar], chunk: &mut [Char]) -> usize
     count
 }
 
-/// Returns the character of these numbers.
+/// Returns the character that these numbers describe.
 pub(crate) fn char_of(given: &HartChar) -> Char
     requires { AreFaultBits given.now.faults }
     ensures { result ≡ char_of given.now }

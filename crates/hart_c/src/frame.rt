@@ -6,7 +6,7 @@ ghost use Rattle.hart_c.specs.Numbers.{IsTidy, found_in, frame_in, with_address}
 use hart_frame::{FoundView, Frame, FrameKind};
 use hart_values::{Address, MasterId};
 
-/// A frame, and where it stands in what was passed.
+/// A frame, and where it stands in the characters that were passed.
 #[repr(C)]
 #[derive(Drop)]
 pub struct HartFrame {
@@ -40,7 +40,7 @@ pub struct HartFrame {
     pub payload: [u8; 255],
 }
 
-/// The parts of a frame, borrowed where they are bytes.
+/// The parts of a frame. Parts that are byte strings are borrowed.
 #[derive(Drop)]
 struct Parts<'a> {
     kind: FrameKind,
@@ -52,7 +52,7 @@ struct Parts<'a> {
     payload: &'a [u8],
 }
 
-/// Writes to `frame` what a scanner found.
+/// Writes to `frame` the frame that a scanner found.
 #[inline(always)]
 pub(crate) fn show_found(found: &FoundView<'_>, frame: &mut HartFrame)
     ensures found { found_in frame.new ≡ found_of found.now }
@@ -73,7 +73,7 @@ pub(crate) fn show_found(found: &FoundView<'_>, frame: &mut HartFrame)
     frame.stop = found.stop;
 }
 
-/// Writes to `frame` a frame and the two places between which it stands.
+/// Writes to `frame` a frame, and the places where it starts and stops.
 pub(crate) fn show_frame(shown: &Frame, start: u64, stop: u64, frame: &mut HartFrame)
     ensures found { found_in frame.new ≡ record { start = start; stop = stop; frame = shown.now } }
     ensures tidy { IsTidy frame.new }

@@ -59,7 +59,7 @@ pub extern "C" fn hart_bench_identity(identity: &mut HartIdentity)
     };
 }
 
-/// Returns the parts of the identity of these numbers.
+/// Returns the parts of the identity that these numbers describe.
 pub(crate) fn parts_of(identity: &HartIdentity) -> IdentityParts
     ensures { result ≡ parts_of identity.now }
 {

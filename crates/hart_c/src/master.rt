@@ -51,13 +51,13 @@ const NO_ADDRESS: HartUnique = HartUnique {
     device_id: 0,
 };
 
-/// Returns whether a delivery, which is all that was heard at once, is the reply to a request that was sent, as a master accepts
-/// it. If so, `reply` shows its frame and where the frame stands.
+/// Returns whether a master accepts a delivery, which is all that was heard at once, as the reply to the request that the master
+/// sent. If so, `reply` shows the frame of the reply and where this frame stands.
 ///
 /// # Errors
 ///
 /// The first of these that holds: a fault of the frame, as [`hart_encode`](crate::hart_encode) returns it, a frame that is no
-/// request of a master, a request that may not be asked at its address, or a fault of the characters. `reply` is then unchanged.
+/// request of a master, a request that may not be sent to its address, or a fault of the characters. `reply` is then unchanged.
 #[unsafe(no_mangle)]
 pub extern "C" fn hart_accept(
     request: &HartFrame,
@@ -85,7 +85,7 @@ fn acceptance_of(accepted: Result<Option<Reply>, Fault>) -> HartAcceptance
     }
 }
 
-/// Returns the numbers if nothing was accepted.
+/// Returns the result of a call that accepted no reply, with its fault, or 0 for no fault.
 fn not_accepted(fault: u8) -> HartAcceptance
     ensures { result ≡ record { is_accepted = false; code = 0; status = 0; fault = fault } }
 {
@@ -127,7 +127,8 @@ fn sent(request: &HartFrame) -> Result<Master, Fault>
 {
     let frame = frame_of(request)?;
     let asked = asked_by(&frame)?;
-    // Retries and reply limit do not matter: the caller decides how often and how long to wait, and calls only with a delivery.
+    // Retries and reply limit do not matter: the caller decides how often and how long to wait, and calls only when something was
+    // heard.
     let mut master = Master::new(frame.master(), 0, 1).unwrap();
     if master.submit(frame.address(), asked).is_err() {
         return Err(Fault::WrongAddress);
@@ -136,7 +137,7 @@ fn sent(request: &HartFrame) -> Result<Master, Fault>
     Ok(master)
 }
 
-/// Returns the request of a master in a frame.
+/// Returns the request that a master sends with this frame.
 fn asked_by(frame: &Frame) -> Result<Request, Fault>
     ensures asked { IfOk result (IsAsked frame.now) }
     ensures refused { IfErr result (λ fault. (fault ≡ Fault.NoRequest) × ((request : Request) → IsAsked frame.now request → ⊥)) }

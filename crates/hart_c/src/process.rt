@@ -149,7 +149,7 @@ fn output_shown(output: &OutputValues) -> HartOutput
     }
 }
 
-/// Returns the process of these numbers, or `None` if these have no variable or more than four.
+/// Returns the process that these numbers describe, or `None` if they have no variable or more than four.
 pub(crate) fn process_of(given: &HartProcess) -> Option<Process>
     ensures accepted { IsSome result ↔ HasVariables given.now }
     ensures same { IfSome result (IsProcessOf given.now) }
@@ -169,7 +169,7 @@ pub(crate) fn process_of(given: &HartProcess) -> Option<Process>
     })
 }
 
-/// Returns the variables of these numbers.
+/// Returns the variables that these numbers describe.
 fn variables_of(given: &[HartVariable]) -> ShortList<ProcessVariable, 3>
     requires { length given.now ≤ 3 }
     ensures { result ≡ map variable_of given.now }
@@ -181,7 +181,7 @@ fn variables_of(given: &[HartVariable]) -> ShortList<ProcessVariable, 3>
     variables
 }
 
-/// Returns these numbers as a process variable.
+/// Returns the process variable that these numbers describe.
 fn variable_of(given: &HartVariable) -> ProcessVariable
     ensures { result ≡ variable_of given.now }
 {
@@ -193,7 +193,7 @@ fn variable_of(given: &HartVariable) -> ProcessVariable
     }
 }
 
-/// Returns the sensor of these numbers.
+/// Returns the sensor that these numbers describe.
 fn sensor_of(given: &HartSensor) -> SensorContent
     ensures { result ≡ sensor_of given.now }
 {
@@ -206,7 +206,7 @@ fn sensor_of(given: &HartSensor) -> SensorContent
     }
 }
 
-/// Returns the loop current output of these numbers.
+/// Returns the loop current output that these numbers describe.
 fn output_of(given: &HartOutput) -> OutputValues
     ensures { result ≡ output_of given.now }
 {

@@ -49,7 +49,7 @@ pub extern "C" fn hart_bench_registers(registers: &mut HartRegisters)
     registers.long_tag = values.long_tag;
 }
 
-/// Returns the register values of these numbers, or `None` if a register would hold invalid bytes.
+/// Returns the register values that these numbers describe, or `None` if a register would hold invalid bytes.
 pub(crate) fn values_of(given: &HartRegisters) -> Option<RegisterValues>
     ensures accepted { IsSome result ↔ AreValid (contents_of given.now) }
     ensures same { IfSome result (λ values. values_of values ≡ contents_of given.now) }

@@ -17,7 +17,7 @@ use Rattle.hart_c.proofs.laws.bytes_that_are_not_taken_are_ignored.Goals as goal
 again : (n : ℕ) (bytes : List ℕ) → take n (take n bytes) ≡ take n bytes
 again n bytes = take_all n (take n bytes) (omega (arith, length-take n bytes))
 
--- if a list has `m` bytes among its first `n`, these are its first `m` bytes
+-- if the first `n` bytes of a list are only `m` bytes, they are its first `m` bytes
 as_many : (n : ℕ) (bytes : List ℕ) → take (length (take n bytes)) bytes ≡ take n bytes
 as_many n bytes = rw length-take (take_min n bytes)
 

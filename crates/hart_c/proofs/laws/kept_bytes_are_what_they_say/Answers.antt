@@ -35,7 +35,7 @@ returns-clause-protects c parts device state on long is =
 pub returns-clause-protected : goal.returns-clause-protected
 returns-clause-protected c parts device state long is = rw (flagged parts device state is long).2 (grind arith)
 
--- a list of one byte is its first byte alone
+-- a list of one byte consists of its first byte
 one_byte : (xs : List ℕ) → length xs ≡ 1 → xs ≡ slice_index xs 0 ∷ []
 one_byte xs long = grind (arith, common_steps)
 
