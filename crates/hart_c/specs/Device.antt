@@ -53,8 +53,8 @@ NewDeviceOutcome given before after =
     (λ len. (len ≡ 86) × (values : RegisterValues) × (values_of values ≡ contents_of given) × AreValid (contents_of given)
     × ((parts : IdentityParts) → after ≡ device_of (new_device parts values))) (after ≡ before) outcome_of
 
--- What a device hears. The device is kept in a state, its process is passed, and a delivery brings it a frame, a garbled request or
--- no message.
+-- What a device hears: the kept device has a state, the caller passes its process, and the delivery brings the device a frame, a
+-- garbled request or no message.
 pub record IsHearing (identity : HartIdentity) (process : HartProcess) (heard : List HartChar) (device : HartDevice) : Type 0 where
   pub state : DeviceState
   pub measured : Process

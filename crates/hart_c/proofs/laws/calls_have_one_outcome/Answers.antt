@@ -70,7 +70,7 @@ returns-clause-new_devices c given before after other outcome another =
     one_outcome (λ is again. let parts : IdentityParts = grind (arith, common_steps) in grind (arith, is.1.4 parts, again.1.4 parts))
     (λ is why. grind (arith, is.1.3)) (λ why is. grind (arith, is.1.3)) (λ why again. grind arith)
 
--- an answer says at most one list of bytes
+-- at most one list of bytes is sent for an answer
 one_saying : (answer : Option FrameParts) (preambles : ℕ) (bytes other : List ℕ) → IsSaid answer preambles bytes
     → IsSaid answer preambles other → bytes ≡ other
 one_saying None preambles bytes other is again = is ∙ sym again
@@ -83,13 +83,13 @@ one_said : (answer : Option FrameParts) (preambles : ℕ) (old new newer : List 
 one_said answer preambles old new newer len size is again =
     let same = one_saying answer preambles is.0 again.0 is.1 again.1 in grind (arith, same)
 
--- if an answer was written, it has room
+-- if an answer was written, the output had room for it
 said_fits : (answer : Option FrameParts) (preambles : ℕ) (old new : List ℕ) (len : ℕ)
     → IsWritten (IsSaid answer preambles) old new len → HasNoRoom (IsSaid answer preambles) (length old) → ⊥
 said_fits answer preambles old new len is none =
     let same = one_saying answer preambles is.0 none.0 is.1 none.1 in grind (arith, common_steps, same)
 
--- for a device that hears a delivery in a process
+-- for a device that hears a delivery while it measures a process
 module _ (identity : HartIdentity) (process : HartProcess) (heard : List HartChar) (device : HartDevice) where
   -- the numbers determine the state, the process and what the delivery brings
   one_hearing : (is again : IsHearing identity process heard device)

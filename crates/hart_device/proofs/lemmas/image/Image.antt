@@ -138,7 +138,7 @@ pub bad_field : (version : ℕ) (listed : List Register) → registers_of_versio
 bad_field version listed known array prefix end long three has whole bad =
     (listed, known, grind (arith, common_steps), grind (arith, has, whole, last_is))
 
--- If nothing was read, the fault is the right one. If something was read, what is known of it is kept.
+-- If nothing was read, the fault is the right one. If something was read, its known properties are kept.
 pub refused_or : {A E Bad : Type 0} (P : E → Type 0) (read : Option A) (fault : E) → IfNone read Bad → (Bad → P fault)
     → IfErr (ok_or read fault) P
 refused_or P read fault bad gives = grind (arith, gives)
