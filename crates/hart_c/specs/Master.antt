@@ -15,8 +15,8 @@ pub record IsAsked (frame : FrameParts) (request : Request) : Type 0 where
   pub parts : frame ≡ request_parts frame.master frame.address frame.command frame.payload
   pub reading : request_reading frame.command frame.payload ≡ Ok request
 
--- A master has sent a request with these numbers if their frame asks the request, and the request may be sent to the frame's
--- address.
+-- These numbers are those of a request that a master has sent: their frame asks this request, and the request may be sent to the
+-- frame's address.
 pub record IsSent (numbers : HartFrame) (request : Request) : Type 0 where
   pub is_frame : IsFrame numbers
   pub asked : IsAsked (frame_in numbers) request

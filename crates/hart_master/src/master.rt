@@ -91,7 +91,7 @@ impl Master {
         }
     }
 
-    /// Takes in hand a request to this address.
+    /// Takes a request to this address in hand, to send it later.
     ///
     /// # Errors
     ///

@@ -15,7 +15,7 @@ same_brought : (id : MasterId) (hand : Hand) (chars : List Character) (found : F
     → AreFrames chars 0 (found ∷ []) → FrameBrings id hand found.frame reply ↔ DeliveryBrings id hand chars reply
 same_brought id hand chars found reply alone = grind (arith, acceptance_is_decided-by_its_frame)
 
--- the same event is heard if the same replies are brought
+-- two conditions that hold for the same replies lead to the same event
 same_heard : (hand : Hand) (P Q : Reply → Type 0) (event : MasterEvent) → ((reply : Reply) → P reply ↔ Q reply)
     → IsHeard hand P event → IsHeard hand Q event
 same_heard hand P Q event same heard = grind arith
