@@ -1,15 +1,15 @@
-/* HART messages (HART Protocol Revision 7), by proved code. docs/LIBRARY.md shows how a program is built around these calls.
+/* HART messages (HART Protocol Revision 7), by proved code. docs/LIBRARY.md shows how to build a program around these calls.
  *
- * Link libhart.a or libhart.so. No call keeps a pointer or a state, allocates or waits. Each call looks at its arguments alone. Two
- * threads may make calls at once, each on its own memory.
+ * Link libhart.a or libhart.so. A call keeps no pointer and no state, allocates nothing and never waits. It reads only its
+ * arguments. Two threads may make calls at the same time, each on its own memory.
  *
  * Duties of the caller, at each call:
- *   - No pointer is null, even with length 0. Each pointer is aligned for its type. It points to as many elements as the length after it
- *     says, or to one element if no length follows. Lengths are below 2^63.
- *   - Until the call returns, nobody else reads or writes what a non-const pointer points to, and nobody writes what a const pointer
- *     points to. What a non-const pointer points to overlaps nothing else that is passed.
- *   - Each bool is 0 or 1. Everything that is passed is initialised, including frames and bytes that are to be written.
- * The call checks everything else. If it returns a fault, what it would have written is unchanged.
+ *   - No pointer is null, even with length 0. Each pointer is aligned for its type. A pointer with a length after it points to that number
+ *     of elements; a pointer without a length points to one element. Lengths are below 2^63.
+ *   - Until the call returns, nobody else writes the memory behind a pointer. If the pointer is not const, nobody else reads this memory,
+ *     and it overlaps nothing else that is passed.
+ *   - Each bool is 0 or 1. Everything that is passed is initialised, including frames and bytes that the call is to write.
+ * The call checks everything else. If a call returns a fault, it has written nothing.
  */
 #ifndef HART_H
 #define HART_H
@@ -22,16 +22,16 @@
 extern "C" {
 #endif
 
-/* A frame and its offsets in what was passed. A frame that a call has written may be passed to hart_encode as it is. */
+/* A frame and its offsets in what was passed. You can pass a frame that a call has written to hart_encode as it is. */
 typedef struct hart_frame {
     uint64_t start;          /* the offset of the delimiter, from 0 */
     uint64_t stop;           /* the offset after the check byte */
     uint32_t device_id;      /* at most 0xFFFFFF for a unique address; 0 for a polling address */
     uint16_t expanded_type;  /* at most 0x3FFF for a unique address; 0 for a polling address */
     bool is_reply;           /* true for a reply (ACK), false for a request (STX) */
-    bool is_primary;         /* the master of the frame is the primary one */
+    bool is_primary;         /* true for the primary master, false for the secondary master */
     bool is_burst;           /* the burst bit */
-    bool is_unique;          /* the address is a unique address of five bytes; if both its numbers are 0, it is broadcast */
+    bool is_unique;          /* true for a unique address; it is broadcast if device_id and expanded_type are 0 */
     uint8_t polling_address; /* at most 63; 0 for a unique address */
     uint8_t command;         /* the command number */
     uint8_t expansion_len;   /* 0 to 3 */
@@ -40,25 +40,25 @@ typedef struct hart_frame {
     uint8_t payload[255];    /* the first payload_len bytes count; a reply begins with its two status bytes */
 } hart_frame;
 
-/* Why a call did nothing. */
+/* Faults: why a call did nothing. */
 enum {
     HART_OK = 0,
-    HART_TOO_SHORT_REPLY = 1, /* a reply with a payload of fewer than two bytes, so without its two status bytes */
+    HART_TOO_SHORT_REPLY = 1, /* a reply whose payload is shorter than the two status bytes */
     HART_BAD_PREAMBLE = 2,    /* a number of preamble bytes outside 5 to 20 */
     HART_BAD_DELIMITER = 3,   /* the first byte is no delimiter of this profile */
     HART_TRUNCATED = 4,       /* the bytes end before the check byte */
     HART_BAD_CHECK = 5,       /* the exclusive or of the body with its check byte is not 0 */
-    HART_SHORT_REPLY = 6,     /* the delimiter of a reply with a byte count below 2 */
+    HART_SHORT_REPLY = 6,     /* the byte count of a reply is below 2 */
     HART_BAD_ADDRESS = 10,    /* a number of the address is out of range */
     HART_LONG_EXPANSION = 11, /* more than three expansion bytes */
-    HART_NO_ROOM = 12,        /* the output has no room for what is to be written */
-    HART_BAD_FAULT_BITS = 13, /* the `faults` of a character have a bit that is no fault bit */
+    HART_NO_ROOM = 12,        /* the output is too short for what is to be written */
+    HART_BAD_FAULT_BITS = 13, /* `faults` of a character has a bit that is no fault bit */
     HART_NO_REPLY = 14,       /* a payload is no reply to the command */
     HART_UNKNOWN = 15,        /* there is no such command or field */
     HART_OUT_OF_RANGE = 16,   /* a number of an identity is out of range */
     HART_BROADCAST_ADDRESS = 17, /* the unique address of an identity would be broadcast */
-    HART_BAD_VERSION = 18,    /* an image of a version that is not known */
-    HART_BAD_LENGTH = 19,     /* an image of no bytes or of more than 86, or with the wrong length for its version */
+    HART_BAD_VERSION = 18,    /* an image of an unknown version */
+    HART_BAD_LENGTH = 19,     /* an image of no bytes or of more than 86 bytes, or with the wrong length for its version */
     HART_BAD_FIELD = 20,      /* a polling address above 63, a loop current mode above 1, an invalid date, or image flags above 7 */
     HART_BAD_VARIABLES = 21,  /* a process without a dynamic variable, or with more than four */
     HART_TOO_LONG = 22,       /* a delivery of more than 1,024 characters */
@@ -74,15 +74,15 @@ typedef struct hart_char {
 
 /* The result of a search. */
 typedef struct hart_search {
-    size_t used;   /* how many elements are used up; pass those after them again, followed by what comes next */
-    size_t count;  /* how many frames were found: frames[0] to frames[count - 1]; the later elements are unchanged */
+    size_t used;   /* how many elements are used up; pass the later elements again, followed by new elements */
+    size_t count;  /* how many frames were found: frames[0] to frames[count - 1]; later elements of `frames` are unchanged */
     uint8_t fault; /* HART_OK, or why nothing was done */
 } hart_search;
 
-/* Finds the next frames in bytes without faults, at most `frames_len`. `ended` says that nothing more comes.
- * Returns how many bytes are used up. Pass the bytes after them again, followed by what comes next. Offsets count from the first byte
- * that is passed. If `frames` has room for more, at most 268 bytes remain, and none if the input ended. Repeated calls find exactly the
- * frames of the whole input, in whatever pieces it comes. A buffer of 269 bytes is enough. No fault. */
+/* Finds the next frames in bytes without faults, at most `frames_len` frames. `ended` says that no more bytes will come.
+ * Returns how many bytes are used up. Pass the later bytes again, followed by new bytes. Offsets count from the first byte that is
+ * passed. If `frames` has room for more frames, at most 268 bytes are not used up, and none if `ended` is true. Repeated calls find exactly
+ * the frames of the whole input, however the input is divided. A buffer of 269 bytes is enough. No fault. */
 hart_search hart_find_in_bytes(const uint8_t *bytes, size_t bytes_len, bool ended, hart_frame *frames, size_t frames_len);
 
 /* Like hart_find_in_bytes, for characters with fault bits. Fault: HART_BAD_FAULT_BITS, and then nothing is found or used up. */
@@ -94,32 +94,32 @@ typedef struct hart_outcome {
     uint8_t fault; /* HART_OK, or why nothing was done */
 } hart_outcome;
 
-/* Reads the frame at the front of the bytes, delimiter first; other bytes may follow. Returns the length of the body.
+/* Reads the frame whose body is at the front of `bytes`; other bytes may follow. Returns the length of the body.
  * Faults, in the order of the bytes: HART_TRUNCATED (no bytes), HART_BAD_DELIMITER, HART_TRUNCATED (before the byte count),
  * HART_SHORT_REPLY, HART_TRUNCATED (before the check byte), HART_BAD_CHECK. */
 hart_outcome hart_decode(const uint8_t *bytes, size_t bytes_len, hart_frame *frame);
 
-/* Writes a frame as a message to the front of `output`: this number of preamble bytes, then its body. Returns the length; 287 bytes are room
- * for any message. Ignores `start`, `stop` and the fields of the unused address kind.
+/* Writes a frame as a message to the front of `output`: preamble bytes, `preambles` of them, then the body. Returns the length; 287 bytes
+ * are enough for any message. Ignores `start`, `stop` and the fields of the unused kind of address.
  * Faults: HART_BAD_ADDRESS, HART_LONG_EXPANSION, HART_TOO_SHORT_REPLY, HART_BAD_PREAMBLE, HART_NO_ROOM. */
 hart_outcome hart_encode(const hart_frame *frame, uint8_t preambles, uint8_t *output, size_t output_len);
 
 /* Returns the check byte of some bytes: their exclusive or. */
 uint8_t hart_check_byte(const uint8_t *bytes, size_t bytes_len);
 
-/* The kind of a field, and its number of bytes. Numbers and floats have the most significant byte first. */
+/* The kinds of fields, and their numbers of bytes. Numbers and floats have the most significant byte first. */
 enum {
     HART_BYTES = 0,       /* plain bytes, at least one: an id, flags, a status, codes of device variables, a time stamp */
     HART_NUMBER = 1,      /* a number or a code of one or two bytes */
     HART_PACKED_TEXT = 2, /* packed text in 6, 12 or 24 bytes, four characters in three bytes */
-    HART_DATE = 3,        /* a date in three bytes: the day, the month, the year after 1900 */
+    HART_DATE = 3,        /* a date in three bytes: the day, the month, the year minus 1900 */
     HART_FLOAT = 4,       /* a floating point number of IEEE 754 in four bytes */
     HART_VARIABLES = 5,   /* one to eight device variables of eight bytes each: code, classification, unit, value in four bytes, status */
-    HART_LATIN_TEXT = 6,  /* text in ISO Latin-1 in 32 bytes, a character in each: a long tag */
+    HART_LATIN_TEXT = 6,  /* a long tag: 32 characters of ISO Latin-1, one in each byte */
     HART_UNIT_CODE = 7    /* the code of a unit in one byte (HCF_SPEC-183, table 2) */
 };
 
-/* A field of data: where it stands in what was passed, and its kind. */
+/* A field of data: its offset and length in what was passed, and its kind. */
 typedef struct hart_field {
     uint8_t start; /* the offset of the field's first byte, from 0 */
     uint8_t len;   /* how many bytes the field has */
@@ -128,35 +128,35 @@ typedef struct hart_field {
 
 /* What was read of the data of a message. */
 typedef struct hart_reading {
-    size_t count;   /* how many fields there are; as many as have room are written, and later elements are unchanged */
+    size_t count;   /* how many fields there are, even if `fields` has room for fewer; elements without a field are unchanged */
     size_t taken;   /* how many bytes are taken, status bytes included; unless the data are refused, later bytes are ignored */
     uint8_t code;   /* for a reply its response code; for a request the response code that refuses it, or 0 */
     uint8_t status; /* for a reply its device status; for a request 0 */
     uint8_t fault;  /* HART_OK, or why nothing was read */
 } hart_reading;
 
-/* Reads the data of a request of this command, and writes where its fields stand; 16 fields are room for any data. A refused request has no
- * fields and takes nothing. Its code is the first of these that holds: 64 for an unknown command, 5 for too few bytes, 2 for Command 6 with
+/* Reads the data of a request of this command, and writes its fields; 16 elements are enough for any data. A refused request has no fields,
+ * and no bytes are taken. Its code is the first of these that applies: 64 for an unknown command, 5 for too few bytes, 2 for Command 6 with
  * an address above 63, 12 for Command 6 with a mode above 1, 9 for Command 18 with a bad date. No fault. */
 hart_reading hart_read_request(uint8_t command, const uint8_t *data, size_t data_len, hart_field *fields, size_t fields_len);
 
-/* Reads the payload of a reply to this command, from its status bytes on, and writes where its fields stand; the first one starts at 2.
+/* Reads the payload of a reply to this command, status bytes first, and writes its fields; the first field starts at offset 2.
  * A reply with a code other than 0 has no fields. Fault: HART_NO_REPLY if the payload has fewer than two bytes, bit 7 of the first byte is
- * set, the command is unknown, or the code is 0 and the data are not those of the command. */
+ * set, the command is unknown, or the code is 0 and the data do not fit the command. */
 hart_reading hart_read_reply(uint8_t command, const uint8_t *payload, size_t payload_len, hart_field *fields, size_t fields_len);
 
-/* Writes the name of a command to the front of `output`, without a final 0. Returns its length; 64 bytes are room for any name.
+/* Writes the name of a command to the front of `output`, without a final 0. Returns its length; 64 bytes are enough for any name.
  * Faults: HART_UNKNOWN, HART_NO_ROOM. */
 hart_outcome hart_command_name(uint8_t command, uint8_t *output, size_t output_len);
 
-/* Writes the name of the field that hart_read_reply or hart_read_request writes at this index, without a final 0. Returns its length.
+/* Writes the name of the field that hart_read_reply or hart_read_request writes at `index`, without a final 0. Returns its length.
  * Faults: HART_UNKNOWN if there is no such command or field, HART_NO_ROOM. */
 hart_outcome hart_field_name(bool is_reply, uint8_t command, size_t index, uint8_t *output, size_t output_len);
 
-/* Devices. hart_hear takes who the device is and what it measures. The caller keeps what the device holds in a hart_device, which can be
- * stored as bytes. A float is four bytes, the most significant first. docs/COMMANDS.md describes each field. */
+/* Devices. Each call of hart_hear gets the identity of the device and its process values. The caller keeps the state of the device in a
+ * hart_device, which can be stored as bytes. A float is four bytes, the most significant first. docs/COMMANDS.md describes each field. */
 
-/* Who a device is. */
+/* The identity of a device. */
 typedef struct hart_identity {
     uint32_t device_id;                  /* at most 0xFFFFFF */
     uint16_t expanded_device_type;       /* its lower 14 bits are in the unique address */
@@ -201,11 +201,11 @@ typedef struct hart_output {
     uint8_t channel_flags;
 } hart_output;
 
-/* What a device measures and knows of its parts. */
+/* The process values of a device: what it measures, and what it knows of its sensor and output. */
 typedef struct hart_process {
     uint8_t loop_current[4];       /* in milliampere, a float */
     uint8_t percent_of_range[4];   /* a float */
-    hart_variable variables[4];    /* the dynamic variables, the primary one first; the first variables_len count */
+    hart_variable variables[4];    /* the dynamic variables, primary first; the first variables_len elements count */
     uint8_t variables_len;         /* 1 to 4 */
     uint8_t time_stamp[4];         /* when the variables were measured */
     uint8_t status;                /* bits 0x80, 0x04, 0x02 and 0x01 of the device status; other bits are ignored */
@@ -226,8 +226,8 @@ typedef struct hart_registers {
     uint8_t long_tag[32];
 } hart_registers;
 
-/* What a device holds, in 89 bytes without padding. An image that `hart sim` has written may be put in, with both bools false. hart_hear
- * writes images of version 2. image[1] is the polling address, and image[2] the loop current mode. Bit 0x04 of image[image_len - 1] is
+/* The state of a device, in 89 bytes without padding. You can put in an image that `hart sim` has written, with both bools false. hart_hear
+ * writes images of version 2. image[1] is the polling address, and image[2] is the loop current mode. Bit 0x04 of image[image_len - 1] is
  * write protection, which the caller may set and clear. hart_hear checks a stored image; the caller checks that both bools are 0 or 1. */
 typedef struct hart_device {
     uint8_t image[86];        /* version 2 (86 bytes) or version 1 (54); the first image_len bytes count */
@@ -236,7 +236,7 @@ typedef struct hart_device {
     bool secondary_cold_start;
 } hart_device;
 
-/* Write the identity, the process values and the first registers of the bench device of the program `hart`. */
+/* Write the identity, the process values and the initial registers of the bench device, which the program `hart` simulates. */
 void hart_bench_identity(hart_identity *identity);
 void hart_bench_process(hart_process *process);
 void hart_bench_registers(hart_registers *registers);
@@ -248,9 +248,9 @@ hart_outcome hart_new_device(const hart_registers *registers, hart_device *devic
 /* Records that the device was without power: sets both cold start bits, and nothing else. */
 void hart_restart(hart_device *device);
 
-/* Lets a device hear a delivery, which is all that came between two silences. Writes its reply, a whole message, to the front of `reply`, and
- * updates the device. Returns the length of the reply, or 0 if the device is silent; 287 bytes are room for any reply. A damaged request
- * gets a reply with communication faults if its delimiter and its unique address are intact and no character is missing.
+/* Lets a device hear a delivery, which is all that came between two silences. Writes the reply, a whole message, to the front of `reply`,
+ * and updates the device. Returns the length of the reply, or 0 if the device is silent; 287 bytes are enough for any reply. A damaged
+ * request gets a reply with communication faults if its delimiter and its unique address are intact and no character is missing.
  * Faults: HART_OUT_OF_RANGE, HART_BROADCAST_ADDRESS; HART_BAD_LENGTH (0 or above 86), HART_BAD_VERSION, HART_BAD_LENGTH, HART_BAD_FIELD;
  * HART_BAD_VARIABLES; HART_BAD_FAULT_BITS, HART_TOO_LONG (then send nothing); HART_NO_ROOM. A fault changes nothing. */
 hart_outcome hart_hear(const hart_identity *identity, const hart_process *process, const hart_char *heard, size_t heard_len,
@@ -258,14 +258,14 @@ hart_outcome hart_hear(const hart_identity *identity, const hart_process *proces
 
 /* Whether a request was answered. */
 typedef struct hart_acceptance {
-    bool is_accepted; /* the reply to the request was heard */
+    bool is_accepted; /* true if the reply to the request was heard */
     uint8_t code;     /* the response code of the reply, where 0 is success; also 0 if no reply was heard */
     uint8_t status;   /* the device status of the reply; 0 if no reply was heard */
     uint8_t fault;    /* HART_OK, or why nothing was done */
 } hart_acceptance;
 
-/* Returns whether a delivery is the reply to a request, as a master accepts it. If so, writes the frame of the reply to `reply`, which may not
- * be `request`. A reply with communication faults is not accepted; hart_find finds it. Faults: HART_BAD_ADDRESS, HART_LONG_EXPANSION,
+/* Returns whether a master accepts a delivery as the reply to a request. If so, writes the frame of the reply to `reply`, which must not be
+ * `request`. A reply with communication faults is not accepted; hart_find finds it. Faults: HART_BAD_ADDRESS, HART_LONG_EXPANSION,
  * HART_TOO_SHORT_REPLY; HART_NO_REQUEST (a reply, expansion bytes, the burst bit, or data that hart_read_request refuses);
  * HART_WRONG_ADDRESS (a command other than 0 at a polling address, or other than 11 and 21 by broadcast); HART_BAD_FAULT_BITS,
  * HART_TOO_LONG. */
@@ -273,13 +273,13 @@ hart_acceptance hart_accept(const hart_frame *request, const hart_char *heard, s
 
 /* The unique address in a reply. */
 typedef struct hart_unique {
-    bool is_given;          /* the reply has a unique address; otherwise both numbers are 0 */
+    bool is_given;          /* true if the reply has a unique address; otherwise both numbers are 0 */
     uint16_t expanded_type; /* at most 0x3FFF */
     uint32_t device_id;     /* at most 0xFFFFFF */
 } hart_unique;
 
-/* Returns the unique address in the payload of a reply to Command 0, 11 or 21 with code 0, from its status bytes on. None is given for any
- * other reply, for a payload that is no reply, or if the address is broadcast. No fault. */
+/* Returns the unique address in the payload of a reply to Command 0, 11 or 21 with code 0; the payload begins with its status bytes. For
+ * any other payload, or if the address is broadcast, no address is given. No fault. */
 hart_unique hart_unique_of(uint8_t command, const uint8_t *payload, size_t payload_len);
 
 #ifdef __cplusplus
