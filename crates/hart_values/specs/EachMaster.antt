@@ -3,12 +3,12 @@ use Rattle.hart_values.specs.declared.each_master.EachMaster.{EachMaster}
 use Rattle.hart_values.specs.declared.master_id.MasterId.{MasterId}
 use Rattle.hart_values.specs.declared.master_id.MasterId.TheVariants.{Primary, Secondary}
 
--- The value of this master.
+-- The value that belongs to this master.
 abbrev pub of_master : {A : Type 0} → MasterId → EachMaster A → A
 of_master Primary each = each.primary
 of_master Secondary each = each.secondary
 
--- The same values, except that this master's value is replaced.
+-- The two values after this master's value was replaced. The other master's value stays the same.
 abbrev pub with_master : {A : Type 0} → MasterId → A → EachMaster A → EachMaster A
 with_master Primary a each = record { primary = a; secondary = each.secondary }
 with_master Secondary a each = record { primary = each.primary; secondary = a }

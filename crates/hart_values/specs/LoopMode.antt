@@ -3,7 +3,7 @@ use Rattle.std.specs.Prelude.{ℕ}
 use Rattle.hart_values.specs.declared.loop_mode.LoopMode.{LoopMode}
 use Rattle.hart_values.specs.declared.loop_mode.LoopMode.TheVariants.{Disabled, Enabled}
 
--- A loop current mode is a byte: 0 if it is disabled, 1 if it is enabled.
+-- The byte of a loop current mode: 0 if the mode is disabled, 1 if it is enabled.
 abbrev pub mode_byte : LoopMode → ℕ
 mode_byte Disabled = 0
 mode_byte Enabled = 1

@@ -23,7 +23,7 @@ pub enum Address {
 impl Address {
     ghost use Rattle.hart_values.specs.address.AddressBytes.{IsAddressBytes, broadcast, is_broadcast};
 
-    /// Returns the polling address of this number.
+    /// Returns the polling address with this number.
     ///
     /// # Errors
     ///
@@ -36,7 +36,7 @@ impl Address {
         Ok(Address::Polling(PollingAddress::new(number)?))
     }
 
-    /// Returns the unique address of this device id and the lower 14 bits of this expanded device type.
+    /// Returns the unique address with this device id and with the lower 14 bits of this expanded device type.
     ///
     /// # Errors
     ///
@@ -50,7 +50,7 @@ impl Address {
         Ok(Address::Unique(UniqueAddress::new(expanded_type, device_id)?))
     }
 
-    /// Returns true if this is the broadcast address: the unique address whose two numbers are 0.
+    /// Returns true if this is the broadcast address, which is the unique address with type 0 and device id 0.
     pub fn is_broadcast(self) -> bool
         ensures known { IsTrue result ↔ (self ≡ broadcast) }
         ensures test { result ≡ is_broadcast self }
@@ -82,7 +82,7 @@ impl Address {
         bytes
     }
 
-    /// Reads the master bit, the burst bit and the address in these bytes.
+    /// Reads the master bit, the burst bit and the address from these bytes.
     ///
     /// One byte is a polling address, five bytes are a unique address. The result is `None` for any other number of bytes.
     pub fn read(bytes: &[u8]) -> Option<(MasterId, bool, Address)>

@@ -15,7 +15,7 @@ pub enum ValueFault {
     /// Three bytes are neither a calendar date nor three zeros.
     #[error("bad date")]
     BadDate,
-    /// A number is greater than the value allows.
+    /// A number is greater than the greatest number that is allowed.
     #[error("out of range")]
     OutOfRange,
 }

@@ -8,12 +8,12 @@ use std::marker::Model;
 
 mod calendar;
 
-/// The bytes of "not set".
+/// The bytes of the date "not set".
 const NOT_SET: [u8; 3] = [0; 3];
 
 /// A day of the years 1900 to 2155 (HCF_SPEC-127), or "not set" (own profile).
 ///
-/// Contracts see its three bytes: the day, the month, and the year less 1900.
+/// In contracts, a date is its three bytes: the day, the month, and the year minus 1900.
 #[derive(Clone, Copy, Debug, PartialEq, Eq)]
 pub struct HartDate {
     bytes: [u8; 3],
@@ -33,7 +33,7 @@ impl Model for HartDate {
 }
 
 impl HartDate {
-    /// Reads the date in these bytes.
+    /// Reads the date from these bytes.
     ///
     /// # Errors
     ///

@@ -1,4 +1,4 @@
-//! Laws about the definitions alone, for the crates that use this one.
+//! Laws: facts about the definitions without any code, for the crates that use this crate.
 ghost use Rattle.std.specs.Prelude.{◌≡◌, ◌↔◌, Bool, true, false, List, ℕ};
 ghost use Rattle.hart_values.specs.address.AddressBytes.{IsAddressBytes};
 ghost use Rattle.hart_values.specs.hart_date.Calendar.{IsDateBytes, is_date};

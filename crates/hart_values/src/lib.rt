@@ -1,7 +1,7 @@
 //! The values that a HART message carries, and their bytes (HCF_SPEC-081, HCF_SPEC-099, HCF_SPEC-127).
 //!
-//! Each value here is a value of the standard. If the standard gives its bytes a form of their own, a relation in `specs/` defines
-//! that form. A pair of calls converts both ways: [`Address::bytes`] and [`Address::read`] for an address,
+//! Each value of this crate is a value of the standard. If the standard defines how a value is coded in bytes, a relation in `specs/`
+//! states this coding. Two calls convert a value to bytes and back: [`Address::bytes`] and [`Address::read`] for an address,
 //! [`PackedText::from_text`] and [`PackedText::write_text`] for a text, [`HartDate::from_bytes`] and [`HartDate::as_bytes`] for a
 //! date, [`Status::bytes`] and [`Status::read`] for a status.
 //!
@@ -17,7 +17,7 @@
 //! );
 //! ```
 //!
-//! The program `hart` does not call [`Status::read`]. That call is for programs that use this library to show replies to a person.
+//! The program `hart` does not call [`Status::read`]. This call is for programs that use this library to show replies to a person.
 //!
 //! No call of this crate allocates. Its modules are independent of each other:
 //!
@@ -26,8 +26,8 @@
 //! - `hart_date`: dates, and the calendar that they are checked against.
 //! - `status`: the two status bytes of a reply: either a response code and a device status, or communication faults.
 //!
-//! The root has the values of one or four bytes that have no invariant, lists of bytes, and a pair of values for the two masters.
-//! The module [`laws`] states what is proved of the definitions alone.
+//! All other types are in the root of the crate: values of one or four bytes without an invariant, lists of bytes, and a pair of
+//! values for the two masters. The module [`laws`] states what is proved of the definitions without any code.
 #![tactic(auto)]
 
 mod address;

@@ -8,9 +8,9 @@ use std::marker::Model;
 
 mod packing;
 
-/// A text of 8, 16 or 32 characters, four in every three of its `N` bytes (HCF_SPEC-127).
+/// A text of 8, 16 or 32 characters, packed into `N` bytes: four characters into every three bytes (HCF_SPEC-127).
 ///
-/// Contracts see its bytes.
+/// In contracts, a packed text is its bytes.
 #[derive(Clone, Copy, Debug, PartialEq, Eq, Hash)]
 pub struct PackedText<const N: usize> {
     bytes: [u8; N],
@@ -34,8 +34,8 @@ impl<const N: usize> PackedText<N> {
     ///
     /// # Errors
     ///
-    /// [`ValueFault::WrongLength`] unless the text has 4N/3 bytes. Otherwise, [`ValueFault::BadCharacter`] with the place of the
-    /// first byte outside hex 20 to 5F, if there is one.
+    /// [`ValueFault::WrongLength`] if the text does not have 4N/3 bytes. Otherwise, if a byte is outside hex 20 to 5F,
+    /// [`ValueFault::BadCharacter`] with the place of the first such byte.
     pub fn from_text(text: &[u8]) -> Result<Self, ValueFault>
         requires { IsPackedSize N }
         ensures accepted { IsOk result ↔ ((length text.now ≡ 4 * N / 3) × All IsCharacter text.now) }
@@ -53,7 +53,7 @@ impl<const N: usize> PackedText<N> {
         Ok(PackedText { bytes })
     }
 
-    /// Returns the packed text of these bytes. Any bytes are a packed text.
+    /// Returns the packed text that has these bytes. Any `N` bytes are a packed text.
     pub fn from_bytes(bytes: [u8; N]) -> Self
         requires { IsPackedSize N }
         ensures { result ≡ bytes.entry }
@@ -73,7 +73,7 @@ impl<const N: usize> PackedText<N> {
     ///
     /// # Errors
     ///
-    /// [`ValueFault::WrongLength`] unless `text` has 4N/3 bytes. `text` is then unchanged.
+    /// [`ValueFault::WrongLength`] if `text` does not have 4N/3 bytes. In this case `text` is unchanged.
     pub fn write_text(&self, text: &mut [u8]) -> Result<(), ValueFault>
         ensures accepted { IsOk result ↔ (length text.old ≡ 4 * N / 3) }
         ensures written { OnOk result (IsPacked text.new self.now) }

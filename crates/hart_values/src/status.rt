@@ -1,4 +1,4 @@
-//! What the two status bytes of a reply say.
+//! What the two status bytes of a reply mean.
 ghost use Rattle.std.specs.Prelude.{◌≡◌, ℕ, slice_index};
 
 use crate::{CommFaults, DeviceStatus, ResponseCode};
@@ -7,22 +7,22 @@ pub mod comm_faults;
 pub mod device_status;
 pub mod response_code;
 
-/// The bit of the first status byte that distinguishes communication faults from a response code.
+/// The bit of the first status byte that is set for communication faults, and clear for a response code.
 const FAULTS_BIT: u8 = 0x80;
 
-/// What the two status bytes of a reply say (HCF_SPEC-099).
+/// What the two status bytes of a reply mean (HCF_SPEC-099).
 #[derive(Clone, Copy, Debug, PartialEq, Eq)]
 pub enum Status {
-    /// The device has received the request: the response code, and the state of the device.
+    /// The response code and the device status: the device has received the request without faults.
     Code(ResponseCode, DeviceStatus),
-    /// The device has received the request with faults.
+    /// The communication faults with which the device has received the request.
     Faulty(CommFaults),
 }
 
 impl Status {
     ghost use Rattle.hart_values.specs.status.StatusBytes.{IsStatusBytes};
 
-    /// Reads the status in two bytes.
+    /// Reads the status from two bytes.
     pub fn read(bytes: [u8; 2]) -> Self
         ensures held { IsStatusBytes result bytes }
         ensures only { (status : Status) → IsStatusBytes status bytes → result ≡ status }

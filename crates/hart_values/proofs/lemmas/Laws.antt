@@ -7,24 +7,24 @@ use Rattle.hart_values.specs.declared.master_id.MasterId.{MasterId}
 use Rattle.hart_values.specs.hart_date.Calendar.{IsDateBytes, is_date}
 use Rattle.hart_values.specs.packed_text.Packing.{IsPacked}
 
--- Bytes hold one master bit, one burst bit and one address.
+-- Address bytes have only one reading: one master bit, one burst bit and one address.
 pub address_bytes_are_unambiguous-one_reading : (m n : MasterId) (b c : Bool) (x y : Address) (bytes : List ℕ)
     → IsAddressBytes m b x bytes → IsAddressBytes n c y bytes → (m ≡ n) × (b ≡ c) × (x ≡ y)
 address_bytes_are_unambiguous-one_reading m n b c x y bytes p q = grind arith
 
--- An address has one list of bytes, for each master bit and burst bit.
+-- For each master bit and burst bit, an address has only one list of bytes.
 pub address_bytes_are_unambiguous-one_list : (m : MasterId) (b : Bool) (x : Address) (bytes others : List ℕ)
     → IsAddressBytes m b x bytes → IsAddressBytes m b x others → bytes ≡ others
 address_bytes_are_unambiguous-one_list m b x bytes others p q = grind arith
 
--- A text is packed into one list of bytes.
+-- A text has only one packed form.
 pub packed_text_and_bytes_determine_each_other-one_list : (text bytes others : List ℕ)
     → IsPacked text bytes → IsPacked text others → bytes ≡ others
 packed_text_and_bytes_determine_each_other-one_list text bytes others p q =
     ext_get_or 0 bytes others (omega (arith, p.lengths, q.lengths))
     (λ i h. grind (arith, p.groups (i / 3), q.groups (i / 3), p.lengths, p.bytes_fit, q.bytes_fit))
 
--- Packed bytes have one text.
+-- Bytes are the packed form of only one text.
 pub packed_text_and_bytes_determine_each_other-one_text : (text others bytes : List ℕ)
     → IsPacked text bytes → IsPacked others bytes → text ≡ others
 packed_text_and_bytes_determine_each_other-one_text text others bytes p q =

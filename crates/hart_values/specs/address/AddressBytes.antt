@@ -11,7 +11,7 @@ abbrev pub master_bit : MasterId → ℕ
 master_bit Primary = 1
 master_bit Secondary = 0
 
--- The burst bit is 1 if it is set.
+-- The burst bit is 1 if it is set, and 0 otherwise.
 abbrev pub burst_bit : Bool → ℕ
 burst_bit true = 1
 burst_bit false = 0
@@ -20,8 +20,8 @@ burst_bit false = 0
 abbrev pub first_byte : MasterId → Bool → ℕ → ℕ
 first_byte master burst six_bits = 128 * master_bit master + 64 * burst_bit burst + six_bits
 
--- Five bytes hold a unique address. The first has the master bit, the burst bit and bits 13 to 8 of the expanded device type; the
--- second has bits 7 to 0. The other three have the device id, the most significant byte first.
+-- Five bytes hold a unique address. The first byte has the master bit, the burst bit and bits 13 to 8 of the expanded device type; the
+-- second byte has bits 7 to 0 of this type. The other three bytes have the device id, the most significant byte first.
 pub record IsUniqueBytes (master : MasterId) (burst : Bool) (numbers : DeviceNumbers) (bytes : List ℕ) : Type 0 where
   pub type_high : ℕ
   pub type_low : ℕ
@@ -33,16 +33,16 @@ pub record IsUniqueBytes (master : MasterId) (burst : Bool) (numbers : DeviceNum
   pub expanded_type : 256 * type_high + type_low ≡ numbers.expanded_type
   pub device_id : 65536 * id_high + 256 * id_middle + id_low ≡ numbers.device_id
 
--- A polling address, below 64, stands in the lower six bits of one byte; a unique address is five bytes.
+-- The bytes of an address. A polling address is below 64, and is the lower six bits of one byte. A unique address has five bytes.
 abbrev pub IsAddressBytes : MasterId → Bool → Address → List ℕ → Type 0
 IsAddressBytes master burst (Polling number) bytes = (number < 64) × (bytes ≡ first_byte master burst number ∷ [])
 IsAddressBytes master burst (Unique numbers) bytes = IsUniqueBytes master burst numbers bytes
 
--- The broadcast address is the unique address whose numbers are both zero.
+-- The broadcast address is the unique address whose type and device id are 0.
 abbrev pub broadcast : Address
 broadcast = Unique (record { expanded_type = 0; device_id = 0 })
 
--- The test of the broadcast address is true for this address and false for every other one.
+-- The test of the broadcast address is true for this address and false for every other address.
 abbrev pub is_broadcast : Address → Bool
 is_broadcast (Polling number) = false
 is_broadcast (Unique numbers) = (numbers.expanded_type == 0) && (numbers.device_id == 0)

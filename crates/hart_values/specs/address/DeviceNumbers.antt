@@ -1,4 +1,4 @@
--- What a contract sees of a unique address (HCF_SPEC-081).
+-- How contracts describe a unique address (HCF_SPEC-081).
 use Rattle.std.specs.Prelude.{ℕ}
 
 -- The numbers of a device are the lower 14 bits of its expanded device type, and its device id of 24 bits.

@@ -1,4 +1,4 @@
--- Packed text: four characters stand in three bytes, six bits each (HCF_SPEC-127).
+-- Packed text: four characters of six bits each are in three bytes (HCF_SPEC-127).
 use Rattle.std.specs.Prelude.{◌≡◌, ◌≢◌, ℕ, ◌+◌, ◌*◌, ◌%◌, ◌<◌, ◌≤◌, ◌⊎◌, List, length, slice_index, All}
 use Rattle.hart_values.specs.declared.fault.ValueFault.{ValueFault}
 use Rattle.hart_values.specs.declared.fault.ValueFault.TheVariants.{WrongLength, BadCharacter, BadDate, OutOfRange}
@@ -7,16 +7,16 @@ use Rattle.hart_values.specs.declared.fault.ValueFault.TheVariants.{WrongLength,
 abbrev pub IsPackedSize : ℕ → Type 0
 IsPackedSize size = (size ≡ 6) ⊎ (size ≡ 12) ⊎ (size ≡ 24)
 
--- The characters of packed text are those of the codes hex 20 to 5F.
+-- The characters of packed text have the codes hex 20 to 5F.
 abbrev pub IsCharacter : ℕ → Type 0
 IsCharacter code = (32 ≤ code) × (code < 96)
 
--- A group of three bytes is one number of 24 bits, made of four codes modulo 64. The first code is in its highest six bits.
+-- A group of three bytes is one number of 24 bits. It consists of four codes modulo 64, with the first code in the highest six bits.
 abbrev pub IsPackedGroup : (w x y z a b c : ℕ) → Type 0
 IsPackedGroup w x y z a b c =
     65536 * a + 256 * b + c ≡ 262144 * (w % 64) + 4096 * (x % 64) + 64 * (y % 64) + z % 64
 
--- The group at a place has its four characters from `4 * place` on, and its three bytes from `3 * place` on.
+-- The group at a place is packed. Its four characters are in the text from `4 * place` on, and its three bytes from `3 * place` on.
 abbrev pub IsPackedAt : List ℕ → List ℕ → ℕ → Type 0
 IsPackedAt text bytes place =
     IsPackedGroup
@@ -32,7 +32,7 @@ pub record IsPacked (text bytes : List ℕ) : Type 0 where
   pub bytes_fit : All (λ byte. byte < 256) bytes
   pub groups : (place : ℕ) → 3 * place < length bytes → IsPackedAt text bytes place
 
--- The first bad character of a text is a bad character with none before it.
+-- The first bad character of a text is a bad character with no bad character before it.
 pub record IsFirstBadCharacter (text : List ℕ) (place : ℕ) : Type 0 where
   pub in_text : place < length text
   pub bad : ¬ IsCharacter (slice_index text place)

@@ -21,7 +21,7 @@ pub(crate) fn join_first_byte(master: MasterId, burst: bool, six_bits: u8) -> u8
     master_bit + burst_bit + six_bits
 }
 
-/// Splits the first byte of an address into its parts.
+/// Splits the first byte of an address into the master, the burst bit and the six bits of the address.
 pub(crate) fn split_first_byte(byte: u8) -> (MasterId, bool, u8)
     ensures joined { byte ≡ first_byte result.0 result.1 result.2 }
     ensures in_range { result.2 < 64 }

@@ -25,7 +25,7 @@ impl Model for PollingAddress {
 }
 
 impl PollingAddress {
-    /// Returns the polling address of this number.
+    /// Returns the polling address with this number.
     ///
     /// # Errors
     ///
@@ -50,7 +50,7 @@ impl PollingAddress {
         self.number
     }
 
-    /// Returns the number in one byte.
+    /// Returns the number as a slice of one byte.
     pub fn as_bytes(&self) -> &[u8]
         ensures same { result.now ≡ self.now ∷ [] }
         ensures in_range { self.now < 64 }

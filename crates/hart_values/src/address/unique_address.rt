@@ -5,8 +5,8 @@ use std::marker::Model;
 
 /// The unique address of a device: its expanded device type and its device id (HCF_SPEC-081).
 ///
-/// An address has only the lower 14 of the 16 bits of the expanded device type, so only these are kept. The unique address whose
-/// two numbers are 0 is the broadcast address.
+/// An address has only the lower 14 bits of the expanded device type, which has 16 bits. So only these 14 bits are kept. The unique
+/// address with type 0 and device id 0 is the broadcast address.
 #[derive(Clone, Copy, Debug, PartialEq, Eq, Hash)]
 pub struct UniqueAddress {
     expanded_type: u16,
@@ -27,7 +27,7 @@ impl Model for UniqueAddress {
 }
 
 impl UniqueAddress {
-    /// Returns the unique address of this expanded device type and this device id.
+    /// Returns the unique address with this expanded device type and this device id.
     ///
     /// # Errors
     ///

@@ -4,10 +4,10 @@ ghost use Rattle.hart_values.specs.hart_date.Calendar.{IsCalendarDay};
 
 use jiff::civil::Date;
 
-/// The year whose byte is 0.
+/// The year that the byte 0 stands for.
 const FIRST_YEAR: i16 = 1900;
 
-/// Returns true if the calendar has this day. Years count from 1900.
+/// Returns true if the calendar has this day. The year 0 means 1900.
 pub(crate) fn is_calendar_day(day: u8, month: u8, year: u8) -> bool
     ensures { IsTrue result ↔ IsCalendarDay day month (1900 + year) }
 {

@@ -8,10 +8,10 @@ const FIRST_CHARACTER: u8 = 0x20;
 /// The last character of packed text.
 const LAST_CHARACTER: u8 = 0x5F;
 
-/// The bits of a character that packed text keeps.
+/// The six bits of a character that packed text keeps.
 const SIX_BITS: u32 = 0x3F;
 
-/// The bit that packed text drops. A character has this bit set if the next lower bit is clear.
+/// The bit of a character that packed text drops. A character has this bit set exactly if its next lower bit is clear.
 const DROPPED_BIT: u8 = 0x40;
 
 /// Returns true if this character can be packed.
@@ -21,14 +21,14 @@ fn is_character(code: u8) -> bool
     matches!(code, FIRST_CHARACTER..=LAST_CHARACTER)
 }
 
-/// Finds the first byte that is no character of packed text.
+/// Finds the place of the first byte that is no character of packed text.
 pub(crate) fn first_bad_character(text: &[u8]) -> Option<usize>
     ensures { MatchOption result (All IsCharacter text.now) (IsFirstBadCharacter text.now) }
 {
     text.iter().position(|code| !is_character(*code))
 }
 
-/// Returns the character of six bits.
+/// Returns the character that has these six bits as its lower six bits.
 fn character(six_bits: u8) -> u8
     requires { six_bits < 64 }
     ensures known { IsCharacter result }

@@ -5,7 +5,7 @@ use std::marker::Model;
 
 /// The communication faults of one message, as seven bits (HCF_SPEC-099).
 ///
-/// The constants name five of the bits; hex 04 and 01 have no name.
+/// The constants name five of the bits; the bits hex 04 and 01 have no name.
 #[derive(Clone, Copy, Debug, PartialEq, Eq)]
 pub struct CommFaults {
     bits: u8,
@@ -39,7 +39,7 @@ impl CommFaults {
     /// The message was longer than the receiver's buffer.
     pub const BUFFER_OVERFLOW: u8 = 0x02;
 
-    /// Returns the communication faults of these bits.
+    /// Returns the communication faults with these bits.
     ///
     /// # Errors
     ///

@@ -34,7 +34,7 @@ impl ResponseCode {
     /// The device is write protected, and the command is a configuration write.
     pub const IN_WRITE_PROTECT_MODE: ResponseCode = ResponseCode { value: 7 };
 
-    /// The configuration change counter that Command 38 names is not the device's (own profile).
+    /// The counter in a request of Command 38 is not the device's configuration change counter (own profile).
     pub const COUNTER_MISMATCH: ResponseCode = ResponseCode { value: 9 };
 
     /// The date of Command 18 is neither a day of the calendar nor "not set" (own profile).
@@ -46,7 +46,7 @@ impl ResponseCode {
     /// The device does not know the command.
     pub const COMMAND_NOT_IMPLEMENTED: ResponseCode = ResponseCode { value: 64 };
 
-    /// Returns the response code of this number.
+    /// Returns the response code with this number.
     ///
     /// # Errors
     ///
@@ -72,7 +72,7 @@ impl ResponseCode {
     }
 }
 
-// Each name has the number given here; the prover rejects any other.
+// The prover checks that each name has the number given here.
 const _: () = prove!(ResponseCode::SUCCESS.value == 0);
 
 const _: () = prove!(ResponseCode::INVALID_SELECTION.value == 2);

@@ -1,4 +1,4 @@
--- The calendar of `jiff` has the same days as the one of `IsCalendarDay`.
+-- The calendar of `jiff` has the same days as the calendar of `IsCalendarDay`.
 use Rattle.std.proofs.Common.{◌≡◌, ℕ, ◌+◌, ◌-◌, ◌<◌, ◌≤◌, get_or, arith, ℤ, pos, ◌+ℤ◌, FitsSigned, w8, w16, to_z, of_z, ◌↔◌}
 use Rattle.std.proofs.lemmas.Bool.Decides.{nat_tests}
 use Rattle.std.proofs.lemmas.Int.{ints, to_z-of_z, to_z_pos}
@@ -10,12 +10,12 @@ month_lengths-jiff : (year month : ℕ) → 1 ≤ month → month ≤ 12
     → get_or (month_lengths year) (month - 1) 0 ≡ days_in_month (pos year) month
 month_lengths-jiff year month from to = grind (arith, nat_tests)
 
--- `jiff` has a date exactly if `IsCalendarDay` holds of its day, month and year
+-- `jiff` has a date exactly if `IsCalendarDay` is true for its day, month and year
 pub IsDate-iff : (y m d : ℤ) (day month year : ℕ) → y ≡ pos year → m ≡ pos month → d ≡ pos day → year ≤ 9999
     → IsDate y m d ↔ IsCalendarDay day month year
 IsDate-iff y m d day month year same_year same_month same_day small = grind (arith, ints, month_lengths-jiff)
 
--- a number that fits in a signed byte is unchanged when passed as one
+-- a number that fits in a signed byte is unchanged when it is passed as a signed byte
 pub passed_byte : (z : ℤ) (n : ℕ) → FitsSigned w8 (pos n) → z ≡ pos n → to_z w8 (of_z w8 z) ≡ pos n
 passed_byte z n fits e = rw e (to_z-of_z w8 (pos n) fits)
 
