@@ -1,4 +1,4 @@
--- The table of the commands, and what the table says of each command (HCF_SPEC-099, HCF_SPEC-127).
+-- The table of the commands, and what the table says about each command (HCF_SPEC-099, HCF_SPEC-127).
 use Prim.Native.String.{String}
 use Rattle.std.specs.Prelude.{ℕ, ◌==◌, ◌||◌, Bool, List, [], ◌∷◌, find, map, Ok, Option, is_some}
 use Rattle.std.specs.Option.{option_map, option_map_or}
@@ -20,8 +20,8 @@ use Rattle.hart_commands.specs.RequestReading.{Reading, needing, polling_reading
 use Rattle.hart_commands.specs.SensorBytes.{sensor_of}
 use Rattle.hart_commands.specs.Values.{unit_value_of}
 
--- How the data of a request are read: the request is always the same, or the bytes that the command needs determine the request, or
--- the command has a reading of its own.
+-- How the data of a request are read. Either the request is always the same, or the bytes that the command needs determine the
+-- request, or the command has its own reading.
 pub data Asked : Type 0 where
   Always : Request → Asked
   Needing : (List ℕ → Request) → Asked
@@ -33,12 +33,12 @@ asked needed (Always request) bytes = Ok request
 asked needed (Needing request) bytes = needing needed request bytes
 asked needed (AskedBy reading) bytes = reading bytes
 
--- How the data of a reply are read: the bytes of the reply's fields determine the content, or the command has a reading of its own.
+-- How the data of a reply are read. Either the bytes of the reply's fields determine the content, or the command has its own reading.
 pub data Replied : Type 0 where
   Saying : (List ℕ → ReplyContent) → Replied
   SaidBy : (List ℕ → Option ReplyContent) → Replied
 
--- The content in reply data with these fields, if the data hold a content.
+-- The content that the data of a reply hold, if they hold a content. The data have these fields.
 unfoldable pub replied : List Row → Replied → List ℕ → Option ReplyContent
 replied fields (Saying content) bytes = saying (total fields) content bytes
 replied fields (SaidBy reading) bytes = reading bytes
@@ -124,7 +124,7 @@ command_row number = find (λ row. row.command.number == number) commands
 abbrev pub is_known : ℕ → Bool
 is_known number = is_some (command_row number)
 
--- Own profile: only Commands 11 and 21 may be broadcast, since they find a device by its tag or its long tag.
+-- Own profile: only Commands 11 and 21 may be broadcast, because they find a device by its tag or its long tag.
 abbrev pub may_be_broadcast : ℕ → Bool
 may_be_broadcast number = (number == 11) || (number == 21)
 
@@ -148,7 +148,7 @@ reply_rows number = option_map_or (λ command. command.reply) (known number) []
 unfoldable pub written_by : ℕ → List Register
 written_by number = option_map_or (λ row. row.command.writes) (command_row number) []
 
--- What contracts see of a command in the code's table.
+-- A command of the code's table, as contracts describe it.
 abbrev pub seen_command : CommandInCode → Command
 seen_command command = record {
   number = command.number;

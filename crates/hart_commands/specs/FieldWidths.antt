@@ -6,7 +6,7 @@ use Rattle.hart_commands.specs.declared.fields.FieldKind.TheVariants.{Bytes, Num
 use Rattle.hart_commands.specs.declared.fields.FieldKind.TheVariants.{Variables}
 
 -- A number has 1 or 2 bytes, a unit code 1, a date 3 and a float 4. A packed text of 8, 16 or 32 characters has 6, 12 or 24 bytes,
--- and a text in ISO Latin-1 has 32. There are 1 to 8 device variables of 8 bytes each. A field of plain bytes has at least 1.
+-- and a text in ISO Latin-1 has 32 bytes. There are 1 to 8 device variables of 8 bytes each. A field of plain bytes has at least 1 byte.
 abbrev pub IsWidthOf : FieldKind → ℕ → Type 0
 IsWidthOf Bytes width = 0 < width
 IsWidthOf Number width = (width ≡ 1) ⊎ (width ≡ 2)

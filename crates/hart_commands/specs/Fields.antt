@@ -156,7 +156,7 @@ abbrev pub counter : List Row
 counter = field "configuration change counter" (Exactly 2) Number ∷ []
 
 -- How many of the `left` bytes a field takes. A field of exact size takes that size if there are enough bytes. A field of `AllBut
--- after` takes all but the last `after` bytes if there are more than `after`.
+-- after` takes all bytes except the last `after` bytes, if there are more than `after` bytes.
 abbrev pub size_in : FieldSize → ℕ → Option ℕ
 size_in (Exactly size) left = if nat_lt left size then None else Some size
 size_in (AllBut after) left = if nat_lt after left then Some (left - after) else None
@@ -172,8 +172,8 @@ pub record Field : Type 0 where
   pub kind : FieldKind
   pub bytes : List ℕ
 
--- The field of the first row stands at the start of the bytes, and the fields of the other rows follow it. A row for which there
--- are not enough bytes has no field, and no row after it has one.
+-- The field of the first row is at the start of the bytes, and the fields of the other rows follow it. If there are not enough bytes
+-- for a row, this row and all rows after it have no field.
 abbrev pub fields_of : List Row → List ℕ → List Field
 fields_of [] bytes = []
 fields_of (row ∷ others) bytes =
@@ -188,6 +188,6 @@ field_bytes fields = map (λ field. field.bytes) fields
 abbrev pub bytes_of : List Field → List ℕ
 bytes_of fields = flat_map (λ field. field.bytes) fields
 
--- What contracts see of a field's row in the code.
+-- The row of a field in the code, as contracts describe it.
 abbrev pub seen : FieldRow → Row
 seen row = record { name = row.name.now; size = row.size; kind = row.kind }

@@ -98,22 +98,23 @@ contents_by bytes = record {
 abbrev pub AreValid : Contents → Type 0
 AreValid contents = (register : Register) → IsValidIn register (bytes_in contents register)
 
--- Contracts see an overwrite as its request. A request that is no configuration write names no register.
+-- In contracts, an overwrite is its request. A request that is no configuration write names no register.
 abbrev pub Overwrite : Type 0
 Overwrite = Request
 
--- The part that stands at the same place among the parts as the register among the registers, if there is such a part.
+-- The part for a register. If the register is the first in the list of registers, its part is the first in the list of parts, and
+-- so on.
 abbrev pub part_for : Register → List Register → List (List ℕ) → Option (List ℕ)
 part_for register (first ∷ registers) (part ∷ parts) =
     if place_of first == place_of register then Some part else part_for register registers parts
 part_for register _ _ = None
 
--- The new bytes of a register, if the overwrite names that register. They are the part of the request at the place that the
--- register has in the list of registers that the command writes.
+-- The new bytes of a register, if the overwrite names that register. They are the part of the request for this register, among the
+-- registers that the command writes.
 abbrev pub named_in : Overwrite → Register → Option (List ℕ)
 named_in overwrite register = part_for register (written_by (command_of overwrite)) (request_parts overwrite)
 
--- An overwrite names valid bytes if each register that it names gets bytes that are valid in it.
+-- An overwrite names valid bytes if the new bytes of each register that it names are valid in this register.
 abbrev pub NamesValid : Overwrite → Type 0
 NamesValid overwrite = (register : Register) → IfSome (named_in overwrite register) (IsValidIn register)
 

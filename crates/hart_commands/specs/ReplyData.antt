@@ -16,8 +16,8 @@ content_by (Some row) bytes = replied row.command.reply row.replied bytes
 abbrev pub content_reading : ℕ → List ℕ → Option ReplyContent
 content_reading command = content_by (command_row command)
 
--- A payload of at least two bytes is a reply to a known command if its first byte, the response code, is below 128. With code 0,
--- the data must hold a content. With any other code, the request was refused, whatever the data are.
+-- A payload of at least two bytes is a reply to a known command if its first byte, the response code, is below 128. With code 0, the
+-- data must also hold a content. With any other code, the request was refused, whatever the data are.
 abbrev pub reply_reading : ℕ → List ℕ → Option Reply
 reply_reading command (code ∷ status ∷ bytes) =
     let saying : ReplyContent → Reply =

@@ -13,7 +13,7 @@ use Rattle.hart_commands.specs.IdentityBytes.{identity_of}
 abbrev pub saying : ℕ → (List ℕ → ReplyContent) → List ℕ → Option ReplyContent
 saying size content = having size None (λ xs. Some (content xs))
 
--- An identity has 22 bytes, and the first one is 254.
+-- An identity has 22 bytes, and the first byte is 254.
 abbrev pub identity_reading : List ℕ → Option ReplyContent
 identity_reading = having 22 None (λ xs. if slice_index xs 0 == 254 then Some (Identity (identity_of xs)) else None)
 

@@ -15,13 +15,13 @@ are_some (register ∷ registers) = true
 abbrev pub is_write : ℕ → Bool
 is_write command = are_some (written_by command)
 
--- Code 9 refuses Command 38 if the command names a counter other than the device's. Any other request with good data has code 0.
+-- Command 38 is refused with code 9 if it names a counter that is not the device's counter. Any other request with good data has code 0.
 abbrev pub counter_code : Request → ℕ → ℕ
 counter_code (ResetChanged (Some given)) counter = if given == counter then 0 else 9
 counter_code _ counter = 0
 
--- The code of the data. Bad data have the code that refuses them. Data that are a request have the code of the counter that the
--- request names.
+-- The code of the data. Bad data have the code that refuses them. If the data are a request, their code depends on the counter that
+-- the request names.
 abbrev pub data_code : Reading → ℕ → ℕ
 data_code (Err code) counter = code
 data_code (Ok request) counter = counter_code request counter

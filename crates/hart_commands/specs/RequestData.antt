@@ -30,8 +30,8 @@ IsRequest (IdentifyByLongTag long_tag) = length long_tag ≡ 32
 IsRequest (WriteLongTag long_tag) = length long_tag ≡ 32
 IsRequest _ = Unit {0}
 
--- Any bytes may follow the data of a request, with two exceptions. No byte may follow fewer than eight codes of Command 9, since it
--- would be read as another code. No byte may follow Command 38 without a counter.
+-- Any bytes may follow the data of a request, with two exceptions. No byte may follow fewer than eight codes of Command 9, because
+-- this byte would be read as another code. No byte may follow Command 38 without a counter.
 abbrev pub MayFollow : Request → List ℕ → Type 0
 MayFollow (ReadVariables codes) rest = (length codes ≡ 8) ⊎ (rest ≡ [])
 MayFollow (ResetChanged None) rest = rest ≡ []

@@ -38,7 +38,7 @@ abbrev pub codes_reading : List ℕ → Reading
 codes_reading [] = Err 5
 codes_reading (code ∷ codes) = Ok (ReadVariables (take 8 (code ∷ codes)))
 
--- Command 18 needs a tag of 6 bytes, a descriptor of 12 and a date of 3, and is refused with code 9 for a bad date.
+-- Command 18 needs a tag of 6 bytes, a descriptor of 12 bytes and a date of 3 bytes. With a bad date it is refused with code 9.
 abbrev pub tag_reading : List ℕ → Reading
 tag_reading bytes =
     if nat_lt (length bytes) 21 then Err 5

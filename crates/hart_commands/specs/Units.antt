@@ -14,8 +14,8 @@ pub record UnitRow : Type 0 where
 abbrev pub unit : ℕ → String → UnitRow
 unit code name = record { code = code; name = text name }
 
--- The unit codes that mean the same in every class of device variables. Codes without a row have no name; some of these mean
--- something else in each class.
+-- The unit codes that mean the same unit in every class of device variables. Codes without a row have no name. Some of the codes
+-- without a row mean a different unit in each class.
 abbrev pub units : List UnitRow
 units =
     unit 1 "inches of water at 68 degrees Fahrenheit"
@@ -202,6 +202,6 @@ unit_row code = find (λ row. row.code == code) units
 abbrev pub unit_name : ℕ → Option (List ℕ)
 unit_name code = option_map (λ row. row.name) (unit_row code)
 
--- What contracts see of a unit's row in the code.
+-- The row of a unit in the code, as contracts describe it.
 abbrev pub seen_unit : UnitRowInCode → UnitRow
 seen_unit row = record { code = row.code; name = row.name.now }

@@ -8,7 +8,7 @@ use Rattle.hart_commands.specs.declared.value.VariableReading.{VariableReading}
 abbrev pub one : ℕ → List ℕ
 one byte = byte ∷ []
 
--- Parts, one after another.
+-- The bytes of all parts, one after another.
 abbrev pub joined : List (List ℕ) → List ℕ
 joined [] = []
 joined (part ∷ []) = part

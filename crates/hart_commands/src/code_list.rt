@@ -5,7 +5,7 @@ use std::marker::Model;
 
 /// The codes of device variables that a request asks for, one to eight (HCF_SPEC-127, Command 9).
 ///
-/// Contracts see the list of the codes.
+/// In contracts, a value of this type is the list of its codes.
 #[derive(Debug, Drop, PartialEq, Eq)]
 pub struct CodeList {
     codes: ByteList<8>,
@@ -28,7 +28,7 @@ impl CodeList {
     ///
     /// # Errors
     ///
-    /// [`ValueFault::WrongLength`] unless there are 1 to 8 codes.
+    /// [`ValueFault::WrongLength`] if there is no code, or if there are more than 8 codes.
     pub fn new(codes: &[u8]) -> Result<Self, ValueFault>
         ensures accepted { IsOk result ↔ ((0 < length codes.now) × (length codes.now ≤ 8)) }
         ensures kept { IfOk result (λ list. list ≡ codes.now) }

@@ -71,8 +71,8 @@ pub fn is_write(command: u8) -> bool
     }
 }
 
-/// Returns true if a command may be sent by broadcast. Only Commands 11 and 21 may, since they find a device by its tag or its long
-/// tag (own profile).
+/// Returns true if a command may be sent by broadcast. Only Commands 11 and 21 may be broadcast, because they find a device by its
+/// tag or its long tag (own profile).
 pub fn may_be_broadcast(command: u8) -> bool
     ensures { result ≡ may_be_broadcast command }
 {
@@ -86,7 +86,7 @@ fn row_for(command: u8) -> Option<&'static Command>
     find_row(TABLE, command)
 }
 
-/// Returns the first row with this number.
+/// Returns the first row with this command number.
 fn find_row(rows: &'static [Command], command: u8) -> Option<&'static Command>
     ensures { option_map (λ row. seen_command row.now) result ≡ find (λ row. row.number == command) (map seen_command rows.now) }
 {

@@ -13,12 +13,12 @@ use hart_values::{Bits32, ByteList, PackedText, Payload};
 mod reading;
 mod writing;
 
-/// The content of a reply after its status bytes, by its command (HCF_SPEC-127).
+/// The content of a reply: what its data after the status bytes mean for its command (HCF_SPEC-127).
 ///
-/// Numbers are not checked: a polling address may be above 63, a mode above 1, a date outside the calendar.
+/// Numbers are not checked: a polling address may be above 63, a mode may be above 1, and a date may be outside the calendar.
 #[derive(Debug, Drop, PartialEq, Eq)]
 pub enum ReplyContent {
-    /// Who the device is (Commands 0, 11 and 21).
+    /// The identity of the device (Commands 0, 11 and 21).
     Identity(IdentityContent),
     /// The primary variable (Command 1).
     Primary(UnitValue),
@@ -65,12 +65,12 @@ pub enum ReplyContent {
     Counter([u8; 2]),
     /// The additional status bytes, one to 25 (Command 48).
     More(ByteList<25>),
-    /// Nothing: the request was refused.
+    /// No content, because the request was refused.
     Refused,
 }
 
 impl ReplyContent {
-    /// Reads the content of a reply with code 0 as its command's row of the table says.
+    /// Reads the content from the data of a reply with code 0, as the command's row of the table says.
     #[tactic(auto, unfolding(crate::specs::Commands::replied))]
     pub(crate) fn read(command: u8, bytes: &[u8]) -> Option<Self>
         ensures { result ≡ content_reading command bytes.now }

@@ -1,4 +1,4 @@
-//! A field of data.
+//! The fields of the data of requests and replies.
 ghost use Rattle.std.specs.Prelude.{◌≡◌, option_map};
 ghost use Rattle.hart_commands.specs.Fields.{split};
 
@@ -9,7 +9,7 @@ pub enum FieldKind {
     Bytes,
     /// A number or a code of one or two bytes, the most significant byte first.
     Number,
-    /// The code of a unit in one byte. [`unit_name`](crate::unit_name) names it.
+    /// The code of a unit in one byte. [`unit_name`](crate::unit_name) returns the name of the unit.
     UnitCode,
     /// Packed text, four characters in three bytes.
     PackedText,
@@ -28,7 +28,7 @@ pub enum FieldKind {
 pub enum FieldSize {
     /// Exactly this number of bytes.
     Exactly(u8),
-    /// All remaining bytes except this number at the end, but at least one byte.
+    /// All remaining bytes except this number of bytes at the end. The field has at least one byte.
     AllBut(u8),
 }
 

@@ -6,7 +6,7 @@ use hart_values::Payload;
 /// The first byte of an identity.
 pub(crate) const FIRST_BYTE: u8 = 254;
 
-/// Who a device is, in its reply to Command 0, 11 or 21 (HCF_SPEC-127).
+/// The identity of a device, as in its reply to Command 0, 11 or 21 (HCF_SPEC-127).
 ///
 /// Numbers of several bytes have the most significant byte first.
 #[derive(Clone, Copy, Debug, PartialEq, Eq)]
@@ -21,7 +21,7 @@ pub struct IdentityContent {
     pub device_revision: u8,
     /// The revision of the device's software.
     pub software_revision: u8,
-    /// The revision of the hardware in the upper five bits, the physical signalling code in the lower three.
+    /// The revision of the hardware in the upper five bits, and the physical signalling code in the lower three bits.
     pub hardware_and_signalling: u8,
     /// The flags.
     pub flags: u8,
@@ -44,7 +44,7 @@ pub struct IdentityContent {
 }
 
 impl IdentityContent {
-    /// Reads the identity in 22 bytes, of which the first is ignored.
+    /// Reads the identity from 22 bytes. The first byte is ignored.
     pub(crate) fn from_bytes(bytes: [u8; 22]) -> Self
         ensures { result ≡ identity_of bytes }
     {
@@ -67,7 +67,7 @@ impl IdentityContent {
         }
     }
 
-    /// Adds the 22 bytes at the end of a payload.
+    /// Adds the 22 bytes of the identity at the end of a payload.
     pub(crate) fn push_to(&self, payload: &mut Payload)
         requires { length payload.old ≤ 200 }
         ensures { payload.new ≡ payload.old ++ identity_bytes self.now }

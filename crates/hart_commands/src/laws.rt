@@ -1,4 +1,4 @@
-//! Laws about the definitions alone, for the crates that use this one.
+//! Laws: facts about the definitions without any code, for the crates that use this crate.
 ghost use Rattle.std.specs.Prelude.{◌≡◌, ◌≢◌, ◌==◌, ◌||◌, ◌<◌, ◌≤◌, All, AllPairs, Contains, ◌↔◌, ◌++◌, List, ℕ, false, true, Ok, Err, Some};
 ghost use Rattle.std.specs.Prelude.{IsTrue, IsSome, drop, is_some, length, take};
 ghost use Rattle.hart_commands.specs.RequestData.{IsRequest, MayFollow, command_of, is_known, request_data, request_reading};
@@ -17,21 +17,21 @@ ghost use Rattle.hart_commands.specs.declared.content.ReplyContent.TheVariants.{
 
 use crate::{Register, Request};
 
-/// Every request is well made, whoever made it: the types of its parts ensure this.
+/// Every value of the type `Request` is well made, because the types of its parts ensure this.
 pub fn requests_are_well_made(request: &Request)
     ensures { IsRequest request.now }
 {
     request.command();
 }
 
-/// The written data of a well-made request are read back as that request, even with bytes after them that `MayFollow` allows.
+/// The written data of a well-made request are read back as that request, even if bytes follow that `MayFollow` allows.
 #[tactic(auto, using(crate::proofs::lemmas::Request::written_is_read))]
 pub fn written_data_are_read_again()
     ensures { (request : Request) (rest : List ℕ) → IsRequest request → MayFollow request rest
         → request_reading (command_of request) (request_data request ++ rest) ≡ Ok request }
 {}
 
-/// The written data of a well-made request, with nothing after them, are read back as that request.
+/// The written data of a well-made request are read back as that request, if no bytes follow.
 #[tactic(auto, using(crate::proofs::lemmas::Request::written_is_own))]
 pub fn written_data_are_their_request()
     ensures { (request : Request) → IsRequest request
@@ -44,9 +44,8 @@ pub fn requests_have_their_command()
         → request_reading command bytes ≡ Ok request → (command_of request ≡ command) × IsRequest request }
 {}
 
-/// Data that are read as a request agree with the request's written data over the length of the shorter of the two. The data that
-/// are read begin with all the written data, except for Command 6 without its mode. In this case the data that are read are one
-/// byte, the first field.
+/// If data are read as a request, they agree with the request's written data in every place that both have. The data begin with
+/// all the written data, except for Command 6 without its mode. In this case the data are one byte, which is the first field.
 pub fn read_data_begin_as_written()
     ensures agree { (command : ℕ) (bytes : List ℕ) (request : Request) → All (λ byte. byte < 256) bytes
         → request_reading command bytes ≡ Ok request
@@ -63,9 +62,9 @@ pub fn read_data_begin_as_written()
         ≡ take 1 (fields_of (request_rows command) (request_data request)) }
 {}
 
-/// Data are refused with code 5 exactly if they are too few for their command. So code 5 never refuses data of at least the needed
-/// length. If bytes are added to data that code 5 refuses, code 5 still refuses the longer data as long as these are fewer bytes
-/// than needed.
+/// Data are refused with code 5 exactly if they are too few for their command. So data of at least the needed length are never
+/// refused with code 5. If data are refused with code 5 and bytes are added to them, the longer data are refused with code 5 too, as
+/// long as they are shorter than needed.
 pub fn too_few_data_are_fewer_than_needed()
     ensures exactly { (command : ℕ) (bytes : List ℕ) → (request_reading command bytes ≡ Err 5) ↔ AreTooFew command bytes }
     ensures enough { (command : ℕ) (bytes : List ℕ) → needed_data command ≤ length bytes → request_reading command bytes ≢ Err 5 }
@@ -87,7 +86,7 @@ pub fn all_registers_are_listed_once()
 {}
 
 /// A request has an overwrite exactly if its command is a configuration write. The overwrite names one register for each part of
-/// the request's data. No other request names a register.
+/// the request's data. A request that is no configuration write names no register.
 pub fn writes_have_overwrites()
     ensures exactly { (request : Request) → IsTrue (is_write (command_of request)) ↔ IsSome (overwrite_of request) }
     ensures some_register { (request : Request) → IsTrue (is_write (command_of request))
@@ -110,9 +109,9 @@ pub fn overwrites_are_valid()
     ensures { (write : Request) (old : Contents) → IsRequest write → AreValid old → AreValid (overwritten write old) }
 {}
 
-/// The written payload of a well-made reply is read back as that reply. Every reply that is read is well made, and is written as
-/// the first bytes of the payload that it was read from, unchanged. Its command is known, its response code is below 128, and with
-/// a code other than 0 its content is `Refused`.
+/// The written payload of a well-made reply is read back as that reply. Every reply that is read from a payload is well made. If it
+/// is written again, the result is the first bytes of that payload. Its command is known and its response code is below 128. If the
+/// code is not 0, the content is `Refused`.
 pub fn written_payloads_are_read_again()
     ensures again { (reply : Reply) → IsReply reply → reply_reading reply.command (reply_payload reply) ≡ Some reply }
     ensures well_made { (command : ℕ) (payload : List ℕ) (reply : Reply)
@@ -132,8 +131,8 @@ pub fn known_commands_have_names()
         → command ≡ other }
 {}
 
-/// The fields of a well-made request's data are the parts of the request: equally many, in the same order, with the same bytes.
-/// Likewise, the fields of a well-made reply's data are the parts of its content.
+/// The fields of a well-made request's data are the parts of the request: the same number, in the same order, with the same bytes.
+/// In the same way, the fields of a well-made reply's data are the parts of its content.
 #[tactic(auto, using(crate::proofs::lemmas::RequestFields::parts_of_request, crate::proofs::lemmas::Reply::parts_of_reply))]
 pub fn fields_are_the_parts()
     ensures request { (request : Request) → IsRequest request
@@ -142,8 +141,8 @@ pub fn fields_are_the_parts()
         → field_bytes (fields_of (reply_rows reply.command) (content_bytes reply.content)) ≡ content_parts reply.content }
 {}
 
-/// The fields leave out no data: the bytes of a well-made request's fields, one after another, are all of its data. The same holds
-/// for a well-made reply.
+/// The fields leave out no data: the bytes of a well-made request's fields, one after another, are all of its data. The fields of a
+/// well-made reply leave out no data either.
 pub fn fields_are_all_of_the_data()
     ensures request { (request : Request) → IsRequest request
         → bytes_of (fields_of (request_rows (command_of request)) (request_data request)) ≡ request_data request }
@@ -152,7 +151,7 @@ pub fn fields_are_all_of_the_data()
 {}
 
 /// The kind of a field limits its number of bytes: 4 for a float, 3 for a date, 1 or 2 for a number, 6, 12 or 24 for a packed text,
-/// and 8 for each device variable. This holds for the fields of any request data, and of any payload that is read as a reply.
+/// and 8 for each device variable. This is true for the fields of any request data and of any payload that is read as a reply.
 pub fn fields_have_the_width_of_their_kind()
     ensures request { (command : ℕ) (bytes : List ℕ) → All HasWidthOfKind (fields_of (request_rows command) bytes) }
     ensures reply { (command : ℕ) (payload : List ℕ) (reply : Reply) → reply_reading command payload ≡ Some reply

@@ -1,8 +1,8 @@
 //! What the data bytes of HART messages mean: requests, replies and what a write overwrites (HCF_SPEC-127).
 //!
-//! The definitions in `specs/` hold the table of the standard, one row for each command: what the data bytes of a request ask for,
-//! which response code refuses them, and what the payload of a reply says. [`Request::read`] and [`Reply::read`] return exactly
-//! that; `write` goes the other way.
+//! The definitions in `specs/` hold the table of the standard, with one row for each command. They say what the data bytes of a
+//! request ask for, which response code refuses these bytes, and what the payload of a reply means. [`Request::read`] and
+//! [`Reply::read`] return exactly what the definitions say. [`Request::write`] and [`Reply::write`] write the bytes.
 //!
 //! ```rust
 //! let request = Request::read(19, &[0x01, 0x23, 0x45, 0x67])?;
@@ -12,15 +12,15 @@
 //! assert_eq!(rt; data.as_slice(), [0x01, 0x23, 0x45].as_slice());
 //! ```
 //!
-//! [`request_code`] returns the response code of a request, given a device's write protection and counter. [`writes_of`] returns
-//! the registers that a write sets. Whether a device answers is decided in `hart_device`. No call of this crate allocates.
+//! [`request_code`] returns the response code of a request to a device with this write protection and this counter. [`writes_of`]
+//! returns the registers that a write sets. The crate `hart_device` decides whether a device answers. No call of this crate allocates.
 //!
 //! [`command_name`] names a command; [`request_rows`] and [`reply_rows`] name the fields of its data. [`needed_data`] returns how
 //! many data bytes a command needs; [`Request::data_len`] and [`Reply::data_len`] return how many data bytes a message has.
 //!
-//! No other crate of `hart` calls [`is_write`] or [`CodeList::new`]: they are for programs that make requests. [`laws`] proves of
-//! the definitions alone that written data are read back, that fields cover the data and have the width of their kind, and which
-//! commands are configuration writes.
+//! No other crate of `hart` calls [`is_write`] or [`CodeList::new`]: they are for programs that make requests. The module [`laws`]
+//! states what is proved of the definitions without any code: written data are read back, fields cover the data and have the width
+//! of their kind, and the configuration writes are Commands 6, 17, 18, 19 and 22.
 #![tactic(auto)]
 
 mod code_list;

@@ -6,7 +6,7 @@ use hart_values::{Bits32, Payload};
 /// The loop current output of a device (HCF_SPEC-127, Command 15).
 #[derive(Clone, Copy, Debug, PartialEq, Eq)]
 pub struct OutputContent {
-    /// What the loop current does at an alarm.
+    /// The code for what the loop current does at an alarm.
     pub alarm_code: u8,
     /// The code of the transfer function.
     pub transfer_function: u8,
@@ -27,7 +27,7 @@ pub struct OutputContent {
 }
 
 impl OutputContent {
-    /// Reads 18 bytes.
+    /// Reads the output from 18 bytes.
     pub(crate) fn from_bytes(bytes: [u8; 18]) -> Self
         ensures { result ≡ output_of bytes }
     {
@@ -44,7 +44,7 @@ impl OutputContent {
         }
     }
 
-    /// Adds the 18 bytes at the end of a payload.
+    /// Adds the 18 bytes of the output at the end of a payload.
     pub(crate) fn push_to(&self, payload: &mut Payload)
         requires { length payload.old ≤ 200 }
         ensures { payload.new ≡ payload.old ++ output_bytes self.now }

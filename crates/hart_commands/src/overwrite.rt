@@ -7,7 +7,7 @@ use std::marker::Model;
 
 /// The registers that a write sets, each with its new bytes (HCF_SPEC-127).
 ///
-/// Contracts see the write, which determines the bytes that each register gets, if any.
+/// In contracts, an overwrite is the write request. This request determines which registers are set, and their new bytes.
 #[derive(Debug, Drop)]
 pub struct Overwrite<'a> {
     write: &'a Request,

@@ -20,7 +20,7 @@ pub enum Register {
 }
 
 impl Register {
-    /// Every register once, in the order of an image.
+    /// Every register once, in the order in which an image has them.
     pub const ALL: [Register; 8] = [
         Register::Polling,
         Register::Mode,

@@ -38,8 +38,8 @@ impl Reply {
 
     /// Replaces `payload` by the two status bytes and the data of the content.
     ///
-    /// A reply from [`Reply::read`] is read back unchanged. A reply that no device sends, such as one with the content of another
-    /// command, can be written too.
+    /// If a reply from [`Reply::read`] is written, the payload is read back as the same reply. A reply that no device sends, such as
+    /// a reply with the content of another command, can be written too.
     pub fn write(&self, payload: &mut Payload)
         ensures { payload.new ≡ reply_payload self.now }
     {

@@ -11,7 +11,7 @@ mod reading;
 /// What a master asks of a device: a command and its data (HCF_SPEC-127).
 #[derive(Debug, Drop, PartialEq, Eq)]
 pub enum Request {
-    /// Command 0: who the device is.
+    /// Command 0: the identity of the device.
     Identify,
     /// Command 1: the primary variable.
     ReadPrimary,
@@ -28,9 +28,9 @@ pub enum Request {
     ReadPolling,
     /// Command 8: the classifications of the dynamic variables.
     ReadClasses,
-    /// Command 9: the device variables of these codes.
+    /// Command 9: the device variables with these codes.
     ReadVariables(CodeList),
-    /// Command 11: who the device with this tag is.
+    /// Command 11: the identity of the device with this tag.
     IdentifyByTag(PackedText<6>),
     /// Command 12: the message.
     ReadMessage,
@@ -54,18 +54,19 @@ pub enum Request {
     WriteAssembly([u8; 3]),
     /// Command 20: the long tag.
     ReadLongTag,
-    /// Command 21: who the device with this long tag is.
+    /// Command 21: the identity of the device with this long tag.
     IdentifyByLongTag([u8; 32]),
     /// Command 22, a write: the long tag.
     WriteLongTag([u8; 32]),
-    /// Command 38: this master has seen the configuration changes, up to this configuration change counter if one is given.
+    /// Command 38: this master has seen the configuration changes. If a configuration change counter is given, it has seen the
+    /// changes up to this counter.
     ResetChanged(Option<u16>),
     /// Command 48: the additional status bytes.
     ReadMore,
 }
 
 impl Request {
-    /// Reads the data bytes of a request of this command. Bytes beyond those that the command takes are ignored.
+    /// Reads the data bytes of a request of this command. Bytes after those that the command takes are ignored.
     ///
     /// ```rust
     /// let request = Request::read(19, &[0x01, 0x23, 0x45, 0x67])?;
@@ -74,9 +75,9 @@ impl Request {
     ///
     /// # Errors
     ///
-    /// The first response code that applies and needs no device to decide: code 64 if no request has this command; code 5 if there
-    /// are too few bytes; for Command 6, code 2 for an address above 63, then code 12 for a mode above 1; for Command 18, code 9
-    /// for a bad date.
+    /// The first response code that applies and does not depend on the device: code 64 if no request has this command; code 5 if
+    /// there are too few bytes; for Command 6, code 2 for an address above 63, then code 12 for a mode above 1; for Command 18,
+    /// code 9 for a bad date.
     pub fn read(command: u8, bytes: &[u8]) -> Result<Self, ResponseCode>
         ensures read { result ≡ request_reading command bytes.now }
         ensures well_made { IfOk result IsRequest }
@@ -176,7 +177,7 @@ impl Request {
         parts.first.len() + parts.second.len() + parts.third.len()
     }
 
-    /// Returns the parts of the request's data. The bytes of a counter are stored in `counter`.
+    /// Returns the parts of the request's data. If the request has a counter, the bytes of this counter are stored in `counter`.
     fn parts<'a>(&'a self, counter: &'a mut [u8; 2]) -> Parts<'a>
         ensures written { result.first.now ++ result.second.now ++ result.third.now ≡ request_data self.now }
         ensures few { length result.first.now + length result.second.now + length result.third.now ≤ 32 }

@@ -19,7 +19,7 @@ pub struct SensorContent {
 }
 
 impl SensorContent {
-    /// Reads 16 bytes.
+    /// Reads the sensor from 16 bytes.
     pub(crate) fn from_bytes(bytes: [u8; 16]) -> Self
         ensures { result ≡ sensor_of bytes }
     {
@@ -32,7 +32,7 @@ impl SensorContent {
         }
     }
 
-    /// Adds the 16 bytes at the end of a payload.
+    /// Adds the 16 bytes of the sensor at the end of a payload.
     pub(crate) fn push_to(&self, payload: &mut Payload)
         requires { length payload.old ≤ 200 }
         ensures { payload.new ≡ payload.old ++ sensor_bytes self.now }

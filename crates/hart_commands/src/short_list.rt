@@ -5,7 +5,7 @@ use std::marker::Model;
 
 /// A list of at most `N` items, stored in the value itself.
 ///
-/// Contracts see the list of the items.
+/// In contracts, a value of this type is the list of its items.
 #[derive(Debug, Drop, PartialEq, Eq)]
 pub struct ShortList<T, const N: usize> {
     items: ArrayVec<T, N>,

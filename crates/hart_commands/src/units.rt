@@ -16,7 +16,7 @@ macro_rules! units {
     };
 }
 
-/// The unit codes that mean the same in every class of device variables.
+/// The unit codes that mean the same unit in every class of device variables.
 const UNITS: &[UnitRow] = units! {
     1, "inches of water at 68 degrees Fahrenheit";
     2, "inches of mercury at 0 degrees Celsius";

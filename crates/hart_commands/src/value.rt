@@ -14,7 +14,7 @@ pub struct UnitValue {
 }
 
 impl UnitValue {
-    /// Reads five bytes.
+    /// Reads a unit and a value from five bytes.
     pub(crate) fn from_bytes(bytes: [u8; 5]) -> Self
         ensures { result ≡ unit_value_of bytes }
     {
@@ -25,7 +25,7 @@ impl UnitValue {
         }
     }
 
-    /// Returns the five bytes.
+    /// Returns the five bytes of the unit and the value.
     pub(crate) fn to_bytes(self) -> [u8; 5]
         ensures { result ≡ unit_value_bytes self }
     {
@@ -50,7 +50,7 @@ pub struct VariableReading {
 }
 
 impl VariableReading {
-    /// Reads eight bytes.
+    /// Reads a device variable from eight bytes.
     pub(crate) fn from_bytes(bytes: [u8; 8]) -> Self
         ensures { result ≡ variable_of bytes }
     {
@@ -64,7 +64,7 @@ impl VariableReading {
         }
     }
 
-    /// Returns the eight bytes.
+    /// Returns the eight bytes of the variable.
     pub(crate) fn to_bytes(self) -> [u8; 8]
         ensures { result ≡ variable_bytes self }
     {

@@ -33,7 +33,7 @@ Suits _ (AllBut after) = ⊥
 abbrev pub AreSuited : List Row → Type 0
 AreSuited these = AllByRecursion (λ row. Suits row.kind row.size) these
 
--- the fields of rows in data have a width of their kind
+-- each field that these rows have in the data has a width of its kind
 abbrev pub Fit : List Row → List ℕ → Type 0
 Fit these bytes = All HasWidthOfKind (fields_of these bytes)
 

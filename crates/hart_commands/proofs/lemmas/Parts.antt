@@ -23,7 +23,7 @@ spelled n xs long = grind (arith, common_steps, spelled_front n xs)
 pub whole : (n : ℕ) (xs : List ℕ) → length xs ≡ n → take n xs ≡ xs
 whole n xs long = take_all n xs (omega (arith, long))
 
--- What holds of every list of `n` bytes that is spelled byte by byte holds of every list of `n` bytes.
+-- To prove a fact for every list of `n` bytes, it is enough to prove it for the lists that `spell` writes byte by byte.
 pub by_spelling : (n : ℕ) (P : List ℕ → Type 0) → ((xs : List ℕ) → P (spell n xs)) → (xs : List ℕ) → length xs ≡ n → P xs
 by_spelling n P each xs long = subst P (spelled n xs long) (each xs)
 

@@ -31,7 +31,7 @@ use Rattle.hart_commands.specs.Fields as fields
 abbrev pub IsParted : ℕ → ReplyContent → Type 0
 IsParted command content = field_bytes (fields_of (reply_rows command) (content_bytes content)) ≡ content_parts content
 
--- a content that was read from bytes is written as the first of these bytes and read back, and its fields are its parts
+-- a content that was read from bytes is written as the first of these bytes, it is read back, and its fields are its parts
 abbrev pub IsKept : ℕ → (List ℕ → Option ReplyContent) → List ℕ → ReplyContent → Type 0
 IsKept command read bytes content =
     (content_bytes content ≡ take (length (content_bytes content)) bytes) × (read (content_bytes content) ≡ Some content)
@@ -82,7 +82,7 @@ in_variables _ some few bytes long = absurd (omega arith)
 variables : Keeps 9 variables_reading
 variables bytes = grind (arith, common_steps, nat_tests, in_variables ((length bytes - 5) / 8))
 
--- bytes that are read as device variables have a length of five, and eight more for each of one to eight variables
+-- bytes that are read as device variables have the length 5 + 8 n, where n is the number of variables, from 1 to 8
 variables_sized : (bytes : List ℕ) (content : ReplyContent) → variables_reading bytes ≡ Some content
     → (0 < (length bytes - 5) / 8) × ((length bytes - 5) / 8 < 9) × (length bytes ≡ 5 + 8 * ((length bytes - 5) / 8))
 variables_sized bytes content e = grind (arith, nat_tests)
@@ -96,7 +96,7 @@ variables_whole bytes content e =
     let is = rw e at (in_variables groups some few bytes long) in
     (is.0, (groups, some, omega arith, long))
 
--- if a list has `m` bytes among its first `n`, these are its first `m` bytes
+-- if taking `n` bytes of a list yields only `m` bytes, these are the first `m` bytes of the list
 front : (n : ℕ) (xs : List ℕ) → take n xs ≡ take (length (take n xs)) xs
 front n xs = grind (arith, common_steps)
 

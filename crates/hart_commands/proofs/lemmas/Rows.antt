@@ -1,4 +1,4 @@
--- What holds of every row of a table holds of the row that is found.
+-- What is true of every row of a table is true of the row that is found.
 use Rattle.std.proofs.Common.{arith, ◌≡◌, ℕ, Bool, ◌==◌, List, [], ◌∷◌, map, refl, Option, None, Some, IfSome}
 use Rattle.std.proofs.lemmas.Bool.Decides.{nat_tests}
 use Rattle.std.specs.List.{AllByRecursion, find}
@@ -12,13 +12,13 @@ by_row P Q [] number all none some = none
 by_row P Q (row ∷ rows) number all none some =
     grind (arith, nat_tests, some row, by_row P Q rows number all.1 none some)
 
--- If a test is made on mapped rows, finding the first row and then mapping it gives the same as mapping all rows and then finding
--- the first.
+-- If a test looks at the mapped row, then finding the first row and mapping it has the same result as mapping all rows and finding
+-- the first of these.
 pub find-map : {X Y : Type 0} (v : X → Y) (p : Y → Bool) (xs : List X) → option_map v (find (λ x. p (v x)) xs) ≡ find p (map v xs)
 find-map v p [] = refl
 find-map v p (x ∷ xs) = grind (arith, find-map v p xs)
 
--- What holds of every command of the table holds of each command that is known by its number.
+-- What is true of every command of the table is true of each command that is known by its number.
 pub of_known : (P : Command → Type 0) (number : ℕ) → AllByRecursion (λ row. P row.command) commands
     → IfSome (known number) (λ command. (command.number ≡ number) × P command)
 unfolding known

@@ -10,7 +10,7 @@ use crate::tag_bytes::tag_parts;
 use crate::{IdentityContent, ReplyContent, ShortList, UnitValue, VariableReading};
 use hart_values::{Bits32, ByteList, PackedText};
 
-/// Reads Commands 0, 11 and 21: an identity, which begins with 254.
+/// Reads a reply to Command 0, 11 or 21: an identity, which begins with 254.
 pub fn read_identity(bytes: &[u8]) -> Option<ReplyContent>
     ensures { result ≡ identity_reading bytes.now }
 {
@@ -21,7 +21,7 @@ pub fn read_identity(bytes: &[u8]) -> Option<ReplyContent>
     Some(ReplyContent::Identity(IdentityContent::from_bytes(identity)))
 }
 
-/// Reads Command 2: the loop current and the percent of range.
+/// Reads a reply to Command 2: the loop current and the percent of range.
 pub fn read_current(bytes: &[u8]) -> Option<ReplyContent>
     ensures { result ≡ saying 8 current_of bytes.now }
 {
@@ -32,7 +32,7 @@ pub fn read_current(bytes: &[u8]) -> Option<ReplyContent>
     })
 }
 
-/// Reads Command 3: the loop current, and one to four variables.
+/// Reads a reply to Command 3: the loop current, and one to four variables.
 pub fn read_dynamic(bytes: &[u8]) -> Option<ReplyContent>
     ensures { result ≡ dynamic_reading bytes.now }
 {
@@ -59,7 +59,7 @@ fn values_in(groups: &[[u8; 5]]) -> ShortList<UnitValue, 4>
     values
 }
 
-/// Reads Commands 6 and 7: a polling address and a loop current mode, unchecked.
+/// Reads a reply to Command 6 or 7: a polling address and a loop current mode, both unchecked.
 pub fn read_polling(bytes: &[u8]) -> Option<ReplyContent>
     ensures { result ≡ saying 2 polling_of bytes.now }
 {
@@ -67,7 +67,7 @@ pub fn read_polling(bytes: &[u8]) -> Option<ReplyContent>
     Some(ReplyContent::Polling { address, mode })
 }
 
-/// Reads Command 9: the extended device status, one to eight variables and their time stamp, which ends the data.
+/// Reads a reply to Command 9: the extended device status, one to eight variables and their time stamp. No data may follow.
 pub fn read_variables(bytes: &[u8]) -> Option<ReplyContent>
     ensures { result ≡ variables_reading bytes.now }
 {
@@ -95,7 +95,7 @@ fn variables_in(groups: &[[u8; 8]]) -> ShortList<VariableReading, 8>
     variables
 }
 
-/// Reads Commands 13 and 18: a tag, a descriptor and an unchecked date.
+/// Reads a reply to Command 13 or 18: a tag, a descriptor and an unchecked date.
 pub fn read_tag(bytes: &[u8]) -> Option<ReplyContent>
     ensures { result ≡ saying 21 tag_of bytes.now }
 {
@@ -107,7 +107,7 @@ pub fn read_tag(bytes: &[u8]) -> Option<ReplyContent>
     })
 }
 
-/// Reads Command 48: the additional status bytes, one to 25.
+/// Reads a reply to Command 48: one to 25 additional status bytes.
 pub fn read_more(bytes: &[u8]) -> Option<ReplyContent>
     ensures { result ≡ more_reading bytes.now }
 {

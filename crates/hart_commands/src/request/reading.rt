@@ -1,4 +1,4 @@
-//! Reads the data of requests that have parts.
+//! Reads the data of requests that need more than one line in `Request::read`.
 ghost use Rattle.std.specs.Prelude.{◌≡◌, ◌≤◌, ◌↔◌, if◌then◌else◌, length, take, IsOk, IfOk, IfErr, Ok, Err};
 ghost use Rattle.hart_values.specs.hart_date.Calendar.{is_date};
 ghost use Rattle.hart_commands.specs.RequestReading.{polling_reading, codes_reading, tag_reading, reset_reading};
@@ -19,7 +19,7 @@ pub fn needed<const N: usize>(all: &[u8]) -> Result<[u8; N], ResponseCode>
     }
 }
 
-/// Reads Command 6: a polling address and, from today's masters, a loop current mode.
+/// Reads a request of Command 6: a polling address, and a loop current mode, which older masters leave out.
 pub fn read_set_polling(bytes: &[u8]) -> Result<Request, ResponseCode>
     ensures { result ≡ polling_reading bytes.now }
 {
@@ -40,7 +40,7 @@ pub fn read_set_polling(bytes: &[u8]) -> Result<Request, ResponseCode>
     }
 }
 
-/// Reads Command 9: the codes of device variables.
+/// Reads a request of Command 9: the codes of device variables.
 pub fn read_codes(bytes: &[u8]) -> Result<Request, ResponseCode>
     ensures { result ≡ codes_reading bytes.now }
 {
@@ -50,7 +50,7 @@ pub fn read_codes(bytes: &[u8]) -> Result<Request, ResponseCode>
     }
 }
 
-/// Reads Command 18: a tag, a descriptor and a date.
+/// Reads a request of Command 18: a tag, a descriptor and a date.
 pub fn read_tag(bytes: &[u8]) -> Result<Request, ResponseCode>
     ensures { result ≡ tag_reading bytes.now }
 {
@@ -74,7 +74,7 @@ fn read_date(bytes: [u8; 3]) -> Result<HartDate, ResponseCode>
     }
 }
 
-/// Reads Command 38: no counter, or a counter of two bytes.
+/// Reads a request of Command 38: no counter, or a counter of two bytes.
 pub fn read_reset(bytes: &[u8]) -> Result<Request, ResponseCode>
     ensures { result ≡ reset_reading bytes.now }
 {

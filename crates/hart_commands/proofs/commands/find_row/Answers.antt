@@ -9,7 +9,7 @@ use Rattle.hart_commands.specs.Commands.{seen_command}
 use Rattle.hart_commands.proofs.lemmas.Rows.{find-map}
 use Rattle.hart_commands.proofs.commands.find_row.Goals as goal
 
--- The row that the code finds is the row that the definitions find: the first one with this number.
+-- The row that the code finds is the row that the definitions find: the first row with this number.
 pub returns : goal.returns
 returns c =
     let first : option_map (λ row. row.now) c.find.result ≡ find (λ row. row.number == c.args.command) c.args.rows.now =

@@ -9,7 +9,7 @@ use Rattle.hart_commands.specs.Units.{seen_unit}
 use Rattle.hart_commands.proofs.lemmas.Rows.{find-map}
 use Rattle.hart_commands.proofs.units.find_unit.Goals as goal
 
--- The row that the code finds is the row that the definitions find: the first one with this unit code.
+-- The row that the code finds is the row that the definitions find: the first row with this unit code.
 pub returns : goal.returns
 returns c =
     let first : option_map (λ row. row.now) c.find.result ≡ find (λ row. row.code == c.args.code) c.args.rows.now =
