@@ -35,7 +35,7 @@ pub record RegisterRow : Type 1 where
 abbrev pub Any : List ℕ → Type 0
 Any bytes = Unit {0}
 
--- Bytes are valid if the first one is below `limit`.
+-- Bytes are valid if the first byte is below `limit`.
 abbrev pub BeginsBelow : ℕ → List ℕ → Type 0
 BeginsBelow limit bytes = slice_index bytes 0 < limit
 

@@ -24,7 +24,8 @@ pub fn requests_are_well_made(request: &Request)
     request.command();
 }
 
-/// The written data of a well-made request are read back as that request, even if bytes follow that `MayFollow` allows.
+/// The written data of a well-made request are read back as that request, even with further bytes after them, if `MayFollow` allows
+/// these bytes.
 #[tactic(auto, using(crate::proofs::lemmas::Request::written_is_read))]
 pub fn written_data_are_read_again()
     ensures { (request : Request) (rest : List ℕ) → IsRequest request → MayFollow request rest

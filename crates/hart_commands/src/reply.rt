@@ -20,7 +20,7 @@ pub struct Reply {
 
 impl Reply {
     /// Reads the reply to a command from a payload. Returns `None` if the payload has fewer than two bytes, if bit 7 of the first
-    /// byte is set, if [`Request::read`] does not know the command, or if the code is 0 and the data are no content of the command.
+    /// byte is set, if [`Request::read`] does not know the command, or if the code is 0 and the data hold no content of the command.
     ///
     /// Data after the content are ignored, except that the data of Command 9 must end with the time stamp. With any code other than
     /// 0, all data are ignored.

@@ -24,7 +24,7 @@ abbrev pub AreBegun : ℕ → List ℕ → List ℕ → Type 0
 AreBegun command bytes written =
     (take (length written) bytes ≡ written) ⊎ ((command ≡ 6) × (length bytes ≡ 1) × (length written ≡ 2) × (bytes ≡ take 1 written))
 
--- what holds of a reading of `bytes` for a command that needs `size` bytes; `known` says whether the command is known
+-- what is true of a reading of `bytes` for a command that needs `size` bytes; `known` says whether the command is known
 abbrev pub IsGiven : Bool → ℕ → ℕ → List ℕ → Reading → Type 0
 IsGiven known size command bytes (Ok request) =
     (command_of request ≡ command) × IsRequest request × (known ≡ true)
@@ -34,7 +34,7 @@ IsGiven known size command bytes (Err code) =
     ((code ≡ 64) ↔ (known ≡ false)) × ((code ≡ 5) ↔ ((length bytes < size) × (command ≡ 38 → 0 < length bytes)))
     × (0 < code) × (code < 128)
 
--- `IsGiven` holds of what `asked` reads from any data of a known command
+-- `IsGiven` is true of what `asked` reads from any data of a known command
 abbrev pub Gives : ℕ → ℕ → (List ℕ → Reading) → Type 0
 Gives size command asked = (bytes : List ℕ) → IsGiven true size command bytes (asked bytes)
 
