@@ -1,4 +1,4 @@
--- How frames are found: by the scanner as characters come, and in bytes in memory without a copy.
+-- How frames are found: by a scanner while characters arrive, or in bytes in memory, without a copy.
 pub mod Scanner
 pub mod Chunk
 pub mod Streamed

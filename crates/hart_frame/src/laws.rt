@@ -7,9 +7,10 @@
 //!   [`misses_say_what_is_wrong`], [`misses_are_faults`], [`damaged_messages_have_no_other_frame`], [`damage_by_example`].
 //! - Of a scanner: [`frames_are_streamed`], [`scanners_move_past_the_next_frames`], [`any_chunking_gives_the_same_frames`],
 //!   [`held_frames_are_given`].
-//! - For a caller that keeps only the rest of what was heard: [`the_rest_has_the_later_frames`]; for a scanner, which keeps the
-//!   characters from [`Scanner::first_held`](crate::Scanner::first_held) on, [`held_characters_have_the_later_frames`]; and for
-//!   [`next_in_bytes`](crate::next_in_bytes), [`next_frames_are_all`].
+//! - For a caller that keeps only the rest of what was heard: [`the_rest_has_the_later_frames`].
+//! - For a scanner, which keeps the characters from [`Scanner::first_held`](crate::Scanner::first_held) on:
+//!   [`held_characters_have_the_later_frames`].
+//! - For [`next_in_bytes`](crate::next_in_bytes): [`next_frames_are_all`].
 //! - Of messages and misses: [`sightings_are_unambiguous`], [`the_rest_has_the_later_sightings`]; and for
 //!   [`next_sighting`](crate::next_sighting), [`next_sightings_are_all`].
 ghost use Rattle.std.specs.Prelude.{◌≡◌, ◌<◌, ◌≤◌, ◌↔◌, List, ℕ, [], ◌∷◌, ◌++◌, Some, length, drop, map, All, IsSome};
@@ -53,7 +54,8 @@ pub fn bodies_are_unambiguous()
 {}
 
 /// Bytes have a header exactly if they begin with a delimiter of this profile and reach the command. Bytes that begin with a body have the
-/// header of its frame. Bytes that have a header keep it, whatever follows them. So if the bytes become a body, its frame has this header.
+/// header of that body's frame. Bytes that have a header keep it, whatever follows them. So if the bytes become a body, its frame has this
+/// header.
 pub fn headers_are_those_of_frames()
     ensures exactly { (bytes : List ℕ) → IsSome (header_in bytes) ↔ (HasDelimiter bytes × (command_place bytes < length bytes)) }
     ensures body { (bytes : List ℕ) (frame : FrameParts) (len : ℕ)
@@ -108,8 +110,8 @@ pub fn messages_have_their_frame_alone()
     ensures nothing { AreFrames [] 0 [] }
 {}
 
-/// The rest of a list, after its first `place` characters, has exactly the list's frames from `place` on. In the list they stand
-/// `place` places later. So a caller that keeps only the rest has all frames that are left.
+/// The rest of a list, after its first `place` characters, has exactly the list's frames from `place` on. Each of these frames stands
+/// `place` places later in the list than in the rest. So a caller that keeps only the rest misses no later frame.
 pub fn the_rest_has_the_later_frames()
     ensures { (place : ℕ) (chars : List Character) (frames : List Found)
         → AreFrames (drop place chars) 0 frames ↔ AreFrames chars place (map (moved place) frames) }

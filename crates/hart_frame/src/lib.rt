@@ -1,10 +1,10 @@
 //! Frames and their bytes on a HART line (HCF_SPEC-081, data link layer).
 //!
-//! A [`Frame`] is what one message says. [`encode`] writes it as a message. [`decode`] reads the frame at the front of some bytes,
-//! or says what is wrong with them. [`first_frame`] finds frames in what was heard: a list of characters ([`Char`]), each a byte
-//! with the faults that the receiver noticed at it. [`why_none`] says why no frame stands at a place. A [`Scanner`] finds frames
-//! while they are heard, and [`next_in_bytes`] finds them in bytes in memory, without a copy. [`next_sighting`] finds messages, and
-//! places where one seems to start but none stands, as soon as they are decided.
+//! A [`Frame`] is what one message says. [`encode`] writes it as a message. [`decode`] reads the frame at the front of some bytes, or says
+//! what is wrong with them. [`first_frame`] finds frames in what was heard: a list of characters ([`Char`]), each a byte with the faults
+//! that the receiver noticed at it. [`why_none`] says why no frame stands at a place. A [`Scanner`] finds frames while they are heard, and
+//! [`next_in_bytes`] finds them in bytes in memory, without a copy. [`next_sighting`] finds messages, and places where a message seems to
+//! start but no frame stands, as soon as they are decided.
 //!
 //! ```rust
 //! let (frame, len) = decode(&[0x02, 0x80, 0x00, 0x00, 0x82])?;

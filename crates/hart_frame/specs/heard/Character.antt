@@ -16,10 +16,10 @@ pub record AreFaultBits (faults : ℕ) : Type 0 where
   pub byte : faults < 256
   pub only : (bit : ℕ) → bit < 8 → bit_at faults bit ≡ 1 → IsFaultBit bit
 
--- The characters of bytes that were received without faults.
+-- Bytes as characters that were received without faults.
 abbrev pub faultless : List ℕ → List Character
 faultless bytes = map (λ byte. record { byte = byte; faults = 0 }) bytes
 
--- The bytes of a list of characters up to the first one with fault bits.
+-- The bytes of the characters before the first character with fault bits, or of all characters if none has fault bits.
 abbrev pub faultless_bytes : List Character → List ℕ
 faultless_bytes chars = map (λ character. character.byte) (take_while (λ character. character.faults == 0) chars)

@@ -7,7 +7,7 @@ use Rattle.hart_frame.specs.wire.FrameParts.{FrameParts}
 use Rattle.hart_frame.specs.wire.Layout.{byte_count_in, delimiter_in}
 use Rattle.hart_frame.specs.wire.Parity.{HasEvenParity}
 
--- No two faultless preamble bytes FF stand in a row in a list of characters.
+-- A list of characters has no two faultless preamble bytes FF in a row.
 abbrev pub HasNoTwoPreambles : List Character → Type 0
 HasNoTwoPreambles chars = (prefix rest : List Character) → chars ≡ prefix ++ faultless (255 ∷ 255 ∷ []) ++ rest → ⊥
 
@@ -21,8 +21,8 @@ pub record IsMarked (character : Character) : Type 0 where
 abbrev pub IsHeardOrMarked : ℕ → Character → Type 0
 IsHeardOrMarked byte character = (character ≡ record { byte = byte; faults = 0 }) ⊎ IsMarked character
 
--- Damage to a message with `preambles` preamble bytes: any number of these is missing at the front. The preamble bytes that are
--- left and the body are heard as `AreHeard` says, and after the delimiter no two faultless FF are heard in a row.
+-- Damage to a message of `preambles` preamble bytes and a body. The last `left` preamble bytes are heard, and those before them are
+-- missing. `AreHeard` says how these `left` bytes and the body are heard. No two faultless FF in a row are heard after the delimiter.
 pub record IsDamage (frame : FrameParts) (preambles : ℕ) (chars : List Character) (AreHeard : ℕ → List ℕ → Type 0) : Type 0 where
   pub left : ℕ
   pub left_within : left ≤ preambles
@@ -31,7 +31,7 @@ pub record IsDamage (frame : FrameParts) (preambles : ℕ) (chars : List Charact
   pub heard : AreHeard left body
   pub no_two_preambles : HasNoTwoPreambles (drop (left + 1) chars)
 
--- Marked damage: each remaining byte of the message is heard unchanged and without faults, or as any marked character.
+-- Marked damage: each byte of the message that is not missing is heard unchanged and without faults, or as any marked character.
 abbrev pub IsMarkedDamage : FrameParts → ℕ → List Character → Type 0
 IsMarkedDamage frame preambles chars =
     IsDamage frame preambles chars (λ left body. AllZip IsHeardOrMarked (replicate left 255 ++ body) chars)
@@ -43,8 +43,8 @@ pub record Replaces (bytes body : List ℕ) : Type 0 where
   pub same_byte_count : byte_count_in bytes ≡ byte_count_in body
   pub bytes_fit : All (λ byte. byte < 256) bytes
 
--- Check damage: all is heard without faults, but in place of the body stand bytes that replace it. Their parity is not even, so
--- their exclusive or is not zero.
+-- Check damage: every character is heard without faults, but other bytes that replace the body are heard in its place. The parity of these
+-- bytes is not even, so their exclusive or is not zero.
 abbrev pub IsCheckDamage : FrameParts → ℕ → List Character → Type 0
 IsCheckDamage frame preambles chars = IsDamage frame preambles chars (λ left body. (bytes : List ℕ) × Replaces bytes body
     × (chars ≡ faultless (replicate left 255 ++ bytes)) × (HasEvenParity bytes → ⊥))

@@ -1,4 +1,4 @@
--- A request, and how it is heard with damage of each kind and with damage of neither kind (HCF_SPEC-081; own profile).
+-- A request as it is heard with marked damage, with check damage, and with damage of neither kind (HCF_SPEC-081; own profile).
 use Rattle.std.specs.Prelude.{List, [], ◌∷◌, ◌++◌}
 use Rattle.hart_values.specs.declared.master_id.MasterId.TheVariants.{Primary}
 use Rattle.hart_values.specs.declared.address.Address.TheVariants.{Polling}
@@ -21,6 +21,6 @@ other_address = faultless (255 ∷ 255 ∷ 2 ∷ 129 ∷ 0 ∷ 0 ∷ 130 ∷ [])
 abbrev pub other_request : List Character
 other_request = faultless (255 ∷ 255 ∷ 2 ∷ 129 ∷ 0 ∷ 0 ∷ 131 ∷ [])
 
--- FF FF 02 FF FF 00 82: the parity is not even. Yet this damage is of neither kind, since two FF are heard in a row after the delimiter.
+-- FF FF 02 FF FF 00 82: the parity is not even. Yet this damage is of neither kind, because two FF in a row are heard after the delimiter.
 abbrev pub preamble_in_body : List Character
 preamble_in_body = faultless (255 ∷ 255 ∷ 2 ∷ 255 ∷ 255 ∷ 0 ∷ 130 ∷ [])

@@ -1,30 +1,30 @@
--- The frames of what was heard (HCF_SPEC-081; own profile if candidates overlap).
+-- The frames in a list of received characters (HCF_SPEC-081; own profile where possible frames overlap).
 use Rattle.std.specs.Prelude.{◌+◌, ◌≤◌, ◌<◌, ◌⊎◌, ℕ, List, [], ◌∷◌}
 use Rattle.hart_frame.specs.heard.Character.{Character}
 use Rattle.hart_frame.specs.heard.Place.{IsOpen, StandsIn}
 use Rattle.hart_frame.specs.declared.heard.found.Found.{Found}
 
--- No frame stands in a list of characters from a place on.
+-- A list of characters has no frame from the place `from` on.
 abbrev pub HasNoFrame : List Character → ℕ → Type 0
 HasNoFrame chars from = (found : Found) → StandsIn found chars from → ⊥
 
--- The first frame of a list from a place on is the one with the least start.
+-- Of the frames of a list from a place on, the first is the frame with the least start.
 pub record IsFirst (found : Found) (chars : List Character) (from : ℕ) : Type 0 where
   pub stands : StandsIn found chars from
   pub least : (other : Found) → StandsIn other chars from → found.start ≤ other.start
 
--- A list has no frames from a place on if no frame stands from there on. Otherwise its frames from there on are the first one, and
--- then the frames from the end of that frame's body on. The places of all frames are counted in the whole list.
+-- The list of all frames from a place on. It is empty if no frame stands from there on. Otherwise it is the first frame, followed by the
+-- frames from the end of that frame's body on. All places are counted from the first character of the whole list.
 pub data AreFrames (chars : List Character) : ℕ → List Found → Type 0 where
   none : (from : ℕ) → HasNoFrame chars from → AreFrames chars from []
   first : (from : ℕ) (found : Found) (later : List Found) → IsFirst found chars from
       → AreFrames chars found.stop later → AreFrames chars from (found ∷ later)
 
--- No frame of a list is decided if no frame stands in it, or if an open place lies before the start of every frame in it.
+-- A list decides no frame in two cases: it has no frame, or an open place, where a frame may still begin, lies before every frame in it.
 abbrev pub IsUndecided : List Character → Type 0
 IsUndecided chars = HasNoFrame chars 0
     ⊎ ((place : ℕ) × IsOpen place chars × ((found : Found) → StandsIn found chars 0 → place < found.start))
 
--- A found frame, moved: the same frame, with both its places increased by `places`.
+-- A found frame, moved: the same frame, with its start and its stop increased by `places`.
 abbrev pub moved : ℕ → Found → Found
 moved places found = record { start = places + found.start; stop = places + found.stop; frame = found.frame }

@@ -18,11 +18,11 @@ use Rattle.hart_frame.specs.declared.heard.miss.Miss.TheVariants.{BadCheck, OneP
 abbrev pub bytes_from : List Character → ℕ → List ℕ
 bytes_from chars place = faultless_bytes (drop place chars)
 
--- A character with these fault bits, at least one, stands at a place.
+-- The character at a place has these fault bits, and at least one of them is set.
 abbrev pub HasFaultsAt : List Character → ℕ → ℕ → Type 0
 HasFaultsAt chars place faults = (faults ≢ 0) × (byte : ℕ) × (slice_get chars place ≡ Some (record { byte = byte; faults = faults }))
 
--- The faultless bytes from a place on reach the end of what was heard.
+-- All characters from a place to the end of what was heard are faultless.
 abbrev pub ComeToTheEnd : List Character → ℕ → Type 0
 ComeToTheEnd chars place = place + length (bytes_from chars place) ≡ length chars
 
@@ -30,11 +30,11 @@ ComeToTheEnd chars place = place + length (bytes_from chars place) ≡ length ch
 abbrev pub IsBurstDelimiter : ℕ → Type 0
 IsBurstDelimiter byte = (byte / 8 % 4 ≡ 0) × (byte % 8 ≡ 1)
 
--- What stands in the way of a body at a place where a body may start. `Faulty`: a character with fault bits ends the bytes there
--- too early. `Burst`: the bytes begin with the delimiter of a burst message. `BadDelimiter`: they begin with another byte that is
--- no delimiter. `EndsBeforeByteCount`: all that was heard ends before the byte count. `ShortReply`: a reply has a byte count below
--- 2. `Missing`: all that was heard ends `count` characters before the end of the check byte. `BadCheck`: the check byte does not
--- fit the bytes before it. `OnePreamble`: a single FF before a place is never in the way there.
+-- What stands in the way of a body at a place where a body may start. `Faulty`: a character with fault bits ends the bytes there too early.
+-- `Burst`: the bytes begin with the delimiter of a burst message. `BadDelimiter`: they begin with another byte that is no delimiter.
+-- `EndsBeforeByteCount`: what was heard ends before the byte count. `ShortReply`: a reply has a byte count below 2. `Missing`: what was
+-- heard ends `count` characters before the end of the check byte. `BadCheck`: the check byte does not fit the bytes before it.
+-- `OnePreamble` is never in the way at such a place, because two FF stand before it.
 abbrev pub IsInTheWay : List Character → ℕ → Miss → Type 0
 IsInTheWay chars start (Faulty place faults) =
     IsTruncated (bytes_from chars start) × (place ≡ start + length (bytes_from chars start)) × HasFaultsAt chars place faults
@@ -64,7 +64,7 @@ pub record HasBodyAt (chars : List Character) (place : ℕ) : Type 0 where
   pub is_body : IsBody frame body
   pub parts : drop place chars ≡ faultless body ++ rest
 
--- Exactly one faultless preamble byte FF stands right before a place: no other stands right before that one.
+-- Exactly one faultless preamble byte FF stands right before a place: the character before that FF, if there is one, is no faultless FF.
 pub record FollowsOnePreamble (chars : List Character) (place : ℕ) : Type 0 where
   pub prefix : List Character
   pub rest : List Character
@@ -72,15 +72,15 @@ pub record FollowsOnePreamble (chars : List Character) (place : ℕ) : Type 0 wh
   pub place_is : place ≡ length prefix + 1
   pub alone : (earlier : List Character) → prefix ≢ earlier ++ faultless (255 ∷ [])
 
--- A miss of a place is why no frame stands there. Where a body may start, the miss is what stands in its way. Where a whole body
+-- A miss is the reason why no frame stands at a place. Where a body may start, the miss is what stands in its way. Where a whole body
 -- stands right after a single faultless FF, the miss is `OnePreamble`. Any other place has no miss.
 abbrev pub IsMiss : List Character → ℕ → Miss → Type 0
 IsMiss chars start miss =
     (IsStart start chars × IsInTheWay chars start miss)
     ⊎ ((miss ≡ OnePreamble) × FollowsOnePreamble chars start × HasBodyAt chars start)
 
--- The fault of the faultless bytes at the place of a miss. A character with fault bits truncates these bytes, as the end of the
--- list does. A single FF before the bytes is no fault of theirs.
+-- The fault that a miss corresponds to. A character with fault bits truncates the bytes before it, as the end of the list does.
+-- `OnePreamble` corresponds to no fault, because the bytes after the single FF are a whole body.
 abbrev pub fault_of : Miss → Option FrameFault
 fault_of (Faulty place faults) = Some Truncated
 fault_of Burst = Some FrameFault.BadDelimiter

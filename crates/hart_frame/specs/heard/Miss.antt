@@ -1,5 +1,5 @@
--- The miss of a place, found step by step (HCF_SPEC-081; own profile). The law `misses_are_in_the_way` says that `IsMiss` of
--- InTheWay allows just this miss. The texts of `explain` and the sightings of a list use `miss_of`.
+-- The miss of a place, found step by step (HCF_SPEC-081; own profile). By the law `misses_are_in_the_way`, it is exactly the miss that
+-- `IsMiss` of InTheWay describes. The texts of `explain` and the sightings of a list use `miss_of`.
 use Rattle.std.specs.Prelude.{◌+◌, ◌-◌, ◌/◌, ◌%◌, ◌==◌, ◌&&◌, not, nat_le, nat_lt, if◌then◌else◌, ℕ, zero, suc, Bool, false}
 use Rattle.std.specs.Prelude.{List, Option, None, Some, drop, fold, is_none, length, slice_get, slice_index, take, bit_xor}
 use Rattle.std.specs.Option.{option_map_or}
@@ -18,8 +18,8 @@ is_burst_delimiter byte = (byte / 8 % 4 == 0) && (byte % 8 == 1)
 abbrev pub delimiter_miss : ℕ → Miss
 delimiter_miss byte = if is_burst_delimiter byte then Burst else BadDelimiter byte
 
--- The miss of a check byte that does not fit: its place, the byte itself, and the byte that would fit, which is the exclusive or of
--- the bytes before it. A check byte that fits has no miss.
+-- The miss of a check byte that does not fit: its place, the check byte itself, and the byte that would fit. The fitting byte is the
+-- exclusive or of all bytes of the body before the check byte. A check byte that fits has no miss.
 abbrev pub check_miss : List ℕ → ℕ → Option Miss
 check_miss bytes start =
     let last = body_length bytes - 1 in
@@ -32,8 +32,8 @@ abbrev pub faulty_or : Option Character → ℕ → Miss → Miss
 faulty_or None place at_end = at_end
 faulty_or (Some character) place at_end = Faulty place character.faults
 
--- Why no body begins at a start, or `None` if a body does. This depends on the faultless bytes from the start on, and on the
--- character with fault bits after them, if there is one, and its place. The first condition that holds counts.
+-- Why no body begins at `start`, or `None` if a body does, by the first condition that holds. `bytes` are the faultless bytes from `start`
+-- on. `faulty` is the character with fault bits after them, if there is one, and `faulty_place` is its place.
 abbrev pub miss_in : List ℕ → Option Character → ℕ → ℕ → Option Miss
 miss_in bytes faulty faulty_place start =
     if length bytes == 0 then Some (faulty_or faulty faulty_place EndsBeforeByteCount)
@@ -44,32 +44,32 @@ miss_in bytes faulty faulty_place start =
     then Some (faulty_or faulty faulty_place (Missing (body_length bytes - length bytes)))
     else check_miss bytes start
 
--- Like `miss_in`, for the characters `heard`, which are all from the start on.
+-- Like `miss_in`, but for the list `heard` of all characters from `start` on.
 abbrev pub body_miss : ℕ → List Character → Option Miss
 body_miss start heard =
     let bytes = faultless_bytes heard in miss_in bytes (slice_get heard (length bytes)) (start + length bytes) start
 
--- A character is a faultless preamble byte FF.
+-- Whether a character is a faultless preamble byte FF.
 abbrev pub is_preamble : Character → Bool
 is_preamble character = (character.byte == 255) && (character.faults == 0)
 
--- A faultless FF stands right before a place.
+-- Whether a faultless FF stands right before a place.
 abbrev pub follows_preamble : List Character → ℕ → Bool
 follows_preamble chars zero = false
 follows_preamble chars (suc before) = option_map_or is_preamble (slice_get chars before) false
 
--- A body may start at a place if two faultless FF stand right before it, and the character at it is not a faultless FF.
+-- Whether a body may start at a place: two faultless FF stand right before it, and the character at it is not a faultless FF.
 abbrev pub is_start : List Character → ℕ → Bool
 is_start chars place =
     follows_preamble chars place && follows_preamble chars (place - 1)
     && option_map_or (λ first. not (is_preamble first)) (slice_get chars place) false
 
--- Exactly one faultless FF stands right before a place.
+-- Whether exactly one faultless FF stands right before a place.
 abbrev pub follows_one_preamble : List Character → ℕ → Bool
 follows_one_preamble chars place = follows_preamble chars place && not (follows_preamble chars (place - 1))
 
--- The miss of a place is why no frame stands there. Where a body may start but none begins, the miss says why. Where a whole body
--- stands after a single faultless FF, the miss is `OnePreamble`. Any other place has no miss.
+-- The miss of a place is the reason why no frame stands there. Where a body may start but none begins, the miss is what is wrong there.
+-- Where a whole body stands after a single faultless FF, the miss is `OnePreamble`. Any other place has no miss.
 abbrev pub miss_of : List Character → ℕ → Option Miss
 miss_of chars start =
     if is_start chars start then body_miss start (drop start chars)

@@ -5,8 +5,8 @@ use Rattle.hart_frame.specs.heard.Character.{Character, faultless}
 use Rattle.hart_frame.specs.wire.Refusal.{IsTruncated}
 use Rattle.hart_frame.specs.declared.heard.found.Found.{Found}
 
--- A frame stands in a list of characters, from a place on, if two faultless preamble bytes FF stand at or after that place, and
--- right after them the body of the frame, in faultless characters. The frame starts after the two FF, and stops after its body.
+-- A frame stands in a list from a place on if two faultless preamble bytes FF stand at or after that place, and the body of the frame, in
+-- faultless characters, follows them directly. The frame starts after the two FF, and stops after its body.
 pub record StandsIn (found : Found) (chars : List Character) (from : ℕ) : Type 0 where
   pub prefix : List Character
   pub body : List ℕ
@@ -17,7 +17,7 @@ pub record StandsIn (found : Found) (chars : List Character) (from : ℕ) : Type
   pub start : found.start ≡ length prefix + 2
   pub stop : found.stop ≡ length prefix + 2 + length body
 
--- A place of a list is open if two faultless preamble bytes FF stand right before the place, and all characters from the place to
+-- A place is open if a frame may still begin there. Two faultless preamble bytes FF stand right before it. All characters from the place to
 -- the end of the list are faultless, but end too early for a body.
 pub record IsOpen (place : ℕ) (chars : List Character) : Type 0 where
   pub prefix : List Character

@@ -1,4 +1,4 @@
--- Where the body of a message may start in what was heard, however the body itself is heard (own profile).
+-- Where the body of a message may start in what was heard, whether or not an intact body follows (own profile).
 use Rattle.std.specs.Prelude.{◌≡◌, ◌≢◌, ◌≤◌, ◌+◌, ℕ, List, [], ◌∷◌, ◌++◌, length}
 use Rattle.hart_frame.specs.heard.Character.{Character, faultless}
 
@@ -17,6 +17,6 @@ pub record IsFirstStart (place : ℕ) (chars : List Character) : Type 0 where
   pub start : IsStart place chars
   pub least : (other : ℕ) → IsStart other chars → place ≤ other
 
--- A list has no start if a body may start at none of its places.
+-- A list has no start if a body may start at no place of the list.
 abbrev pub HasNoStart : List Character → Type 0
 HasNoStart chars = (place : ℕ) → IsStart place chars → ⊥

@@ -1,4 +1,4 @@
--- The address of a view, by its numbers (HCF_SPEC-081).
+-- The address of a frame that is viewed in place, as plain numbers (HCF_SPEC-081).
 use Rattle.std.specs.Prelude.{ℕ, ◌<◌, ◌^◌}
 use Rattle.hart_values.specs.declared.address.Address.{Address}
 use Rattle.hart_values.specs.declared.address.Address.TheVariants.{Polling as PollingAddress, Unique as UniqueAddress}
@@ -26,7 +26,7 @@ abbrev pub id_number : PlainAddress → ℕ
 id_number (Polling number) = 0
 id_number (Unique expanded_type device_id) = device_id
 
--- The numbers are in the ranges of an address.
+-- Each number of the address is in its range.
 abbrev pub IsInRange : PlainAddress → Type 0
 IsInRange address =
     (polling_number address < 64) × (type_number address < 2 ^ 14) × (id_number address < 2 ^ 24)

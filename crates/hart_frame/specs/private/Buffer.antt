@@ -1,4 +1,4 @@
--- What a scanner holds, and what it knows of the characters that it holds (own profile).
+-- What a buffer of a scanner holds, and what it knows of the characters that it holds (own profile).
 use Rattle.std.specs.Prelude.{◌≡◌, ◌≢◌, ◌<◌, ◌≤◌, ◌+◌, ◌^◌, ℕ, Bool, true, false, Option, None, Some, IfSome, ◌⊎◌, List, ◌++◌, drop, length}
 use Rattle.std.specs.Option.{option_to_list}
 use Rattle.hart_frame.specs.heard.Character.{faultless}
@@ -9,22 +9,23 @@ use Rattle.hart_frame.specs.declared.scan.buffer.Buffer.{Buffer}
 use Rattle.hart_frame.specs.declared.scan.buffer.State.{State}
 use Rattle.hart_frame.specs.declared.scan.buffer.State.TheVariants.{Busy, Drained, Stands}
 
--- The faultless bytes that are held: those of the list from the place `from` on.
+-- The faultless bytes that a buffer holds: the bytes of its list from the place `from` on.
 abbrev pub held_bytes : Buffer → List ℕ
 held_bytes b = drop b.from b.bytes
 
--- Whether a state is the drained one.
+-- Whether the state of a buffer is `Drained`.
 abbrev pub is_drained : State → Bool
 is_drained Drained = true
 is_drained Busy = false
 is_drained (Stands layout) = false
 
--- With a layout, the state says that a frame of this layout stands at the front. Without a layout, the state is drained.
+-- With a layout, the state is `Stands`: a frame of this layout stands at the front. Without a layout, the state is `Drained`.
 abbrev pub state_of : Option Layout → State
 state_of None = Drained
 state_of (Some layout) = Stands layout
 
--- A buffer stands for its held bytes as faultless characters, and after them at most one character with faults.
+-- The scanner that a buffer represents. It holds the buffer's bytes as faultless characters, and after them at most one character with
+-- faults.
 abbrev pub scan_of : Buffer → Scan
 scan_of b = record {
   first = b.first;
@@ -33,8 +34,8 @@ scan_of b = record {
   drained = is_drained b.state;
 }
 
--- A buffer stores its characters if the held bytes begin within the list of at most 538 bytes, and if the character after them, if
--- there is one, has faults. Together they are at most 269 characters, and their places fit in 64 bits.
+-- A buffer keeps its limits. Its list has at most 538 bytes, and the held bytes begin within it. The character after them, if there is one,
+-- has faults. The held bytes and this character are at most 269 characters, and their places fit in 64 bits.
 pub record IsStored (b : Buffer) : Type 0 where
   pub within : b.from ≤ length b.bytes
   pub room : length b.bytes ≤ 538
@@ -42,22 +43,20 @@ pub record IsStored (b : Buffer) : Type 0 where
   pub few : length (held_bytes b) + length (option_to_list b.damaged) ≤ 269
   pub places : b.first + (length (held_bytes b) + length (option_to_list b.damaged)) < 2 ^ 64
 
--- A drained buffer waits: it is unfinished, holds no character with faults, and holds at most 268 bytes, which may begin a longer
--- frame.
+-- A buffer waits if it is unfinished, holds no character with faults, and holds at most 268 bytes, which may begin a frame.
 pub record IsWaiting (b : Buffer) : Type 0 where
   pub clear : b.damaged ≡ None
   pub going : b.finished ≡ false
   pub few : length (held_bytes b) ≤ 268
   pub may : MayBegin (held_bytes b)
 
--- What a state means: a drained buffer waits; nothing is known of a busy one; in the state `Stands`, the held bytes begin with a
--- frame of its layout.
+-- What a state promises. `Drained`: the buffer waits. `Busy`: nothing. `Stands`: the held bytes begin with a frame of this layout.
 abbrev pub IsMeant : Buffer → State → Type 0
 IsMeant b Drained = IsWaiting b
 IsMeant b Busy = Unit {0}
 IsMeant b (Stands layout) = IsWhole layout (held_bytes b)
 
--- A buffer is sound if its characters are stored, and what its state means is true of them.
+-- A buffer is sound if it keeps its limits and the promise of its state.
 pub record IsSound (b : Buffer) : Type 0 where
   pub stored : IsStored b
   pub meant : IsMeant b b.state

@@ -1,4 +1,4 @@
--- How the bytes that a scanner looks at begin (HCF_SPEC-081).
+-- How bytes begin: with a frame, with what may become a frame, or with neither (HCF_SPEC-081).
 use Rattle.std.specs.Prelude.{◌≡◌, ◌≢◌, ℕ, ◌+◌, ◌<◌, ◌≤◌, ◌⊎◌, List, [], ◌∷◌, ◌++◌, length, take}
 use Rattle.hart_frame.specs.heard.Character.{Character, faultless}
 use Rattle.hart_frame.specs.wire.FrameParts.{FrameParts}
@@ -23,15 +23,15 @@ NothingFollows chars = (chars ≡ []) ⊎ ((first : Character) × (rest : List C
 abbrev pub NeverBegin : List ℕ → Type 0
 NeverBegin bytes = (more : List Character) → BeginWithNone (faultless bytes ++ more)
 
--- Bytes may begin a frame if there are none, or one preamble byte, or two and then bytes that end too early for a body.
+-- Bytes may begin a frame if they are empty, or a single preamble byte, or two preamble bytes and then bytes that end too early for a body.
 abbrev pub MayBegin : List ℕ → Type 0
 MayBegin bytes = (bytes ≡ []) ⊎ (bytes ≡ 255 ∷ []) ⊎ ((after : List ℕ) × (bytes ≡ 255 ∷ 255 ∷ after) × IsTruncated after)
 
--- Each prefix of a list with fewer than `count` bytes may begin a frame.
+-- Every prefix of fewer than `count` bytes may begin a frame.
 abbrev pub MayBeginBefore : ℕ → List ℕ → Type 0
 MayBeginBefore count bytes = (fewer : ℕ) → fewer < count → MayBegin (take fewer bytes)
 
--- Bytes begin with a frame by a layout if they begin with two preamble bytes and a whole body by that layout.
+-- Bytes begin with a frame of a layout if they begin with two preamble bytes and a whole body of that layout.
 pub record IsWhole (layout : Layout) (bytes : List ℕ) : Type 0 where
   pub body : List ℕ
   pub rest : List ℕ
@@ -45,7 +45,7 @@ IsCandidate bytes (Never count) = (count ≤ length bytes) × NeverBegin (take c
 IsCandidate bytes Open = MayBegin bytes
 IsCandidate bytes (Whole layout) = IsWhole layout bytes × MayBeginBefore (2 + layout_length layout) bytes
 
--- It takes 2 to 269 bytes to prove that no frame begins; open bytes are fewer than 269; a body has at most 267.
+-- The limits: it takes 2 to 269 bytes to prove that no frame begins; open bytes are fewer than 269; a body has at most 267 bytes.
 abbrev pub IsShort : List ℕ → Candidate → Type 0
 IsShort bytes (Never count) = (2 ≤ count) × (count ≤ 269)
 IsShort bytes Open = length bytes < 269

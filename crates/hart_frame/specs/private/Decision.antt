@@ -1,4 +1,4 @@
--- What is decided of a scanner's buffer (own profile).
+-- What a scanner's buffer decides: that a frame stands in it, or no frame yet (own profile).
 use Rattle.std.specs.Prelude.{◌≡◌, ◌≤◌, ◌<◌, ◌+◌, ◌⊎◌, ℕ, false, IsTrue, None, MatchOption, List, [], ◌++◌, drop, length}
 use Rattle.std.specs.List.{slice_range}
 use Rattle.std.specs.Option.{option_to_list}
@@ -15,7 +15,7 @@ use Rattle.hart_frame.specs.declared.scan.buffer.Buffer.{Buffer}
 use Rattle.hart_frame.specs.declared.scan.buffer.Span.{Span}
 use Rattle.hart_frame.specs.declared.scan.search.Sighting.{Sighting}
 
--- The bytes of the body at a span of the list.
+-- The bytes of the body at a span of the buffer's list.
 abbrev pub body_at : Buffer → Span → List ℕ
 body_at b span = slice_range b.bytes span.at (span.at + layout_length span.layout)
 
@@ -26,25 +26,25 @@ pub record GivesSpan (old new : Buffer) (span : Span) : Type 0 where
   pub given : (frame : FrameParts) → IsBody frame (body_at new span)
       → Gives (scan_of old) (scan_of new) (record { start = span.start; stop = span.stop; frame = frame })
 
--- Bytes at which no frame begins were let go, and the bytes still held begin with a frame.
+-- The buffer let go of bytes at which no frame begins, and the bytes that it still holds begin with a frame.
 pub record HoldsWhole (old new : Buffer) (layout : Layout) : Type 0 where
   pub moves : MovesPast (scan_of old) (scan_of new) []
   pub busy : is_drained old.state ≡ false
   pub undrained : is_drained new.state ≡ false
   pub begins : IsWhole layout (held_bytes new)
 
--- No frame begins at any of the first `count` bytes held, whatever may still be heard.
+-- No frame begins at any of the first `count` bytes that are held, whatever is heard later.
 abbrev pub NoneBeginHeld : Buffer → ℕ → Type 0
 NoneBeginHeld b count = (place : ℕ) → place < count → (more : List Character) → (IsTrue b.finished → more ≡ [])
     → BeginWithNone (faultless (drop place (held_bytes b)) ++ (option_to_list b.damaged ++ more))
 
--- Nothing is found in the held bytes from a place on: no bytes are held from there on, or those held may begin a frame and more
--- bytes can follow.
+-- The held bytes from a place on decide nothing: there are none, or they may begin a frame and more bytes can follow.
 abbrev pub IsHeldOpen : Buffer → ℕ → Type 0
 IsHeldOpen b place = (length (held_bytes b) ≡ place)
     ⊎ ((length (held_bytes b) ≤ place + 268) × MayBegin (drop place (held_bytes b)) × (b.damaged ≡ None) × (b.finished ≡ false))
 
--- A search of the held bytes finds a place before which no frame begins. A frame begins at that place, or nothing is found from there on.
+-- A search of the held bytes finds a place before which no frame begins. A frame begins at that place, or the bytes from there on decide
+-- nothing.
 pub record IsHeldSearched (b : Buffer) (found : Sighting) : Type 0 where
   pub within : found.place ≤ length (held_bytes b)
   pub none : NoneBeginHeld b found.place

@@ -10,7 +10,7 @@ use Rattle.hart_frame.specs.private.Layout.{layout_length}
 use Rattle.hart_frame.specs.declared.scan.buffer.Buffer.{Buffer}
 use Rattle.hart_frame.specs.declared.scan.buffer.Span.{Span}
 
--- A whole body lies at the span. The span's places are within a list, and the body's frame is the first of that list.
+-- A whole body lies at the span. The places of the span are within a list of characters, and the first frame of that list has this body.
 pub record HoldsFirst (buffer : Buffer) (chars : List Character) (span : Span) : Type 0 where
   pub stored : span.at + layout_length span.layout ≤ length buffer.bytes
   pub body : IsWholeBody span.layout (body_at buffer span)

@@ -13,8 +13,8 @@ use Rattle.hart_frame.specs.declared.wire.prefix.Prefix.TheVariants as prefix
 use Rattle.hart_frame.specs.declared.wire.prefix.Wrong.{Wrong}
 use Rattle.hart_frame.specs.declared.wire.prefix.Wrong.TheVariants.{BadCheck, BadDelimiter, ShortReply}
 
--- Bytes are a whole body by a layout if nothing is wrong up to their check byte, the layout describes them and ends where they end,
--- their parity is even, and all are below 256.
+-- Bytes are a whole body of a layout if nothing is wrong up to their check byte, the layout describes them and ends where they end, their
+-- parity is even, and all are below 256.
 pub record IsWholeBody (layout : Layout) (bytes : List ℕ) : Type 0 where
   pub described : Describes layout bytes
   pub checked : HasCheckByte bytes
@@ -44,13 +44,13 @@ shown_by (BadDelimiter byte) = 1
 shown_by (ShortReply len byte_count) = len
 shown_by (BadCheck len byte fits) = len
 
--- The fault of bytes, by what is wrong with them.
+-- The fault that corresponds to what is wrong with the bytes.
 abbrev pub fault_in : Wrong → FrameFault
 fault_in (BadDelimiter byte) = fault.BadDelimiter
 fault_in (ShortReply len byte_count) = fault.ShortReply
 fault_in (BadCheck len byte fits) = fault.BadCheck
 
--- How bytes begin. `Whole`: with a whole body. `Cut`: they end too early for a body, either before the byte count or `missing`
+-- How bytes begin. `Whole`: they begin with a whole body. `Cut`: they end too early for a body, either before the byte count or `missing`
 -- bytes before the end of the check byte. `Wrong`: something is wrong with them.
 abbrev pub IsPrefix : List ℕ → Prefix → Type 0
 IsPrefix bytes (prefix.Whole layout) =

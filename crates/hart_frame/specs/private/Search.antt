@@ -5,11 +5,12 @@ use Rattle.hart_frame.specs.heard.Character.{Character, faultless}
 use Rattle.hart_frame.specs.private.Candidate.{BeginWithNone, IsWhole, MayBegin, NeverBegin, NothingFollows}
 use Rattle.hart_frame.specs.declared.scan.search.Sighting.{Sighting}
 
--- No frame begins in a list at a place from `from` on but before `to`, whatever is heard after the list.
+-- No frame begins at a place from `from` up to the one before `to`, whatever is heard after the list.
 abbrev pub NoneBegin : List ℕ → ℕ → ℕ → Type 0
 NoneBegin bytes from to = (place : ℕ) → from ≤ place → place < to → NeverBegin (drop place bytes)
 
--- Nothing is decided of a list from `from` on if no frame begins there before some place, and one may begin at that place.
+-- A list decides nothing from `from` on if a frame may begin at some place at or after `from`, and no frame begins at an earlier place from
+-- `from` on.
 pub record IsOpenFrom (bytes : List ℕ) (from : ℕ) : Type 0 where
   pub place : ℕ
   pub after : from ≤ place
@@ -17,18 +18,18 @@ pub record IsOpenFrom (bytes : List ℕ) (from : ℕ) : Type 0 where
   pub none : NoneBegin bytes from place
   pub may : MayBegin (drop place bytes)
 
--- Nothing is decided from `from` on in any prefix of a list with at least `seen` but fewer than `count` bytes.
+-- No prefix of at least `seen` but fewer than `count` bytes decides anything from `from` on.
 abbrev pub IsOpenBefore : List ℕ → ℕ → ℕ → ℕ → Type 0
 IsOpenBefore bytes from seen count = (fewer : ℕ) → seen ≤ fewer → fewer < count → IsOpenFrom (take fewer bytes) from
 
--- All bytes together decide nothing: those from the found place on, at most 268, may begin a frame.
+-- All bytes together decide nothing: the bytes from the found place on, at most 268, may begin a frame.
 abbrev pub IsOpenAll : List ℕ → Sighting → Type 0
 IsOpenAll bytes found =
     (found.decided ≡ length bytes) × (length bytes ≤ found.place + 268) × MayBegin (drop found.place bytes)
 
--- A search from `from` on finds a place, and decides it by the first `decided` bytes, at least `seen`, which end at most 269 bytes
--- after the place. No frame begins before the place. At the place a frame stands in these bytes, or else all bytes together decide
--- nothing. A prefix of at least `seen` but fewer than `decided` bytes decides nothing.
+-- A search from `from` on finds a place before which no frame begins. The first `decided` bytes show this. Either a frame stands at the
+-- place and within these bytes, or all bytes together decide nothing. No prefix of at least `seen` but fewer than `decided` bytes decides
+-- anything. The first `decided` bytes are at least `seen`, and end at most 269 bytes after the place.
 pub record IsSearched (bytes : List ℕ) (from seen : ℕ) (found : Sighting) : Type 0 where
   pub after : from ≤ found.place
   pub order : found.place ≤ found.decided
@@ -40,20 +41,20 @@ pub record IsSearched (bytes : List ℕ) (from seen : ℕ) (found : Sighting) : 
   pub stands : MatchOption found.layout (IsOpenAll bytes found)
       (λ layout. IsWhole layout (drop found.place (take found.decided bytes)))
 
--- No frame begins in a list at a place from `from` on but before `to`, whatever follows the list. If the list ended, what follows
--- cannot belong to a frame.
+-- No frame begins at a place from `from` up to the one before `to`, whatever follows the list. If the list ended, what follows cannot
+-- belong to a frame.
 abbrev pub NoneBeginThen : List ℕ → Bool → ℕ → ℕ → Type 0
 NoneBeginThen bytes ended from to = (place : ℕ) → from ≤ place → place < to → (next : List Character)
     → (IsTrue ended → NothingFollows next) → BeginWithNone (faultless (drop place bytes) ++ next)
 
--- No frame is found from a place on if no byte is left there, or if the bytes left, at most 268, may begin a frame and more bytes
+-- No frame is found from a place on if there are no bytes from there on, or if these bytes, at most 268, may begin a frame and more bytes
 -- can follow them.
 abbrev pub IsLeftOpen : List ℕ → Bool → ℕ → Type 0
 IsLeftOpen bytes ended place =
     (length bytes ≡ place) ⊎ ((length bytes ≤ place + 268) × MayBegin (drop place bytes) × (ended ≡ false))
 
--- A search of a list from `from` to its end finds a place before which no frame begins. From that place on the bytes begin with a
--- frame, or no frame is found.
+-- A search from `from` to the end of a list finds a place before which no frame begins. The bytes from that place on begin with a frame, or
+-- no frame is found in them.
 pub record IsSearchedToEnd (bytes : List ℕ) (from : ℕ) (ended : Bool) (found : Sighting) : Type 0 where
   pub after : from ≤ found.place
   pub within : found.place ≤ length bytes
@@ -64,12 +65,12 @@ pub record IsSearchedToEnd (bytes : List ℕ) (from : ℕ) (ended : Bool) (found
 abbrev pub HasNoPreamble : List ℕ → ℕ → Type 0
 HasNoPreamble bytes from = (place : ℕ) → from ≤ place → place < length bytes → slice_index bytes place ≢ 255
 
--- A preamble byte stands at a place of a list, and two more right after it.
+-- Three preamble bytes stand in a row, the first of them at this place.
 abbrev pub HasThree : List ℕ → ℕ → Type 0
 HasThree bytes place = (place + 3 ≤ length bytes) × (slice_index bytes place ≡ 255) × (slice_index bytes (place + 1) ≡ 255)
     × (slice_index bytes (place + 2) ≡ 255)
 
--- The next candidate from a place on is the first preamble byte there that is not directly followed by two more.
+-- The next candidate from a place on is the first preamble byte there that does not begin three preamble bytes in a row.
 pub record IsNextCandidate (bytes : List ℕ) (from start : ℕ) : Type 0 where
   pub after : from ≤ start
   pub within : start < length bytes

@@ -1,4 +1,4 @@
--- What stands next in bytes, and what is passed before it (own profile).
+-- The next sighting in bytes, and the places before it at which nothing is seen (own profile).
 use Rattle.std.specs.Prelude.{◌≡◌, ◌≢◌, ◌<◌, ◌≤◌, ◌+◌, ◌-◌, ◌&&◌, ◌⊎◌, not, ℕ, Bool, true, false, ⊤, List, [], ◌∷◌, ◌++◌, Option}
 use Rattle.std.specs.Prelude.{None, Some, drop, is_none, length, slice_index}
 use Rattle.hart_frame.specs.heard.Character.{Character, faultless}
@@ -23,8 +23,8 @@ use Rattle.hart_frame.specs.declared.wire.prefix.Prefix.TheVariants.{Whole}
 use Rattle.hart_frame.specs.declared.scan.view.FoundView.{FoundView}
 use Rattle.hart_frame.specs.scan.Sighting.{NamesPlacesBelow, heard_with}
 
--- A place after `from` is asked if a preamble byte stands right before it, and at the place itself a byte that is no preamble byte,
--- or a character with fault bits.
+-- A place after `from` is asked if a sighting may stand there: a preamble byte stands right before it, and the place itself has a byte that
+-- is no preamble byte, or a character with fault bits.
 pub record IsAsked (bytes : List ℕ) (after : After) (from place : ℕ) : Type 0 where
   pub order : from < place
   pub within : place ≤ length bytes
@@ -32,31 +32,31 @@ pub record IsAsked (bytes : List ℕ) (after : After) (from place : ℕ) : Type 
   pub other : place < length bytes → slice_index bytes place ≢ 255
   pub heard : place < length (heard_with bytes after)
 
--- The next asked place after `from`, or none.
+-- `Some` holds the next asked place after `from`; `None` says that there is no asked place after `from`.
 abbrev pub IsNextAsked : List ℕ → After → ℕ → Option ℕ → Type 0
 IsNextAsked bytes after from None = (place : ℕ) → IsAsked bytes after from place → ⊥
 IsNextAsked bytes after from (Some next) =
     IsAsked bytes after from next × ((place : ℕ) → IsAsked bytes after from place → next ≤ place)
 
--- What may follow bytes: anything if more may come; first the character with fault bits if one is known; nothing at the end.
+-- What may follow the bytes. `More`: any characters. `Damaged`: this character with fault bits, and then any characters. `End`: nothing.
 abbrev pub MayFollow : After → List Character → Type 0
 MayFollow More next = ⊤
 MayFollow (Damaged character) next = (character.faults ≢ 0) × (more : List Character) × (next ≡ character ∷ more)
 MayFollow End next = next ≡ []
 
--- Whatever may follow the bytes, `holds` is true of all characters together.
+-- `holds` is true of the bytes together with what follows them, whatever that may be.
 abbrev pub Whatever : List ℕ → After → (List Character → Type 0) → Type 0
 Whatever bytes after holds = (next : List Character) → MayFollow after next → holds (faultless bytes ++ next)
 
--- The characters from a place on have this miss, or `None` if they begin with a whole body.
+-- The characters from a place on have this miss; it is `None` if they begin with a whole body.
 abbrev pub HasBodyMiss : ℕ → Option Miss → List Character → Type 0
 HasBodyMiss start miss chars = body_miss start (drop start chars) ≡ miss
 
--- The header that is heard at a place is the one with which the bytes from there on begin.
+-- Later characters do not change the header at a place: it is the header with which the bytes from there on begin.
 abbrev pub KeepsHeader : List ℕ → ℕ → List Character → Type 0
 KeepsHeader bytes start chars = header_at chars start ≡ header_in (drop start bytes)
 
--- A whole body stands at a place, and no two FF in a row begin in it.
+-- Whether a body stands alone at a place: a whole body stands there, and no two FF in a row begin within it.
 abbrev pub stands_alone : List Character → ℕ → Bool
 stands_alone chars start = is_none (body_miss start (drop start chars)) && not (two_begin_in_body chars start)
 
@@ -74,8 +74,8 @@ pub record LacksOnePreamble (bytes : List ℕ) : Type 0 where
   pub before : slice_index bytes (length bytes - 1) ≡ 255
   pub check : IsCheckByte bytes 255
 
--- What stands at a place right after a single preamble byte. `Nothing`: no body stands alone there, whatever comes. `Open`: whether
--- one does is not decided yet. `Missed`: a body stands alone there, which is a miss.
+-- What stands at a place right after a single preamble byte. `Nothing`: no body stands alone there, whatever comes. `Open`: it is not
+-- decided yet whether a body stands alone there. `Missed`: a body stands alone there, which is a miss.
 abbrev pub IsAfterOne : List ℕ → After → ℕ → Standing → Type 0
 IsAfterOne bytes after start Nothing = Whatever bytes after (λ chars. stands_alone chars start ≡ false)
 IsAfterOne bytes after start (Open used) =
@@ -85,8 +85,8 @@ IsAfterOne bytes after start (standing.Missed miss) =
     (miss ≡ OnePreamble) × Whatever bytes after (λ chars. stands_alone chars start ≡ true)
     × Whatever bytes after (KeepsHeader bytes start)
 
--- What stands at a place right after two preamble bytes: bytes that may become a body, so that nothing is decided; or a message; or
--- a miss. Here, as after a single preamble byte, what follows does not change the header of a miss.
+-- What stands at a place right after two preamble bytes. `Open`: bytes that may become a body, so nothing is decided yet. `Message`: a
+-- message. `Missed`: a miss, whose header later characters do not change.
 abbrev pub IsAfterTwo : List ℕ → After → ℕ → Standing → Type 0
 IsAfterTwo bytes after start Nothing = ⊥
 IsAfterTwo bytes after start (Open used) = (after ≡ More) × (used + 2 ≡ start) × IsTruncated (drop start bytes)
@@ -113,21 +113,22 @@ pub record IsMessageAt (bytes : List ℕ) (start stop : ℕ) (view : FoundView) 
   pub within : stop ≤ length bytes
   pub body : IsBody (parts_of view.frame) (slice_range bytes start stop)
 
--- The list is used up to a place at or after `from`: to its end, or to the preamble bytes at its end, at most two.
+-- The bytes before the place `used`, which is at or after `from`, are used up. Only preamble bytes at the end of the list, at most two, are
+-- not used.
 abbrev pub IsUsed : List ℕ → ℕ → ℕ → Type 0
 IsUsed bytes from used = (from ≤ used) × (
     ((used ≡ length bytes) × ((from < used) → slice_index bytes (used - 1) ≢ 255))
     ⊎ ((used + 1 ≡ length bytes) × (slice_index bytes used ≡ 255) × ((from < used) → slice_index bytes (used - 1) ≢ 255))
     ⊎ ((used + 2 ≡ length bytes) × (slice_index bytes used ≡ 255) × (slice_index bytes (used + 1) ≡ 255)))
 
--- How far bytes in which nothing is seen are used. Unless more may come, all of them are used, and so is the character with fault
--- bits, if there is one.
+-- How far bytes in which nothing is seen are used up. If more may come, preamble bytes at the end are not. Otherwise all bytes are used up,
+-- and so is the character with fault bits, if there is one.
 abbrev pub IsPassed : List ℕ → After → ℕ → ℕ → Type 0
 IsPassed bytes More from used = IsUsed bytes from used
 IsPassed bytes (Damaged character) from used = used ≡ length bytes + 1
 IsPassed bytes End from used = used ≡ length bytes
 
--- Nothing is seen at a place, whatever comes: two preamble bytes do not stand before it, and no body stands alone at it.
+-- Nothing is seen at a place, whatever comes: no two preamble bytes stand right before it, and no body stands alone at it.
 abbrev pub IsSilent : List ℕ → After → ℕ → ℕ → Type 0
 IsSilent bytes after from place =
     (FollowsTwo bytes from place → ⊥) × Whatever bytes after (λ chars. stands_alone chars place ≡ false)

@@ -7,9 +7,10 @@ use Rattle.hart_frame.specs.scan.View.{found_of}
 use Rattle.hart_frame.specs.declared.heard.found.Found.{Found}
 use Rattle.hart_frame.specs.declared.scan.view.FoundView.{FoundView}
 
--- A scanner stands for the characters that it holds, and for the place of the first of them, or of the next one to come if it holds
--- none. It is finished if no more is to come. It is drained if it is new, if it was asked for a frame and gave none, or if it heard
--- a chunk to its end with nothing decided. In each case it has heard neither a character nor the finish since.
+-- The state of a scanner. `held` are the characters that it holds. `first` is the place of the first of them, or of the next character to
+-- come if it holds none. `finished` says that no more characters come. `drained` says that the scanner has no frame to give: it is new, or
+-- it was asked for a frame and gave none, or it heard a whole chunk that decided no frame. Since then it has heard neither a character nor
+-- the finish.
 pub record Scan : Type 0 where
   pub first : ℕ
   pub held : List Character
@@ -20,16 +21,16 @@ pub record Scan : Type 0 where
 abbrev pub new_scan : Scan
 new_scan = record { first = 0; held = []; finished = false; drained = true }
 
--- A scanner that hears more characters holds them too, and has yet to look at them.
+-- A scanner that hears more characters holds them too. It is not drained, because it has not looked at them yet.
 abbrev pub hearing : Scan → List Character → Scan
 hearing scan chars = record scan { held = scan.held ++ chars; drained = false }
 
--- A scanner that hears the finish still holds what it held, and has yet to look at it again.
+-- A scanner that hears the finish keeps what it holds. It is not drained, because it has to look at these characters again.
 abbrev pub finishing : Scan → Scan
 finishing scan = record scan { finished = true; drained = false }
 
--- A scanner moves past some frames if it lets go of the first `count` characters that it held, and the frames are the next ones up
--- to `count`. In `found`, their places are counted from the first character held; in `given`, in all that was heard.
+-- A scanner moves past some frames if it lets go of the first `count` characters that it held, and these frames are the next ones up to
+-- `count`. The places in `found` count from the first character held, and those in `given` from the first character heard.
 pub record MovesPast (old new : Scan) (given : List Found) : Type 0 where
   pub count : ℕ
   pub found : List Found
@@ -39,8 +40,8 @@ pub record MovesPast (old new : Scan) (given : List Found) : Type 0 where
   pub held : new.held ≡ drop count old.held
   pub finished : new.finished ≡ old.finished
 
--- A scanner that gives a frame moves past this frame, and then holds what comes after the body of the frame. The scanner is drained
--- neither before nor after that, since more frames may be given.
+-- A scanner that gives a frame moves past this frame, and then holds what comes after the frame's body. The scanner is not drained before
+-- or after that, because it may have more frames to give.
 pub record Gives (old new : Scan) (found : Found) : Type 0 where
   pub moves : MovesPast old new (found ∷ [])
   pub stop : new.first ≡ found.stop
@@ -55,7 +56,7 @@ pub record Waits (old new : Scan) : Type 0 where
   pub undecided : IsUndecided new.held
   pub drained : new.drained ≡ true
 
--- A finished scanner that ends holds no frame, and is then new.
+-- A finished scanner ends if no frame is left in what it holds. It is then new again.
 pub record Ends (old new : Scan) : Type 0 where
   pub finished : old.finished ≡ true
   pub none : HasNoFrame old.held 0
@@ -65,6 +66,6 @@ pub record Ends (old new : Scan) : Type 0 where
 abbrev pub GivesNothing : Scan → Scan → Type 0
 GivesNothing old new = Waits old new ⊎ Ends old new
 
--- A call gives the next frame, in a view, or nothing for now.
+-- A call gives the next frame, as a view, or nothing for now.
 abbrev pub GivesNextOrNothing : Scan → Scan → Option FoundView → Type 0
 GivesNextOrNothing old new given = MatchOption given (GivesNothing old new) (λ view. Gives old new (found_of view))

@@ -1,4 +1,4 @@
--- What is promised of the next message or miss in bytes in memory (own profile).
+-- What the search for the next message or miss in bytes in memory promises (own profile).
 use Rattle.std.specs.Prelude.{◌≡◌, ◌≢◌, ◌<◌, ℕ, Bool, true, false, ⊤, List, [], ◌∷◌, ◌++◌, Option, None, Some, option_map}
 use Rattle.hart_frame.specs.heard.Character.{Character, faultless}
 use Rattle.hart_frame.specs.heard.Sighting.{Message, Missed, Seen}
@@ -11,7 +11,7 @@ use Rattle.hart_frame.specs.declared.scan.sighting.After.TheVariants.{Damaged, E
 use Rattle.hart_frame.specs.declared.scan.sighting.Sighting.{Sighting}
 use Rattle.hart_frame.specs.declared.scan.sighting.Sighting.TheVariants as given
 
--- Bytes that were heard without faults, and a character with fault bits after them, if one is known to come.
+-- The known characters: bytes that were heard without faults, and the character with fault bits after them, if one is known to come.
 abbrev pub heard_with : List ℕ → After → List Character
 heard_with bytes More = faultless bytes
 heard_with bytes (Damaged character) = faultless bytes ++ character ∷ []
@@ -28,12 +28,12 @@ abbrev pub AfterIsValid : After → Type 0
 AfterIsValid (Damaged character) = character.faults ≢ 0
 AfterIsValid _ = ⊤
 
--- What a sighting in memory shows.
+-- The sighting of the definitions that a sighting in memory shows.
 abbrev pub seen_of : Sighting → Seen
 seen_of (given.Message view) = Message (found_of view)
 seen_of (given.Missed place miss header) = Missed place miss (option_map header_parts header)
 
--- The list of what a sighting shows, or the empty list if there is no sighting.
+-- The list with just what a sighting shows, or the empty list if there is no sighting.
 abbrev pub sightings_of : Option Sighting → List Seen
 sightings_of None = []
 sightings_of (Some sighting) = seen_of sighting ∷ []

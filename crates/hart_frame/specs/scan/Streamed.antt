@@ -1,11 +1,12 @@
--- What was done with a scanner since it was new (own profile).
+-- The history of a scanner since it was new (own profile).
 use Rattle.std.specs.Prelude.{◌≡◌, false, List, [], ◌∷◌, ◌++◌}
 use Rattle.hart_frame.specs.heard.Character.{Character}
 use Rattle.hart_frame.specs.scan.Scanner.{Scan, Ends, Gives, MovesPast, Waits, finishing, hearing, new_scan}
 use Rattle.hart_frame.specs.declared.heard.found.Found.{Found}
 
--- What was pushed to a scanner since it was new, what it now stands for, and the frames that it gave. In each call it heard a
--- character, a part of a chunk (also one of bytes) or the finish, or it gave a frame, or no frame for now.
+-- A history has the characters that were pushed to a scanner since it was new, the scanner's state now, and the frames that it gave. Each
+-- step is a call in which the scanner heard a character, a part of a chunk of characters or bytes, or the finish; or in which it gave a
+-- frame, or no frame for now.
 pub data IsHistory : List Character → Scan → List Found → Type 0 where
   begin : IsHistory [] new_scan []
   push : (past : List Character) (scan : Scan) (given : List Found) (character : Character) → IsHistory past scan given

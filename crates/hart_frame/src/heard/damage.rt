@@ -19,7 +19,8 @@ pub fn damaged_messages_have_no_other_frame()
         → AreFrames chars 0 [] }
 {}
 
-/// Shows each kind of damage by example: a request that is heard with that kind of damage, and cases that are not of that kind.
+/// Shows each kind of damage by example: a request that is heard with this kind of damage, and requests that are heard with damage of
+/// another kind.
 pub fn damage_by_example()
     ensures marked { IsMarkedDamage identity_request 5 faulty_address }
     ensures not_marked { IsMarkedDamage identity_request 5 other_address → ⊥ }

@@ -172,11 +172,11 @@ pub fn every_start_has_a_frame_or_a_miss()
 
 /// A miss names what really stands in the way of a frame.
 ///
-/// `BadCheck`: once the byte that fits stands at the named place, a frame stands at the start and ends with that byte. `Faulty`:
-/// the character at the named place has the named fault bits; once any faultless character stands there, the miss names no fault
-/// bits there any more. `Missing`: let any bytes follow the list in place of all missing bytes but the last, and then the check
-/// byte of all bytes from the start on. A frame then stands at the start and ends with that check byte. `OnePreamble`: once another
-/// faultless `FF` stands before the single one, a frame stands after the two.
+/// `BadCheck`: if the byte that fits replaces the byte at the named place, a frame stands at the start and ends with that byte. `Faulty`:
+/// the character at the named place has the named fault bits; if any faultless character replaces it, the miss names no fault bits at that
+/// place. `Missing`: append any bytes for the missing bytes except the last, and then the check byte of all bytes from the start on. A
+/// frame then stands at the start and ends with that check byte. `OnePreamble`: if another faultless `FF` is inserted before the single
+/// `FF`, a frame stands after the two.
 pub fn misses_say_what_is_wrong()
     ensures bad_check { (start place byte fits : ℕ) (chars : List Character) → All (λ character. character.byte < 256) chars
         → miss_of chars start ≡ Some (BadCheck place byte fits)
@@ -194,16 +194,17 @@ pub fn misses_say_what_is_wrong()
         → HasFrameAt (insert chars start (record { byte = 255; faults = 0 })) (start + 1) }
 {}
 
-/// Where a body may start, a miss stands for the fault of the bytes there, up to the first character with fault bits. So misses are
-/// found in the order of the faults of [`decode`](crate::decode).
+/// Where a body may start, a miss corresponds to the fault with which the bytes there, up to the first character with fault bits, are
+/// refused. So misses are found in the order of the faults of [`decode`](crate::decode).
 pub fn misses_are_faults()
     ensures { (start : ℕ) (chars : List Character) (miss : Miss) → All (λ character. character.byte < 256) chars
         → IsStart start chars → miss_of chars start ≡ Some miss
         → (fault : FrameFault) × (fault_of miss ≡ Some fault) × IsRefusedWith (faultless_bytes (drop start chars)) fault }
 {}
 
-/// The steps of `miss_of` find exactly the miss of a place, and a place has at most one. Where a body may start, the miss is
-/// exactly what stands in the way there. Anywhere else there is a miss only where a whole body stands after a single preamble byte.
+/// `miss_of`, which goes step by step, finds exactly the misses that `IsMiss` describes, and a place has at most one miss. Where a body may
+/// start, the miss is exactly what stands in the way there. Anywhere else there is a miss only where a whole body stands after a single
+/// preamble byte.
 pub fn misses_are_in_the_way()
     ensures found { (start : ℕ) (chars : List Character) (miss : Miss) → All (λ character. character.byte < 256) chars
         → (miss_of chars start ≡ Some miss) ↔ IsMiss chars start miss }

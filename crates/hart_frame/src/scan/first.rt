@@ -27,9 +27,9 @@ pub enum LoneFrame {
 
 /// Returns the first frame of what was heard from the place `from` on, or `None` if no frame stands there.
 ///
-/// A frame stands where two faultless preamble bytes `FF`, at or after that place, are followed by its body in faultless
-/// characters. Of several frames, the one with the least start is returned. The frames of a whole list are the first from place 0
-/// on, then the first from that frame's `stop` on, and so forth.
+/// A frame stands where two faultless preamble bytes `FF`, at or after that place, are followed by its body in faultless characters. Of
+/// several frames, the one with the least start is returned. To find all frames of a list, begin with `from` 0, and continue from the
+/// `stop` of each frame that is found.
 ///
 /// ```rust
 /// // 55 FF FF 02 80 00 00 82 was heard.
@@ -53,7 +53,7 @@ pub fn first_frame(chars: &[Char], from: usize) -> Option<Found>
     })
 }
 
-/// Returns the frame of a delivery if it has exactly one. Only that frame is copied.
+/// Returns whether a delivery has no frame, one or several; if it has exactly one, that frame is copied and returned.
 pub fn lone_frame(delivery: &[Char]) -> LoneFrame
     ensures lone { IsLone delivery.now result }
     ensures only { (frames : List Found) → AreFrames delivery.now 0 frames → result ≡ lone_of frames }

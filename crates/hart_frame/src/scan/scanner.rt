@@ -62,12 +62,12 @@ impl Scanner {
         self.buffer.push(character);
     }
 
-    /// Hears the bytes of a chunk, as characters without faults, up to the first byte at which a frame is decided, or else all.
-    /// Returns how many it heard. If a frame is decided, [`Scanner::take`] returns it. The scanner must be drained, and the
+    /// Hears the bytes of a chunk, as characters without faults, up to the first byte that decides a frame, or all bytes if none does.
+    /// Returns how many bytes it heard. If a frame is decided, [`Scanner::take`] returns it. The scanner must be drained, and the
     /// characters pushed so far and the chunk must together be fewer than 2^64.
     ///
-    /// The effect is that of [`Scanner::push`] for each of these bytes, with [`Scanner::take`] returning `None` after each but the
-    /// last. An empty scanner searches the bytes in place, and copies only those that it then holds.
+    /// The effect is the same as calling [`Scanner::push`] for each of these bytes, with [`Scanner::take`] returning `None` after each byte
+    /// except the last. An empty scanner searches the bytes in place, and copies only those that it then holds.
     pub fn push_bytes(&mut self, chunk: &[u8]) -> usize
         requires drained { IsTrue self.old.drained }
         requires room { self.old.first + length self.old.held + length chunk.now < 2 ^ 64 }
@@ -83,7 +83,7 @@ impl Scanner {
         self.buffer.push_bytes(chunk)
     }
 
-    /// Hears characters of a chunk like [`Scanner::push_bytes`], but with or without faults. Returns how many it heard.
+    /// Hears the characters of a chunk, with or without faults, as [`Scanner::push_bytes`] hears bytes. Returns how many it heard.
     pub fn push_chars(&mut self, chunk: &[Char]) -> usize
         requires drained { IsTrue self.old.drained }
         requires room { self.old.first + length self.old.held + length chunk.now < 2 ^ 64 }
@@ -102,8 +102,8 @@ impl Scanner {
     /// Returns the next frame that is decided, or `None` if there is none for now. After the finish, `None` means that no frame is
     /// left; the scanner is then new, and places begin at 0 again.
     pub fn take(&mut self) -> Option<FoundView<'_>>
-        // The view borrows the scanner, so this speaks of the scanner once the view is dropped: GivesNextOrNothing self.old after
-        // result.
+        // The view borrows the scanner. So this clause is about `after`, the scanner once the view is dropped: GivesNextOrNothing self.old
+        // after result.
         ensures* after { sem 𝓛 (follows_so the_row the_row self.entry.ghost_name none (λ _ _. ⊤)
             (λ after. GivesNextOrNothing self.old after result)) }
     {
@@ -127,8 +127,8 @@ impl Scanner {
         self.buffer.finish();
     }
 
-    /// Returns the place of the first character that is held, or of the next one to come if none is held. At most 269 are held, and
-    /// no later frame begins before that place.
+    /// Returns the place of the first character that is held, or of the next character to come if none is held. At most 269 characters are
+    /// held, and no later frame begins before that place.
     pub fn first_held(&self) -> u64
         ensures first { result ≡ self.now.first }
         ensures few { length self.now.held ≤ 269 }

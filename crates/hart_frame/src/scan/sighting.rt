@@ -1,4 +1,4 @@
-//! The next message in bytes that were heard, or the next place where one seems to start but none stands.
+//! The next message in bytes that were heard, or the next place where a message seems to start but no frame stands.
 ghost use Rattle.std.specs.Prelude.{None, Some, ◌≡◌, ◌↔◌, ◌<◌, ◌≤◌, ◌+◌, ◌-◌, ◌^◌, ◌++◌, [], ℕ, Bool, List, false, IfSome};
 ghost use Rattle.std.specs.Prelude.{IsTrue, Option, drop, length, map, option_map, take};
 ghost use Rattle.hart_frame.specs.heard.Character.{Character, faultless};
@@ -35,7 +35,7 @@ pub enum After {
     End,
 }
 
-/// A message, or a place where one seems to start but none stands.
+/// A message, or a place where a message seems to start but no frame stands.
 #[derive(Drop)]
 pub enum Sighting<'a> {
     /// A message. Its frame is borrowed from the bytes in which it was found.
@@ -95,7 +95,7 @@ pub fn next_sighting(bytes: &[u8], after: After, from: usize) -> NextSighting<'_
     none_decided(passed(bytes, &after, from))
 }
 
-/// Returns no sighting, with the place up to which all is used.
+/// Returns no sighting, and the place up to which all characters are used.
 fn none_decided<'a>(used: usize) -> NextSighting<'a>
     ensures { result ≡ record { sighting = None; used = used } }
 {
@@ -148,7 +148,7 @@ fn message_at(bytes: &[u8], start: usize, layout: Layout) -> NextSighting<'_>
 pub(crate) enum Standing {
     /// No sighting.
     Nothing,
-    /// This is not decided yet. All characters before the place given here are used.
+    /// This is not decided yet. All characters before the place in this field are used.
     Open(usize),
     /// A message, by the layout of its body.
     Message(Layout),
@@ -268,8 +268,8 @@ fn has_two_preambles(bytes: &[u8]) -> bool
     false
 }
 
-/// Returns up to which place the bytes are used, if nothing is seen in them and no place in them is open. A character with fault
-/// bits that follows is used too. If more may follow, the preamble bytes at the end, at most two, are not used.
+/// Returns the place up to which the bytes are used, if nothing is seen in them and no place in them is open. A character with fault bits
+/// that follows is used too. If more may follow, the preamble bytes at the end, at most two, are not used.
 fn passed(bytes: &[u8], after: &After, from: usize) -> usize
     requires within { from ≤ length bytes.now }
     requires places { length bytes.now < 2 ^ 64 - 1 }
@@ -305,8 +305,8 @@ fn next_asked(bytes: &[u8], after: &After, from: usize) -> Option<usize>
     stands.then_some(place)
 }
 
-/// The rest of a list, after its first `place` characters, has exactly the list's sightings from `place` on. In the list they stand
-/// `place` places later. So a caller that keeps only the rest has all sightings that are left.
+/// The rest of a list, after its first `place` characters, has exactly the list's sightings from `place` on. Each of these sightings stands
+/// `place` places later in the list than in the rest. So a caller that keeps only the rest misses no later sighting.
 pub fn the_rest_has_the_later_sightings()
     ensures { (place : ℕ) (chars : List Character) (seen : List Seen)
         → AreSightings (drop place chars) 0 seen → AreSightings chars place (map (moved_seen place) seen) }
@@ -319,9 +319,9 @@ pub fn sightings_are_unambiguous()
     ensures some { (chars : List Character) (from : ℕ) → (seen : List Seen) × AreSightings chars from seen }
 {}
 
-/// Sightings that are found one after another are the next ones, and stay so if more characters follow. The characters that are not
-/// used up, with what comes later, have the sightings that are left. Once all characters are used, the sightings found are all
-/// those of the list.
+/// Sightings that are found one after another are the next sightings of the list. They stay so if more characters follow. The characters
+/// that are not used up, with what comes later, have the sightings that are left. Once all characters are used, all sightings of the list
+/// are found.
 pub fn next_sightings_are_all()
     ensures onward { (chars : List Character) (ended : Bool) (from to after : ℕ) (given found : List Seen)
         → SeesOn chars ended from given to → SeesOn chars ended to found after → SeesOn chars ended from (given ++ found) after }

@@ -21,7 +21,7 @@ pub enum FrameFault {
     /// The check byte does not give the body even parity.
     #[error("bad check byte")]
     BadCheck,
-    /// The delimiter of an ACK with a byte count below 2.
+    /// The delimiter is that of an ACK, but the byte count is below 2.
     #[error("reply with a short byte count")]
     ShortReply,
 }
