@@ -4,7 +4,7 @@ use Rattle.hart_line.specs.Types.{Leg, LineFault, Undetected, Memory, BadLine}
 use Rattle.hart_line.specs.declared.fault.Leg.TheVariants.{Up, Down, Noise}
 use Rattle.hart_line.specs.declared.fault_text.FaultText.{FaultText}
 
--- The word that names a leg is `up` from a master to the device, `down` from the device to the masters, and `noise` at noise.
+-- The word for each leg of an event: `up` from a master to the device, `down` from the device to the masters, and `noise` for noise.
 abbrev pub leg_word : Leg → List ℕ
 leg_word Up = codes "up"
 leg_word Down = codes "down"

@@ -5,7 +5,7 @@ use std::fmt;
 /// The text of a fault, kept in parts so that it can be written without allocating memory.
 #[derive(Clone, Copy, Debug, PartialEq, Eq)]
 pub struct FaultText {
-    /// The whole text, or the part before its number.
+    /// The whole text if it has no number, and otherwise the part before the number.
     pub before: &'static str,
     /// The number, written in decimal.
     pub number: Option<usize>,

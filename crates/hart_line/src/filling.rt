@@ -81,7 +81,7 @@ impl<T> Filling<T> {
         }
     }
 
-    /// Makes room for `more` further items of at most 512 bytes each, if there is less. Room for 0 items is never refused.
+    /// Makes room for `more` further items of at most 512 bytes each, if there is less room. Room for 0 items is never refused.
     ///
     /// # Errors
     ///

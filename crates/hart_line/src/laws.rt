@@ -68,7 +68,7 @@ pub fn empty_scripts_need_no_room<L: Log>()
         → IsScriptFault text (Memory none) → ⊥ }
 {}
 
-/// A master that takes the unique address in a device's identity, from a reply with code 0, gets this device's own unique address.
+/// A master that takes the unique address from the identity in a reply with code 0 gets the own unique address of the device that replied.
 #[tactic(auto, using(std::proofs::lemmas::Grind::common_steps, std::proofs::lemmas::Bool::Decides::nat_tests))]
 pub fn identities_give_their_address()
     ensures { (parts : IdentityParts) (counter extended_device_status : ℕ) (reply : Reply) → AreIdentityParts parts
@@ -76,16 +76,17 @@ pub fn identities_give_their_address()
         → unique_in reply ≡ Some (Unique (own_numbers parts)) }
 {}
 
-/// In each turn of a script: if the device refuses a command, only the cold start bit of the turn's master changes, which the reply
-/// shows and clears. If the device does not answer, nothing in the device changes.
+/// If the device refuses a command in a turn of a script, only the cold start bit of the turn's master changes; the reply shows and clears
+/// this bit. If the device does not answer, nothing in the device changes.
 pub fn refused_turns_change_nothing()
     ensures { (start : Start) (events : List LineEvent) (before next : World)
         (refused : IsRefusedByDevice start events before next)
         → state_of start.device next ≡ after_refusal (state_of start.device before) refused.frame }
 {}
 
-/// In the first world of a script the device is as it was given. The last world, with its device and outcomes, keeps the promises
-/// if device, process and requests are well made, as every value of their types is. A script's fault is never detectable damage.
+/// In the first world of a script, the device is as it was given. The last world, with its device and outcomes, keeps the promises if the
+/// device, the process values and the requests are well made, as every value of their types is. A script's fault is never detectable
+/// damage.
 pub fn scripts_keep_their_promises()
     ensures first_world { (start : Start) → start.device.counter < 2 ^ 16 → state_of start.device (first_world start) ≡ start.device }
     ensures kept { (start : Start) (events : List LineEvent) (world : World)

@@ -21,8 +21,12 @@
 //! assert_eq!(rt; *outcome, Outcome::Unfinished { sendings: 1 });
 //! ```
 //!
-//! The modules: `script` has texts whose lines say events; `line`, a device and two masters on one line; `world`, which is only definitions
-//! and lemmas, what has happened on the line. A reader of the script knows what has happened, but no party on the line does.
+//! The modules:
+//!
+//! - `script`: texts whose lines say events.
+//! - `line`: a device and two masters on one line.
+//! - `world`: what has happened on the line, as a reader of the script knows it but no party on the line does. It has only definitions and
+//!   lemmas.
 #![tactic(auto)]
 
 mod event;

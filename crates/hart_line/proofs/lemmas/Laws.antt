@@ -67,7 +67,7 @@ scripts_keep_their_promises-kept start events here made well_made led =
       no_change_unseen = unseen start events here led;
     }
 
--- What a script has led to keeps its promises.
+-- The device and the outcomes that a script has led to keep its promises.
 pub led_keeps : (start : Start) (events : List LineEvent) (device : DeviceState) (outcomes : List Outcome) (spoken : List Spoken)
     → IsWellMadeStart start → AreWellMade events → Led start events device outcomes spoken → KeepsPromises start events device outcomes
 led_keeps start events device outcomes spoken made well_made led =

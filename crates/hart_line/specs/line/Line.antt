@@ -1,4 +1,4 @@
--- The line as one value, and the world that it stands for, for private calls alone (own profile).
+-- The line as one value, and the world that it stands for. Only private calls use these definitions (own profile).
 use Rattle.std.specs.Prelude.{◌≡◌, ◌++◌, ℕ, List}
 use Rattle.hart_line.specs.Types.{DeviceState, Process, LineEvent, Leg, Outcome, Spoken}
 use Rattle.hart_line.specs.line.Masters.{AreHeld}
@@ -8,8 +8,8 @@ use Rattle.hart_line.specs.world.Step.{Step}
 use Rattle.hart_line.specs.world.World.{MarksWithin, Start, World, state_of}
 use Rattle.hart_line.specs.declared.line.masters.Masters.{Masters}
 
--- A line is a device, its two masters, what became of each submission so far, what was spoken in the last event, for how many outcomes
--- there is room in all, and how many preamble bytes the device puts before a reply.
+-- A line has a device, its two masters, the outcome of each submission so far, and what was spoken in the last event. It also has the
+-- number of outcomes for which there is room in all, and the number of preamble bytes that the device puts before a reply.
 pub record LineState : Type 0 where
   pub device : DeviceState
   pub masters : Masters
@@ -18,15 +18,15 @@ pub record LineState : Type 0 where
   pub outcomes_room : ℕ
   pub response_preambles : ℕ
 
--- A line stands for a world if its device, its masters and its outcomes are those of the world, and its device's replies have as
--- many preamble bytes as the device's identity says.
+-- A line stands for a world if its device, its masters and its outcomes are those of the world, and if the replies of the device have the
+-- number of preamble bytes that the device's identity gives.
 pub record Stands (start : Start) (world : World) (line : LineState) : Type 0 where
   pub device_is : line.device ≡ state_of start.device world
   pub masters_are : AreHeld start.retries world.hands line.masters
   pub outcomes_are : line.outcomes ≡ world.outcomes
   pub preambles_are : line.response_preambles ≡ start.device.identity.response_preambles
 
--- An event leads from a world to a next one. The line stands for the next world, and has what was spoken in the event.
+-- An event leads from a world to the next world. The line stands for the next world, and has what was spoken in the event.
 pub record Stepped (start : Start) (world : World) (event : LineEvent) (line : LineState) : Type 0 where
   pub next : World
   pub step : Step start world event next
@@ -35,7 +35,7 @@ pub record Stepped (start : Start) (world : World) (event : LineEvent) (line : L
   pub said_is : next.spoken ≡ world.spoken ++ said
   pub spoken_are : AreSpoken said line.spoken
 
--- From each world for which the old line stands, the event leads to a next world, for which the new line stands.
+-- Take any world for which the old line stands. The event leads from this world to a next world, for which the new line stands.
 abbrev pub StepsOn : Process → LineEvent → LineState → LineState → Type 0
 StepsOn process event old new = (start : Start) (world : World) → start.process ≡ process → MarksWithin world → Stands start world old
     → Stepped start world event new

@@ -1,4 +1,4 @@
--- The two masters of a line, and how they agree with the world of a script, for private calls alone (own profile).
+-- The two masters of a line, and how they agree with the world of a script. Only private calls use these definitions (own profile).
 use Rattle.std.specs.Prelude.{◌≡◌, ℕ, ◌+◌, List, slice_set, Option, None, Some, IfSome, option_and_then, option_map}
 use Rattle.hart_line.specs.Types.{Address, MasterId, Primary, Secondary, FrameParts, EachMaster, Reply, Request, MasterFault, Outcome}
 use Rattle.hart_line.specs.Types.{Unfinished, Refused}
@@ -10,12 +10,14 @@ use Rattle.hart_line.specs.world.World.{InHand}
 use Rattle.hart_line.specs.declared.line.masters.Masters.{Masters}
 use Rattle.hart_line.specs.declared.line.masters.Submitter.{Submitter}
 
--- A master's hand between turns, by what the world has in it: a request to be sent, with its sendings so far, or nothing.
+-- The hand of a master between turns, by what the world has in it: a request to be sent, with the number of its sendings so far, or
+-- nothing.
 abbrev pub hand_of : Option InHand → Hand
 hand_of None = Empty
 hand_of (Some held) = ToSend (record { address = held.address; request = held.request; sendings = held.sendings })
 
--- A submitter has the master with this id, these retries and this hand. Its place is the number of the submission held, if any.
+-- A submitter has the master with this id, this retry limit and this hand. If a request is held, the submitter's place is the number of its
+-- submission.
 pub record IsSubmitter (id : MasterId) (retries : ℕ) (hand : Hand) (held : Option InHand) (submitter : Submitter) : Type 0 where
   pub reply_limit : ℕ
   pub master_is : submitter.master ≡ record { id = id; retries = retries; reply_limit = reply_limit; hand = hand }
@@ -29,19 +31,20 @@ Holds id retries held submitter = IsSubmitter id retries (hand_of held) held sub
 abbrev pub Awaits : MasterId → ℕ → Option InHand → Submitter → Type 0
 Awaits id retries held submitter = IsSubmitter id retries (hand_sent (hand_of held)) held submitter
 
--- Both masters have in their hands what the world says.
+-- Both masters have in hand what the world says that they have.
 pub record AreHeld (retries : EachMaster ℕ) (hands : EachMaster (Option InHand)) (masters : Masters) : Type 0 where
   pub primary : Holds Primary retries.primary hands.primary masters.primary
   pub secondary : Holds Secondary retries.secondary hands.secondary masters.secondary
 
--- In its turn a master awaits the reply to what it had in its hand. The other master has in hand what the world says.
+-- In a master's turn, this master awaits the reply to the request that it had in hand. The other master has in hand what the world says.
 abbrev pub AreInTurn : MasterId → EachMaster ℕ → EachMaster (Option InHand) → Masters → Type 0
 AreInTurn Primary retries hands masters =
     Awaits Primary retries.primary hands.primary masters.primary × Holds Secondary retries.secondary hands.secondary masters.secondary
 AreInTurn Secondary retries hands masters =
     Awaits Secondary retries.secondary hands.secondary masters.secondary × Holds Primary retries.primary hands.primary masters.primary
 
--- A submission that is not refused is in the master's hand, not sent yet, and unfinished. A refused one leaves the hand as it is.
+-- The request of a submission that is not refused is in the master's hand, not sent yet, and unfinished. A refused submission does not
+-- change the hand.
 abbrev pub Submits : Option InHand → ℕ → Address → Request → Option MasterFault → Outcome → (Option InHand → Type 0) → Type 0
 Submits held place address request None outcome Left = (outcome ≡ Unfinished 0)
     × Left (Some (record { submission = place; address = address; request = request; sendings = 0 }))
@@ -51,11 +54,11 @@ Submits held place address request (Some fault) outcome Left = (outcome ≡ Refu
 abbrev pub outcome_in_turn : (retries : ℕ) → Option InHand → Option Reply → Option Outcome
 outcome_in_turn retries hand accepted = option_map (λ held. outcome_of retries (held.sendings + 1) accepted) hand
 
--- What is in the master's hand after a turn: by its outcome the request stays there or leaves.
+-- What is in the master's hand after a turn. The outcome of the request says whether it stays there.
 abbrev pub hand_after_turn : (retries : ℕ) → Option InHand → Option Reply → Option InHand
 hand_after_turn retries hand accepted = option_and_then (λ held. hand_left held (outcome_of retries (held.sendings + 1) accepted)) hand
 
--- The outcome of the request in hand replaces the one that its submission had. With nothing in hand, no outcome changes.
+-- The outcome of the request in hand replaces the earlier outcome of its submission. With nothing in hand, no outcome changes.
 abbrev pub outcomes_after_turn : (retries : ℕ) → Option InHand → Option Reply → List Outcome → List Outcome
 outcomes_after_turn retries None accepted outcomes = outcomes
 outcomes_after_turn retries (Some held) accepted outcomes =

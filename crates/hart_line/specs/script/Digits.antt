@@ -11,6 +11,6 @@ value_of_digit byte = if is_hex_digit byte then hex_value byte else 255
 abbrev pub AreDigitValues : ℕ → List ℕ → Type 0
 AreDigitValues count values = (byte : ℕ) → byte < count → get_or values byte 0 ≡ value_of_digit byte
 
--- Two bytes are hex digits and write this byte.
+-- Two bytes are hex digits, and the two digits write this byte.
 abbrev pub AreDigitsOf : ℕ → ℕ → ℕ → Type 0
 AreDigitsOf byte high low = AreDigits high low × (byte ≡ byte_of high low)

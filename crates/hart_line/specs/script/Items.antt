@@ -19,11 +19,11 @@ item_spelling (Faulty high low fault_high fault_low) = high ∷ low ∷ 33 ∷ f
 abbrev pub AreDigits : ℕ → ℕ → Type 0
 AreDigits high low = IsTrue (is_hex_digit high) × IsTrue (is_hex_digit low)
 
--- A hex digit has this value.
+-- The value of a hex digit, or 0 if the byte is no hex digit.
 abbrev pub hex_value : ℕ → ℕ
 hex_value digit = unwrap_or (hex_digit_value digit) 0
 
--- Two digits write this byte.
+-- The byte that two hex digits write.
 abbrev pub byte_of : ℕ → ℕ → ℕ
 byte_of high low = 16 * hex_value high + hex_value low
 
@@ -33,7 +33,7 @@ IsValidItem (Plain high low) = AreDigits high low
 IsValidItem (Faulty high low fault_high fault_low) =
     AreDigits high low × AreDigits fault_high fault_low × (byte_of fault_high fault_low ≢ 0) × AreFaultBits (byte_of fault_high fault_low)
 
--- An item means the character with its byte and its fault bits.
+-- The character that an item means has the byte and the fault bits of the item.
 abbrev pub item_meaning : Item → Character
 item_meaning (Plain high low) = record { byte = byte_of high low; faults = 0 }
 item_meaning (Faulty high low fault_high fault_low) =
@@ -45,7 +45,7 @@ EndsBefore tail (Faulty high low fault_high fault_low) = ⊤
 EndsBefore [] (Plain high low) = ⊤
 EndsBefore (next ∷ tail) (Plain high low) = next ≢ 33
 
--- A text begins with a valid item, which may end before the rest of the text, `tail`.
+-- A text begins with a valid item, which may end where the rest of the text, `tail`, begins.
 pub record BeginsWithItem (text : List ℕ) (item : Item) (tail : List ℕ) : Type 0 where
   pub valid : IsValidItem item
   pub spelled : text ≡ item_spelling item ++ tail
@@ -55,14 +55,14 @@ pub record BeginsWithItem (text : List ℕ) (item : Item) (tail : List ℕ) : Ty
 abbrev pub NoItemBegins : List ℕ → Type 0
 NoItemBegins text = (item : Item) (tail : List ℕ) → BeginsWithItem text item tail → ⊥
 
--- A word is valid items end to end, and these characters are what the items mean.
+-- A word consists of valid items, end to end, and these characters are what the items mean.
 pub record AreItems (word : List ℕ) (chars : List Character) : Type 0 where
   pub items : List Item
   pub valid : AllByRecursion IsValidItem items
   pub spelled : word ≡ flat_map item_spelling items
   pub means : chars ≡ map item_meaning items
 
--- A word means these characters if it is not empty, and is items end to end with this meaning.
+-- A word means these characters if it is not empty and consists of items, end to end, that mean them.
 abbrev pub IsItemsWord : List ℕ → List Character → Type 0
 IsItemsWord word chars = (word ≢ []) × AreItems word chars
 

@@ -12,13 +12,13 @@ use Rattle.hart_line.specs.script.Words.{◌>>=◌, HasNoValue, IsAddressWord, I
 use Rattle.hart_line.specs.declared.script.rows.RowFault.{RowFault}
 use Rattle.hart_line.specs.declared.script.rows.RowFault.TheVariants as rows
 
--- The data of the words after COMMAND: no word means no bytes, and one word is DATA.
+-- The data of the words after COMMAND: no word means no bytes, one word is DATA, and more words are an error.
 abbrev pub payload_of : List (List ℕ) → Option (List ℕ)
 payload_of [] = Some []
 payload_of (word ∷ []) = data_of word
 payload_of (word ∷ other ∷ more) = None
 
--- The request that COMMAND and the words of its data write, if they write one.
+-- The request that COMMAND and the words of its data write, or `None` if they write no request.
 abbrev pub request_of : List ℕ → List (List ℕ) → Option Request
 request_of command payload = do
   number ← command_of command
@@ -57,7 +57,7 @@ IsBadLine words = (is_skipped words ≡ false) × HasNoValue (Says words)
 abbrev pub lines_in_words : List ℕ → List (List (List ℕ))
 lines_in_words text = map words_of (lines_of text)
 
--- The lines that are not skipped say these events, one each, in order.
+-- Each line that is not skipped says one event, and these are the events in order.
 abbrev pub AreEvents : List (List (List ℕ)) → List LineEvent → Type 0
 AreEvents lines events = AllZip Says (filter (λ words. not (is_skipped words)) lines) events
 
@@ -75,7 +75,7 @@ pub record HasFirstBadLine (text : List ℕ) (number : ℕ) : Type 0 where
   pub bad : IsBadLine words
   pub good : AreEvents (take before (lines_in_words text)) events
 
--- Words need room for this number of characters if the number is at least 1 and half the number of bytes of one of the words.
+-- Words need room for the characters of one of them: half as many characters as the word has bytes, and at least one character.
 abbrev pub IsNeededByWords : List (List ℕ) → ℕ → Type 0
 IsNeededByWords words items = (0 < items) × Any (λ word. items ≡ length word / 2) words
 
@@ -88,15 +88,15 @@ IsNeededByLine words items =
 abbrev pub IsNeededByText : List ℕ → ℕ → Type 0
 IsNeededByText text items = Any (λ words. IsNeededByLine words items) (lines_in_words text)
 
--- Reading a text fails at its first bad line, or because room that it needs is refused; never because of damage.
+-- Reading a text fails because of its first bad line, or because memory that it needs is refused. It never fails because of damage.
 abbrev pub IsScriptFault : List ℕ → LineFault → Type 0
 IsScriptFault text (BadLine number) = HasFirstBadLine text number
 IsScriptFault text (Memory room) = IsNeededByText text room.items
 IsScriptFault text (Undetected number leg) = ⊥
 
--- For private calls alone: the result of reading one line.
+-- Only private calls use the definitions from here on. They describe the result of reading one line.
 
--- The result of reading words: a value that they say; or a bad line, if they say none; or room that they need and that is refused.
+-- The result of reading words: a value that the words say; `Bad`, if they say no value; or refused memory that they need.
 abbrev pub ReadsWords : {T : Type 0} → List (List ℕ) → (T → Type 0) → Result T RowFault → Type 0
 ReadsWords {T} words IsSaid (Ok value) = IsSaid value
 ReadsWords {T} words IsSaid (Err rows.Bad) = HasNoValue IsSaid
@@ -107,8 +107,8 @@ abbrev pub fault_at_line : ℕ → RowFault → LineFault
 fault_at_line number rows.Bad = BadLine number
 fault_at_line number (rows.Memory room) = Memory room
 
--- The result of reading the line with this number. If the result has no event, the line is skipped. If it has an event, the words
--- of the line say this event. A fault names the line if the line is bad, or the room that its words need.
+-- The result of reading the line with this number. If the result has no event, the line is skipped. If the result has an event, the words
+-- of the line say this event. A fault says that the line is bad, or that memory that its words need was refused.
 abbrev pub SaysLine : ℕ → List (List ℕ) → Result (Option LineEvent) LineFault → Type 0
 SaysLine number words (Ok None) = IsTrue (is_skipped words)
 SaysLine number words (Ok (Some event)) = (is_skipped words ≡ false) × Says words event

@@ -12,7 +12,7 @@ use Rattle.hart_values.specs.address.DeviceNumbers.{DeviceNumbers}
 use Rattle.hart_line.specs.Types.{Address, MasterId, Primary, Secondary}
 use Rattle.hart_values.specs.declared.address.Address.TheVariants.{Polling, Unique}
 
--- One reading goes on with the next. The result is `None` if either of them finds nothing.
+-- A second reading takes the value that a first reading found. The result is `None` if either reading finds nothing.
 infixl 10 ◌>>=◌
 abbrev pub ◌>>=◌ : {A B : Type 0} → Option A → (A → Option B) → Option B
 read >>= next = option_and_then next read
@@ -77,7 +77,7 @@ IsCommandWord word command = command_of word ≡ Some command
 abbrev pub IsDataWord : List ℕ → List ℕ → Type 0
 IsDataWord word bytes = data_of word ≡ Some bytes
 
--- This holds for no value.
+-- `IsValue` holds for no value.
 abbrev pub HasNoValue : {T : Type 0} → (T → Type 0) → Type 0
 HasNoValue {T} IsValue = (value : T) → IsValue value → ⊥
 

@@ -19,20 +19,21 @@ AreHeard Clean (Some said) chars =
 AreHeard Lost sent chars = chars ≡ []
 AreHeard (Chars given) sent chars = chars ≡ given
 
--- The damage of what was heard is detected in two cases. If no frame was heard, nothing arrives. If the frame that was sent was
--- heard, and no other frame, the sent frame arrives. So if nothing was sent, any frame that is heard is undetected damage.
+-- The damage of what was heard is detected in two cases. Either no frame was heard, and nothing arrives. Or the frame that was sent was
+-- heard, and no other frame, and the sent frame arrives. So if nothing was sent, any frame that is heard is undetected damage.
 abbrev pub IsDetected : Option FrameParts → List Found → Option FrameParts → Type 0
 IsDetected sent [] arrived = arrived ≡ None
 IsDetected sent (found ∷ []) arrived = (sent ≡ Some found.frame) × (arrived ≡ sent)
 IsDetected sent (found ∷ other ∷ more) arrived = ⊥
 
--- What arrives, a frame or nothing, if this was sent, these characters were heard, and their damage is detected.
+-- What arrives, a frame or nothing, if `sent` was sent, these characters were heard, and their damage is detected.
 pub record ArrivesAmong (chars : List Character) (sent arrived : Option FrameParts) : Type 0 where
   pub frames : List Found
   pub are_frames : AreFrames chars 0 frames
   pub detected : IsDetected sent frames arrived
 
--- What the device is brought if this was sent and these characters were heard, with detected damage. A frame that is brought was sent.
+-- What the device is brought if `sent` was sent, these characters were heard, and their damage is detected. A frame that is brought was
+-- sent.
 pub record ReachesAmong (identity : IdentityParts) (chars : List Character) (sent : Option FrameParts) (brought : Brought) : Type 0 where
   pub frame : Option FrameParts
   pub arrives : ArrivesAmong chars sent frame
@@ -50,7 +51,7 @@ pub record Arrives (heard : Heard) (sent : Option SpokenFrame) (arrived : Option
   pub are_heard : AreHeard heard sent chars
   pub among : ArrivesAmong chars (frame_of sent) arrived
 
--- What a leg brings the device is what the characters that are heard in it bring.
+-- What a leg brings the device is what the characters heard in the leg bring.
 pub record Reaches (identity : IdentityParts) (heard : Heard) (sent : Option SpokenFrame) (brought : Brought) : Type 0 where
   pub chars : List Character
   pub are_heard : AreHeard heard sent chars

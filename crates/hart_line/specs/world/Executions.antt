@@ -8,7 +8,7 @@ use Rattle.hart_line.specs.world.World.{Execution}
 abbrev pub has_execution_of : ℕ → List Execution → Bool
 has_execution_of number executions = list_any (λ execution. execution.submission == number) executions
 
--- An execution is kept if no later one is of the same submission; the order stays.
+-- Keeps each execution that has no later execution of the same submission. The order stays.
 abbrev pub last_executions : List Execution → List Execution
 last_executions [] = []
 last_executions (execution ∷ later) =

@@ -27,19 +27,19 @@ HasDamage IsDamage start world event leg =
 abbrev pub HasUndetected : Start → World → LineEvent → Leg → Type 0
 HasUndetected = HasDamage IsUndetected
 
--- The fault of a script is undetected damage in a leg of the event with this number, counted from 0, if no earlier event has any;
--- or it is refused memory that the events need. A bad line is a fault of a text, never of events.
+-- A script has one of two faults. One is undetected damage in a leg of the event with this number, counted from 0, if no earlier event has
+-- undetected damage. The other is refused memory that the events need. A bad line is a fault of a text, never of events.
 abbrev pub IsFault : Start → List LineEvent → LineFault → Type 0
 IsFault start events (Undetected number leg) = (world : World) × (event : LineEvent)
     × IsLast start (take number events) world × (slice_get events number ≡ Some event) × HasUndetected start world event leg
 IsFault start events (Memory room) = IsNeededBy events room.items
 IsFault start events (BadLine line) = ⊥
 
--- What is heard in a leg is detectable. Noise is never detectable, since nobody sends it.
+-- The damage in a leg is detectable. Noise is never detectable, because nobody sends it.
 abbrev pub HasDetectable : Start → World → LineEvent → Leg → Type 0
 HasDetectable = HasDamage IsDetectable
 
--- The fault is never undetected damage in a leg in which what is heard is detectable.
+-- If the damage in a leg is detectable, the fault is not undetected damage in that leg.
 abbrev pub IsNotDetectable : Start → List LineEvent → LineFault → Type 0
 IsNotDetectable start events (Undetected number leg) = (world : World) (event : LineEvent)
     → IsLast start (take number events) world → slice_get events number ≡ Some event → HasDetectable start world event leg → ⊥
@@ -50,7 +50,8 @@ abbrev pub LegsAreDetected : Start → World → LineEvent → Type 0
 LegsAreDetected start world event = (leg : Leg) (heard : Heard) (sent : Option SpokenFrame)
     → HeardIn start world event leg heard sent → (arrived : Option FrameParts) × Arrives heard sent arrived
 
--- In each of these events the damage of each leg is detected, in every world to which the earlier events lead from this one.
+-- The damage of each leg of each of these events is detected. This is true in every world to which the earlier events lead from the world
+-- `from`.
 abbrev pub AreAllDetected : Start → World → List LineEvent → Type 0
 AreAllDetected start from events = (prefix suffix : List LineEvent) (event : LineEvent) (world : World)
     → events ≡ prefix ++ event ∷ suffix → LeadsTo start from prefix world → LegsAreDetected start world event

@@ -1,4 +1,4 @@
--- What is promised of a script besides `Led`: of its worlds, and of the device and the outcomes that are returned (own profile).
+-- What is promised of a script in addition to `Led`: of its worlds, and of the device and the outcomes that are returned (own profile).
 use Rattle.std.specs.Prelude.{◌≡◌, ◌≤◌, ◌+◌, ◌%◌, ◌^◌, List, [], ℕ, Option, Some, IfSome, IsTrue, false, length, slice_get}
 use Rattle.hart_values.specs.EachMaster.{of_master}
 use Rattle.hart_line.specs.Types.{MasterId, Reply, Request, DeviceState, Heard, LineEvent, Turn, Outcome, Answered}

@@ -17,7 +17,7 @@ abbrev pub is_noise : LineEvent → Bool
 is_noise (Noise chars) = true
 is_noise event = false
 
--- How many frames are spoken in events at most: two in each turn, and one at each noise.
+-- The greatest number of frames that can be spoken in events: two in each turn, and one at each noise.
 abbrev pub most_spoken : List LineEvent → ℕ
 most_spoken events = 2 * count_by is_turn events + count_by is_noise events
 
@@ -25,6 +25,6 @@ most_spoken events = 2 * count_by is_turn events + count_by is_noise events
 abbrev pub IsNeededForOutcomes : List LineEvent → ℕ → Type 0
 IsNeededForOutcomes events items = (0 < items) × (items ≡ count_by is_submission events)
 
--- If spoken frames are kept, events need room for their outcomes, and room for the greatest number of frames that are spoken in them.
+-- If spoken frames are kept, events need room for their outcomes, and room for the greatest number of frames that can be spoken in them.
 abbrev pub IsNeededBy : List LineEvent → ℕ → Type 0
 IsNeededBy events items = IsNeededForOutcomes events items ⊎ (0 < items) × (items ≡ most_spoken events)

@@ -89,7 +89,8 @@ requests_of events = map (λ submission. submission.request) (submissions_of eve
 abbrev pub AreWellMade : List LineEvent → Type 0
 AreWellMade events = All IsRequest (requests_of events)
 
--- How often a submission was sent, as its outcome says. A refused one was never sent, and neither was one that does not exist.
+-- The number of times that a submission was sent, as its outcome says. A refused submission was never sent; one that does not exist counts
+-- as 0.
 abbrev pub sendings_in : Option Outcome → ℕ
 sendings_in (Some (Answered reply sendings)) = sendings
 sendings_in (Some (NoReply sendings)) = sendings
@@ -105,8 +106,8 @@ pub record IsExecutedInItsTurn (start : Start) (events : List LineEvent) (number
   pub overwrites : overwrite_of request ≡ Some overwrite
   pub executed : answered.next.executions ≡ answered.before.executions ++ record { submission = number; overwrite = overwrite } ∷ []
 
--- What an event brought the device. A turn brought what the leg up of the turn brought. Every other event counts as bringing no
--- message, since it cannot bring a frame: noise may bring a garbled request, but that has no effect.
+-- What an event brought the device: for a turn, what the leg up of the turn brought. Any other event counts as bringing no message, because
+-- it cannot bring a frame. Noise may bring a garbled request, but such a request has no effect.
 abbrev pub brought_in_step : (start : Start) (before : World) (event : LineEvent) (next : World) → Step start before event next → Brought
 brought_in_step start before (Turn who up down) next step = step.brought
 brought_in_step start before event next step = NoMessage

@@ -22,12 +22,12 @@ abbrev pub frame_if : Bool → FrameParts → Option FrameParts
 frame_if true frame = Some frame
 frame_if false frame = None
 
--- The frame that was spoken, if one was.
+-- The frame that was spoken, if any.
 abbrev pub frame_of : Option SpokenFrame → Option FrameParts
 frame_of None = None
 frame_of (Some said) = Some said.frame
 
--- A master is a party of the line.
+-- The party of the line that each master is.
 abbrev pub party_of : MasterId → Party
 party_of Primary = parties.Primary
 party_of Secondary = parties.Secondary

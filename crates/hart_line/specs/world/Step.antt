@@ -25,8 +25,8 @@ abbrev pub submission_fault : Option InHand → Address → Request → Option M
 submission_fault (Some held) address request = Some Pending
 submission_fault None address request = if may_ask address request then None else Some WrongAddress
 
--- A submission that is not refused puts its request into the master's hand, not sent yet, and is unfinished. A refused one only
--- adds its outcome, and leaves the hand as it is.
+-- A submission that is not refused puts its request into the master's hand, not sent yet, and is unfinished. A refused submission only adds
+-- its outcome, and does not change the hand.
 abbrev pub submitted : World → MasterId → Address → Request → Option MasterFault → World
 submitted world who address request None = record world {
   hands = with_master who
@@ -48,7 +48,7 @@ abbrev pub sent_by : MasterId → Option InHand → Option SpokenFrame
 sent_by who None = None
 sent_by who (Some held) = Some (spoken_request who held)
 
--- The device sends back its answer to what it was brought, after as many preamble bytes as its identity says.
+-- The device sends back its answer to what it was brought, after the number of preamble bytes that its identity gives.
 abbrev pub sent_back : Start → World → Brought → Option SpokenFrame
 sent_back start world brought = spoken_by Device start.device.identity.response_preambles
     (answer_to (state_of start.device world) start.process brought)
@@ -63,7 +63,7 @@ abbrev pub executions_after : Effect → ℕ → List Execution → List Executi
 executions_after (Executes overwrite) number executions = executions ++ record { submission = number; overwrite = overwrite } ∷ []
 executions_after effect number executions = executions
 
--- A reset sets the mark of its master to the number of executions so far.
+-- A reset, by Command 38, sets the mark of its master to the number of executions so far.
 abbrev pub marks_after : Effect → MasterId → ℕ → EachMaster (Option ℕ) → EachMaster (Option ℕ)
 marks_after Resets who count marks = with_master who (Some count) marks
 marks_after effect who count marks = marks
@@ -97,10 +97,10 @@ hand_left held outcome = None
 abbrev pub replied : Start → World → Brought → World
 replied start world brought = record world { spoken = world.spoken ++ option_to_list (sent_back start world brought) }
 
--- A turn of a master in which the device was brought `brought` and the master accepted `accepted`. With nothing in hand, only the
--- device's answer, if any, is spoken. Otherwise the request is spoken, and then the answer, if any; the effect enters the
--- executions under the number of the submission, or sets the master's mark; if the frame is answered, the master's cold start bit
--- is cleared; and the submission gets its outcome, by which the request stays in hand or leaves it.
+-- A turn of a master in which the device was brought `brought` and the master accepted `accepted`. With nothing in hand, only the device's
+-- answer, if any, is spoken. Otherwise the request is spoken, and then the answer, if any. The effect enters the executions under the
+-- number of the submission, or sets the master's mark. If the frame is answered, the master's cold start bit is cleared. The submission
+-- gets its outcome, which says whether the request stays in hand.
 abbrev pub turned : Start → World → MasterId → Option InHand → Brought → Option Reply → World
 turned start world who None brought accepted = replied start world brought
 turned start world who (Some held) brought accepted =
@@ -116,7 +116,8 @@ turned start world who (Some held) brought accepted =
       spoken = world.spoken ++ spoken_request who held ∷ option_to_list (sent_back start world brought);
     }
 
--- A turn leads to the next world by what it brings the device, what comes back of the device's answer, and the reply accepted then.
+-- The next world after a turn depends on what the turn brings the device, what comes back of the device's answer, and the reply then
+-- accepted.
 pub record IsTurn (start : Start) (world : World) (who : MasterId) (up down : Heard) (next : World) : Type 0 where
   pub brought : Brought
   pub arrives : Reaches start.device.identity up (sent_by who (of_master who world.hands)) brought
@@ -126,16 +127,16 @@ pub record IsTurn (start : Start) (world : World) (who : MasterId) (up down : He
   pub accepts : Accepts who (of_master who world.hands) returned accepted
   pub next_is : next ≡ turned start world who (of_master who world.hands) brought accepted
 
--- Noise, in which nothing was sent, leads to the next world by what it brings the device. The device's answer, if any, is spoken.
--- Both masters hear it without damage. As neither master awaits a reply, neither accepts the answer.
+-- The next world after noise depends on what the noise brings the device; nothing was sent in it. The device's answer, if any, is spoken,
+-- and both masters hear it without damage. Neither master accepts the answer, because neither awaits a reply.
 pub record IsNoise (start : Start) (world : World) (chars : List Character) (next : World) : Type 0 where
   pub brought : Brought
   pub arrives : Reaches start.device.identity (Chars chars) None brought
   pub next_is : next ≡ replied start world brought
 
--- An event leads from a world to the next. A submission does so with the fault that refuses it, if any. A switch of protection
--- changes nothing but the protection. A restart of the device sets both masters' cold start bits and nothing else, so what the
--- masters have in hand stays. A turn or noise with undetected damage leads to no next world.
+-- An event leads from a world to the next world. A submission is refused with its fault, if it has one. A switch of protection changes
+-- nothing but the protection. A restart of the device sets both masters' cold start bits and nothing else, so what the masters have in hand
+-- stays. A turn or noise with undetected damage leads to no next world.
 abbrev pub Step : Start → World → LineEvent → World → Type 0
 Step start world (Submit who address request) next =
     next ≡ submitted world who address request (submission_fault (of_master who world.hands) address request)
@@ -149,6 +150,6 @@ abbrev pub LeadsTo : Start → World → List LineEvent → World → Type 0
 LeadsTo start world [] last = last ≡ world
 LeadsTo start world (event ∷ events) last = (next : World) × Step start world event next × LeadsTo start next events last
 
--- The last world of a script is the one to which its events lead from the first world.
+-- The last world of a script is the world to which its events lead from the first world.
 abbrev pub IsLast : Start → List LineEvent → World → Type 0
 IsLast start events last = LeadsTo start (first_world start) events last

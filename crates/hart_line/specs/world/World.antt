@@ -1,5 +1,5 @@
--- The world of a script (own profile): what has happened on the line, with its executions and the numbers of its submissions. The
--- device and its masters do not know these.
+-- The world of a script (own profile): what has happened on the line. The device and its masters do not know the executions and the numbers
+-- of submissions that a world has.
 use Rattle.std.specs.Prelude.{◌≡◌, ℕ, ◌≤◌, ◌+◌, ◌%◌, ◌^◌, ◌||◌, nat_lt, Bool, List, [], length, map, Option, None, Some}
 use Rattle.hart_line.specs.Types.{Address, EachMaster, MasterId, Overwrite, Request, DeviceState, Process, Outcome}
 use Rattle.hart_values.specs.EachMaster.{of_master}
@@ -11,16 +11,16 @@ pub record Execution : Type 0 where
   pub submission : ℕ
   pub overwrite : Overwrite
 
--- A request in a master's hand has the number of its submission, its address, and how often it was sent.
+-- A request in a master's hand, with the number of its submission, its address, and the number of times that it was sent.
 pub record InHand : Type 0 where
   pub submission : ℕ
   pub address : Address
   pub request : Request
   pub sendings : ℕ
 
--- A world is what was executed, oldest first; for each master its mark, if any (the number of executions when its last Command 38
--- was executed); whether the device is protected; for each master its cold start bit; what each master has in hand; what became of
--- each submission so far; and what was spoken.
+-- A world has the executions, oldest first; each master's mark, if any; whether the device is protected; each master's cold start bit; what
+-- each master has in hand; the outcome of each submission so far; and what was spoken. A master's mark is the number of executions when the
+-- master's last Command 38 was executed.
 pub record World : Type 0 where
   pub executions : List Execution
   pub marks : EachMaster (Option ℕ)
@@ -58,9 +58,9 @@ abbrev pub is_changed : Bool → Option ℕ → ℕ → Bool
 is_changed initially None count = initially || nat_lt 0 count
 is_changed initially (Some mark) count = nat_lt mark count
 
--- The device in a world: each register holds the bytes of the newest execution that names it, otherwise its initial bytes; the
--- counter has grown by the number of executions, with 0 after 65535; each configuration-changed bit is as its master's mark says;
--- protection and the cold start bits are those of the world; the identity stays.
+-- The device in a world. Each register holds the bytes of the newest execution that names it, or its initial bytes if none does. The
+-- counter has grown by the number of executions, with 0 after 65535. Each configuration-changed bit is as its master's mark says.
+-- Protection and the cold start bits are those of the world. The identity stays.
 abbrev pub state_of : DeviceState → World → DeviceState
 state_of initial world = record initial {
   contents = registers_of (overwrites_of world.executions) initial.contents;

@@ -15,7 +15,7 @@ pub among_frame : (identity : IdentityParts) (chars : List Character) (sent : Op
     → ArrivesAmong chars sent (Some frame) → ReachesAmong identity chars sent (OneFrame frame)
 among_frame identity chars sent frame a = record { frame = Some frame; arrives = a; brings = grind arith }
 
--- If no frame arrives, the device is brought what characters without a frame bring.
+-- If no frame arrives, the device is brought what characters without a frame bring: a garbled request, or no message.
 pub among_none : (identity : IdentityParts) (chars : List Character) (sent : Option FrameParts) (brought : Brought)
     → ArrivesAmong chars sent None → BringsBy identity chars [] brought → ReachesAmong identity chars sent brought
 among_none identity chars sent brought a brings = record { frame = None; arrives = a; brings = grind arith }
@@ -66,7 +66,7 @@ clean_reaches identity frame (Some said) is =
     let a = message_arrives said is.speakable in
     record { chars = a.chars; are_heard = a.are_heard; among = grind (arith, is.frame, among_frame) }
 
--- At noise its characters are heard, and nothing was sent.
+-- At noise, the characters of the event are heard, and nothing was sent.
 pub noise_answers : (chars : List Character) (device : DeviceState) (process : Process) (answer : Option FrameParts)
     (after : DeviceState) → AnswersTo (ReachesAmong device.identity chars None) device process answer after
     → AnswersTo (Reaches device.identity (Chars chars) None) device process answer after
@@ -88,7 +88,7 @@ pub says_request : (who : MasterId) (hand : Option InHand) (frame : Option Frame
     → Speaks (sent_by who hand) old new × IsSent frame (sent_by who hand)
 says_request who hand frame old new sends speaks = grind (arith, common_steps, speaks_sent)
 
--- Frames that are spoken after others are kept after them.
+-- Frames that are spoken later are kept later in the list.
 pub AreSpoken-append : (frames more : List SpokenFrame) (list others : List Spoken) → AreSpoken frames list → AreSpoken more others
     → AreSpoken (frames ++ more) (list ++ others)
 AreSpoken-append [] more [] others are next = next

@@ -55,7 +55,7 @@ reached_first device process primary secondary line is one other same master ano
       well_made = search rules;
     }
 
--- What a line returns after these events is what they led to.
+-- What a line returns after these events is what the events led to.
 pub reached_led : {start : Start} {events : List LineEvent} {line : LineState} {noted : List Spoken} (device : DeviceState)
     (outcomes : List Outcome) → (r : IsReached start events line noted) → device ≡ line.device → outcomes ≡ line.outcomes
     → Led start events device outcomes noted
@@ -67,7 +67,7 @@ reached_led device outcomes r device_is outcomes_are = record {
   spoken_are = r.spoken_are;
 }
 
--- If something holds for an element of a list, it also holds for an element of any list that ends with this one.
+-- If something holds for an element of a list, it also holds for an element of any list that ends with this list.
 pub Any-append : {X : Type 0} (P : X → Type 0) (xs ys : List X) → Any P ys → Any P (xs ++ ys)
 Any-append P xs ys (k, x, within, is, holds) =
     (length xs + k, x, grind (arith, common_steps), grind (arith, common_steps), holds)

@@ -12,7 +12,8 @@ use Rattle.hart_line.proofs.lemmas.world.Basics.{with_master-same}
 use Rattle.hart_line.proofs.lemmas.world.Steps.{frame_in, none_reaches, reaches_sent, state-after}
 use Rattle.hart_line.specs.declared.line.report.Party.TheVariants as parties
 
--- The device answered what this leg brought it. In this event, what was sent in the leg was spoken, then the answer, and no more.
+-- The device answered what this leg brought it. In this event, the frame sent in the leg was spoken, if any, then the answer, and nothing
+-- else.
 pub record IsAnswered (start : Start) (world : World) (heard : Heard) (said : Option SpokenFrame) (answer : Option FrameParts)
     (after : DeviceState) (spoken : List Spoken) : Type 0 where
   pub brought : Brought
@@ -38,7 +39,7 @@ answered start world heard said answer process line after mid new s same says gi
       spoken_are = AreSpoken-two said (sent_back start world a.brought) mid new says (rw back at replies);
     }
 
--- In a turn the master's request was spoken, if the master has one in hand.
+-- In a turn the master's request was spoken, if the master had a request in hand.
 pub turn_answered : (start : Start) (world : World) (who : MasterId) (up : Heard) (sent answer : Option FrameParts) (process : Process)
     (line : LineState) (after : DeviceState) (mid new : List Spoken) → Stands start world line → start.process ≡ process
     → sent ≡ frame_of (sent_by who (of_master who world.hands)) → Speaks (spoken_by (party_of who) master_preambles sent) [] mid
@@ -50,7 +51,7 @@ turn_answered start world who up sent answer process line after mid new s same s
     answered start world up (sent_by who (of_master who world.hands)) answer process line after mid new s same says.0
     (answers (sent_by who (of_master who world.hands)) says.1) count replies
 
--- An event in which nothing is spoken is carried out by a line that stands for the next world.
+-- If nothing is spoken in an event, a line that stands for the next world has carried out the event.
 pub silent_step : (start : Start) (world next : World) (event : LineEvent) (line : LineState) → Step start world event next
     → next.spoken ≡ world.spoken → line.spoken ≡ [] → Stands start next line → Stepped start world event line
 silent_step start world next event line step same silent stands = record {
@@ -62,7 +63,7 @@ silent_step start world next event line step same silent stands = record {
   spoken_are = rw silent tt;
 }
 
--- A device that is brought no frame stays as it is.
+-- A device that is brought no frame does not change.
 unheard : (state : DeviceState) (brought : Brought) → frame_in brought ≡ None → state_after_delivery state brought ≡ state
 unheard state (OneFrame frame) none = cc
 unheard state brought none = refl
@@ -87,7 +88,7 @@ replied_steps start world event heard answer line a step held same preambles_are
   spoken_are = a.spoken_are;
 }
 
--- An answer leaves the state that its command leaves, except for its master's cold start bit. Silence changes nothing.
+-- An answer leaves the state that the command leaves, except for the master's cold start bit. Silence changes nothing.
 answer_leaves : (answered zero : Bool) (asked : Effect) (id : MasterId) (state : DeviceState)
     → (if answered then after_reply id (after id (if answered && zero then asked else Nothing) state) else state)
     ≡ record (after id (if answered && zero then asked else Nothing) state) {

@@ -19,7 +19,7 @@ Decided P = P ⊎ (P → ⊥)
 abbrev OneOrNone : {T : Type 0} → (T → Type 0) → Type 0
 OneOrNone {T} IsValue = ((value : T) × IsValue value) ⊎ HasNoValue IsValue
 
--- A word is the given word, or another.
+-- A property that holds for the given word and for every other word holds for each word.
 is_or_not : (P : List ℕ → Type 0) (given word : List ℕ) → P given → ((word ≡ given → ⊥) → P word) → P word
 is_or_not P given word is other = by (bytes_eq word given) (bytes_eq-Decides word given)
   where
@@ -33,7 +33,7 @@ fault_bit_or_not : (faults bit : ℕ) → bit < 8 → Decided (bit_at faults bit
 fault_bit_or_not faults bit below =
     grind (arith, cases_eq bit 6, cases_eq bit 5, cases_eq bit 4, cases_eq bit 1, cases_eq (bit_at faults bit) 1)
 
--- What is decided for each number below a bound is decided for all of them together.
+-- If a property is decided for each number below a bound, it is decided whether it holds for all these numbers.
 all_below : (P : ℕ → Type 0) → (bound : ℕ) → ((k : ℕ) → k < bound → Decided (P k)) → Decided ((k : ℕ) → k < bound → P k)
 all_below P zero each = inl (λ k below. absurd (omega (arith, below)))
 all_below P (suc n) each = elim (each n (omega arith)) [
@@ -61,7 +61,7 @@ faulty_or_not high low mark a b tail =
     let none = cases_eq (byte_of a b) 0 in let bits = fault_bits_or_not (byte_of a b) in
     grind (arith, digits_or_not high low, digits_or_not a b, cases_eq mark 33, none, bits)
 
--- A text begins with an item, or with none.
+-- A text begins with an item, or with no item.
 item_or_none : (text : List ℕ) → ((item : Item) × (tail : List ℕ) × BeginsWithItem text item tail) ⊎ NoItemBegins text
 item_or_none (high ∷ low ∷ mark ∷ a ∷ b ∷ tail) =
     grind (arith, plain_or_not high low (mark ∷ a ∷ b ∷ tail), faulty_or_not high low mark a b tail)
@@ -145,7 +145,7 @@ event_or_none first words =
     inr (says_none first words (submit, turn, protect, noise, restart)))))))
 
 -- LINES
--- If lines say events, so do the same lines with this one before them.
+-- If lines say events, the same lines with this line before them say events too.
 abbrev GoesBefore : List (List ℕ) → Type 0
 GoesBefore words = (lines : List (List (List ℕ))) (events : List LineEvent) → AreEvents lines events
     → (all : List LineEvent) × AreEvents (words ∷ lines) all

@@ -87,14 +87,14 @@ no_noise word none (Noise chars) said = let same : said.0 ≡ word = grind arith
 no_noise word none event said = grind arith
 
 -- WHAT A WORD BRINGS ABOUT
--- If words say nothing whenever a certain one of them says nothing, they have the fault of this word.
+-- Suppose that words say nothing whenever one certain word of them says nothing. Then a fault of this word is a fault of the words.
 pub fault_of_word : {A B : Type 0} (words : List (List ℕ)) (k : ℕ) (word : List ℕ) (fault : RowFault) (IsPart : A → Type 0)
     (IsWhole : B → Type 0) → k < length words → get_or words k word ≡ word → (HasNoValue IsPart → HasNoValue IsWhole)
     → ReadsWords (word ∷ []) IsPart (Err fault) → ReadsWords words IsWhole (Err fault)
 fault_of_word words k word Bad IsPart IsWhole short here none reads = none reads
 fault_of_word words k word (Memory room) IsPart IsWhole short here none reads = grind arith
 
--- So a row has the fault of a word after its first one, if the row says nothing whenever this word says nothing.
+-- So a fault of a word after the first word of a row is a fault of the row, if the row says nothing whenever that later word says nothing.
 pub fault_in_row : {A : Type 0} (row : List ℕ) (words given : List (List ℕ)) (k : ℕ) (word : List ℕ) (fault : RowFault)
     (IsPart : A → Type 0) → words ≡ given → k < length given → get_or given k word ≡ word
     → (HasNoValue IsPart → HasNoValue (Says (row ∷ given))) → ReadsWords (word ∷ []) IsPart (Err fault)

@@ -15,7 +15,7 @@ use Rattle.hart_line.proofs.lemmas.world.Steps.{along, turn_cases, entered, fram
 use Rattle.hart_line.proofs.lemmas.world.Submitted.{held_in}
 
 -- IN EVERY WORLD THE REGISTERS HOLD VALID BYTES
--- An effect leaves valid bytes valid, as only well-made requests are executed.
+-- An effect leaves valid bytes valid, because only well-made requests are executed.
 effect_made : (state : DeviceState) (brought : Brought) (overwrite : Overwrite) → effect_on state brought ≡ Executes overwrite
     → IsRequest overwrite
 effect_made state brought overwrite is = grind (arith, writes_execute_their_overwrite-well_made)
@@ -38,7 +38,7 @@ led_valid start valid events = along start (first_world start) events (λ es wor
     rw executions (effect_valid start.device.contents (effect_on (state_of start.device before) brought) number before.executions
     (effect_made (state_of start.device before) brought) holds)) (rw registers_of_lists-none valid)
 
--- The reply that a master accepts from the device's answer is the one that the device made.
+-- The reply that a master accepts from the device's answer is the reply that the device made.
 device_replied : (start : Start) (events : List LineEvent) (before : World) (who : MasterId) (held : InHand) (answer : FrameParts)
     (reply : Reply) → IsWellMadeStart start → LeadsTo start (first_world start) events before
     → answer_of (state_of start.device before) start.process (spoken_request who held).frame ≡ Some answer

@@ -23,7 +23,7 @@ pub Arrives-one : (heard : Heard) (sent : Option SpokenFrame) (a b : Option Fram
     → Arrives heard sent b → a ≡ b
 Arrives-one heard sent a b s t = grind (arith, AreHeard-one, frames_are_unambiguous-one_list)
 
--- A leg brings the device one thing.
+-- A leg never brings the device two different things.
 brings_among : {identity : IdentityParts} {chars : List Character} {sent : Option FrameParts} {brought : Brought}
     → ReachesAmong identity chars sent brought → Brings identity chars brought
 brings_among r = record { frames = r.arrives.frames; are_frames = r.arrives.are_frames; by_frames = r.brings }
@@ -109,7 +109,7 @@ take-past : {A : Type 0} (number other : ℕ) (xs : List A) (x : A) → slice_ge
 take-past number other [] x is before = cc
 take-past number other (y ∷ xs) x is before = grind (arith, take-past (pred number) (pred other) xs x)
 
--- Events that include the event of a fault lead to no world.
+-- Events that include an event with undetected damage lead to no world.
 pub fault_before : (start : Start) (events : List LineEvent) (number other : ℕ) (leg : Leg) (world : World) → number < other
     → IsFault start events (Undetected number leg) → IsLast start (take other events) world → ⊥
 fault_before start events number other leg world before f run =
@@ -167,7 +167,7 @@ accepted_of who (Some held) (Some frame) = elim (replies_are_decided-decided who
 ]
 accepted_of who hand returned = (None, grind arith)
 
--- A leg whose damage is detected brings the device one thing.
+-- A leg whose damage is detected brings the device a frame, a garbled request or no message.
 reaches_one : (identity : IdentityParts) (heard : Heard) (sent : Option SpokenFrame) (brought : Option FrameParts)
     → Arrives heard sent brought → (brought : Brought) × Reaches identity heard sent brought
 reaches_one identity heard sent brought a =

@@ -10,7 +10,7 @@ use Rattle.hart_device.proofs.lemmas.Laws.{registers_of_lists-last}
 use Rattle.hart_line.proofs.lemmas.world.Basics.{none_or_some, with_master-cases}
 
 -- WHAT IS BROUGHT
--- A frame that is brought to the device is the one that was sent.
+-- The frame that is brought to the device, if any. It is the frame that was sent.
 abbrev pub frame_in : Brought → Option FrameParts
 frame_in (OneFrame frame) = Some frame
 frame_in brought = None
@@ -48,7 +48,7 @@ turn_cases start world who up down next turn =
       })
     ]
 
--- A step submits a request, sends the one in a master's hand, or changes at most protection, cold start bits and what was spoken.
+-- A step submits a request, sends the request in a master's hand, or changes at most protection, cold start bits and what was spoken.
 pub data StepCases (start : Start) (world next : World) (submissions : List Submission) : Type 0 where
   Submits : (said : Submission) (fault : Option MasterFault) → submissions ≡ said ∷ []
       → next ≡ submitted world said.who said.address said.request fault → StepCases start world next submissions
@@ -94,7 +94,7 @@ marks_kept effect who number world next executions marks within id mark is =
     grind (arith, length-append, with_master-cases)
 
 -- EVERY STEP
--- What holds before all events and is kept by each step of a script holds after them.
+-- What holds before all events, and is kept by each step of a script, also holds after all events.
 pub along : (start : Start) (from : World) (events : List LineEvent) (P : List LineEvent → World → Type 0)
     → ((before next : World) (event : LineEvent) (here : IsStepOf start from events before event next) → P here.prefix before
     → P (here.prefix ++ event ∷ []) next) → P [] from → (last : World) → LeadsTo start from events last → P events last
@@ -108,7 +108,7 @@ along start from (event ∷ events) P keeps holds last led = along start led.0 e
       step = here.step;
     })) (keeps from led.0 event (record { prefix = []; suffix = events; split = refl; led = refl; step = led.1 }) holds) last led.2
 
--- If events lead to a world and one more event leads on from it, all of them lead to the next world.
+-- If events lead to a world, and one more event leads from there to a next world, then all these events together lead to that next world.
 pub leads_more : (start : Start) (events : List LineEvent) (event : LineEvent) (world mid next : World)
     → LeadsTo start world events mid → Step start mid event next → LeadsTo start world (events ++ event ∷ []) next
 leads_more start [] event world mid next run step = (next, subst (λ w. Step start w event next) run step, refl)
@@ -126,7 +126,7 @@ pub contents-more : (executions : List Execution) (execution : Execution) (initi
     ≡ registers_of (overwrites_of (executions ++ execution ∷ [])) initial
 contents-more executions execution initial = grind (arith, common_steps, map-append, registers_of_lists-last)
 
--- The state after an effect, with new cold start bits, is that of the world after this effect, with the same bits.
+-- The device's state after an effect, with new cold start bits, is its state in the world after this effect, with the same cold start bits.
 pub state-after : (initial : DeviceState) (world next : World) (id : MasterId) (number : ℕ) (effect : Effect) → MarksWithin world
     → next.executions ≡ executions_after effect number world.executions
     → next.marks ≡ marks_after effect id (length world.executions) world.marks → next.protected ≡ world.protected

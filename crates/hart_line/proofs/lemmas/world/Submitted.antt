@@ -1,4 +1,4 @@
--- A request in hand is unfinished, and is the one that was submitted under its number, to its master and for its address. It was
+-- A request in hand is unfinished. It is the request that was submitted under its number, to its master and for its address. It was
 -- executed at most as often as it was sent.
 use Rattle.hart_line.proofs.Common.{same_Some, ◌≡◌, ℕ, ◌+◌, ◌<◌, refl, Some, List, [], ◌∷◌, ◌++◌, get_or, length, slice_set, take, arith}
 use Rattle.hart_line.proofs.Common.{◌≤◌, common_steps, map-append, take_more, All-append, nat_tests, sum_by-append, slice_get, of_master}
@@ -19,7 +19,7 @@ record IsAlong (submissions : List Submission) (world : World) : Type 0 where
   long : length submissions ≡ length world.outcomes
   hands : (id : MasterId) (held : InHand) → of_master id world.hands ≡ Some held → IsHeld submissions world.outcomes id held
 
--- A request that stays in hand after a turn is unfinished, and only its sendings change. Any other request stays as it was.
+-- A request that stays in hand after a turn is unfinished, and only its sendings change. Any other request does not change.
 held_more : (submissions more : List Submission) (start : Start) (world next : World) (id : MasterId) (held : InHand)
     → StepCases start world next more → IsAlong submissions world → of_master id next.hands ≡ Some held
     → IsHeld (submissions ++ more) next.outcomes id held
@@ -61,7 +61,7 @@ made_of events number submission made there =
     rw (← get_or_from_slice_get (requests_of events) number submission.request submission.request request)
     (made number submission.request (slice_get_within (requests_of events) number submission.request request))
 
--- If the first `n` events are well made and the next one is too, then the first `n + 1` are.
+-- If the first `n` events are well made and the next event is too, then the first `n + 1` events are well made.
 pub made_more : (events : List LineEvent) (n : ℕ) (unused : LineEvent) → n < length events → AreWellMade (take n events)
     → AreWellMade (get_or events n unused ∷ []) → AreWellMade (take (n + 1) events)
 made_more events n unused here made one =
@@ -69,7 +69,7 @@ made_more events n unused here made one =
     (All-append IsRequest (requests_of (take n events)) (requests_of (get_or events n unused ∷ [])) made one)
 
 -- HOW OFTEN
--- An effect adds at most one execution, and that is one of the submission that was sent.
+-- An effect adds at most one execution, and this execution is of the submission that was sent.
 times_executed-more : (effect : Effect) (own number : ℕ) (executions : List Execution)
     → times_executed number (executions_after effect own executions) ≤ times_executed number executions + (if own == number then 1 else 0)
 times_executed-more effect own number executions = grind (arith, nat_tests, sum_by-append)

@@ -2,7 +2,7 @@ use Rattle.hart_line.proofs.Common.{arith, ◌≡◌, ℕ, ◌+◌, suc, Bool, L
 use Rattle.hart_line.proofs.Common.{position_or_len, slice_split, has_bytes, is_blank}
 use Rattle.hart_line.proofs.script.lines.next_word.Goals as goal
 
--- the first part stands before the first element that passes, and the other parts stand after this element
+-- the first part is what comes before the first element for which `p` is true, and the other parts come after this element
 first_part : (p : ℕ → Bool) (xs : List ℕ) → (slice_split p xs ≡ take (position_or_len p xs) xs ∷ drop 1 (slice_split p xs))
     × (filter has_bytes (drop 1 (slice_split p xs)) ≡ filter has_bytes (slice_split p (drop (position_or_len p xs) xs)))
 first_part p [] = (refl, refl)

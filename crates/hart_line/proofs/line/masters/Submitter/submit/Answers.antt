@@ -3,7 +3,7 @@ use Rattle.hart_line.proofs.Common.{hand_of, submission_fault, InHand}
 use Rattle.hart_master.specs.declared.fault.Rejected.{Rejected}
 use Rattle.hart_line.proofs.line.masters.Submitter.submit.Goals as goal
 
--- A submission that the master refuses is refused in the world with the same fault, and the hand stays as it is.
+-- A submission that the master refuses is refused in the world with the same fault, and the hand does not change.
 refused_submits : (held : Option InHand) (place : ℕ) (address : Address) (request : Request) (rejected : Rejected)
     (Left : Option InHand → Type 0) → result_submitted (hand_of held) address request ≡ Err rejected
     → (hand_submitted (hand_of held) address request ≡ hand_of held → Left held)
