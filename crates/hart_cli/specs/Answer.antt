@@ -11,26 +11,27 @@ use Rattle.hart_cli.specs.text.Items.{ReadsAs}
 use Rattle.hart_cli.specs.text.MessageLine.{IsMessageLine}
 use Rattle.hart_cli.specs.input.WholeInput.{WholeOutcome}
 
--- The text of a device's answer is the line of its message, with the number of preamble bytes that its identity says. Silence has
--- no text.
+-- The text of a device's answer is the line of the answer's message, with the number of preamble bytes that the device's identity gives.
+-- Silence has no text.
 abbrev pub IsAnswerText : DeviceState → Option FrameParts → List ℕ → Type 0
 IsAnswerText device None text = text ≡ []
 IsAnswerText device (Some reply) text = IsMessageLine reply device.identity.response_preambles text
 
--- The text for a delivery is the text of the device's answer to what the delivery brings. The device hears all characters at once.
+-- The text for a delivery is the text of the device's answer to what the delivery brings. The device hears all characters of the delivery
+-- at once.
 pub record IsTextFor (device : DeviceState) (delivery : List Character) (text : List ℕ) : Type 0 where
   pub brought : Brought
   pub brings : Brings device.identity delivery brought
   pub answered : IsAnswerText device (answer_to device bench_process brought) text
 
--- The text for an input is the text for the delivery that the input reads as.
+-- The text for an input is the text for the delivery as which the input is read.
 pub record IsAnswer (device : DeviceState) (input text : List ℕ) : Type 0 where
   pub delivery : List Character
   pub reads : ReadsAs input delivery
   pub text_for : IsTextFor device delivery text
 
--- A call of `answer` without a device returned the reason why it has none. A call with a device wrote the device's answer to the
--- whole input at `Ok`, and a prefix of that answer if a write failed. The call wrote nothing if it returned a fault of the input,
--- or if memory for the input or its characters was refused.
+-- If a call of `answer` had no device, it returned the reason. Otherwise it wrote the device's answer to the whole input at `Ok`, and a
+-- prefix of that answer if a write failed. It wrote nothing if it returned a fault of the input, or if memory for the input or its
+-- characters was refused.
 abbrev pub AnswerOutcome : Option (List ℕ) → OutcomeRelation
 AnswerOutcome = OutcomeWith (λ device. WholeOutcome (IsAnswer device) IsWholeTextFault)

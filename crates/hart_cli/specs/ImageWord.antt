@@ -9,7 +9,7 @@ use Rattle.hart_cli.specs.declared.fault.CliFault.{CliFault}
 use Rattle.hart_cli.specs.declared.fault.CliFault.TheVariants.{BadHex, Image, Memory}
 use Rattle.hart_cli.specs.stream.Stream.{Stream}
 
--- The new bench device.
+-- The bench device in its first state.
 abbrev pub bench_device : DeviceState
 bench_device = new_device bench_identity bench_values
 
@@ -25,7 +25,8 @@ IsDeviceOf (Some word) device =
     (device.identity ≡ bench_identity) × (device.cold_start ≡ for_both false)
     × (image : List ℕ) × IsImageWord word image × IsImageOf device image
 
--- A word with an odd number of bytes is bad hex at its length. Any other word is bad hex at its first byte that is no hex digit.
+-- The place of bad hex in the word of an image. If the number of bytes of the word is odd, the place is the word's length. Otherwise it is
+-- the place of the first byte that is no hex digit.
 pub data IsBadHexWord (word : List ℕ) : ℕ → Type 0 where
   odd : length word % 2 ≡ 1 → IsBadHexWord word (length word)
   no_digit : (place : ℕ) → length word % 2 ≡ 0 → place < length word → is_hex_digit (slice_index word place) ≡ false
@@ -51,7 +52,7 @@ HasNoDevice image fault = HasImageFault image fault ⊎ LacksImageRoom image fau
 abbrev pub OutcomeRelation : Type 1
 OutcomeRelation = Stream → Stream → Stream → Stream → Result (Unit {0}) CliFault → Type 0
 
--- A call returned why it has no device, and left the reader and the writer as they were.
+-- A call returned the reason why it has no device, and did not touch the reader or the writer.
 pub record GivesNoDevice (image : Option (List ℕ)) (reader reader_after writer writer_after : Stream)
     (result : Result (Unit {0}) CliFault) : Type 0 where
   pub fault : CliFault
@@ -66,8 +67,8 @@ pub record WentOn (image : Option (List ℕ)) (Did : DeviceState → Type 0) : T
   pub is_device : IsDeviceOf image device
   pub did : Did device
 
--- A call without a device returned why it has none, and touched neither the reader nor the writer. A call with a device had one of
--- the outcomes for that device.
+-- If a call had no device, it returned the reason, and touched neither the reader nor the writer. If it had a device, it had one of the
+-- outcomes for that device.
 abbrev pub OutcomeWith : (DeviceState → OutcomeRelation) → Option (List ℕ) → OutcomeRelation
 OutcomeWith Outcome image reader reader_after writer writer_after result =
     GivesNoDevice image reader reader_after writer writer_after result

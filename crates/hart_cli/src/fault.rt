@@ -24,15 +24,15 @@ pub enum CliFault {
     Read,
     /// The writer failed.
     Write,
-    /// The input is longer than its limit: [`INPUT_LIMIT`](crate::INPUT_LIMIT), but 2^64 - 1 bytes for `explain` and `serve`, and
-    /// 2^64 - 2 for a raw input.
+    /// The input is longer than its limit. The limit is 2^64 - 1 bytes for `explain` and `serve`, 2^64 - 2 for a raw input, and
+    /// [`INPUT_LIMIT`](crate::INPUT_LIMIT) for all other inputs.
     TooLong,
     /// The first thing in the input that is neither a separator nor an item begins at this byte, counted from 0. In the word of an
     /// image, the place is the word's length if that length is odd, and otherwise the place of the first byte that is no hex digit.
     BadHex { place: usize },
     /// The input is no script, or a script that is not carried out.
     Line(LineFault),
-    /// No device goes on from this image.
+    /// No device can start from this image.
     Image(DeviceFault),
     /// Memory was refused, for this number of items.
     Memory(NoRoom),
@@ -96,7 +96,7 @@ impl CliFault {
         }
     }
 
-    /// Returns the reason why a word of `hart request` is bad; no other fault has one.
+    /// Returns the reason why a word of `hart request` is bad; no other fault has a reason.
     fn reason(self) -> Reason
         ensures { reasoned result ≡ reason_of self }
     {

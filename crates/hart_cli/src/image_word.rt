@@ -1,4 +1,4 @@
-//! The device of a call, and the word of the image that the device goes on from.
+//! The device of a call, and the word of the image that the device starts from.
 ghost use Rattle.std.specs.Prelude.{◌≡◌, ℕ, List, Option, Some, IfErr, IfOk, replicate};
 ghost use Rattle.std.specs.Option.{option_map};
 ghost use Rattle.hart_device.specs.Device.{DeviceState};
@@ -83,7 +83,7 @@ fn zeros(alloc: Global, count: usize) -> Result<Vec<u8>, NoRoom>
     Ok(bytes)
 }
 
-/// A call has at most one device, its image has at most one fault, and it never has both.
+/// A call has at most one device, and its image has at most one fault. A call whose image has a fault has no device.
 pub fn one_device()
     ensures one { (image : Option (List ℕ)) (device other : DeviceState)
         → IsDeviceOf image device → IsDeviceOf image other → device ≡ other }

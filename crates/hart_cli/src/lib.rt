@@ -18,8 +18,8 @@
 //!
 //! The crate `hart` has only `main`, which calls [`program`] with the arguments and the standard streams.
 //!
-//! The modules at the root hold the faults, the device with which a call starts (`image_word`), the reading of an input, and the
-//! writing of text, whole (`output`) or kept and written piece by piece (`kept`). The other modules:
+//! The modules at the root are the faults (`fault`), the device with which a call starts (`image_word`), the reading of an input (`input`),
+//! and the writing of a text: whole (`output`), or kept and written piece by piece (`kept`). The other modules:
 //!
 //! - `stream`: readers and writers as the calls see them.
 //! - `text`: hex items, and lines of words and bytes.

@@ -11,7 +11,7 @@ pub mod plain;
 #[derive(Clone, Copy, Debug, PartialEq, Eq)]
 pub struct Failed;
 
-/// Bytes come from here.
+/// Something that bytes are read from.
 pub trait Source {
     // The bytes that are left, if they are known, and how often a read has failed.
     ghost stream: { Self → Stream };
@@ -20,15 +20,15 @@ pub trait Source {
     ///
     /// # Errors
     ///
-    /// `Failed` if the read failed. No byte is lost then, and the count of failures rises by one, up to 2^64 - 1; at no
-    /// other time does it change.
+    /// `Failed` if the read failed. No byte is lost then, and the count of failures rises by one, up to 2^64 - 1. It does not change at any
+    /// other time.
     fn read(&mut self, buffer: &mut [u8]) -> Result<usize, Failed>
         ensures bound { ReadsAtMost result buffer.new }
         ensures bytes { ReadConsumes (stream self.old).bytes (stream self.new).bytes result buffer.new }
         ensures count { CountsFailure (stream self.old) (stream self.new) result };
 }
 
-/// Bytes go to here.
+/// Something that bytes are written to.
 pub trait Sink {
     // The bytes that were written, if they are known, and how often a write has failed.
     ghost stream: { Self → Stream };
@@ -37,8 +37,8 @@ pub trait Sink {
     ///
     /// # Errors
     ///
-    /// `Failed` if the write failed. Nothing is written then, and the count of failures rises by one, up to 2^64 - 1; at
-    /// no other time does it change.
+    /// `Failed` if the write failed. Nothing is written then, and the count of failures rises by one, up to 2^64 - 1. It does not change at
+    /// any other time.
     fn write(&mut self, bytes: &[u8]) -> Result<usize, Failed>
         ensures bound { WritesAtMost result bytes.now }
         ensures progress { IfOk result (λ taken. 0 < length bytes.now → 0 < taken) }

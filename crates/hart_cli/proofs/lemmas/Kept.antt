@@ -1,4 +1,4 @@
--- A text that is told piece by piece.
+-- A text that is made piece by piece.
 use Rattle.std.proofs.Common.{◌≡◌, ℕ, List, [], ◌++◌, Result, refl, append_assoc, arith}
 use Rattle.std.proofs.KnownBytes.{Appends-nil}
 use Rattle.std.proofs.lemmas.Grind.{common_steps}

@@ -11,7 +11,7 @@ use Rattle.hart_cli.specs.encode.MessageWords.{MessageWords}
 use Rattle.hart_cli.specs.stream.Stream.{FailsToWrite, Stream, WritesAll, WritesNothing}
 use Rattle.hart_line.specs.script.Words.{IsAddressWord, IsCommandWord, IsDataWord, HasNoValue, IsWho}
 
--- The request of four words is an STX that has the values of the words, burst bit 0 and no expansion bytes.
+-- The request that four words describe: an STX with the values of the words, burst bit 0 and no expansion bytes.
 pub record IsRequestOf (words : MessageWords) (frame : FrameParts) : Type 0 where
   pub master : IsWho words.who frame.master
   pub address : IsAddressWord words.address frame.address
@@ -21,8 +21,8 @@ pub record IsRequestOf (words : MessageWords) (frame : FrameParts) : Type 0 wher
   pub burst : frame.burst ≡ false
   pub expansion : frame.expansion ≡ []
 
--- The text of the words is the line of the message of their request. The message has the number of preamble bytes given with the
--- words.
+-- The text for the words is one line: the message of the request that they describe. The message has the number of preamble bytes given
+-- with the words.
 pub record IsEncoding (words : MessageWords) (text : List ℕ) : Type 0 where
   pub frame : FrameParts
   pub request : IsRequestOf words frame
@@ -49,7 +49,7 @@ EncodeOutcome words writer writer_after (Err (BadWord number)) =
     IsFirstBad words number × WritesNothing writer writer_after
 EncodeOutcome words writer writer_after (Err _) = ⊥
 
--- For private calls alone: what reading the words returns.
+-- Only private calls use the next definition: what reading the words returns.
 
 -- Reading the words returns the frame that they ask for, or the number of the first bad word.
 abbrev pub WordsOutcome : MessageWords → Result FrameParts CliFault → Type 0

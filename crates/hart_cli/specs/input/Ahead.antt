@@ -1,4 +1,4 @@
--- For private calls alone: the bytes of an input that are read but not yet decoded (own profile).
+-- The bytes of an input that are read but not yet decoded. Only private calls use these definitions (own profile).
 use Rattle.std.specs.Prelude.{◌≡◌, ◌≢◌, ◌⊎◌, ◌+◌, ◌≤◌, ℕ, List, [], ◌++◌, length, Option, None, Some}
 use Rattle.hart_cli.specs.declared.fault.CliFault.{CliFault}
 use Rattle.hart_cli.specs.declared.fault.CliFault.TheVariants as faults
@@ -26,9 +26,10 @@ abbrev pub ended_length : Option InputEnd → ℕ → ℕ
 ended_length (Some ends.Ended) read = read + 1
 ended_length end read = read
 
--- The next step depends on the rest of an input after its pieces. If the input ended, an empty rest means no fault, and any other
--- rest is bad hex. If the input may go on, or went past the limit, the rest is bad hex unless a piece may begin with it. If one
--- may, the call reads on, or returns `TooLong` past the limit. A failed read is the fault whatever the rest is.
+-- The next step depends on the rest of an input after its pieces, which are items and separators. If the input ended, an empty rest means
+-- no fault, and any other rest is bad hex. If the input may go on, or went past the limit, the rest is bad hex unless a piece may begin
+-- with it. If a piece may begin with the rest, the call reads on, or returns `TooLong` past the limit. A failed read is the fault whatever
+-- the rest is.
 abbrev pub IsNextStep : Option InputEnd → List ℕ → ℕ → NextStep → Type 0
 IsNextStep None rest place ReadOn = MayBegin rest
 IsNextStep None rest place (Stop fault) = (MayBegin rest → ⊥) × (fault ≡ Some (faults.BadHex place))

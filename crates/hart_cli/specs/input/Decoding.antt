@@ -28,15 +28,15 @@ abbrev pub ended_text : List ℕ → Ending → List ℕ
 ended_text input (CameTo Ended) = closed input
 ended_text input _ = input
 
--- `Reads` is a way to read texts. What can have been decoded of an input in this way is what the input reads as up to a rest of at
--- most `most_ahead` bytes.
+-- `Reads` is a way to read texts. If a write fails, what was decoded by then is what the input reads as in this way, except for a rest of
+-- at most `most_ahead` bytes at the end.
 pub record AreDecodedBy {Heard : Type 0} (Reads : List ℕ → List Heard → List ℕ → Type 0) (input : List ℕ) (ending : Ending)
     (heard : List Heard) : Type 0 where
   pub rest : List ℕ
   pub reads : Reads (ended_text input ending) heard rest
   pub few : length rest ≤ most_ahead
 
--- The decoding of an input by a way to read texts.
+-- The decoding that reads the texts of inputs by `Reads`. `Stops` holds for a rest that begins with nothing that can be decoded.
 abbrev pub decoding_by : {Heard : Type 0} → (List ℕ → List Heard → List ℕ → Type 0) → (List ℕ → Type 0) → Decoding (List Heard)
 decoding_by Reads Stops = record {
   Has = HasHeardBy Reads Stops;
@@ -53,7 +53,7 @@ item_decoding = decoding_by ReadsUpTo NoPieceBegins
 abbrev pub heard_decoding : Decoding (List Heard)
 heard_decoding = decoding_by ReadsHeard NothingBegins
 
--- The bytes of a raw input are characters without fault bits, in one stretch.
+-- A raw input is one whose bytes are the characters themselves, without fault bits. It is decoded as one stretch of these characters.
 abbrev pub AreRaw : List ℕ → List Heard → Type 0
 AreRaw input heard = heard ≡ heard_chars (faultless input)
 

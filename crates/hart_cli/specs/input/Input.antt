@@ -12,7 +12,7 @@ use Rattle.hart_cli.specs.declared.input.InputEnd.TheVariants.{Ended, ReadFailed
 abbrev pub input_limit : ℕ
 input_limit = 1048576
 
--- An input that is kept only one portion at a time has at most 2^64 - 1 bytes.
+-- An input has at most 2^64 - 1 bytes if only one portion of it is kept at a time.
 abbrev pub stream_limit : ℕ
 stream_limit = 2 ^ 64 - 1
 
@@ -28,22 +28,22 @@ ReadsWell old new bytes = Consumes old.bytes new.bytes bytes × (new.failures �
 abbrev pub ReadFails : Stream → Stream → List ℕ → Type 0
 ReadFails old new bytes = Consumes old.bytes new.bytes bytes × (new.failures ≡ count_after_failure old.failures)
 
--- One byte more than these was taken from the reader.
+-- These bytes, and one byte more, were taken from the reader, and no read failed.
 pub record ReadsBeyond (old new : Stream) (bytes : List ℕ) : Type 0 where
   pub beyond : ℕ
   pub read : ReadsWell old new (bytes ++ beyond ∷ [])
 
--- One byte more than a limit was taken. The text is the bytes within the limit.
+-- One byte more than a limit was taken from the reader. The text is the bytes within the limit.
 abbrev pub ReadsPast : ℕ → Stream → Stream → List ℕ → Type 0
 ReadsPast limit old new text = ReadsBeyond old new text × (length text ≡ limit)
 
--- An input with a limit gave this text before the input ended, before a read failed, or before the input went past the limit.
+-- This text was read from an input with a limit before the input ended, a read failed, or the input went past the limit.
 abbrev pub ReadsWithin : ℕ → Stream → Stream → List ℕ → InputEnd → Type 0
 ReadsWithin limit old new text Ended = ReadsWell old new text × IsAtEnd new.bytes × (length text ≤ limit)
 ReadsWithin limit old new text ReadFailed = ReadFails old new text × (length text ≤ limit)
 ReadsWithin limit old new text TooLong = ReadsPast limit old new text
 
--- An input gave this text before the input ended, before a read failed, or before the input went past 1,048,576 bytes.
+-- This text was read from an input before the input ended, a read failed, or the input went past 1,048,576 bytes.
 abbrev pub Reads : Stream → Stream → List ℕ → InputEnd → Type 0
 Reads old new text end = ReadsWithin input_limit old new text end
 
@@ -52,13 +52,13 @@ pub data Ending : Type 0 where
   Left : Ending
   CameTo : (end : InputEnd) → Ending
 
--- An input with a limit gave this text before the input came to its end or was left. If the input was left, more of it may be
+-- This text was read from an input with a limit before the input came to its end or was left. If the input was left, more of it may be
 -- unread, and one byte past the limit may have been read with the last bytes of the text.
 abbrev pub ReadsToWithin : ℕ → Stream → Stream → List ℕ → Ending → Type 0
 ReadsToWithin limit old new text Left = (ReadsWell old new text × (length text ≤ limit)) ⊎ ReadsPast limit old new text
 ReadsToWithin limit old new text (CameTo end) = ReadsWithin limit old new text end
 
--- Room for an input: as many bytes as it may have, and one more that makes its last item whole.
+-- Room for an input: one byte for each byte that it may have, and one more for the space that makes its last item whole.
 abbrev pub input_room : ℕ
 input_room = input_limit + 1
 
@@ -74,7 +74,7 @@ IsReadingFault old new faults.TooLong = (text : List ℕ) × Reads old new text 
 IsReadingFault old new (faults.Memory none) = LacksInputRoom old new none
 IsReadingFault old new _ = ⊥
 
--- For private calls alone: what one read of an input returns.
+-- Only private calls use the definitions from here on: what one read of an input returns.
 
 -- A failed read and an exceeded limit are faults of an input, whatever the input holds.
 abbrev pub fault_of_end : InputEnd → Option CliFault

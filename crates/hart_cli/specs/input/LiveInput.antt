@@ -1,5 +1,4 @@
--- What a call writes if it does not wait for the end of its input (own profile): what a portion decides is written before more is
--- read.
+-- What a call writes if it does not wait for the end of its input (own profile). It writes what each portion decides before it reads more.
 use Rattle.std.specs.Prelude.{◌≡◌, ◌≤◌, ℕ, ◌+◌, List, ◌++◌, length, Option, Some, None, Ok, Err, ⊤}
 use Rattle.std.specs.Io.KnownBytes.{Appends}
 use Rattle.hart_cli.specs.declared.fault.CliFault.{CliFault}
@@ -9,7 +8,7 @@ use Rattle.hart_cli.specs.input.Decoding.{Decoding}
 use Rattle.hart_cli.specs.input.Input.{Ending, ReadsToWithin, most_at_once}
 use Rattle.hart_cli.specs.stream.Stream.{FailsToWrite, Stream, WritesAll}
 
--- Which texts belong to what was heard.
+-- A relation between what was heard and its texts.
 abbrev pub TextRelation : Type 0 → Type 1
 TextRelation Heard = Heard → List ℕ → Type 0
 
@@ -20,7 +19,7 @@ pub record HasText {Heard : Type 0} (decoding : Decoding Heard) (IsText : TextRe
   pub has : decoding.Has input ending heard fault
   pub is_text : IsText heard text
 
--- An input with bad hex was read at most `most_ahead` bytes beyond the place of the bad hex.
+-- If an input has bad hex, it was read at most `most_ahead` bytes beyond the place of the bad hex.
 abbrev pub StopsSoon : ℕ → List ℕ → Option CliFault → Type 0
 StopsSoon most_ahead input (Some (BadHex place)) = length input ≤ place + most_ahead
 StopsSoon most_ahead input _ = ⊤
@@ -41,7 +40,7 @@ pub record IsDecidedText {Heard : Type 0} (decoding : Decoding Heard) (IsDecided
   pub reads : decoding.SoFar input heard
   pub decided : IsDecided heard text
 
--- All that an input without its last bytes decides was written. One read can return all of these last bytes.
+-- Everything that the input without its last bytes decides was written. There are at most as many of these last bytes as one read returns.
 pub record WroteInTime (IsDecided : List ℕ → List ℕ → Type 0) (input : List ℕ) (writer writer_after : Stream) : Type 0 where
   pub before : List ℕ
   pub last : List ℕ
@@ -52,8 +51,8 @@ pub record WroteInTime (IsDecided : List ℕ → List ℕ → Type 0) (input : L
   pub more : List ℕ
   pub written : Appends writer.bytes writer_after.bytes (text ++ more)
 
--- A write failed within the text of what had been decoded by then: a prefix of that text, short of its end, was written. Nothing
--- was late: all that the input without its last bytes decides had been written.
+-- A write failed within the text of what had been decoded by then: a prefix of that text was written, but not all of it. Nothing was
+-- written late: the text that the input without its last bytes decides had been written.
 pub record StopsWriting {Heard : Type 0} (decoding : Decoding Heard) (limit : ℕ) (IsText IsDecided : TextRelation Heard)
     (reader reader_after writer writer_after : Stream) : Type 0 where
   pub input : List ℕ

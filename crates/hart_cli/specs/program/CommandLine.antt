@@ -42,7 +42,7 @@ explain_app = with_rule (new_app (codes "explain")) raw_rule
 abbrev pub image_app : Text → App
 image_app name = with_rule (new_app name) image_rule
 
--- The three required words of the commands `encode` and `request`, before anything optional is added.
+-- A command with the three required words of `encode` and `request`, before anything optional is added.
 abbrev pub app_with_required_words : Text → App
 app_with_required_words name =
     let who = with_rule (new_app name) (required_rule (codes "WHO")) in
@@ -104,13 +104,14 @@ preambles_of word =
     let count = digits_value 10 digits in
     if all_ascii_digits digits && nat_lt 0 (length digits) && nat_le 5 count && nat_le count 20 then Some count else None
 
--- What `encode` is given: the number of preamble bytes, three words and the data; or `None` if one of the first four is missing.
+-- What `encode` is given: the number of preamble bytes, three words and the data; or `None` if the number or one of the three words is
+-- missing.
 abbrev pub message_words : Option ℕ → Option Text → Option Text → Option Text → Text → Option MessageWords
 message_words (Some preambles) (Some who) (Some address) (Some command) payload =
     Some (record { who = who; address = address; command = command; payload = payload; preambles = preambles })
 message_words _ _ _ _ payload = None
 
--- The words that the matches of `encode` give. An absent DATA is empty.
+-- The words of `encode` that clap's matches give. An absent DATA is empty.
 abbrev pub words_of : List Row → Option MessageWords
 words_of rows = message_words
     (option_and_then preambles_of (first_of (codes "preambles") rows))
@@ -122,21 +123,21 @@ abbrev pub explain_call : Option Text → Call
 explain_call (Some word) = if bytes_eq word (codes "true") then ExplainRaw else Explain
 explain_call None = Explain
 
--- What `request` is given: the number of preamble bytes, three words and the fields; or `None` if one of the first four is missing.
+-- What `request` is given: the number of preamble bytes, three words and the fields; or `None` if the number or a required word is missing.
 abbrev pub request_words : Option ℕ → Option Text → Option Text → Option Text → List Text → Option RequestWords
 request_words (Some preambles) (Some who) (Some address) (Some command) fields =
     Some (record { who = who; address = address; command = command; fields = fields; preambles = preambles })
 request_words _ _ _ _ fields = None
 
--- The words that the matches of `request` give.
+-- The words of `request` that clap's matches give.
 abbrev pub request_words_of : List Row → Option RequestWords
 request_words_of rows = request_words
     (option_and_then preambles_of (first_of (codes "preambles") rows))
     (first_of (codes "WHO") rows) (first_of (codes "ADDRESS") rows) (first_of (codes "COMMAND") rows)
     (unwrap_or (all_of (codes "FIELD") rows) [])
 
--- The call of the subcommand with this name. `answer`, `serve` and `sim` have the word of the image, if it is given. `encode` and
--- `request` have a call if the matches give their words, and `dump` and `explain` always have one. No other name has a call.
+-- The call of the subcommand with this name. `answer`, `serve` and `sim` have the word of the image, if it is given. `encode` and `request`
+-- have a call if the matches give their words. `dump` and `explain` always have a call. No other name has one.
 abbrev pub call_named : Text → List Row → Option Call
 call_named name rows =
     if bytes_eq name (codes "answer") then Some (Answer (first_of (codes "image") rows))
@@ -148,7 +149,7 @@ call_named name rows =
     else if bytes_eq name (codes "request") then option_map (λ words. Request words) (request_words_of rows)
     else None
 
--- The call of the subcommand that was found, by its name and its matches. If none was found, there is no call.
+-- The call of the subcommand that was found, by its name and its matches. If no subcommand was found, there is no call.
 abbrev pub call_of : Option (Text × List Row) → Option Call
 call_of met = option_and_then (λ (found : Text × List Row). call_named found.0 found.1) met
 

@@ -17,8 +17,8 @@ use Rattle.hart_cli.specs.declared.calls.program.command_line.Call.{Call}
 use Rattle.hart_cli.specs.declared.calls.program.command_line.Call.TheVariants.{Answer, Dump, Encode, Explain, ExplainRaw, Request, Serve}
 use Rattle.hart_cli.specs.declared.calls.program.command_line.Call.TheVariants.{Sim}
 
--- With this result, a call left the reader and the writer as the outcome of its subcommand says. Calls of `encode` and `request`
--- leave the reader as it was.
+-- A call returned this result, and left the reader and the writer as the outcome of its subcommand says. Calls of `encode` and `request` do
+-- not touch the reader.
 abbrev pub CallOutcome : Call → Stream → Stream → Stream → Stream → Result (Unit {0}) CliFault → Type 0
 CallOutcome (Answer image) reader reader_after writer writer_after result =
     AnswerOutcome image reader reader_after writer writer_after result
@@ -52,7 +52,7 @@ pub record Ran (words : List Text) (reader reader_after writer writer_after erro
   pub ends : status ≡ status_of result
   pub reports : IfErr result (λ fault. WritesUnlessFailed errors errors_after (fault_line fault))
 
--- For private calls alone:
+-- Only private calls use the definitions from here on.
 
 -- The program made the call of a subcommand with its matches. It ended, and reported a fault, as in `Ran`.
 pub record Made (met : Option (Text × List Row)) (reader reader_after writer writer_after errors errors_after : Stream)

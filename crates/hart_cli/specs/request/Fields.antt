@@ -27,7 +27,7 @@ abbrev pub named : List ℕ → Option (List ℕ × List ℕ)
 named word =
     if nat_lt (equals_place word) (length word) then Some (take (equals_place word) word, drop (equals_place word + 1) word) else None
 
--- A word gives a value to this name.
+-- Whether a word gives a value to this name.
 abbrev pub has_name : List ℕ → List ℕ → Bool
 has_name name word = option_map_or (λ parts. bytes_eq parts.0 name) (named word) false
 
@@ -35,15 +35,15 @@ has_name name word = option_map_or (λ parts. bytes_eq parts.0 name) (named word
 abbrev pub in_word : ℕ → ℕ
 in_word code = if code == 32 then 95 else code
 
--- The name of a field as a word has it.
+-- The name of a field as it is written in a word.
 abbrev pub name_word : List ℕ → List ℕ
 name_word name = map in_word name
 
--- A word gives a value to the field of a row.
+-- Whether a word gives a value to the field of a row.
 abbrev pub is_for : Row → List ℕ → Bool
 is_for row word = has_name (name_word row.name) word
 
--- What is wrong with a name after earlier words: no field has this name, or one of those words already has it.
+-- What is wrong with a name that follows earlier words: no field has this name, or one of the earlier words already gives it a value.
 abbrev pub fault_of_name : List Row → List (List ℕ) → List ℕ → Option FieldFault
 fault_of_name rows earlier name =
     if not (list_any (λ row. bytes_eq name (name_word row.name)) rows) then Some UnknownField
@@ -58,7 +58,7 @@ name_fault rows earlier word = option_map_or (λ parts. fault_of_name rows earli
 abbrev pub bad_at : ℕ → FieldFault → BadField
 bad_at place fault = record { number = 4 + place; fault = fault }
 
--- The first word with a bad name among words that stand after earlier ones.
+-- The first word with a bad name in the list `words`, which follows the words `earlier`.
 abbrev pub first_bad_name : List Row → (earlier words : List (List ℕ)) → Option BadField
 first_bad_name rows earlier [] = None
 first_bad_name rows earlier (word ∷ words) =
@@ -77,20 +77,20 @@ abbrev pub given_at : ℕ → Result (List ℕ) FieldFault → Result (List ℕ)
 given_at place (Ok bytes) = Ok bytes
 given_at place (Err fault) = Err (bad_at place fault)
 
--- The bytes of a field with this row and this place in its command: the bytes of the value that its word gives. If no word gives
--- the field a value, the fault has the place after the last word.
+-- The bytes of the field with this row and with this place among the fields of its command: the bytes of the value that its word gives. If
+-- no word gives the field a value, the fault has the place after the last word.
 abbrev pub field_value : (command field : ℕ) → List (List ℕ) → Row → Result (List ℕ) BadField
 field_value command field words row =
     if nat_lt (place_for words row) (length words)
     then given_at (place_for words row) (value_of row.kind row.size (value_in (get_or words (place_for words row) [])))
     else Err (bad_at (length words) (Missing command field))
 
--- Bytes followed by later bytes, unless the later ones have a fault.
+-- Bytes followed by later bytes, or the fault of the later bytes.
 abbrev pub after_bytes : List ℕ → Result (List ℕ) BadField → Result (List ℕ) BadField
 after_bytes bytes (Ok rest) = Ok (bytes ++ rest)
 after_bytes bytes (Err bad) = Err bad
 
--- The bytes of a field followed by those of later fields, or the first fault among them.
+-- The bytes of a field followed by the bytes of later fields, or the first fault among these fields.
 abbrev pub joined : Result (List ℕ) BadField → Result (List ℕ) BadField → Result (List ℕ) BadField
 joined (Ok bytes) rest = after_bytes bytes rest
 joined (Err bad) rest = Err bad
@@ -125,9 +125,9 @@ payload_of command words =
     then unless_bad (first_bad_name rows [] words) (taken_by command (data_of_fields command 0 words rows))
     else Err (record { number = 3; fault = UnknownCommand })
 
--- For private calls alone:
+-- Only private calls use the definitions from here on.
 
--- A value can be written for a field if its size suits its kind.
+-- Whether a value can be written for a field: the size of the field suits its kind.
 abbrev pub is_writable : FieldKind → FieldSize → Bool
 is_writable kind (AllBut after) = true
 is_writable Number (Exactly size) = (size == 1) || (size == 2)

@@ -24,8 +24,8 @@ pub record IsRequestByNames (words : RequestWords) (frame : FrameParts) : Type 0
   pub burst : frame.burst ≡ false
   pub expansion : frame.expansion ≡ []
 
--- The text of the words is the line of the message of their request. The message has the number of preamble bytes given with the
--- words.
+-- The text for the words is one line: the message of the request that they describe. The message has the number of preamble bytes given
+-- with the words.
 pub record IsRequestText (words : RequestWords) (text : List ℕ) : Type 0 where
   pub frame : FrameParts
   pub request : IsRequestByNames words frame
@@ -58,7 +58,7 @@ RequestOutcome words writer writer_after (Err (BadWord number)) = IsFirstBadWord
 RequestOutcome words writer writer_after (Err (FaultOfField bad)) = HasBadField words bad × WritesNothing writer writer_after
 RequestOutcome words writer writer_after (Err _) = ⊥
 
--- For private calls alone: what reading the words returns.
+-- Only private calls use the next definition: what reading the words returns.
 
 -- Reading the words returns the frame that they ask for, or says which word is bad.
 abbrev pub ReadOutcome : RequestWords → Result FrameParts CliFault → Type 0

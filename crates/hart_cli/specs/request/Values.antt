@@ -33,12 +33,12 @@ greatest_of size = if size == 1 then 255 else 65535
 abbrev pub number_bytes : ℕ → ℕ → List ℕ
 number_bytes size number = if size == 1 then number ∷ [] else (number / 256) ∷ (number % 256) ∷ []
 
--- The bytes of a number field are those of the number, if there is one.
+-- The bytes of a number field are the bytes of the number that was read. If no number was read, the field has a fault.
 abbrev pub number_or_fault : ℕ → Option ℕ → Result (List ℕ) FieldFault
 number_or_fault size None = Err (NoNumber (greatest_of size))
 number_or_fault size (Some number) = Ok (number_bytes size number)
 
--- The bytes of a number field are those of the number in its word.
+-- The bytes of a number field are the bytes of the number that its word writes.
 abbrev pub number_value : ℕ → List ℕ → Result (List ℕ) FieldFault
 number_value size word = number_or_fault size (number_up_to (greatest_of size) word)
 
@@ -47,7 +47,7 @@ abbrev pub hex_of : List ℕ → Option (List ℕ)
 hex_of (first ∷ second ∷ digits) = if (first == 48) && (second == 120) then data_of digits else None
 hex_of _ = None
 
--- The bytes that were read, if there are at least `least` and at most `most` of them.
+-- The bytes that were read, if there are at least `least` and at most `most` of them, and otherwise the fault.
 abbrev pub sized : FieldFault → (least most : ℕ) → Option (List ℕ) → Result (List ℕ) FieldFault
 sized fault least most None = Err fault
 sized fault least most (Some bytes) =
@@ -61,11 +61,11 @@ bytes_value size word = sized (NoBytes size) size size (hex_of word)
 abbrev pub codes_value : List ℕ → Result (List ℕ) FieldFault
 codes_value word = sized NoCodes 1 8 (hex_of word)
 
--- A text, and spaces after it up to this number of characters.
+-- A text, padded with spaces to this number of characters.
 abbrev pub padded : ℕ → List ℕ → List ℕ
 padded count text = text ++ replicate (count - length text) 32
 
--- The text of a field of `most` characters. If any of the first `most` characters fails the test, the first that fails is bad.
+-- The text of a field of `most` characters. If any of the first `most` characters fails the test `passes`, the first such character is bad.
 -- Otherwise, a text of more than `most` characters is too long, and any other text is padded.
 abbrev pub text_value : (ℕ → Bool) → ℕ → List ℕ → Result (List ℕ) FieldFault
 text_value passes most text =
@@ -84,7 +84,7 @@ can_have _ code = is_printable code && nat_lt code 256
 abbrev pub group_number : (w x y z : ℕ) → ℕ
 group_number w x y z = 262144 * (w % 64) + 4096 * (x % 64) + 64 * (y % 64) + z % 64
 
--- Four characters are packed into the three bytes of that number.
+-- Four characters are packed into three bytes, which are the bytes of their `group_number`.
 abbrev pub packed_group : (w x y z : ℕ) → List ℕ
 packed_group w x y z =
     (group_number w x y z / 65536) ∷ (group_number w x y z / 256 % 256) ∷ (group_number w x y z % 256) ∷ []
@@ -94,12 +94,12 @@ abbrev pub packed : List ℕ → List ℕ
 packed (w ∷ x ∷ y ∷ z ∷ text) = packed_group w x y z ++ packed text
 packed _ = []
 
--- A text in packed form, unless it has a fault.
+-- The packed form of a text, or the fault of the text.
 abbrev pub pack : Result (List ℕ) FieldFault → Result (List ℕ) FieldFault
 pack (Ok text) = Ok (packed text)
 pack (Err fault) = Err fault
 
--- The bytes of a packed text: three for every four characters.
+-- The bytes of a packed text: three bytes for every four characters.
 abbrev pub packed_value : ℕ → List ℕ → Result (List ℕ) FieldFault
 packed_value size word = pack (text_value (can_have PackedText) (4 * size / 3) (chars word))
 

@@ -1,4 +1,4 @@
--- What `hart serve` makes of one line (own profile).
+-- How `hart serve` answers one line (own profile).
 use Rattle.std.specs.Prelude.{◌≡◌, ◌<◌, ◌≤◌, ℕ, true, false, List, [], ◌∷◌, ◌++◌, codes, length, Option, None, Some}
 use Rattle.hart_frame.specs.heard.Character.{Character}
 use Rattle.hart_frame.specs.wire.FrameParts.{FrameParts}
@@ -40,20 +40,21 @@ word_said Image device = image_line device
 word_said Counter device = counter_line device
 word_said _ device = line_of (codes "ok" ∷ [])
 
--- The line of a device's answer is the line of its message, with the number of preamble bytes that its identity says. The line of
--- silence is `-`.
+-- The line for a device's answer is the line of the answer's message, with the number of preamble bytes that the device's identity gives.
+-- The line for silence is `-`.
 abbrev pub IsReplyLine : DeviceState → Option FrameParts → List ℕ → Type 0
 IsReplyLine device None said = said ≡ line_of (codes "-" ∷ [])
 IsReplyLine device (Some reply) said = IsMessageLine reply device.identity.response_preambles said
 
--- A device hears a whole delivery at once. This line is its answer to what the delivery brings, and this is its state afterwards.
+-- A device hears a whole delivery at once. `said` is the line for its answer to what the delivery brings, and `after` is its state
+-- afterwards.
 pub record Hears (device : DeviceState) (delivery : List Character) (after : DeviceState) (said : List ℕ) : Type 0 where
   pub brought : Brought
   pub brings : Brings device.identity delivery brought
   pub becomes : after ≡ state_after_delivery device brought
   pub answered : IsReplyLine device (answer_to device bench_process brought) said
 
--- The line for a bad line says why it is bad.
+-- The answer to a bad line is a line that says why the line is bad.
 abbrev pub bad_line : List ℕ → List ℕ
 bad_line reason = codes "bad line: " ++ reason ++ 10 ∷ []
 

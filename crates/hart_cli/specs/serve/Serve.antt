@@ -22,21 +22,21 @@ abbrev pub last_lines : Ending → List ℕ → List (List ℕ)
 last_lines (CameTo Ended) (byte ∷ more) = (byte ∷ more) ∷ []
 last_lines ending last = []
 
--- The lines of an input are split like the lines of a script. `last_lines` says whether the last one counts.
+-- The lines of an input are split like the lines of a script. `last_lines` says whether the last line counts.
 pub record HasLines (input : List ℕ) (ending : Ending) (lines : List (List ℕ)) : Type 0 where
   pub whole : List (List ℕ)
   pub last : List ℕ
   pub split : lines_of input ≡ whole ++ last ∷ []
   pub all : lines ≡ whole ++ last_lines ending last
 
--- A text is what a device says to the lines of an input.
+-- The text of a device's answers to the lines of an input.
 pub record IsServed (device : DeviceState) (input : List ℕ) (ending : Ending) (text : List ℕ) : Type 0 where
   pub lines : List (List ℕ)
   pub has_lines : HasLines input ending lines
   pub after : DeviceState
   pub serves : Serves device lines after text
 
--- An input was read up to its end, and all that the device says to its lines was written.
+-- An input was read up to its end, and all of the device's answers to its lines were written.
 pub record ServesTo (device : DeviceState) (ending : Ending) (reader reader_after writer writer_after : Stream) : Type 0 where
   pub input : List ℕ
   pub reads : ReadsToWithin stream_limit reader reader_after input ending
@@ -44,12 +44,12 @@ pub record ServesTo (device : DeviceState) (ending : Ending) (reader reader_afte
   pub is_served : IsServed device input ending text
   pub wrote : WritesAll writer writer_after text
 
--- A text is what a device says to the whole lines of an input that may go on.
+-- The text of a device's answers to the whole lines of an input that may go on.
 abbrev pub IsServedSoFar : DeviceState → List ℕ → List ℕ → Type 0
 IsServedSoFar device input text = IsServed device input Left text
 
--- A write failed within what the device says to the first lines that were read by then: a prefix of that text, short of its end,
--- was written. No line was late: all that the device says to the whole lines of the input without its last bytes had been written.
+-- A write failed within the device's answers to the first lines that were read by then: a prefix of these answers was written, but not all
+-- of them. No line was answered late: the answers to the whole lines of the input without its last bytes had been written.
 pub record StopsSaying (device : DeviceState) (reader reader_after writer writer_after : Stream) : Type 0 where
   pub input : List ℕ
   pub ending : Ending
@@ -78,9 +78,8 @@ pub record LacksLineRoom (none : NoRoom) (reader reader_after writer writer_afte
   pub unread : reader_after ≡ reader
   pub unwritten : writer_after ≡ writer
 
--- At `Ok`, a call served its whole input. If a read failed, or the input was longer than the limit, it served the whole lines
--- before that. If a write failed, it wrote a prefix of what the device says to the lines. If room for a line was refused, it wrote
--- nothing.
+-- At `Ok`, a call served its whole input. If a read failed, or the input was longer than the limit, the call served the whole lines before
+-- that. If a write failed, it wrote a prefix of the device's answers to the lines. If room for a line was refused, it wrote nothing.
 abbrev pub ServedOutcome : DeviceState → OutcomeRelation
 ServedOutcome device reader reader_after writer writer_after (Ok done) =
     ServesTo device (CameTo Ended) reader reader_after writer writer_after
@@ -94,7 +93,6 @@ ServedOutcome device reader reader_after writer writer_after (Err (faults.Memory
     LacksLineRoom none reader reader_after writer writer_after
 ServedOutcome device reader reader_after writer writer_after (Err fault) = ⊥
 
--- A call of `serve` without a device returned the reason why it has none. In a call with a device, the device served the lines that
--- the call read.
+-- If a call of `serve` had no device, it returned the reason. Otherwise the device served the lines that the call read.
 abbrev pub ServeOutcome : Option (List ℕ) → OutcomeRelation
 ServeOutcome = OutcomeWith ServedOutcome

@@ -1,4 +1,4 @@
--- For private calls alone: what is kept of an input while its lines are served (own profile).
+-- What is kept of an input while its lines are served. Only private calls use these definitions (own profile).
 use Rattle.std.specs.Prelude.{◌≡◌, ◌⊎◌, ℕ, ◌+◌, ◌==◌, false, All, List, [], ◌∷◌, ◌++◌, map, take, Result, Ok, Err, MatchResult}
 use Rattle.std.specs.List.{AllByRecursion, flat_map}
 use Rattle.std.specs.Str.Lines.{strip_carriage_return}
@@ -32,7 +32,7 @@ pub record BeginsWithPart (text part rest : List ℕ) : Type 0 where
   pub free : HasNoFeed part
   pub feed : text ≡ part ++ 10 ∷ rest
 
--- The greatest number of bytes of a part that are kept. A part that has this number or more is a line that is too long.
+-- The greatest number of bytes of a part that are kept. A part with this number of bytes or more is a line that is too long.
 abbrev pub most_kept : ℕ
 most_kept = input_limit + 2
 
@@ -49,7 +49,7 @@ pub record Keeps (server : Server) (part : List ℕ) : Type 0 where
   pub room : server.part.room ≡ line_room
   pub chars : server.chars.room ≡ chars_room
 
--- A server served the line of the part that it kept, and added the answer to the lines that it keeps.
+-- A server served the line of the part that it kept, and added the answer to the answers that it keeps until they are written.
 pub record ServesPart (old new : Server) : Type 0 where
   pub said : List ℕ
   pub serves : ServesLine old.device (strip_carriage_return old.part.items) new.device said
@@ -71,7 +71,7 @@ pub record ServesWhole (old new : Server) (text : List ℕ) (writer writer_after
   pub serves : ServesParts old.device parts new.device said
   pub adds : AddsText writer writer_after old.kept new.kept said
 
--- A write failed within a text: the kept lines, followed by what a device says to the first whole lines.
+-- A write failed within this text: the kept answers, followed by the device's answers to the first whole lines.
 pub record FailsInParts (device : DeviceState) (before text : List ℕ) (writer writer_after : Stream) : Type 0 where
   pub parts : List (List ℕ)
   pub later : List (List ℕ)
@@ -97,8 +97,7 @@ pub record ServesLast {T : Type 0} (device : DeviceState) (line : List ℕ) (wri
   pub serves : Serves device (last_lines (CameTo Ended) line) after said
   pub writes : Writes writer writer_after said result
 
--- An input was read up to its end. All that a device says to the input's whole lines was written, and the rest of the input is
--- kept.
+-- An input was read up to its end. All of the device's answers to the input's whole lines were written, and the rest of the input is kept.
 pub record ServesAll (device : DeviceState) (server : Server) (end : InputEnd) (reader reader_after writer writer_after : Stream)
     : Type 0 where
   pub input : List ℕ

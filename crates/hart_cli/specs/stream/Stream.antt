@@ -7,8 +7,8 @@ use Rattle.hart_cli.specs.declared.stream.Failed.{Failed}
 abbrev pub count_after_failure : ℕ → ℕ
 count_after_failure count = min (count + 1) (2 ^ 64 - 1)
 
--- What contracts see of a reader or a writer. `bytes` are those that are left to read, or those that were written so far, if they
--- are known. `failures` says how often the reader or writer has failed.
+-- What contracts see of a reader or a writer. `bytes` are the bytes left to read, or the bytes written so far, if they are known.
+-- `failures` says how often the reader or writer has failed.
 pub record Stream : Type 0 where
   pub bytes : Option (List ℕ)
   pub failures : ℕ

@@ -19,15 +19,15 @@ use hart_frame::Char;
 use hart_line::Filling;
 use std::alloc::Global;
 
-/// Reads a delivery as hex items, and writes the bench device's answer as one line of hex, or nothing if the device is silent. If
-/// the caller gives an image, as a word of hex, the device goes on from that image.
+/// Reads a delivery as hex items, and writes the bench device's answer as one line of hex, or nothing if the device is silent. If the
+/// caller gives an image, as a word of hex, the device starts from that image.
 ///
 /// # Errors
 ///
-/// First [`CliFault::BadHex`] and [`CliFault::Image`] of the image, at which nothing is read. Then [`CliFault::Read`] and
-/// [`CliFault::TooLong`], then [`CliFault::BadHex`] of the input, and then [`CliFault::Write`]. [`CliFault::Memory`] if memory for
-/// the image, the input or its characters is refused. At `Write` a prefix of the line is written, short of its end. At any other
-/// fault nothing is written.
+/// The faults of the image come first: [`CliFault::BadHex`], then [`CliFault::Image`]. At these nothing is read. Then come
+/// [`CliFault::Read`] and [`CliFault::TooLong`], then [`CliFault::BadHex`] of the input, and then [`CliFault::Write`]. The fault is
+/// [`CliFault::Memory`] if memory for the image, the input or its characters is refused. At `Write` a prefix of the line is written, but
+/// not all of it. At any other fault nothing is written.
 pub fn answer<R: Source, W: Sink>(
     alloc: Global,
     image: Option<&str>,

@@ -48,8 +48,8 @@ impl<'a> Model for EncodeWords<'a> {
 ///
 /// # Errors
 ///
-/// [`CliFault::BadWord`] with the number of the first bad word: 1 is WHO, 2 ADDRESS, 3 COMMAND, 4 DATA; then [`CliFault::Write`].
-/// At a bad word nothing is written. At `Write` a prefix of the line is written, short of its end. Nothing is allocated.
+/// [`CliFault::BadWord`] with the number of the first bad word: 1 is WHO, 2 ADDRESS, 3 COMMAND, 4 DATA; then [`CliFault::Write`]. At a bad
+/// word nothing is written. At `Write` a prefix of the line is written, but not all of it. Nothing is allocated.
 pub fn encode_text<W: Sink>(
     _alloc: Global,
     who: &str,

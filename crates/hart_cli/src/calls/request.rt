@@ -64,7 +64,7 @@ impl<'w, 'a: 'w> Model for RequestWords<'w, 'a> {
 /// # Errors
 ///
 /// [`CliFault::BadWord`] with the number of the first bad word: 1 is WHO, 2 ADDRESS, 3 COMMAND; then [`CliFault::BadField`]; then
-/// [`CliFault::Write`]. At a bad word nothing is written. At `Write` a prefix of the line is written, short of its end. Nothing is
+/// [`CliFault::Write`]. At a bad word nothing is written. At `Write` a prefix of the line is written, but not all of it. Nothing is
 /// allocated.
 pub fn request<W: Sink>(
     _alloc: Global,

@@ -17,19 +17,19 @@ use std::alloc::Global;
 mod line;
 mod server;
 
-/// Reads lines until the input ends, and writes a line for each of them, before it reads on.
+/// Reads lines until the input ends, and writes the answer to each line before it reads on.
 ///
-/// The bench device hears all items of a line at once. The line written for them is the reply in hex, or `-` for silence.
-/// `restart`, `protect on` and `protect off` give `ok`, `image` gives the image of the device, and `counter` its counter. Any other
-/// line, or a line of more than 1,048,576 bytes, gives `bad line:` and the reason, and changes nothing. If the caller gives an
-/// image, as a word of hex, the device goes on from that image. All memory is allocated before the first line is read.
+/// The bench device hears all items of a line at once. The line written for them is the reply in hex, or `-` for silence. `restart`,
+/// `protect on` and `protect off` give `ok`, `image` gives the image of the device, and `counter` its counter. Any other line, or a line of
+/// more than 1,048,576 bytes, gives `bad line:` and the reason, and changes nothing. If the caller gives an image, as a word of hex, the
+/// device starts from that image. All memory is allocated before the first line is read.
 ///
 /// # Errors
 ///
-/// First [`CliFault::BadHex`] and [`CliFault::Image`] of the image, and [`CliFault::Memory`] if memory for the image or for a line
-/// is refused. At these faults nothing is read. Then [`CliFault::Read`], and at an input of more than 2^64 - 1 bytes
-/// [`CliFault::TooLong`]. At these two the answers to the whole lines before the fault are written. At the first write that fails
-/// the fault is [`CliFault::Write`]: a prefix of the answers to what was read by then is written.
+/// The first faults are [`CliFault::BadHex`] and [`CliFault::Image`] of the image, and [`CliFault::Memory`] if memory for the image or for
+/// a line is refused. At these nothing is read. Then come [`CliFault::Read`], and [`CliFault::TooLong`] at an input of more than 2^64 - 1
+/// bytes. At these two, the answers to the whole lines before the fault are written. If a write fails, the fault is [`CliFault::Write`],
+/// and a prefix of the answers to what was read by then is written.
 pub fn serve<R: Source, W: Sink>(
     alloc: Global,
     image: Option<&str>,

@@ -32,7 +32,7 @@ pub enum NextStep {
     Stop(Option<CliFault>),
 }
 
-/// Reads once, and adds the bytes that are within the `room` left of the input's limit to `ahead`. Returns how many these are, and
+/// Reads once, and adds the bytes that are within the `room` left of the input's limit to `ahead`. Returns how many bytes these are, and
 /// how the input ended with them, if it did.
 pub fn read_ahead<R: Source>(
     reader: &mut R,

@@ -155,7 +155,7 @@ module _ {Heard : Type 0} (Reads : List ℕ → List Heard → List ℕ → Type
     },
   )
 
-  -- what was decided before a read was written in time
+  -- if the text that was decided before a read was also written before it, it was written in time
   pub in_time_before : (IsDecided : TextRelation (List Heard)) (limit : ℕ) (r r1 w w1 : Stream) (ahead : List ℕ) (read : ℕ) (input : List ℕ)
       (chars : List Heard) (text bytes : List ℕ) → DecodedUpTo Reads Stops limit r r1 None ahead read input chars → MayBegin ahead
       → length bytes ≤ most_at_once → IsDecided chars text → Appends w.bytes w1.bytes text
@@ -194,7 +194,7 @@ module _ {Heard : Type 0} (Reads : List ℕ → List Heard → List ℕ → Type
     soon = is.1;
   }
 
-  -- the fault of an input that is read no further is what the last step says
+  -- the fault of an input that is read no further is the fault of the last step
   decodes_at : (limit : ℕ) (r r2 : Stream) (end : Option InputEnd) (rest : List ℕ) (place read : ℕ) (input : List ℕ)
       (chars : List Heard) (fault : Option CliFault) → DecodedUpTo Reads Stops limit r r2 end rest read input chars
       → place + length rest ≡ length (ended_text input (ending_of end)) → IsNextStep end rest place (Stop fault)

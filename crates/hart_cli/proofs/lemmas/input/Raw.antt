@@ -9,7 +9,7 @@ use Rattle.hart_cli.specs.input.LiveInput.{LiveOutcome, ReadsText, TextRelation}
 use Rattle.hart_cli.specs.text.Heard.{Heard, heard_chars}
 use Rattle.hart_cli.specs.stream.Stream.{Stream, WritesAll}
 
--- the characters of joined bytes are those of both parts, joined
+-- the characters of two joined lists of bytes are the characters of both lists, joined
 pub faultless_on : (xs ys : List ℕ) → faultless (xs ++ ys) ≡ faultless xs ++ faultless ys
 faultless_on xs ys = map-append _ xs ys
 

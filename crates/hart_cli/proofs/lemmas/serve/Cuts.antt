@@ -70,7 +70,7 @@ pub record Cut (text : List ℕ) : Type 0 where
   pub rest : List ℕ
   pub cut : IsCut text parts rest
 
--- a cut text with one more byte before it has a cut
+-- if a text has a cut, the text with one more byte before it has a cut too
 byte_first : (x : ℕ) (xs : List ℕ) (parts : List (List ℕ)) (rest : List ℕ) (feeds : Bool) → (x == 10) ≡ feeds → IsCut xs parts rest
     → Cut (x ∷ xs)
 byte_first x xs parts rest true is h = record {

@@ -20,7 +20,7 @@ use Rattle.hart_cli.proofs.lemmas.serve.Cuts.{cut_has_lines, cut_on}
 use Rattle.hart_cli.proofs.lemmas.serve.Served.{Serves-on}
 use Rattle.hart_cli.proofs.lemmas.serve.Server.{parts_on}
 
--- an input was read so far, and all that a device says to its whole lines was written
+-- an input was read so far, and all of the device's answers to its whole lines were written
 pub record ServedUpTo (device : DeviceState) (server : Server) (room : ℕ) (old new writer writer_after : Stream) : Type 0 where
   pub input : List ℕ
   pub read : ReadsWell old new input
@@ -71,7 +71,7 @@ served_on device now next room r r1 r2 w w1 w2 bytes h more was quiet k =
       wrote = WritesAll-on w w1 w2 h.said k.said h.wrote (rw same at k.adds.wrote);
     }
 
--- all that is said to the whole lines of an input without its last bytes was written in time
+-- all answers to the whole lines of an input without its last bytes were written in time
 said_in_time : (device after : DeviceState) (input bytes : List ℕ) (parts : List (List ℕ)) (rest said : List ℕ) (w w1 w2 : Stream)
     → IsCut input parts rest → ServesParts device parts after said → WritesAll w w1 said → length bytes ≤ most_at_once
     → (more : List ℕ) → Appends w1.bytes w2.bytes more → WroteInTime (IsServedSoFar device) (input ++ bytes) w w2
@@ -91,7 +91,7 @@ said_in_time device after input bytes parts rest said w w1 w2 cut serves wrote f
   written = Appends-trans _ _ _ said more wrote.0 written;
 }
 
--- a write failed in what is said to the lines that one read completed
+-- a write failed within the answers to the lines that one read completed
 pub stops_saying : (device : DeviceState) (now : Server) (room : ℕ) (r r1 r2 w w1 w2 : Stream) (bytes : List ℕ) (end : Option InputEnd)
     → (h : ServedUpTo device now room r r1 w w1) → ReadsPortion r1 r2 bytes room end → length bytes ≤ most_at_once → now.kept ≡ []
     → FailsInParts now.device now.kept (h.rest ++ bytes) w1 w2 → StopsSaying device r r2 w w2
@@ -138,7 +138,7 @@ serves_to device after server r r1 w w1 w2 said h serves wrote =
       wrote = WritesAll-on w w1 w2 h.said said h.wrote wrote;
     }
 
--- a write failed in what is said to the last line
+-- a write failed within the answer to the last line
 pub stops_at_last : (device after : DeviceState) (server : Server) (r r1 w w1 w2 : Stream) (said : List ℕ)
     → (h : ServesAll device server Ended r r1 w w1)
     → Serves server.device (last_lines (CameTo Ended) (strip_carriage_return h.rest)) after said

@@ -1,4 +1,4 @@
--- Texts that a device says to lines.
+-- Texts of a device's answers to lines.
 use Rattle.std.proofs.Common.{◌≡◌, ◌≢◌, ℕ, List, [], ◌∷◌, ◌++◌, length, take, refl, sym, ap, ◌∙◌, append_assoc, append-nil, arith}
 use Rattle.std.proofs.lemmas.Grind.{common_steps}
 use Rattle.std.specs.Str.Lines.{strip_carriage_return}
@@ -17,7 +17,7 @@ Serves-on _ b c _ ys _ t (nothing _) k = k
 Serves-on a b c _ ys _ t (first _ next _ one lines said text begun h) k =
     rw append_assoc (first a next c one (lines ++ ys) said (text ++ t) begun (Serves-on next b c lines ys text t h k))
 
--- a device says only one text to given lines
+-- the text of a device's answers to given lines is unique
 pub one_text : (device a b : DeviceState) (lines : List (List ℕ)) (xs ys : List ℕ) → Serves device lines a xs → Serves device lines b ys
     → (a ≡ b) × (xs ≡ ys)
 one_text _ _ _ _ _ _ (nothing device) (nothing _) = (refl, refl)

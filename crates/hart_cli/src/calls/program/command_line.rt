@@ -98,8 +98,8 @@ pub fn matches_of<'a>(alloc: Global, words: &'a [String]) -> Result<ArgMatches<'
     Ok(matches)
 }
 
-/// Returns the call of the subcommand that the words name. Returns `None` if they name none of the seven, or if `encode_words` or
-/// `request_words` returns `None`; clap lets neither happen.
+/// Returns the call of the subcommand that the words name. Returns `None` if they name none of the seven subcommands, or if `encode_words`
+/// or `request_words` returns `None`; clap lets neither happen.
 pub fn call_of<'w, 'a: 'w>(matches: &'w ArgMatches<'a>) -> Option<Call<'w, 'a>>
     ensures { result ≡ call_of (subcommand_rows_of matches.now) }
 {
@@ -126,7 +126,7 @@ fn explain_call<'w, 'a: 'w>(given: &'w ArgMatches<'a>) -> Call<'w, 'a>
     }
 }
 
-/// Returns the word of the image of `hart answer`, `hart serve` or `hart sim`, if it was given one.
+/// Returns the word of the image of `hart answer`, `hart serve` or `hart sim`, if an image was given.
 fn image_word<'a>(given: &ArgMatches<'a>) -> ImageWord<'a>
     ensures { result ≡ first_of (codes "image") (rows_of (found_of given.now)) }
 {
@@ -356,7 +356,7 @@ fn required_word<'a>(alloc: Global, id: &'a str, help: &'a str) -> Arg<'a>
     Arg::new(alloc, id).required(true).help(help)
 }
 
-/// Returns the option for the image that the device of a call goes on from.
+/// Returns the option for the image that the device of a call starts from.
 fn image_option<'a>(alloc: Global) -> Arg<'a>
     ensures rule { rule_of result ≡ image_rule }
     ensures local { result.global ≡ false }

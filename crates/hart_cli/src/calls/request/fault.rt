@@ -9,7 +9,8 @@ use hart_commands::request_rows;
 /// A bad word, and why it is bad.
 #[derive(Clone, Copy, Debug)]
 pub struct BadField {
-    /// The word's number, from 4 on; 3 if the command is unknown or refuses the fields; the next number if a field is missing.
+    /// The number of the bad word, from 4 on. It is 3 if the command is unknown or refuses the fields. If a field is missing, it is the
+    /// number after the last word.
     pub number: usize,
     /// What is wrong.
     pub fault: FieldFault,

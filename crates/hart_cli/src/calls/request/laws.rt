@@ -14,8 +14,8 @@ ghost use Rattle.hart_cli.specs.request.Given.{AreGiven};
 ghost use Rattle.hart_cli.specs.request.Request.{IsRequestByNames};
 ghost use Rattle.hart_cli.specs.request.RequestWords.{RequestWords as GivenWords};
 
-/// `hart explain` splits the data of a request into fields by a table. Split in this way, the data have all fields of the command.
-/// Each field has the bytes of the value in its word, and no byte follows the last field.
+/// `hart explain` splits the data of a request into fields by a table. Split in this way, the data that `hart request` makes have all
+/// fields of the command. Each field has the bytes of the value in its word, and no byte follows the last field.
 pub fn fields_of_requests_are_those_given()
     ensures given { (words : GivenWords) (frame : FrameParts) → IsRequestByNames words frame
         → AreGiven words.fields (request_rows frame.command) (fields_of (request_rows frame.command) frame.payload) }

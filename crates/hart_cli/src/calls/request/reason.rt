@@ -3,16 +3,16 @@ ghost use Rattle.std.specs.Prelude.{◌≡◌, ◌+◌, ◌++◌, ◌≤◌, [],
 
 use std::fmt;
 
-/// The text of a reason, in parts, so that it can be written without an allocation too.
+/// The text of a reason, in parts, so that it can be written without an allocation.
 #[derive(Clone, Copy, Debug)]
 pub struct Reason {
-    /// The whole text, or what stands before the number or the last word.
+    /// The part before the number or the last word, or the whole text if it has neither.
     pub before: &'static str,
     /// The number, written in decimal, if there is one.
     pub number: Option<usize>,
-    /// What stands after the number. Without a number, the last word, or nothing.
+    /// The part after the number. If there is no number, the last word, or nothing.
     pub after: &'static str,
-    /// With a number, a reason is 80 bytes long at most.
+    /// With its number, a reason is at most 80 bytes long.
     pub ghost short: { length before.now + length after.now ≤ 60 },
 }
 

@@ -27,9 +27,9 @@ pub enum LineWord {
     Restart,
     /// The device's write protection is switched on or off.
     Protect(bool),
-    /// The image of the device is wanted.
+    /// The image of the device is asked for.
     Image,
-    /// The configuration change counter of the device is wanted.
+    /// The configuration change counter of the device is asked for.
     Counter,
 }
 

@@ -15,8 +15,8 @@ use hart_frame::Char;
 use hart_line::{Digits, Filling, NoRoom};
 use std::alloc::Global;
 
-/// The greatest number of bytes of a part that are kept. A part that has this number or more is a line that is too long, even if
-/// its last byte is a carriage return.
+/// The greatest number of bytes of a part that are kept. A part with this number of bytes or more is a line that is too long, even if its
+/// last byte is a carriage return.
 const MOST_KEPT: usize = INPUT_LIMIT + 2;
 
 /// The room for a part, and for the space after its line.
@@ -34,7 +34,7 @@ pub struct Server {
     pub part: Filling<u8>,
     /// The characters of a line.
     pub chars: Filling<Char>,
-    /// The lines that are not yet written.
+    /// The answers that are not yet written.
     pub kept: Kept,
     /// The table of what hex digits mean, for reading lines.
     pub digits: Digits,
@@ -66,7 +66,7 @@ impl Server {
         })
     }
 
-    /// Serves the lines that more bytes of an input complete, writes what the device says to them, and keeps the rest.
+    /// Serves the lines that `more`, the next bytes of an input, completes. Writes the device's answers to them, and keeps the rest.
     ///
     /// # Errors
     ///
@@ -84,7 +84,7 @@ impl Server {
         Ok(())
     }
 
-    /// Serves the lines that more bytes of an input complete, and keeps the rest.
+    /// Serves the lines that `more`, the next bytes of an input, completes. Keeps the rest.
     ///
     /// # Errors
     ///
@@ -105,7 +105,7 @@ impl Server {
         Ok(())
     }
 
-    /// Serves the last line, which has no line feed, unless it is empty, and writes what the device says to it.
+    /// Serves the last line, which has no line feed, unless it is empty, and writes the device's answer to it.
     ///
     /// # Errors
     ///

@@ -24,7 +24,7 @@ after_after : (xs ys : List ℕ) (rest : Result (List ℕ) BadField) → after_b
 after_after xs ys (Ok bytes) = ap (λ bs. Ok bs) (sym (append_assoc xs ys bytes))
 after_after xs ys (Err bad) = refl
 
--- the data from a field on are its bytes and those of the fields after it
+-- the data from a field on are the bytes of this field, and then the data from the next field on
 data_at : (command field : ℕ) (words : List (List ℕ)) (rows : List FieldRow) (k : ℕ) (d : FieldRow) → k < length rows
     → data_of_fields command field words (map seen (drop k rows))
     ≡ joined (field_value command field words (seen (get_or rows k d)))

@@ -3,7 +3,7 @@ use Rattle.hart_commands.specs.Fields.{seen}
 use Rattle.hart_cli.specs.request.Fields.{after_bytes, data_of_fields}
 use Rattle.hart_cli.proofs.calls.request.fields.data_of_fields.Given as goal
 
--- the data are those so far and those of the fields to come
+-- the data are the bytes of the fields so far, and then the bytes of the fields to come
 abbrev pub invariant-loop-field : goal.invariant-loop-field
 invariant-loop-field l = record {
   few : length l.data ≤ 32 * l.field;

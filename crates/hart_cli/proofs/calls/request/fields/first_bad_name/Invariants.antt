@@ -3,7 +3,7 @@ use Rattle.hart_commands.specs.Fields.{seen}
 use Rattle.hart_cli.specs.request.Fields.{first_bad_name}
 use Rattle.hart_cli.proofs.calls.request.fields.first_bad_name.Given as goal
 
--- the first bad name is the first among the words to come
+-- the first bad name of all words is the first bad name among the words to come
 abbrev pub invariant-loop-place : goal.invariant-loop-place
 invariant-loop-place l =
     first_bad_name (map seen l.rows) [] (map (λ word. word.now) l.words)

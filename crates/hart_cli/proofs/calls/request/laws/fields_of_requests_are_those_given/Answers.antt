@@ -32,7 +32,7 @@ use Rattle.hart_cli.specs.request.Values.{can_have, codes_value, date_value, dat
 use Rattle.hart_cli.specs.request.Values.{year_byte}
 use Rattle.hart_cli.proofs.calls.request.laws.fields_of_requests_are_those_given.Goals as goal
 
--- whether a row of fixed size can be written; whether a row that takes all that is left is the last one
+-- whether a row of fixed size can be written, or whether a row that takes all bytes left is the last row
 abbrev closes : FieldKind → FieldSize → List Row → Bool
 closes kind (Exactly size) rows = is_writable kind (Exactly size)
 closes kind (AllBut after) [] = after == 0
@@ -55,7 +55,7 @@ length-packed groups (w ∷ x ∷ y ∷ []) h = absurd (omega (arith, h))
 length-text : (passes : ℕ → Bool) (most : ℕ) (word text : List ℕ) → text_value passes most word ≡ Ok text → length text ≡ most
 length-text passes most word text is = grind (arith, common_steps, nat_tests)
 
--- packed bytes are those of a given text
+-- packed bytes are the packed form of a given text
 packed_from : (text : Result (List ℕ) FieldFault) (bytes : List ℕ) → pack text ≡ Ok bytes
     → (given : List ℕ) × (text ≡ Ok given) × (bytes ≡ packed given)
 packed_from (Ok given) bytes is = (given, refl, cc)
@@ -77,7 +77,7 @@ either : (held : Bool) (given other : Result (List ℕ) FieldFault) (bytes : Lis
 either true given other bytes is = inl is
 either false given other bytes is = inr is
 
--- bytes that are made of what was found, if anything was, are made of something
+-- if bytes were made of what was found, then something was found
 made_of : {T : Type 0} (make : T → Result (List ℕ) FieldFault) (found : Option T) (fault : FieldFault) (bytes : List ℕ)
     → option_map_or make found (Err fault) ≡ Ok bytes → (t : T) × (make t ≡ Ok bytes)
 made_of make None fault bytes is = absurd cc
@@ -132,7 +132,7 @@ last_field : (name : List ℕ) (kind : FieldKind) (value : List ℕ) → 0 < len
     → fields_of (record { name = name; size = AllBut 0; kind = kind } ∷ []) value ≡ record { name = name; kind = kind; bytes = value } ∷ []
 last_field name kind value is = grind (arith, common_steps, nat_tests)
 
--- given data are a value and the data after it
+-- data that were given are a value and the data after it
 parts : (first rest : Result (List ℕ) BadField) (bytes : List ℕ) → joined first rest ≡ Ok bytes
     → (value : List ℕ) × (later : List ℕ) × (first ≡ Ok value) × (rest ≡ Ok later) × (bytes ≡ value ++ later)
 parts (Ok value) (Ok later) bytes is = (value, later, refl, refl, cc)
@@ -144,7 +144,7 @@ by_word : (command field : ℕ) (words : List (List ℕ)) (row : Row) (value : L
     → (place_for words row < length words) × (value_of row.kind row.size (value_in (get_or words (place_for words row) [])) ≡ Ok value)
 by_word command field words row value is = grind (arith, common_steps, nat_tests)
 
--- given data fall into the given fields
+-- data fall into the given fields: split by these rows, they have the fields that the words give, and no byte is left over
 abbrev Falls : List (List ℕ) → List Row → List ℕ → Type 0
 Falls words rows bytes = AreGiven words rows (fields_of rows bytes) × (bytes_of (fields_of rows bytes) ≡ bytes)
 

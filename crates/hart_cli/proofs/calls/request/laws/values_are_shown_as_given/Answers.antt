@@ -22,13 +22,13 @@ use Rattle.hart_cli.specs.request.Values.{packed, padded, text_value, year_byte}
 use Rattle.hart_cli.proofs.lemmas.request.Texts.{given_good}
 use Rattle.hart_cli.proofs.calls.request.laws.values_are_shown_as_given.Goals as goal
 
--- the bytes of a number are those of a number that was read
+-- the bytes of a number field are the bytes of a number that was read
 number_from : (size : ℕ) (number : Option ℕ) (bytes : List ℕ) → number_or_fault size number ≡ Ok bytes
     → (read : ℕ) × (number ≡ Some read) × (bytes ≡ number_bytes size read)
 number_from size None bytes is = absurd cc
 number_from size (Some number) bytes is = (number, refl, cc)
 
--- the number that was read is that of its digits
+-- the number that was read is the value of its digits
 number_read : (greatest number : ℕ) (word : List ℕ) → number_up_to greatest word ≡ Some number
     → (number ≡ digits_value 10 (without_leading_plus word)) × (number ≤ greatest)
 number_read greatest number word is = grind (arith, common_steps, nat_tests)
@@ -43,7 +43,7 @@ returns-clause-numbers c size word bytes is =
     let read = number_read (greatest_of size) from.0 word from.1 in
     grind (arith, common_steps, number_back size from.0, from.2, read.0)
 
--- packed bytes are those of a given text
+-- packed bytes are the packed form of a given text
 packed_from : (text : Result (List ℕ) FieldFault) (bytes : List ℕ) → pack text ≡ Ok bytes
     → (given : List ℕ) × (text ≡ Ok given) × (bytes ≡ packed given)
 packed_from (Ok given) bytes is = (given, refl, cc)
@@ -107,7 +107,7 @@ returns-clause-latin c word bytes none is =
     let all = all_printable bytes (given_good (can_have LatinText) refl 32 (chars word) bytes (sym given)) in
     grind (arith, common_steps, all, pad.0)
 
--- either the word is the one that is shown, and gives `bytes`, or `other` gives the bytes
+-- either the word is the word that is shown, and the bytes are `bytes`, or `other` gives the bytes
 given_by : (word shown bytes given : List ℕ) (other : Result (List ℕ) FieldFault)
     → (if bytes_eq word shown then Ok bytes else other) ≡ Ok given → ((shown ≡ word) × (given ≡ bytes)) ⊎ (other ≡ Ok given)
 given_by word shown bytes given other is = grind (arith, common_steps, bytes_eq-Decides word shown)
@@ -122,7 +122,7 @@ dated_shown word day month (Some year) bytes is =
       | inr other ↦ absurd cc
     ]
 
--- if each date that may be read is shown as a word, so is the one that was read
+-- if each date that may be read is shown as the word, the date that was read is shown as the word
 read_shown : {A : Type 0} (read : Option A) (given : A → Result (List ℕ) FieldFault) (word bytes : List ℕ)
     → ((date : A) → given date ≡ Ok bytes → date_words bytes ≡ word) → option_map_or given read (Err NoDate) ≡ Ok bytes
     → date_words bytes ≡ word

@@ -11,7 +11,7 @@ use Rattle.hart_cli.specs.declared.calls.request.fault.FieldFault.TheVariants.{B
 use Rattle.hart_cli.specs.request.Values.{can_have, padded, text_value}
 use Rattle.hart_cli.proofs.calls.request.values.text_value.Goals as goal
 
--- the characters that pass at the front are those before the first bad character or before the end of the room
+-- the characters that pass at the front are those before the first bad character, or all that there is room for
 passing : (passes : ℕ → Bool) (most : ℕ) (text : List ℕ) (place : ℕ) → place ≤ most → place ≤ length text
     → ((k : ℕ) → k < place → passes (get_or text k 0) ≡ true)
     → (place < most → place < length text → passes (get_or text place 0) ≡ false) → prefix_len passes (take most text) ≡ place
