@@ -1,6 +1,7 @@
 //! `hart`, HART messages on the command line.
 //!
-//! `hart_cli` has all that the program does. Here are only its arguments, the standard streams and the exit status.
+//! The crate `hart_cli` does all of the program's work. This crate has only the program's arguments, the standard streams and the exit
+//! status.
 #![tactic(auto)]
 
 use hart_cli::{NO_CALL, Plain, program};

@@ -271,8 +271,8 @@ fn a_write_names_its_registers(rt: HostRuntime) {
     }
 }
 
-/// Whether Command 22 with a long tag writes exactly this long tag, and a reply to Command 20 with this long tag says exactly this
-/// one.
+/// Whether Command 22 with a long tag writes exactly this long tag, and whether a reply to Command 20 with this long tag is read as exactly
+/// this long tag.
 fn is_long_tag(long_tag: [u8; 32]) -> bool {
     let mut payload = Payload::new();
     payload.extend_from_slice(&[0; 2]);

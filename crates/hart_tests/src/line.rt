@@ -12,7 +12,7 @@ use hart_values::{Address, MasterId};
 use std::alloc::{AllocError, Global};
 use std::test::Fail;
 
-/// Each fault but `Memory`, with its number and its text.
+/// Each fault except `Memory`, with its number and its text.
 const FAULTS: &[(LineFault, u8, &str)] = &[
     (
         LineFault::Undetected {

@@ -177,8 +177,8 @@ const IDENTITY: &[u8] = &[
     0x00, 0x00, 0x00, 0x00, 0x37, 0x00, 0x37, 0x01,
 ];
 
-/// Replies of the bench device to Command 19. This one has communication faults. Below are one with response code 32, and one with
-/// the assembly number.
+/// Replies of the bench device to Command 19. This reply has communication faults. Below are a reply with response code 32, and a reply
+/// with the assembly number.
 const FAULTY: &[u8] = &[
     0xFF, 0xFF, 0xFF, 0xFF, 0xFF, 0x86, 0xB7, 0x42, 0x0A, 0x1B, 0x2C, 0x13, 0x02, 0x88, 0x00, 0xD7,
 ];

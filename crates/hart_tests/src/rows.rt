@@ -6,7 +6,8 @@ use std::fmt::Display;
 use std::process::{Abort, Termination};
 use std::test::Fail;
 
-/// Fails a test unless `holds` is true. The failure names by its number the row of a table, or whatever else `word` says.
+/// Fails a test unless `holds` is true. The failure is reported with `word` and `number`, for example the name of a table and the number of
+/// a row.
 pub fn hold(rt: &impl Abort, holds: bool, word: &str, number: usize) {
     assert!(rt; holds, "of {word} {number}");
 }
@@ -29,13 +30,13 @@ pub fn has_text(alloc: Global, value: &impl Display, text: &str) -> Result<bool,
     Ok(written.as_str() == text)
 }
 
-/// Returns the character whose fault bits are the high byte of `both` and whose byte is the low one.
+/// Returns the character whose fault bits are the high byte of `both` and whose byte is the low byte of `both`.
 pub fn char_of(both: u16) -> Option<Char> {
     let [faults, byte] = both.to_be_bytes();
     Char::new(byte, faults)
 }
 
-/// Overwrites the first of `chars` with the characters `heard`. The high byte of each is its fault bits.
+/// Overwrites the first of `chars` with the characters `heard`. The high byte of each number in `heard` is the character's fault bits.
 pub fn write_chars(chars: &mut [Char], heard: &[u16]) -> Option<()> {
     for (character, both) in chars.iter_mut().zip(heard) {
         *character = char_of(*both)?;

@@ -1,4 +1,4 @@
-//! A call of hart_cli, which is made by its name or by words.
+//! A call of hart_cli, which is made by the name of its function or by words of the command line.
 
 use hart_cli::{
     CliFault, RequestWords, Sink, Source, answer, dump, encode_text, explain, explain_raw, request,
@@ -8,7 +8,7 @@ use hart_frame::{LEAST_PREAMBLES, is_preamble_count};
 use std::alloc::{AllocError, Global};
 use std::test::Fail;
 
-/// A message to send, in the words of the command line. There, empty DATA and 5 preamble bytes are left out.
+/// A message to send, in the words of the command line. Empty DATA and 5 preamble bytes are left out of the command line.
 #[derive(Clone, Copy)]
 pub struct Words<'a> {
     pub who: &'a str,
@@ -164,7 +164,7 @@ impl Call<'_> {
         }
     }
 
-    /// Makes the call by its name.
+    /// Makes the call by the name of its function.
     pub fn make<R: Source, W: Sink>(
         self,
         alloc: Global,

@@ -1,4 +1,4 @@
-//! Makes a call on fake streams, by its name and by words of the command line.
+//! Makes a call on fake streams, by the name of its function and by words of the command line.
 
 use super::call::Call;
 use super::fakes::{ALL, After, Tape, Trickle};
@@ -20,7 +20,7 @@ pub struct Given<'a> {
     pub fails_at: Option<usize>,
 }
 
-/// An empty input, and streams that give and take all at once and do not fail.
+/// An empty input, and streams that read and write everything at once and do not fail.
 pub const EMPTY: Given = Given {
     spaces: 0,
     input: "",
@@ -85,7 +85,7 @@ pub struct Outcome {
 }
 
 impl Outcome {
-    /// Whether the outcome is the wanted one, with this number. Prints the outcome if it is not.
+    /// Whether the outcome is the wanted outcome, with this number. Prints the outcome if it is not.
     fn is(&self, rt: &impl Eprint, number: u8, wanted: &Wanted) -> bool {
         let is_wanted = self.number == number
             && is_line(self.said.taken(), wanted.fault.1)
@@ -184,11 +184,11 @@ pub fn does(
 /// What a call reads, what it writes then, and its fault.
 pub type Row<'a> = (&'a str, &'a str, Fault<'a>);
 
-/// How many bytes a read returns at most. The numbers from 4 to 8 cut the second item of `FF FF!40` after each of its bytes.
+/// The greatest numbers of bytes that a read returns. The numbers from 4 to 8 cut the second item of `FF FF!40` after each of its bytes.
 const PORTIONS: &[usize] = &[1, 2, 3, 4, 5, 6, 7, 8, 100, ALL];
 
-/// Whether a call does as a row says with `after` behind the row's input, for each size of a read in `PORTIONS`. A call that
-/// succeeds reads once more than the input needs, and so finds the end of the input.
+/// Whether a call does what a row says if `after` comes after the row's input, for each size of a read in `PORTIONS`. A call that succeeds
+/// makes one read more than the input needs, and so finds the end of the input.
 pub fn does_as(
     rt: &impl Eprint,
     alloc: Global,
@@ -217,7 +217,7 @@ pub fn does_as(
     Ok(true)
 }
 
-/// Holds a call to each row of a table, with `after` behind each input.
+/// Fails the test unless a call does what each row of a table says, with `after` after each input.
 pub fn hold_rows(
     rt: &(impl Abort + Eprint),
     alloc: Global,

@@ -1,7 +1,7 @@
 //! Makes each call once, by its name, and prints what the call returned.
 //!
-//! `tools/refused-growths.sh` runs this test again and again, and refuses another growth each time. So only the calls allocate
-//! here: inputs are constants, and texts go into an array.
+//! `tools/refused-growths.sh` runs this test again and again, and refuses another allocation (a growth) each time. So nothing but the calls
+//! may allocate here: inputs are constants, and texts go into an array.
 
 use super::call::{Call, Named, Words};
 use super::images::NEW;
@@ -14,7 +14,7 @@ use hart_values::MasterId;
 use std::alloc::Global;
 use std::test::Fail;
 
-/// A script in which a reply is lost, noise is a garbled request, and two words have characters.
+/// A script in which a reply is lost, noise is a garbled request, and two words are hex items.
 const SCRIPT: &str = "submit P 37420A1B2C 19 012345\nsubmit S all 0\n\
     turn P ok lost\nturn P FFFF!40 ok\n\
     noise FFFF82B7420A1B2C13030123453C\nturn P ok ok\n";
@@ -91,8 +91,8 @@ fn number_of<T>(answered: &Result<T, LineFault>) -> u8 {
     }
 }
 
-/// Reads the script, carries it out, and returns the fault numbers of both steps. If the reading was refused memory, it is
-/// repeated: no further growth is refused then.
+/// Reads the script, carries it out, and returns the fault numbers of both steps. If the reading was refused memory, the script is read
+/// again: no further growth is refused then.
 fn run_script(alloc: Global) -> Result<(u8, u8), Fail> {
     let read = read_script(alloc, SCRIPT.as_bytes());
     let number = number_of(&read);

@@ -27,7 +27,7 @@ pub const TWO_MESSAGES: &str = "FF FF 02 80 00 00 82 FF FF 02 00 00 00 02";
 
 pub const TWO_LINES: &str = "2 7 STX P 0 @0 - 0 -\n9 14 STX S 0 @0 - 0 -\n";
 
-/// The beginning of a message with the byte count 255, and a whole message in its payload; below, the line of the whole message.
+/// The beginning of a message with the byte count 255, and a whole message in its payload. Below is the line of the whole message.
 const FALSE_START: &str = "FF FF 82 B7 42 0A 1B 2C 13 FF FF FF FF FF FF 02 80 00 00 82";
 
 const INNER_LINE: &str = "15 20 STX P 0 @0 - 0 -\n";
@@ -208,13 +208,13 @@ fn what_was_heard_is_said_in_words(rt: HostRuntime) {
     hold_rows(&rt, rt.alloc(), Call::Explain, After::End, "row", EXPLAINED);
 }
 
-/// Texts that have no preamble byte as raw bytes, and cannot be bad hex.
+/// Texts that have no preamble byte if they are read as raw bytes. A raw input cannot have bad hex.
 const SILENT: &[Row] = &[("", "", NONE), (IDENTIFY, "", NONE), ("0G!@/", "", NONE)];
 
 /// Texts after which a read fails.
 const RAW_BROKEN_OFF: &[Row] = &[(IDENTIFY, "", READ)];
 
-/// Whether `explain_raw` says a message of raw bytes in words.
+/// Whether `explain_raw` explains a message that is given as raw bytes.
 fn is_said_of_raw_bytes(alloc: Global) -> Result<bool, Fail> {
     let mut reader = Plain::new(b"\xFF\xFF\x02\x80\x00\x00\x82".as_slice());
     let mut writer = Plain::new(Vec::new(alloc));

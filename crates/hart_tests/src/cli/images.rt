@@ -56,7 +56,7 @@ const TO_TAGGED: &[Row] = &[(
     NONE,
 )];
 
-/// The empty script, and its text for a device that goes on from an image of version 1: the tag becomes the long tag.
+/// The empty script, and its text for a device that starts from an image of version 1: the tag becomes the long tag.
 const MIGRATED: &[Row] = &[(
     "",
     "counter 0\nimage 020001\

@@ -35,7 +35,7 @@ fn serves(alloc: Global, (call, input, text): &Written) -> Result<bool, Fail> {
     Ok(is_run && serves_by_name(alloc, *call, input, text)?)
 }
 
-/// Whether a call whose output is a slice fills it with the beginning of its text, and ends with a write fault. A full slice takes
+/// Whether a call whose output is a slice fills the slice with the beginning of its text, and ends with a write fault. A full slice takes
 /// no byte.
 fn fills_a_slice(alloc: Global, (call, input, text): &Written) -> Result<bool, Fail> {
     let mut room = [0; 25];

@@ -73,7 +73,7 @@ fn words_that_make_no_call_touch_no_stream(rt: HostRuntime) {
     }
 }
 
-/// A word that is refused with the input `!`, and the status.
+/// Words that the program refuses if the input is `!`, each with the status.
 const REFUSALS: &[(&str, u8)] = &[
     ("answer", FAULT),
     ("dump", FAULT),
@@ -82,8 +82,7 @@ const REFUSALS: &[(&str, u8)] = &[
     ("frob", NO_CALL),
 ];
 
-/// If the write to `errors` with this number fails: whether the status stays the same, and the text is written up to the failed
-/// write.
+/// Whether the status stays the same, and the text is written up to the failed write, if the write to `errors` with this number fails.
 fn leaves_status(
     rt: &impl Eprint,
     alloc: Global,

@@ -238,7 +238,7 @@ D 5 8637420A1B2C070400600001AC\n\
     },
 ];
 
-/// Scripts that end with a fault, one of them with a frame inside a message.
+/// Scripts that end with a fault. In one of these scripts, a frame stands inside a message.
 const REFUSED_SCRIPTS: &[Row] = &[
     (
         "submit P @0 0\nturn P ok FFFF06800002000084",

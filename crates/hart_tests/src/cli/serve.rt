@@ -109,7 +109,7 @@ fn whole_lines_are_served_before_a_failure(rt: HostRuntime) {
     );
 }
 
-/// An image, and what a device that goes on from it says, or the fault of the image.
+/// An image, and the answers of a device that starts from this image, or the fault of the image.
 const IMAGES: &[(&str, &str, Fault)] = &[
     (NEW, "counter 0\n", NONE),
     ("", "", (6, "bad image: length")),
@@ -135,7 +135,7 @@ fn images_are_gone_on_from(rt: HostRuntime) {
     }
 }
 
-/// A number of spaces, the input after them, and what the device says to both.
+/// A number of spaces, the input after them, and the device's answers to both.
 const LONG: &[(usize, &str, &str)] = &[
     (INPUT_LIMIT, "\ncounter\n", "-\ncounter 0\n"),
     (INPUT_LIMIT, "\r\ncounter\n", "-\ncounter 0\n"),
@@ -164,7 +164,7 @@ const LONG: &[(usize, &str, &str)] = &[
     ),
 ];
 
-/// Whether a device says the text of a row to its spaces and the input after them.
+/// Whether a device answers the spaces and the input of a row with the text of the row.
 fn says(rt: &impl Eprint, alloc: Global, row: &(usize, &str, &str)) -> Result<bool, Fail> {
     let (spaces, input, text) = *row;
     let given = Given {

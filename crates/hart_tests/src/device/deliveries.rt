@@ -50,7 +50,7 @@ const EXCHANGES: &[Exchange] = &[
 /// How many characters the longer request has.
 pub(super) const MOST: usize = 17;
 
-/// How many of the five preamble bytes may be lost. Two preamble bytes have to stand before the delimiter.
+/// How many of the five preamble bytes may be lost. The other two have to stand before the delimiter.
 const SPARE: usize = 3;
 
 /// Each set of fault bits that is not empty.
@@ -264,7 +264,8 @@ const NOISES: &[Delivered] = &[
     ),
 ];
 
-/// Garbled requests: with fault bits after their address or in it, the longest one, and the longest one without its last character.
+/// Garbled requests: requests with fault bits after their address or in it, the longest request, and the longest request without its last
+/// character.
 const GARBLED: &[Delivered] = &[
     (&[(BAD_CHECK, 1, 0)], FAULTY),
     (&[(BAD_CHECK_OF_SECONDARY, 1, 0)], FAULTY_TO_SECONDARY),

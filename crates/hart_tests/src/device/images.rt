@@ -1,4 +1,4 @@
-//! Images of both versions: which images are refused, and how a device goes on from the images that are accepted.
+//! Images of both versions: which images are refused, and what devices do that start from an accepted image.
 use super::*;
 
 /// An image of version 1 of a new bench device.
@@ -81,7 +81,7 @@ const BAD_LENGTHS: &[(&[u8], DeviceFault)] = &[
     (&[0x03; 54], DeviceFault::BadVersion),
 ];
 
-/// Whether images of both versions are accepted as they are, and refused with the fault of a row once they hold its bytes.
+/// Whether images of both versions are accepted as they are, and refused with the fault of a row once they hold the row's bytes.
 fn is_refused(row: &BadImage) -> bool {
     let (bytes, first, second, fault) = *row;
     is_refused_with(IMAGE_1, first, bytes, fault) && is_refused_with(IMAGE_2, second, bytes, fault)
@@ -108,11 +108,10 @@ fn bad_images_are_refused(rt: HostRuntime) {
     }
 }
 
-/// The last bytes of the image that a device goes on from, what the device replies to a write, and the last bytes of its image
-/// afterwards.
+/// The last bytes of the image that a device starts from, what the device replies to a write, and the last bytes of its image afterwards.
 type GoesOn<'a> = ([u8; 3], &'a [u8], [u8; 3]);
 
-/// Devices that go on from an image: without and with write protection, with the greatest counter, and after a write.
+/// Devices that start from an image: without and with write protection, with the greatest counter, and after a write.
 const GOES_ON: &[GoesOn] = &[
     (
         [0x00, 0x00, 0x00],
@@ -132,7 +131,8 @@ const GOES_ON: &[GoesOn] = &[
     ),
 ];
 
-/// Whether a device that goes on from the image of a row does as the row says, and another device goes on from that device's image.
+/// Whether a device that starts from the image of a row does as the row says, and whether another device can start from the image of that
+/// device.
 fn goes_on<S: RegisterStore + Drop>(row: &GoesOn) -> Result<bool, Fail> {
     let (before, payload, after) = row;
     let image = image_with(IMAGE_2, ENDING, before);
@@ -155,17 +155,17 @@ fn devices_go_on_from_their_images(rt: HostRuntime) {
     }
 }
 
-/// Returns the image of a device that goes on from an image.
+/// Returns the image of a device that starts from an image.
 fn image_after<S: RegisterStore + Drop>(image: &[u8]) -> Result<Image, DeviceFault> {
     Ok(Device::<S>::from_image(bench::identity(), image)?.image())
 }
 
-/// Whether a device that goes on from `image` has the image `other`.
+/// Whether a device that starts from `image` has the image `other`.
 fn has_image<S: RegisterStore + Drop>(image: &[u8], other: &[u8]) -> Result<bool, DeviceFault> {
     Ok(image_after::<S>(image)?.as_slice() == other)
 }
 
-/// Whether, for each kind of store, a device that goes on from `image` has the image `other`.
+/// Whether, for each kind of store, a device that starts from `image` has the image `other`.
 fn have_image(image: &[u8], other: &[u8]) -> Result<bool, DeviceFault> {
     Ok(has_image::<FieldRegisters>(image, other)? && has_image::<ImageRegisters>(image, other)?)
 }
@@ -187,14 +187,14 @@ const MIGRATED: &[Migrated] = &[
     (53, &[0x07], b"        "),
 ];
 
-/// Returns the version 2 image of a device that went on from a version 1 image. The long tag of the device is this text and spaces.
+/// Returns the version 2 image of a device that started from a version 1 image. The long tag of the device is this text and spaces.
 fn migrated(image: &[u8; 54], text: &[u8; 8]) -> [u8; 86] {
     let held = image_with(IMAGE_2, 1, &image[1..51]);
     let tagged = image_with(held, LONG_TAG, text);
     image_with(tagged, ENDING, &image[51..54])
 }
 
-/// Returns a long tag of 32 bytes, each one above the byte before it. The first is `32 * group`.
+/// Returns a long tag of 32 bytes. The first byte is `32 * group`, and each further byte is greater by one than the byte before it.
 fn long_tag_of(group: u8) -> [u8; 32] {
     let mut long_tag = [0; 32];
     let mut next = group.wrapping_mul(32);
@@ -205,13 +205,13 @@ fn long_tag_of(group: u8) -> [u8; 32] {
     long_tag
 }
 
-/// Whether devices that go on from an image with the long tag of a group keep that image.
+/// Whether devices that start from an image with the long tag of a group keep that image.
 fn keep_long_tag(group: u8) -> Result<bool, Fail> {
     let image = image_with(IMAGE_2, LONG_TAG, &long_tag_of(group));
     Ok(have_image(&image, &image)?)
 }
 
-/// Whether devices that go on from the version 1 image of a row have the version 2 image that results.
+/// Whether devices that start from the version 1 image of a row have the version 2 image that results.
 fn migrate(row: &Migrated) -> Result<bool, Fail> {
     let (place, bytes, text) = *row;
     let image = image_with(IMAGE_1, place, bytes);

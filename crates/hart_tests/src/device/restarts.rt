@@ -104,7 +104,8 @@ fn replies_with_faults(device: &mut Device<FieldRegisters>) -> Result<bool, Fail
     Ok(reply.payload() == [0x88, 0x00].as_slice())
 }
 
-/// Whether a device shows a cold start to the primary master in the first of two replies only, and to the other master too.
+/// Whether a device shows a cold start to the primary master in the first of two replies but not in the second, and then to the other
+/// master too.
 fn is_shown_once(
     device: &mut Device<FieldRegisters>,
     row: &Row,
@@ -122,7 +123,7 @@ fn is_shown_once(
     )
 }
 
-/// Returns a device that goes on from the image and the cold start bits of another device.
+/// Returns a device that starts from the image and the cold start bits of another device.
 fn kept(device: &Device<FieldRegisters>) -> Result<Device<FieldRegisters>, Fail> {
     let mut other = Device::from_image(bench::identity(), device.image().as_slice())?;
     other.restore_cold_start(EachMaster {
@@ -132,8 +133,8 @@ fn kept(device: &Device<FieldRegisters>) -> Result<Device<FieldRegisters>, Fail>
     Ok(other)
 }
 
-/// Whether a device shows a cold start once after a restart, for each command of a row, and keeps its protection. A device that
-/// goes on from the image and the cold start bits of the first one must do the same.
+/// Whether a device shows a cold start once after a restart, for each command of a row, and keeps its protection. A device that starts from
+/// the image and the cold start bits of the first device must do the same.
 fn is_shown_after_restart(rt: &impl Abort, row: &Row) -> Result<bool, Fail> {
     let (protected, _, [first, last], ..) = *row;
     let mut shown = true;

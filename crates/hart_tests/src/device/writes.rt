@@ -75,7 +75,7 @@ const STEPS: &[Step] = &[
     },
 ];
 
-/// Returns a bench device after as many writes as its counter has values.
+/// Returns a bench device after 65,536 writes, so that its counter is 0 again.
 fn device_gone_round() -> Result<Device<FieldRegisters>, Fail> {
     let mut device = bench_device();
     let write = request(19, NUMBER)?;

@@ -1,4 +1,4 @@
-//! What is heard on the line.
+//! Tests of the frames that are found in what is heard on the line, and of the places where none stands.
 use super::*;
 
 /// Fault bits, and whether a character can have them.
@@ -163,7 +163,7 @@ fn a_lone_frame_is_given(rt: HostRuntime) {
     }
 }
 
-/// The first characters of the longest message. All its other characters are 00, the check byte too.
+/// The first characters of the longest message. All other characters of the message are 00, even the check byte.
 const LONGEST: &[u16] = &[
     0xFF, 0xFF, 0xE2, 0x80, 0x00, 0x00, 0x00, 0x00, 0x9D, 0x00, 0x00, 0x00, 0xFF,
 ];

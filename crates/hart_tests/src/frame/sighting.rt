@@ -1,4 +1,4 @@
-//! Checks that the messages and misses that are seen while characters are heard are the messages and misses of the whole list.
+//! Checks that the sightings that are decided while characters are heard are the messages and misses of the whole list.
 use crate::rows::{hold, hold_ok};
 use hart_frame::{After, Char, Miss, NextSighting, Sighting, first_frame, next_sighting, why_none};
 use std::alloc::Global;
@@ -14,7 +14,7 @@ enum Seen {
 /// Characters, whether more may follow, and the sightings that are decided. The high byte of a character is its fault bits.
 type Row<'a> = (&'a [u16], bool, &'a [Seen]);
 
-/// In these rows a body whose check byte is FF has a single FF before it.
+/// Rows of characters. Where a body in a row has the check byte FF, only a single FF stands before the body.
 const SEEN: &[Row] = &[
     (&[], false, &[]),
     (
@@ -170,8 +170,8 @@ fn moved(miss: Miss, places: usize) -> Option<Miss> {
     })
 }
 
-/// Returns the next sighting from `from` on; `None` if `from` lies past the bytes, if the bytes are too many, or if the damage has
-/// no fault.
+/// Returns the next sighting from `from` on; `None` if `from` lies past the bytes, if the bytes are too many, or if the damaged character
+/// has no fault bit.
 pub fn next_of(bytes: &[u8], after: After, from: usize) -> Option<NextSighting<'_>> {
     if from > bytes.len() || bytes.len() > MOST_BYTES {
         return None;

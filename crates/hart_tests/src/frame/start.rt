@@ -15,7 +15,8 @@ const STARTS: &[Row] = &[
     (&[0xFF, 0xFF, 0xFF, 0x00, 0xFF, 0xFF, 0x82], Some(3)),
 ];
 
-/// Returns the first place at which a body may start; the outer `None` if `heard` is no list of characters, or has more than seven.
+/// Returns the first place at which a body may start. The outer option is `None` if `heard` is no list of characters, or has more than
+/// seven.
 fn start_in(heard: &[u16]) -> Option<Option<usize>> {
     let mut chars = [Char::new(0, 0)?; 7];
     write_chars(&mut chars, heard)?;

@@ -148,7 +148,7 @@ fn taken(scanner: &mut Scanner, chars: &[Char], from: usize) -> Option<usize> {
     None
 }
 
-/// Like `taken`, after `finish`: the list must have no further frame, and the scanner must be as new.
+/// Like `taken`, after `finish`: the list must have no further frame, and the scanner must be like a new one.
 fn last_taken(scanner: &mut Scanner, chars: &[Char], from: usize) -> Option<usize> {
     scanner.finish();
     let stop = taken(scanner, chars, from)?;
@@ -223,7 +223,7 @@ fn write_bytes(bytes: &mut [u8], chars: &[Char]) -> usize {
     count
 }
 
-/// Pushes bytes if the scanner is drained, and returns how many it heard.
+/// Pushes bytes if the scanner is drained, and returns how many bytes it heard.
 fn push_drained(scanner: &mut Scanner, bytes: &[u8]) -> Option<usize> {
     if !scanner.is_drained() || scanner.pushed() >= MOST_PUSHED {
         return None;
@@ -231,8 +231,8 @@ fn push_drained(scanner: &mut Scanner, bytes: &[u8]) -> Option<usize> {
     Some(scanner.push_bytes(bytes))
 }
 
-/// If the scanner is drained, pushes the first faultless characters, at most `size`, or the first character alone if it has faults.
-/// Returns how many the scanner heard.
+/// If the scanner is drained, pushes the first faultless characters, at most `size`, or the first character alone if it has faults. Returns
+/// how many characters the scanner heard.
 fn push_bytes(scanner: &mut Scanner, chars: &[Char], size: usize) -> Option<usize> {
     let mut bytes = [0; MOST_RUN];
     let count = write_bytes(bytes.get_mut(..size)?, chars);
@@ -243,7 +243,7 @@ fn push_bytes(scanner: &mut Scanner, chars: &[Char], size: usize) -> Option<usiz
     push_drained(scanner, bytes.get(..count)?)
 }
 
-/// If the scanner is drained, pushes the first characters, at most `size`, and returns how many it heard.
+/// If the scanner is drained, pushes the first characters, at most `size`, and returns how many characters it heard.
 fn push_chars(scanner: &mut Scanner, chars: &[Char], size: usize) -> Option<usize> {
     let chunk = chars.get(..chars.len().min(size))?;
     if !scanner.is_drained() || scanner.pushed() >= MOST_PUSHED {
@@ -306,8 +306,8 @@ fn a_view_waits_for_the_false_message_around_it(rt: HostRuntime) -> Result<(), F
     Ok(())
 }
 
-/// Returns where the first frame stops, if it is the wanted frame and the characters end with it, or 0 if no frame is wanted or
-/// found.
+/// Returns where the first frame stops, if it is the wanted frame and the characters end with it. Returns 0 if no frame is wanted and none
+/// is found.
 fn noise_stop(chars: &[Char], want: &Option<(usize, Read)>) -> Option<usize> {
     match (first_frame(chars, 0), want) {
         (None, None) => Some(0),
@@ -330,7 +330,7 @@ fn at_once(chars: &[Char], bytes: &[u8]) -> Option<usize> {
     last_taken(&mut scanner, chars, 0)
 }
 
-/// Whether the wanted frame is found and no other, however the characters or their bytes are pushed.
+/// Whether the wanted frame, and no other frame, is found, however the characters or their bytes are pushed.
 fn is_passed(chars: &[Char], bytes: &[u8], want: &Option<(usize, Read)>) -> bool {
     match noise_stop(chars, want) {
         Some(stop) => stops_at(chars, stop) && at_once(chars, bytes) == Some(stop),

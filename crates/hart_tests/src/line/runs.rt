@@ -18,7 +18,7 @@ enum Fate<'a> {
 
 /// A script, and what it leads to.
 struct Row<'a> {
-    /// The counter and the flags at the end of the image that the device goes on from; its registers are the bench device's.
+    /// The counter and the flags at the end of the image that the device starts from; the registers of this image are the bench device's.
     ending: [u8; 3],
     /// The greatest number of retries of the primary master.
     retries: u8,
@@ -291,13 +291,13 @@ fn with_ending(image: &Image, ending: &[u8; 3]) -> Option<Image> {
     Some(changed)
 }
 
-/// Returns the device with this store that goes on from the image of a row.
+/// Returns the device with this store that starts from the image of a row.
 fn device_of<S: RegisterStore + Drop>(row: &Row) -> Result<Device<S>, Fail> {
     let image = with_ending(&new_device::<S>().image(), &row.ending).ok_or("too long")?;
     Ok(Device::from_image(bench::identity(), image.as_slice())?)
 }
 
-/// Returns what a row's script leads to, on a device with this store that goes on from the row's image.
+/// Returns what a row's script leads to, on a device with this store that starts from the row's image.
 fn report_of<S: RegisterStore + Drop>(alloc: Global, row: &Row) -> Result<Report<S>, Fail> {
     let events = read_script(alloc, row.script.as_bytes())?;
     let device = device_of::<S>(row)?;
@@ -310,7 +310,7 @@ fn answered(command: u8, sendings: u8, payload: &[u8]) -> Option<Outcome> {
     Some(Outcome::Answered { reply, sendings })
 }
 
-/// Returns the outcome of a submission with this fate, if its payload is one of a reply.
+/// Returns the outcome of a submission with this fate, or `None` if the payload of the fate is not the payload of a reply.
 fn outcome_of(fate: &Fate) -> Option<Outcome> {
     match *fate {
         Fate::Answered(command, sendings, payload) => answered(command, sendings, payload),
@@ -343,7 +343,7 @@ fn are_held(registers: &FieldRegisters, row: &Row) -> bool {
         && registers.get(Register::Assembly) == row.assembly.as_slice()
 }
 
-/// Whether two devices, one with each kind of store, did the same.
+/// Whether two devices, each with another kind of store, did the same.
 fn are_alike(report: &Report<FieldRegisters>, other: &Report<ImageRegisters>) -> bool {
     other.outcomes.as_slice() == report.outcomes.as_slice()
         && other.spoken.as_slice() == report.spoken.as_slice()

@@ -22,7 +22,8 @@ pub const WRITTEN: &str = "submit P 37420A1B2C 19 012345\nturn P ok ok";
 pub const ADDRESS_MOVES: &str = "submit P @0 0\nsubmit S 37420A1B2C 6 0501\n\
     turn P ok lost\nturn S ok ok\nturn P ok ok";
 
-/// No request is heard in four turns, and in the second script in one turn. In the third script, no reply is heard in two turns.
+/// Three scripts. In the first, no request is heard in four turns. In the second, no request is heard in one turn. In the third, no reply
+/// is heard in two turns.
 pub const REQUESTS_LOST: &str = "submit P 37420A1B2C 19 012345\n\
     turn P lost ok\nturn P lost ok\nturn P lost ok\nturn P lost ok";
 
@@ -30,7 +31,7 @@ pub const REQUEST_LOST: &str = "submit P 37420A1B2C 19 012345\nturn P lost ok";
 
 pub const REPLIES_LOST: &str = "submit P 37420A1B2C 19 012345\nturn P ok lost\nturn P ok lost";
 
-/// A request that must not go to all devices, and a second request of a master whose first one waits.
+/// A request that must not go to all devices, and a second request for a master whose first request is still in hand.
 pub const REFUSED: &str = "submit P all 0\nsubmit S 37420A1B2C 16\nsubmit S 37420A1B2C 16";
 
 /// The address byte of a request is heard with a vertical parity fault.

@@ -191,7 +191,7 @@ const TEXTS: &[Row] = &[
     ),
 ];
 
-/// Numbers and bytes that do not fit their field, and one that the command refuses.
+/// Numbers and bytes that do not fit their field, and a number that the command refuses.
 const NUMBERS: &[Row] = &[
     (
         "P",
