@@ -29,7 +29,8 @@ impl<'a> Model for ImageWord<'a> {
     ghost view = { λ image. option_map (λ word. word.now) image.word };
 }
 
-/// Returns the bench device: a new one or, with an image, one in the state of the image. Its cold start bits are clear.
+/// Returns the bench device: a new device if there is no image, and otherwise a device in the state of the image. Its cold start bits are
+/// clear.
 ///
 /// # Errors
 ///

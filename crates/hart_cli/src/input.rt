@@ -13,7 +13,7 @@ pub mod ahead;
 /// The greatest number of bytes that an input may have, except for `explain` and `serve`.
 pub const INPUT_LIMIT: usize = 1_048_576;
 
-/// The room for an input: all bytes that it may have, and one that makes its last item whole.
+/// The room for an input: all bytes that it may have, and one space that makes its last item whole.
 const INPUT_ROOM: usize = INPUT_LIMIT + 1;
 
 /// The greatest number of bytes that one read may return.

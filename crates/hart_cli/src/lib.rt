@@ -1,9 +1,9 @@
 //! The calls of the command line `hart`, over any reader and any writer.
 //!
-//! Each subcommand is a call. [`dump`] lists the messages in what was heard, and [`explain`] says in words what they mean.
-//! [`answer`] gives the bench device's reply to one delivery, [`serve`] its replies to many, a line for each line. [`simulate`]
-//! carries out a script. [`encode_text`] writes a message to send, and [`request`] makes one from named fields. [`program`] makes
-//! the call that its words name, and returns the exit status. Calls read from a [`Source`] and write to a [`Sink`]; [`Plain`] makes
+//! Each subcommand is a call. [`dump`] lists the messages in what was heard, and [`explain`] says in words what they mean. [`answer`] gives
+//! the bench device's reply to one delivery. [`serve`] gives its replies to many deliveries, one line for each line that it reads.
+//! [`simulate`] carries out a script. [`encode_text`] writes a message to send, and [`request`] makes one from named fields. [`program`]
+//! makes the call that its words name, and returns the exit status. Calls read from a [`Source`] and write to a [`Sink`]; [`Plain`] makes
 //! them from readers and writers of the standard library. A call that cannot do all of its work returns a [`CliFault`].
 //!
 //! ```rust

@@ -42,7 +42,7 @@ impl fmt::Display for Leg {
 /// Why a script could not be read or carried out.
 #[derive(Clone, Copy, Debug, PartialEq, Eq, Error)]
 pub enum LineFault {
-    /// In this leg of this event, counted from 0, a frame was heard that was not the one sent, or several frames were heard.
+    /// In this leg of this event, counted from 0, a frame was heard that was not sent in this leg, or several frames were heard.
     Undetected { event: usize, leg: Leg },
     /// Memory was refused.
     Memory(NoRoom),

@@ -68,7 +68,8 @@ pub fn empty_scripts_need_no_room<L: Log>()
         → IsScriptFault text (Memory none) → ⊥ }
 {}
 
-/// A master that takes the unique address from the identity in a reply with code 0 gets the own unique address of the device that replied.
+/// A master can take a unique address from the identity in a reply with code 0. This address is the own unique address of the device that
+/// replied.
 #[tactic(auto, using(std::proofs::lemmas::Grind::common_steps, std::proofs::lemmas::Bool::Decides::nat_tests))]
 pub fn identities_give_their_address()
     ensures { (parts : IdentityParts) (counter extended_device_status : ℕ) (reply : Reply) → AreIdentityParts parts

@@ -25,8 +25,8 @@
 //!
 //! - `script`: texts whose lines say events.
 //! - `line`: a device and two masters on one line.
-//! - `world`: what has happened on the line, as a reader of the script knows it but no party on the line does. It has only definitions and
-//!   lemmas.
+//! - `world`: only definitions and lemmas. They say what has happened on the line. A reader of the script knows this, but no party on the
+//!   line does.
 #![tactic(auto)]
 
 mod event;

@@ -170,7 +170,8 @@ const NO_IDENTITY: [u8; 24] = [
     0x00, 0x00, 0x00, 0x00, 0x37, 0x00, 0x37, 0x01,
 ];
 
-/// Commands and payloads. If the payload holds a reply, the row says how many bytes of the payload this reply is written back as.
+/// Commands and payloads. If the payload holds a reply, writing this reply gives the first bytes of the payload again, and the row says how
+/// many.
 const REPLIES: &[(u8, &[u8], Option<usize>)] = &[
     (0, &IDENTITY, Some(2 + 22)),
     (0, &NO_IDENTITY, None),

@@ -12,7 +12,7 @@ use Rattle.hart_cli.proofs.lemmas.Writes.{FailsToWrite-longer, FailsToWrite-on, 
 pub adds_kept : (s : Stream) (before after text : List ℕ) → after ≡ before ++ text → AddsText s s before after text
 adds_kept s before after text is = record { written = []; wrote = (Appends-nil _, refl); whole = is }
 
--- two texts are added one after the other
+-- two texts that are added one after the other are added as one text
 pub adds_then : (a b c : Stream) (p q r x y : List ℕ) → AddsText a b p q x → AddsText b c q r y → AddsText a c p r (x ++ y)
 adds_then a b c p q r x y h k =
     let wrote = WritesAll-on a b c h.written k.written h.wrote k.wrote in grind (arith, common_steps, append_assoc)
@@ -31,7 +31,7 @@ pub tells_failure : {T : Type 0} (old new : Stream) (before after text : List �
     → IsErrAnd result P → FailsToWrite old new (before ++ text) → Tells old new before after text result
 tells_failure old new before after text P result failed fails = grind (arith, common_steps)
 
--- a text is written once what is kept of it is written
+-- a text is written as soon as the part of it that was kept is written
 pub writes_kept : {T : Type 0} (a b c : Stream) (kept text : List ℕ) (result : Result T Failed) → AddsText a b [] kept text
     → Writes b c kept result → Writes a c text result
 writes_kept a b c kept text result h wrote = grind (arith, common_steps, WritesAll-on, FailsToWrite-on)

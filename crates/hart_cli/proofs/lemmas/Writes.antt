@@ -6,7 +6,7 @@ use Rattle.std.specs.Io.KnownBytes.{Appends}
 use Rattle.hart_cli.specs.input.LiveInput.{WroteInTime}
 use Rattle.hart_cli.specs.stream.Stream.{FailsToWrite, Stream, WritesAll}
 
--- two texts that were written one after the other were written as one
+-- two texts that were written one after the other were written as one text
 pub WritesAll-on : (a b c : Stream) (xs ys : List ℕ) → WritesAll a b xs → WritesAll b c ys → WritesAll a c (xs ++ ys)
 WritesAll-on a b c xs ys h k = grind (arith, common_steps, Appends-trans)
 

@@ -28,8 +28,8 @@ abbrev pub ended_text : List ℕ → Ending → List ℕ
 ended_text input (CameTo Ended) = closed input
 ended_text input _ = input
 
--- `Reads` is a way to read texts. If a write fails, what was decoded by then is what the input reads as in this way, except for a rest of
--- at most `most_ahead` bytes at the end.
+-- `Reads` is a way to read texts. If a write fails, the input had been decoded in this way by then, except for a rest of at most
+-- `most_ahead` bytes at its end.
 pub record AreDecodedBy {Heard : Type 0} (Reads : List ℕ → List Heard → List ℕ → Type 0) (input : List ℕ) (ending : Ending)
     (heard : List Heard) : Type 0 where
   pub rest : List ℕ
@@ -45,11 +45,11 @@ decoding_by Reads Stops = record {
   most_ahead = most_ahead;
 }
 
--- An input of hex items is decoded as their characters.
+-- An input of hex items is decoded as the characters of the items.
 abbrev pub item_decoding : Decoding (List Character)
 item_decoding = decoding_by ReadsUpTo NoPieceBegins
 
--- An input of hex items with silences is decoded as what was heard.
+-- An input of hex items with silences is decoded as what was heard: characters and silences.
 abbrev pub heard_decoding : Decoding (List Heard)
 heard_decoding = decoding_by ReadsHeard NothingBegins
 

@@ -13,7 +13,7 @@ use Rattle.hart_cli.specs.declared.calls.program.command_line.Call.{Call}
 use Rattle.hart_cli.specs.declared.calls.program.command_line.Call.TheVariants.{Answer, Dump, Encode, Explain, ExplainRaw, Request, Serve}
 use Rattle.hart_cli.specs.declared.calls.program.command_line.Call.TheVariants.{Sim}
 
--- The rule of a required word with this name.
+-- The rule of clap for a required word with this name.
 abbrev pub required_rule : Text → Rule
 required_rule id = record (new_rule id) { required = true }
 

@@ -77,8 +77,8 @@ abbrev pub given_at : ℕ → Result (List ℕ) FieldFault → Result (List ℕ)
 given_at place (Ok bytes) = Ok bytes
 given_at place (Err fault) = Err (bad_at place fault)
 
--- The bytes of the field with this row and with this place among the fields of its command: the bytes of the value that its word gives. If
--- no word gives the field a value, the fault has the place after the last word.
+-- The bytes of the field of a command that has this row and this place. They are the bytes of the value that the field's word gives. If no
+-- word gives the field a value, the fault has the place after the last word.
 abbrev pub field_value : (command field : ℕ) → List (List ℕ) → Row → Result (List ℕ) BadField
 field_value command field words row =
     if nat_lt (place_for words row) (length words)

@@ -4,7 +4,7 @@ use Rattle.hart_commands.specs.Fields.{Field, Row}
 use Rattle.hart_cli.specs.request.Fields.{place_for, value_in}
 use Rattle.hart_cli.specs.request.Values.{value_of}
 
--- A field has the name and the kind of its row. Its bytes are the bytes of the value that its word gives.
+-- A field has the name and the kind of its row. The field's bytes are the bytes of the value that the field's word gives.
 pub record IsGiven (words : List (List ℕ)) (row : Row) (field : Field) : Type 0 where
   pub named : field.name ≡ row.name
   pub meant : field.kind ≡ row.kind

@@ -25,11 +25,11 @@ number_up_to greatest word =
     let number = digits_value 10 digits in
     if all_ascii_digits digits && nat_lt 0 (length digits) && nat_le number greatest then Some number else None
 
--- A field of one byte has numbers up to 255, and one of two bytes up to 65535.
+-- A field of one byte has numbers up to 255, and a field of two bytes has numbers up to 65535.
 abbrev pub greatest_of : ℕ → ℕ
 greatest_of size = if size == 1 then 255 else 65535
 
--- A number has one byte, or two with the most significant first.
+-- A number is written as one byte, or as two bytes with the more significant byte first.
 abbrev pub number_bytes : ℕ → ℕ → List ℕ
 number_bytes size number = if size == 1 then number ∷ [] else (number / 256) ∷ (number % 256) ∷ []
 
@@ -113,7 +113,7 @@ abbrev pub year_byte : ℤ → Option ℕ
 year_byte (pos year) = if nat_le 1900 year && nat_le year 2155 then Some (year - 1900) else None
 year_byte _ = None
 
--- The bytes of a date with this year, if the year has a byte, and if the word is exactly what `explain` shows for these bytes.
+-- The bytes of a date with this year. The year must have a byte, and the word must be exactly what `explain` shows for these bytes.
 abbrev pub dated : List ℕ → (day month : ℕ) → Option ℕ → Result (List ℕ) FieldFault
 dated word day month None = Err NoDate
 dated word day month (Some year) =

@@ -58,7 +58,7 @@ pub record Hears (device : DeviceState) (delivery : List Character) (after : Dev
 abbrev pub bad_line : List ℕ → List ℕ
 bad_line reason = codes "bad line: " ++ reason ++ 10 ∷ []
 
--- What a device says to one line, and its state afterwards. A line of more than 1,048,576 bytes is too long and changes nothing.
+-- A device's answer to one line, and the device's state afterwards. A line of more than 1,048,576 bytes is too long and changes nothing.
 -- Any other line is one of the words, or hex for characters that the device hears, or bad hex, which changes nothing.
 pub data ServesLine (device : DeviceState) (line : List ℕ) : DeviceState → List ℕ → Type 0 where
   too_long : input_limit < length line → ServesLine device line device (bad_line (codes "too long"))

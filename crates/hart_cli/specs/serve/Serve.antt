@@ -63,8 +63,8 @@ pub record StopsSaying (device : DeviceState) (reader reader_after writer writer
   pub fails : FailsToWrite writer writer_after text
   pub in_time : WroteInTime (IsServedSoFar device) input writer writer_after
 
--- Room for a line: as many bytes as it may have, one more to show that it is too long, one for a carriage return, and one for the
--- byte that makes its last item whole.
+-- Room for a line: the greatest number of bytes that a line may have, and three more. These three are for a byte that shows that the line
+-- is too long, for a carriage return, and for the space that makes the last item whole.
 abbrev pub line_room : ℕ
 line_room = input_limit + 3
 

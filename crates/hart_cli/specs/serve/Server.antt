@@ -36,7 +36,7 @@ pub record BeginsWithPart (text part rest : List ℕ) : Type 0 where
 abbrev pub most_kept : ℕ
 most_kept = input_limit + 2
 
--- A device heard the characters that a text reads as, or the text has bad hex at a place, which changes nothing.
+-- A device heard the characters as which a text is read, or the text has bad hex at a place, which changes nothing.
 abbrev pub HearsText : DeviceState → List ℕ → DeviceState → List ℕ → Type 0
 HearsText device text after said =
     ((delivery : List Character) × ReadsUpTo text delivery [] × Hears device delivery after said)
@@ -89,7 +89,7 @@ ServesText old new text writer writer_after result =
     (λ _. ServesWhole old new text writer writer_after)
     (λ _. FailsInParts old.device old.kept text writer writer_after)
 
--- A device served the last line of an input that ended, if that line counts.
+-- A device served the last line of an input that ended, unless that line is empty.
 pub record ServesLast {T : Type 0} (device : DeviceState) (line : List ℕ) (writer writer_after : Stream) (result : Result T Failed)
     : Type 0 where
   pub after : DeviceState

@@ -18,7 +18,7 @@ abbrev pub CountsFailure : {T : Type 0} → Stream → Stream → Result T Faile
 CountsFailure old new result =
     MatchResult result (λ _. new.failures ≡ old.failures) (λ _. new.failures ≡ count_after_failure old.failures)
 
--- A prefix of the text, short of its end, was written, and nothing else.
+-- A prefix of the text was written, but not all of it, and nothing else.
 pub record WritesPrefix (old new : Option (List ℕ)) (text : List ℕ) : Type 0 where
   pub prefix : List ℕ
   pub rest : List ℕ
@@ -30,15 +30,15 @@ pub record WritesPrefix (old new : Option (List ℕ)) (text : List ℕ) : Type 0
 abbrev pub WritesAll : Stream → Stream → List ℕ → Type 0
 WritesAll old new text = Appends old.bytes new.bytes text × (new.failures ≡ old.failures)
 
--- A write failed after a prefix of the text, short of its end, was written.
+-- A write failed after a prefix of the text was written, but not all of it.
 abbrev pub FailsToWrite : Stream → Stream → List ℕ → Type 0
 FailsToWrite old new text = WritesPrefix old.bytes new.bytes text × (new.failures ≡ count_after_failure old.failures)
 
--- At `Ok` the whole text was written, and otherwise a write failed after a prefix of it.
+-- At `Ok` the whole text was written. Otherwise a write failed after a prefix of the text was written.
 abbrev pub Writes : {T E : Type 0} → Stream → Stream → List ℕ → Result T E → Type 0
 Writes old new text result = MatchResult result (λ _. WritesAll old new text) (λ _. FailsToWrite old new text)
 
--- The whole text was written and no write failed, or a write failed after a prefix of the text, short of its end.
+-- Either the whole text was written and no write failed, or a write failed after a prefix of the text was written, but not all of it.
 abbrev pub WritesUnlessFailed : Stream → Stream → List ℕ → Type 0
 WritesUnlessFailed old new text = WritesAll old new text ⊎ FailsToWrite old new text
 

@@ -37,11 +37,11 @@ pub const NO_CALL: u8 = 2;
 
 /// Makes the call that the words after the program's name ask for, and returns the program's status.
 ///
-/// `answer`, `dump`, `explain`, `serve` and `sim` read from `reader` and write to `writer`; `encode` and `request` read only their
-/// words. At status 0 nothing goes to `errors`. At status 1 the line of the call's fault goes to `errors`, or a beginning of that
-/// line if `errors` failed. Status 2 says that clap found no matches for the words; no clause says so. Then reader and writer are
-/// not touched, and clap's own text goes to `errors`, even if the text is help. No clause says what clap's text is. A failed
-/// write to `errors` ends the text there, and does not change the status.
+/// `answer`, `dump`, `explain`, `serve` and `sim` read from `reader` and write to `writer`; `encode` and `request` read only their words.
+/// At status 0 nothing goes to `errors`. At status 1 the line of the call's fault goes to `errors`, or a beginning of that line if `errors`
+/// failed. Status 2 says that clap found no matches for the words; no clause of the contract says this. At status 2 the reader and the
+/// writer are not touched, and clap's own text goes to `errors`, even if the text is help. No clause says what this text is. A failed write
+/// to `errors` ends the text there, and does not change the status.
 pub fn program<R: Source, W: Sink, E: Sink>(
     alloc: Global,
     words: &[String],
@@ -67,7 +67,7 @@ pub fn program<R: Source, W: Sink, E: Sink>(
     }
 }
 
-/// Makes the call that the matches name, and returns the program's status: [`NO_CALL`] only if they name none.
+/// Makes the call that the matches name, and returns the program's status. The status is [`NO_CALL`] only if the matches name no call.
 fn make_matched_call<R: Source, W: Sink, E: Sink>(
     alloc: Global,
     matches: &ArgMatches<'_>,

@@ -45,7 +45,7 @@ pub fn serve<R: Source, W: Sink>(
     serve_with(alloc, device, reader, writer)
 }
 
-/// A device answers the lines of an input with one text, so what `serve` writes is determined by its image and by what it reads.
+/// The text of a device's answers to the lines of an input is unique. So the image and the input determine what `serve` writes.
 pub fn one_service()
     ensures { (device : DeviceState) (input : List ℕ) (ending : Ending) (xs ys : List ℕ)
         → IsServed device input ending xs → IsServed device input ending ys → xs ≡ ys }

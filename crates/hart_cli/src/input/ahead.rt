@@ -58,8 +58,8 @@ pub fn read_ahead<R: Source>(
     portion
 }
 
-/// Returns the next step after `read` bytes of an input. `rest` is what follows the last piece in these bytes. `end` says how the
-/// input ended, if it did.
+/// Returns the next step after `read` bytes of an input. `rest` is what follows the last piece (item or separator) in these bytes. `end`
+/// says how the input ended, if it did.
 pub fn next_step(end: Option<InputEnd>, rest: &[u8], read: usize) -> NextStep
     requires stops { NoPieceBegins rest.now }
     requires within { length rest.now ≤ ended_length end read }

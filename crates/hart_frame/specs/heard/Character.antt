@@ -11,7 +11,7 @@ pub record Character : Type 0 where
 abbrev pub IsFaultBit : ℕ → Type 0
 IsFaultBit bit = (bit ≡ 6) ⊎ (bit ≡ 5) ⊎ (bit ≡ 4) ⊎ (bit ≡ 1)
 
--- Fault bits are a byte in which no bit other than these four is set.
+-- Fault bits are a byte in which only these four bits may be set.
 pub record AreFaultBits (faults : ℕ) : Type 0 where
   pub byte : faults < 256
   pub only : (bit : ℕ) → bit < 8 → bit_at faults bit ≡ 1 → IsFaultBit bit

@@ -60,7 +60,7 @@ KeepsHeader bytes start chars = header_at chars start ≡ header_in (drop start 
 abbrev pub stands_alone : List Character → ℕ → Bool
 stands_alone chars start = is_none (body_miss start (drop start chars)) && not (two_begin_in_body chars start)
 
--- Whether a body stands alone at a place depends on the characters that follow the bytes.
+-- The characters that follow the bytes decide whether a body stands alone at a place.
 pub record MayStandAlone (bytes : List ℕ) (start : ℕ) : Type 0 where
   pub one : List Character
   pub alone : stands_alone (faultless bytes ++ one) start ≡ true
@@ -99,7 +99,7 @@ IsAfterTwo bytes after start (standing.Missed miss) =
 abbrev pub FollowsTwo : List ℕ → ℕ → ℕ → Type 0
 FollowsTwo bytes from start = (from + 2 ≤ start) × (slice_index bytes (start - 2) ≡ 255)
 
--- What stands at an asked place, after two preamble bytes or after a single one.
+-- What stands at an asked place, after two preamble bytes or after a single preamble byte.
 abbrev pub IsStandingAt : List ℕ → After → ℕ → ℕ → Standing → Type 0
 IsStandingAt bytes after from start standing =
     (FollowsTwo bytes from start × IsAfterTwo bytes after start standing)
@@ -121,8 +121,8 @@ IsUsed bytes from used = (from ≤ used) × (
     ⊎ ((used + 1 ≡ length bytes) × (slice_index bytes used ≡ 255) × ((from < used) → slice_index bytes (used - 1) ≢ 255))
     ⊎ ((used + 2 ≡ length bytes) × (slice_index bytes used ≡ 255) × (slice_index bytes (used + 1) ≡ 255)))
 
--- How far bytes in which nothing is seen are used up. If more may come, preamble bytes at the end are not. Otherwise all bytes are used up,
--- and so is the character with fault bits, if there is one.
+-- How far bytes in which nothing is seen are used up. If more may come, preamble bytes at the end are not used up. Otherwise all bytes are
+-- used up, and so is the character with fault bits, if there is one.
 abbrev pub IsPassed : List ℕ → After → ℕ → ℕ → Type 0
 IsPassed bytes More from used = IsUsed bytes from used
 IsPassed bytes (Damaged character) from used = used ≡ length bytes + 1

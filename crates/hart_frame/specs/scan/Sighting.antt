@@ -28,7 +28,7 @@ abbrev pub AfterIsValid : After → Type 0
 AfterIsValid (Damaged character) = character.faults ≢ 0
 AfterIsValid _ = ⊤
 
--- The sighting of the definitions that a sighting in memory shows.
+-- What a sighting in memory shows, as a value of the type `Seen`.
 abbrev pub seen_of : Sighting → Seen
 seen_of (given.Message view) = Message (found_of view)
 seen_of (given.Missed place miss header) = Missed place miss (option_map header_parts header)

@@ -31,7 +31,7 @@ pub record BeginsWithBody (bytes : List ℕ) (frame : FrameParts) (count : ℕ) 
   pub within : count ≤ length bytes
   pub body : IsBody frame (take count bytes)
 
--- A list begins with no body.
+-- A list does not begin with a body.
 abbrev pub HasNoBody : List ℕ → Type 0
 HasNoBody bytes = (frame : FrameParts) (count : ℕ) → BeginsWithBody bytes frame count → ⊥
 

@@ -23,7 +23,7 @@ pub record HeaderParts : Type 0 where
 abbrev pub header_of : FrameParts → HeaderParts
 header_of frame = record { kind = frame.kind; master = frame.master; address = frame.address; command = frame.command }
 
--- Bits 2 to 0 of a delimiter of this profile are the kind of an ACK or of an STX.
+-- The kind of a frame, by bits 2 to 0 of its delimiter: an ACK or an STX.
 abbrev pub kind_in : List ℕ → FrameKind
 kind_in bytes = if delimiter_in bytes % 8 == 6 then Ack else Stx
 
@@ -31,8 +31,8 @@ kind_in bytes = if delimiter_in bytes % 8 == 6 then Ack else Stx
 abbrev pub master_in : List ℕ → MasterId
 master_in bytes = if slice_index bytes 1 / 128 == 1 then Primary else Secondary
 
--- A polling address is the lower six bits of its byte. In the five bytes of a unique address, these six bits and the second byte are
--- the expanded device type, and the other three bytes are the device id. Bit 7 of the delimiter says which address it is.
+-- A polling address is the lower six bits of its byte. In the five bytes of a unique address, these six bits and the second byte are the
+-- expanded device type, and the other three bytes are the device id. Bit 7 of the delimiter says which kind of address it is.
 abbrev pub address_in : List ℕ → Address
 address_in bytes =
     if delimiter_in bytes / 128 == 1
@@ -42,7 +42,7 @@ address_in bytes =
     })
     else Polling (slice_index bytes 1 % 64)
 
--- The header with which bytes begin. They have one exactly if they begin with a delimiter of this profile and reach the command.
+-- The header with which bytes begin. Bytes have a header exactly if they begin with a delimiter of this profile and reach the command.
 unfoldable pub header_in : List ℕ → Option HeaderParts
 header_in bytes =
     if is_delimiter (delimiter_in bytes) && nat_lt (command_place bytes) (length bytes)

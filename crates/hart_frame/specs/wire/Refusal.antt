@@ -26,7 +26,7 @@ HasGoodByteCount bytes = HasByteCount bytes × ((delimiter_in bytes % 8 ≡ 2) �
 abbrev pub HasCheckByte : List ℕ → Type 0
 HasCheckByte bytes = HasGoodByteCount bytes × (body_length bytes ≤ length bytes)
 
--- A list ends too early if it is empty, or if it ends before its byte count or its check byte and nothing before its end is wrong.
+-- A list ends too early in two cases. It is empty. Or it ends before its byte count or its check byte, and nothing before its end is wrong.
 abbrev pub IsTruncated : List ℕ → Type 0
 IsTruncated bytes = (length bytes ≡ 0)
     ⊎ (HasDelimiter bytes × (length bytes ≤ byte_count_place bytes))

@@ -72,7 +72,7 @@ pub fn are_faultless(chars: &[Char]) -> bool
     chars.iter().all(|character| character.is_faultless())
 }
 
-/// Returns the bytes of the characters before the first one with faults, but at most the first `N`.
+/// Returns the bytes of the characters before the first character with faults, but at most the first `N` bytes.
 pub(crate) fn faultless_front<const N: usize>(chars: &[Char]) -> ByteList<N>
     ensures { result ≡ take N (faultless_bytes chars.now) }
 {

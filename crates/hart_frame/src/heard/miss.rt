@@ -36,7 +36,7 @@ pub enum Miss {
     ShortReply { byte_count: u8 },
     /// The characters end before the end of the check byte: `count` of them are missing, and the last of these is the check byte.
     Missing { count: usize },
-    /// The check byte at this place is `byte`, and `fits` would fit.
+    /// The check byte at this place is `byte`, but the byte that would fit is `fits`.
     BadCheck { place: usize, byte: u8, fits: u8 },
     /// A whole body stands there, but after a single preamble byte `FF`.
     OnePreamble,
@@ -194,8 +194,8 @@ pub fn misses_say_what_is_wrong()
         → HasFrameAt (insert chars start (record { byte = 255; faults = 0 })) (start + 1) }
 {}
 
-/// Where a body may start, a miss corresponds to the fault with which the bytes there, up to the first character with fault bits, are
-/// refused. So misses are found in the order of the faults of [`decode`](crate::decode).
+/// Where a body may start, the miss corresponds to the fault of the bytes from there to the first character with fault bits. So misses are
+/// found in the order of the faults of [`decode`](crate::decode).
 pub fn misses_are_faults()
     ensures { (start : ℕ) (chars : List Character) (miss : Miss) → All (λ character. character.byte < 256) chars
         → IsStart start chars → miss_of chars start ≡ Some miss

@@ -123,7 +123,7 @@ fn missed<'a>(bytes: &[u8], place: usize, miss: Miss) -> NextSighting<'a>
     }
 }
 
-/// Returns the message whose body stands at `start` by this layout.
+/// Returns the message whose body stands at `start` and has this layout.
 fn message_at(bytes: &[u8], start: usize, layout: Layout) -> NextSighting<'_>
     requires order { start ≤ length bytes.now }
     requires places { length bytes.now < 2 ^ 64 - 1 }

@@ -25,7 +25,8 @@ request_of command payload = do
   bytes ← payload_of payload
   result_ok (request_reading number bytes)
 
--- The word of a leg is `ok` if the leg is clean, `lost` if it is lost, and otherwise items end to end for the characters heard.
+-- The word of a leg is `ok` if the leg is clean, and `lost` if it is lost. Otherwise the word gives the characters heard, as items end to
+-- end.
 abbrev pub IsLegWord : List ℕ → Heard → Type 0
 IsLegWord word Clean = word ≡ codes "ok"
 IsLegWord word Lost = word ≡ codes "lost"

@@ -36,7 +36,7 @@ abbrev pub polling_of : List ℕ → Option ℕ
 polling_of [] = None
 polling_of (at ∷ digits) = if at == 64 then decimal_of 2 63 digits else None
 
--- The numbers of a device in five bytes: two bytes for its type, of which the lower 14 bits count, and three for its id.
+-- The numbers of a device in five bytes: two bytes for its type, of which the lower 14 bits count, and three bytes for its id.
 abbrev pub numbers_of : List ℕ → DeviceNumbers
 numbers_of bytes = record {
   expanded_type = (256 * slice_index bytes 0 + slice_index bytes 1) % 16384;

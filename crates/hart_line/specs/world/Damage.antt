@@ -39,7 +39,7 @@ pub record ReachesAmong (identity : IdentityParts) (chars : List Character) (sen
   pub arrives : ArrivesAmong chars sent frame
   pub brings : BringsBy identity chars arrives.frames brought
 
--- The damage of characters is undetected if it is not detected: a frame other than the one sent was heard, or several frames were.
+-- The damage of characters is undetected if it is not detected: a frame other than the sent frame was heard, or several frames were heard.
 pub record IsUndetectedAmong (chars : List Character) (sent : Option FrameParts) : Type 0 where
   pub frames : List Found
   pub are_frames : AreFrames chars 0 frames
@@ -63,8 +63,8 @@ pub record IsUndetected (heard : Heard) (sent : Option SpokenFrame) : Type 0 whe
   pub are_heard : AreHeard heard sent chars
   pub among : IsUndetectedAmong chars (frame_of sent)
 
--- A clean or lost leg is detectable. Given characters are detectable if a message was sent and they are marked damage or check
--- damage of this message. If nothing was sent, they do not count as detectable.
+-- The damage of a clean or lost leg is detectable. The damage of given characters is detectable if a message was sent and they are marked
+-- damage or check damage of this message. If nothing was sent, it does not count as detectable.
 abbrev pub IsDetectable : Heard → Option SpokenFrame → Type 0
 IsDetectable Clean sent = Unit {0}
 IsDetectable Lost sent = Unit {0}

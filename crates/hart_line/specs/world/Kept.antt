@@ -19,7 +19,7 @@ pub record KeepsPromises (start : Start) (events : List LineEvent) (device : Dev
   -- Each accepted reply is the device's answer in the turn in which its request was last sent.
   pub accepted_reply_answers_last_sending : (number : ℕ) (reply : Reply) (sendings : ℕ)
       → slice_get outcomes number ≡ Some (Answered reply sendings) → AnswersLastSending start events number reply sendings
-  -- The registers are the initial ones overwritten by the last execution of each submission, in the order of these executions.
+  -- The registers are the initial registers, overwritten by the last execution of each submission, in the order of these executions.
   pub registers_follow_last_executions : (world : World) → IsLast start events world
       → device.contents ≡ registers_of (overwrites_of (last_executions world.executions)) start.device.contents
   -- The counter has grown by the number of executed writes.
@@ -47,8 +47,8 @@ pub record KeepsPromises (start : Start) (events : List LineEvent) (device : Dev
       → IsExecutedInItsTurn start events number request reply sendings
   pub at_most_once_a_sending : (world : World) → IsLast start events world → (number : ℕ)
       → times_executed number world.executions ≤ sendings_in (slice_get outcomes number)
-  -- If a master's configuration-changed bit is clear after the script, nothing was written since this master's last Command 38 with
-  -- code 0: counter and registers are those of that turn, and the counter is the one that this command named, if any.
+  -- If a master's configuration-changed bit is clear after the script, nothing was written since this master's last Command 38 with code 0.
+  -- The counter and the registers are those of the turn of that command. If the command named a counter, the counter is that one.
   pub no_change_unseen : (who : MasterId) (before : World) (given : Option ℕ) → IsLastReset start events who before given
       → of_master who device.changed ≡ false → IfSome given (λ counter. device.counter ≡ counter)
       × (device.counter ≡ (state_of start.device before).counter) × (device.contents ≡ (state_of start.device before).contents)

@@ -54,10 +54,10 @@ pub record IsWellMadeStart (start : Start) : Type 0 where
   pub device : IsDevice start.device
   pub process : IsProcess start.process
 
--- An accepted reply is the device's answer in the turn in which its request was last sent. The request in hand, with its address,
--- is the one that was submitted to this turn's master under this number. It was sent for the last time, and arrived. The device's
--- answer came back and was accepted as this reply, with the device's code, status and data. What the request did entered the
--- executions, and the request left the hand.
+-- An accepted reply is the device's answer in the turn in which its request was last sent. The request in hand, with its address, is the
+-- request that was submitted to this turn's master under this number. It was sent for the last time, and arrived. The device's answer came
+-- back and was accepted as this reply, with the device's code, status and data. What the request did entered the executions, and the
+-- request left the hand.
 pub record AnswersLastSending (start : Start) (events : List LineEvent) (number : ℕ) (reply : Reply) (sendings : ℕ) : Type 0 where
   pub before : World
   pub next : World

@@ -27,7 +27,7 @@ abbrev pub frame_of : Option SpokenFrame → Option FrameParts
 frame_of None = None
 frame_of (Some said) = Some said.frame
 
--- The party of the line that each master is.
+-- Each master, as a party of the line.
 abbrev pub party_of : MasterId → Party
 party_of Primary = parties.Primary
 party_of Secondary = parties.Secondary

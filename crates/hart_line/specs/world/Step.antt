@@ -145,7 +145,7 @@ Step start world (Protect on) next = next ≡ record world { protected = on }
 Step start world (Noise chars) next = IsNoise start world chars next
 Step start world Restart next = next ≡ record world { cold_start = for_both true }
 
--- The events of a script lead from a world to the last one, event by event.
+-- The events of a script lead from a world to the world `last`, event by event.
 abbrev pub LeadsTo : Start → World → List LineEvent → World → Type 0
 LeadsTo start world [] last = last ≡ world
 LeadsTo start world (event ∷ events) last = (next : World) × Step start world event next × LeadsTo start next events last

@@ -45,13 +45,13 @@ pub enum Call<'a> {
     Request(Named<'a>),
 }
 
-/// Appends a word to others.
+/// Appends a word to other words.
 fn push_word(alloc: Global, words: &mut Vec<String>, word: &str) -> Result<(), AllocError> {
     words.push(String::from_str(alloc, word)?)?;
     Ok(())
 }
 
-/// Appends words to others.
+/// Appends words to other words.
 fn push_words(alloc: Global, words: &mut Vec<String>, more: &[&str]) -> Result<(), AllocError> {
     for word in more {
         push_word(alloc, words, word)?;
@@ -66,7 +66,7 @@ pub fn strings_of(alloc: Global, words: &[&str]) -> Result<Vec<String>, AllocErr
     Ok(strings)
 }
 
-/// Appends the option for a number of preamble bytes, unless the number is the least one, which is the default.
+/// Appends the option for a number of preamble bytes, unless the number is the least number, which is the default.
 fn push_preambles(alloc: Global, words: &mut Vec<String>, preambles: u8) -> Result<(), AllocError> {
     if preambles == LEAST_PREAMBLES {
         return Ok(());

@@ -44,7 +44,7 @@ impl<'a> Given<'a> {
         Trickle::new(alloc, self.fails_at, self.most_written)
     }
 
-    /// Returns the number of reads that take in the whole input, including the read that finds its end.
+    /// Returns the number of reads that it takes to read the whole input, including the read that finds its end.
     fn reads(&self) -> usize {
         self.input
             .len()
@@ -187,7 +187,7 @@ pub type Row<'a> = (&'a str, &'a str, Fault<'a>);
 /// The greatest numbers of bytes that a read returns. The numbers from 4 to 8 cut the second item of `FF FF!40` after each of its bytes.
 const PORTIONS: &[usize] = &[1, 2, 3, 4, 5, 6, 7, 8, 100, ALL];
 
-/// Whether a call does what a row says if `after` comes after the row's input, for each size of a read in `PORTIONS`. A call that succeeds
+/// Whether a call does what a row says if `after` follows the row's input, for each size of a read in `PORTIONS`. A call that succeeds
 /// makes one read more than the input needs, and so finds the end of the input.
 pub fn does_as(
     rt: &impl Eprint,
@@ -217,7 +217,7 @@ pub fn does_as(
     Ok(true)
 }
 
-/// Fails the test unless a call does what each row of a table says, with `after` after each input.
+/// Fails the test unless a call does what each row of a table says. `after` is what follows each input.
 pub fn hold_rows(
     rt: &(impl Abort + Eprint),
     alloc: Global,

@@ -7,7 +7,7 @@ use crate::rows::hold_ok;
 use std::alloc::Global;
 use std::test::Fail;
 
-/// Images of version 1. Each device differs from a new one in one way: it is write protected, has the tag PUMP-101, has had a
+/// Images of version 1. Each device differs from a new device in one way: it is write protected, has the tag PUMP-101, has had a
 /// configuration change that both masters must still learn of, or has the greatest counter.
 const PROTECTED: &str = "010001\
     820820820820820820820820820820820820820820820820820820820820820820820820820820820820\

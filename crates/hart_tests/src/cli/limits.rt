@@ -1,4 +1,4 @@
-//! Inputs of the greatest length, longer ones, and endless ones.
+//! Inputs of the greatest length, longer inputs, and endless inputs.
 
 use super::call::Call;
 use super::calls::{EMPTY, Fault, Given, NONE, TOO_LONG, Wanted, does_by_name};

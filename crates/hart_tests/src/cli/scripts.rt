@@ -9,7 +9,7 @@ use crate::rows::hold_ok;
 use std::alloc::{AllocError, Global};
 use std::test::Fail;
 
-/// A script, and the image of its device. Without an image the device is new. Then the lines for what is spoken and for the
+/// A script, and the image of its device. Without an image the device is new. After these come the lines for what is spoken and for the
 /// outcomes of the submissions, and the state of the device at the end.
 struct Script<'a> {
     image: Option<&'a str>,

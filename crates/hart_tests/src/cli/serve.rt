@@ -226,7 +226,7 @@ fn failed_writes_end_serving(rt: HostRuntime) {
     }
 }
 
-/// Reads many lines at once. Their answers are longer than what is kept before a write.
+/// Reads many lines at once. The answers to them are longer than the text that is kept before a write.
 #[test]
 fn many_lines_are_read_at_once(rt: HostRuntime) -> Result<(), Fail> {
     let mut input = String::new(rt.alloc());

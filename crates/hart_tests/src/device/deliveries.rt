@@ -306,7 +306,7 @@ const GARBLED: &[Delivered] = &[
     (&[(FALSE_START, 1, 0), (&[0x00], 255, 0)], &[]),
 ];
 
-/// A garbled request after noise, before noise, after another start, and beside a whole frame.
+/// Garbled requests after noise, before noise, after another start, and beside a whole frame.
 const BESIDE: &[Delivered] = &[
     (&[(&[0x55, 0xFF, 0x00], 1, 0), (BAD_CHECK, 1, 0)], FAULTY),
     (&[(BAD_CHECK, 1, 0), (&[0x55], 100, 0)], FAULTY),

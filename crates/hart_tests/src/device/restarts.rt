@@ -81,7 +81,7 @@ fn status_bytes(
     })
 }
 
-/// Returns a bench device that was restarted twice, and has since heard requests that it ignores and a garbled one.
+/// Returns a bench device that was restarted twice, and has since heard requests that it ignores, and a garbled request.
 fn restarted_device(rt: &impl Abort, protected: bool) -> Result<Device<FieldRegisters>, Fail> {
     let mut device = bench_device();
     device.protect(protected);

@@ -1,4 +1,4 @@
-//! What a device replies to successive writes, and the value of its counter after each.
+//! What a device replies to successive writes, and the value of its counter after each write.
 use super::addresses::{Asked, request_to};
 use super::*;
 use hart_commands::Register;

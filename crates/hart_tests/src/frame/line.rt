@@ -40,7 +40,7 @@ const TWO: &[u16] = &[
     0xFF, 0xFF, 0x02, 0x80, 0x00, 0x00, 0x82, 0xFF, 0xFF, 0x02, 0x00, 0x00, 0x00, 0x02,
 ];
 
-/// Two messages: the check byte FF of the first is also the first preamble byte of the second.
+/// Two messages: the check byte FF of the first message is also the first preamble byte of the second message.
 const SHARED: &[u16] = &[
     0xFF, 0xFF, 0x02, 0x80, 0x7D, 0x00, 0xFF, 0xFF, 0x02, 0x00, 0x00, 0x00, 0x02,
 ];
@@ -361,7 +361,7 @@ const MISSES: &[Missed] = &[
     ),
 ];
 
-/// Whether the reason why no frame stands at a place is the one in its row.
+/// Whether the reason why no frame stands at a place is the reason in its row.
 fn has_its_reason((bytes, count, start, want): &Missed) -> Result<bool, Fail> {
     let chars = heard(bytes).ok_or("characters")?;
     let chars = chars.get(..*count).ok_or("at most 300 characters")?;

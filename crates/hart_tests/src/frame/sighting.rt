@@ -336,8 +336,8 @@ fn begins(all: &[Seen], first: &[Seen]) -> bool {
     all.get(..first.len()) == Some(first)
 }
 
-/// Whether the characters that a number stands for, heard at once or in pieces, have the sightings of the whole list. The sightings
-/// that are decided before the end must be the first sightings of the whole list.
+/// Whether characters that are made from a number have the sightings of the whole list, whether they are heard at once or in pieces. The
+/// sightings that are decided before the end must be the first sightings of the whole list.
 fn is_whole(alloc: Global, number: u64) -> Result<bool, Fail> {
     let mut chars = Vec::new(alloc);
     let mut state = number;

@@ -210,7 +210,7 @@ fn by_chunks(chars: &[Char], size: usize, chunks: Chunks) -> Option<usize> {
     last_taken(&mut scanner, chars, stop)
 }
 
-/// Writes the first characters as bytes, up to a character with faults or the end of `bytes`. Returns how many it wrote.
+/// Writes the first characters as bytes, up to a character with faults or the end of `bytes`. Returns how many characters it wrote.
 fn write_bytes(bytes: &mut [u8], chars: &[Char]) -> usize {
     let mut count: usize = 0;
     for (place, character) in bytes.iter_mut().zip(chars) {

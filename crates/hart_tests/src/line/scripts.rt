@@ -103,7 +103,7 @@ pub const RESTART_LOST: &str =
 pub const RESTART_MEANWHILE: &str =
     "submit P 37420A1B2C 19 012345\nturn P ok lost\nrestart\nturn P ok ok\nturn S ok ok";
 
-/// Command 21 asks all devices which one has this long tag. Then another long tag is written and read.
+/// Command 21 asks all devices which device has this long tag. Then another long tag is written and read.
 pub const LONG_TAG_WRITTEN: &str =
     "submit P all 21 2020202020202020202020202020202020202020202020202020202020202020\n\
     turn P ok ok\n\

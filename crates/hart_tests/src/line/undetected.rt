@@ -14,7 +14,7 @@ const WRITTEN_HEARD: &str = "submit P 37420A1B2C 19 012345\n\
 const OTHER_FAULT_HEARD: &str = "submit P 37420A1B2C 19 012345\n\
     turn P FFFF82B7420A1B2C13030123453C FFFF86B7420A1B2C1302C0009F";
 
-/// The two scripts below are like the two above, but in turns without a request in hand.
+/// The two scripts below are like the two scripts above, but in turns without a request in hand.
 const WRITTEN_HEARD_UNASKED: &str =
     "turn P FFFF82B7420A1B2C13030123453C FFFF86B7420A1B2C130500400123457F";
 

@@ -155,7 +155,7 @@ module _ {Heard : Type 0} (Reads : List ℕ → List Heard → List ℕ → Type
     },
   )
 
-  -- if the text that was decided before a read was also written before it, it was written in time
+  -- a text is written in time if it was decided, and also written, before the last read
   pub in_time_before : (IsDecided : TextRelation (List Heard)) (limit : ℕ) (r r1 w w1 : Stream) (ahead : List ℕ) (read : ℕ) (input : List ℕ)
       (chars : List Heard) (text bytes : List ℕ) → DecodedUpTo Reads Stops limit r r1 None ahead read input chars → MayBegin ahead
       → length bytes ≤ most_at_once → IsDecided chars text → Appends w.bytes w1.bytes text
@@ -236,7 +236,7 @@ module _ {Heard : Type 0} (Reads : List ℕ → List Heard → List ℕ → Type
       let same : ended_length end read ≡ length (ended_text input (ending_of end)) = rw h.count (sym (ended_long input end)) in
       decodes_at limit r r2 end rest (ended_length end read - length rest) read input chars fault h (omega (arith, same, within)) step
 
--- once the text of an input was written, each fault that the input can have is an outcome
+-- if the text of an input was written, each fault that the input can have is an outcome of the call
 fault_ends : {Heard : Type 0} (Reads : List ℕ → List Heard → List ℕ → Type 0) (Stops : List ℕ → Type 0) (limit : ℕ)
     (IsText IsDecided : TextRelation (List Heard)) (r r' w w' : Stream) (input : List ℕ) (ending : Ending)
     (heard : List Heard) (fault : CliFault) → HasHeardBy Reads Stops input ending heard (Some fault)
@@ -245,7 +245,7 @@ fault_ends : {Heard : Type 0} (Reads : List ℕ → List Heard → List ℕ → 
 fault_ends Reads Stops limit IsText IsDecided r r' w w' input _ _ _ (HasHeardBy.bad_hex _ place bad) wrote = wrote
 fault_ends Reads Stops limit IsText IsDecided r r' w w' input _ _ _ _ wrote = wrote
 
--- once the text of an input with a fault was written, the outcome is that fault
+-- if the text of an input with a fault was written, the outcome of the call is that fault
 pub ends_with : {Heard : Type 0} (Reads : List ℕ → List Heard → List ℕ → Type 0) (Stops : List ℕ → Type 0) (limit : ℕ)
     (IsText IsDecided : TextRelation (List Heard)) (r r' w w' : Stream) (fault : CliFault) (text : List ℕ)
     → ReadsText (decoding_by Reads Stops) limit IsText r r' (Some fault) text → WritesAll w w' text

@@ -27,7 +27,7 @@ raw_chars input _ _ _ (HasRaw.all chars is) = is
 raw_chars input _ _ _ (HasRaw.failure chars is) = is
 raw_chars input _ _ _ (HasRaw.limit chars is) = is
 
--- once the text of a raw input was written, each fault that the input can have is an outcome
+-- if the text of a raw input was written, each fault that the input can have is an outcome of the call
 raw_fault_ends : (limit : ℕ) (IsText IsDecided : TextRelation (List Heard)) (r r' w w' : Stream) (input : List ℕ) (ending : Ending)
     (heard : List Heard) (fault : CliFault) → HasRaw input ending heard (Some fault)
     → (text : List ℕ) × ReadsText raw_decoding limit IsText r r' (Some fault) text × WritesAll w w' text
@@ -35,7 +35,7 @@ raw_fault_ends : (limit : ℕ) (IsText IsDecided : TextRelation (List Heard)) (r
 raw_fault_ends limit IsText IsDecided r r' w w' input _ _ _ (HasRaw.failure chars is) wrote = wrote
 raw_fault_ends limit IsText IsDecided r r' w w' input _ _ _ (HasRaw.limit chars is) wrote = wrote
 
--- once the text of a raw input with a fault was written, the outcome is that fault
+-- if the text of a raw input with a fault was written, the outcome of the call is that fault
 pub raw_ends_with : (limit : ℕ) (IsText IsDecided : TextRelation (List Heard)) (r r' w w' : Stream) (fault : CliFault)
     (text : List ℕ) → ReadsText raw_decoding limit IsText r r' (Some fault) text → WritesAll w w' text
     → LiveOutcome raw_decoding limit IsText IsDecided r r' w w' (Err fault)

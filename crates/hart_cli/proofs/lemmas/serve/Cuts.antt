@@ -44,7 +44,7 @@ all_parts : (xs ys : List (List ℕ)) → AllByRecursion HasNoFeed xs → AllByR
 all_parts [] ys h k = k
 all_parts (x ∷ xs) ys h k = (h.0, all_parts xs ys h.1 k)
 
--- a text without a line feed is all rest
+-- a text without a line feed has no parts, only a rest
 pub cut_rest : (rest : List ℕ) → HasNoFeed rest → IsCut rest [] rest
 cut_rest rest free = record { all = refl; whole = tt; open_end = free }
 

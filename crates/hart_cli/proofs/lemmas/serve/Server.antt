@@ -183,7 +183,7 @@ pub text_fails : {T : Type 0} (old new : Server) (text : List ℕ) (w w1 : Strea
     → result ≡ Err failed → FailsInParts old.device old.kept text w w1 → ServesText old new text w w1 result
 text_fails old new text w w1 failed result is fails = rw is fails
 
--- taking `most` bytes of a text gives at most `most`
+-- taking `most` bytes of a text gives at most `most` bytes
 pub take_few : (most : ℕ) (xs ys : List ℕ) → ys ≡ take most xs → length ys ≤ most
 take_few most xs ys is = grind (arith, common_steps)
 

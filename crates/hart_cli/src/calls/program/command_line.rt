@@ -88,7 +88,7 @@ pub enum Call<'w, 'a: 'w> {
 ///
 /// # Errors
 ///
-/// The error that clap returns if it finds no matches for the words, which may be its help, or if memory is refused.
+/// The error that clap returns if it finds no matches for the words, or if memory is refused. The text of this error may be clap's help.
 pub fn matches_of<'a>(alloc: Global, words: &'a [String]) -> Result<ArgMatches<'a>, clap::Error>
     ensures fits { OnOk result (fault_of hart_app (map string_bytes words.now) ≡ []) }
     ensures matches { IfOk result (λ matches. subcommand_rows_of matches ≡ subcommand_of hart_app (map string_bytes words.now)) }

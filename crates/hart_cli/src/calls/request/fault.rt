@@ -33,7 +33,7 @@ pub enum FieldFault {
     BadCharacter { place: usize },
     /// The text has more than this number of characters, which is the most that the field can have.
     TooLong { most: usize },
-    /// The value is not a decimal number from 0 to this one.
+    /// The value is not a decimal number from 0 to this number.
     NoNumber { greatest: u16 },
     /// The value is neither a day of the years 1900 to 2155, in the form that `explain` shows, nor `not set`.
     NoDate,
@@ -41,7 +41,7 @@ pub enum FieldFault {
     NoBytes { count: u8 },
     /// The value is not `0x` and one to eight bytes in hex.
     NoCodes,
-    /// With this code, a device refuses the data that the fields make.
+    /// The fields make data that a device refuses with this code.
     Refused { code: u8 },
 }
 

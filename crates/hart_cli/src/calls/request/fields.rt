@@ -58,7 +58,7 @@ fn first_bad_name(rows: &[FieldRow], words: &[&str]) -> Option<BadField>
     None
 }
 
-/// Returns what is wrong with the name in a word that follows these earlier words, if anything is.
+/// Returns what is wrong with the name in a word that follows these earlier words, or `None` if nothing is wrong.
 fn name_fault(rows: &[FieldRow], earlier: &[&str], word: &str) -> Option<FieldFault>
     ensures { result ≡ name_fault (map seen rows.now) (map (λ word. word.now) earlier.now) word.now }
 {

@@ -26,7 +26,7 @@ impl Reason {
         Reason::plain("")
     }
 
-    /// Returns the text with no number in it.
+    /// Returns a text without a number.
     pub fn plain(text: &'static str) -> Reason
         requires { length text.now ≤ 60 }
         ensures { reasoned result ≡ text.now }
@@ -38,7 +38,7 @@ impl Reason {
         }
     }
 
-    /// Returns the text that ends in a word.
+    /// Returns a text that ends in a word.
     pub fn worded(before: &'static str, word: &'static str) -> Reason
         requires { length before.now + length word.now ≤ 60 }
         ensures { reasoned result ≡ before.now ++ word.now }
@@ -50,7 +50,7 @@ impl Reason {
         }
     }
 
-    /// Returns the text with a number in it.
+    /// Returns a text with a number in it.
     pub fn numbered(before: &'static str, number: usize, after: &'static str) -> Reason
         requires { length before.now + length after.now ≤ 60 }
         ensures { reasoned result ≡ before.now ++ decimal number ++ after.now }

@@ -20,7 +20,7 @@ const FIRST_YEAR: i16 = 1900;
 
 const LAST_YEAR: i16 = 2155;
 
-/// The greatest number of bytes of a field that is given by its value.
+/// The greatest number of bytes that a field has if a word gives its value.
 const MOST_BYTES: usize = 32;
 
 /// The bytes of a field.

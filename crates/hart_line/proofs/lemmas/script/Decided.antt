@@ -161,7 +161,7 @@ line_or_bad (first ∷ rest) = by (is_skipped (first ∷ rest)) refl
       | inr none ↦ inr (is, none)
     ]
 
--- Lines say events, or one of them is bad and those before it say events.
+-- Either all lines say events, or one line is bad and the lines before it say events.
 lines_or_bad : (lines : List (List (List ℕ))) → ((events : List LineEvent) × AreEvents lines events)
     ⊎ ((before : ℕ) × (words : List (List ℕ)) × (events : List LineEvent) × (slice_get lines before ≡ Some words) × IsBadLine words
     × AreEvents (take before lines) events)

@@ -17,7 +17,7 @@ begins_one : (text : List ℕ) (item other : Item) (tail rest : List ℕ) → Be
     → (item ≡ other) × (tail ≡ rest)
 begins_one text item other tail rest a b = grind arith
 
--- A nonempty text of items begins with the first of them.
+-- A nonempty text of items begins with the first of these items.
 first_begins : (text : List ℕ) (item : Item) (items : List Item) → text ≡ flat_map item_spelling (item ∷ items)
     → AllByRecursion IsValidItem (item ∷ items) → BeginsWithItem text item (flat_map item_spelling items)
 first_begins text item items spelled valid = record { valid = valid.0; spelled = spelled; ends = items_end item items valid.1 }

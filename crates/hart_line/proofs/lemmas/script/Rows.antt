@@ -44,7 +44,7 @@ pub texts_have_one_script-no_bad_line : (text : List ℕ) (events : List LineEve
     → HasFirstBadLine text number → ⊥
 texts_have_one_script-no_bad_line text events number are bad = none_bad (lines_in_words text) bad.before bad.words events are bad.is bad.bad
 
--- Of two first bad lines, neither comes before the other.
+-- A text has at most one first bad line: of two such lines, neither can come before the other.
 slice_get-take : {A : Type 0} (xs : List A) (m n : ℕ) → m < n → slice_get (take n xs) m ≡ slice_get xs m
 slice_get-take [] m n below = grind (arith, common_steps)
 slice_get-take (x ∷ xs) m n below = grind (arith, common_steps, slice_get-take xs (pred m) (pred n))
@@ -69,7 +69,7 @@ IsOther first = (first ≡ codes "submit" → ⊥) × (first ≡ codes "turn" �
 pub says_none : (first : List ℕ) (words : List (List ℕ)) → IsOther first → HasNoValue (Says (first ∷ words))
 says_none first words other event said = grind arith
 
--- A word that is neither items nor `ok` nor `lost` is not the word of a leg.
+-- A word that is not `ok`, not `lost` and not a word of items is not the word of a leg.
 pub no_leg : (word : List ℕ) → (word ≡ codes "ok" → ⊥) × (word ≡ codes "lost" → ⊥) → HasNoValue (IsItemsWord word)
     → HasNoValue (IsLegWord word)
 no_leg word other none Clean is = other.0 is
@@ -81,7 +81,7 @@ pub no_turn : (who up down leg : List ℕ) → (leg ≡ up) ⊎ (leg ≡ down) �
     → HasNoValue (Says (codes "turn" ∷ who ∷ up ∷ down ∷ []))
 no_turn who up down leg one none event said = grind arith
 
--- The words of noise say no event if the word after `noise` is not items.
+-- The words of noise say no event if the word after `noise` is not a word of items.
 pub no_noise : (word : List ℕ) → HasNoValue (IsItemsWord word) → HasNoValue (Says (codes "noise" ∷ word ∷ []))
 no_noise word none (Noise chars) said = let same : said.0 ≡ word = grind arith in none chars (rw same at said.2)
 no_noise word none event said = grind arith

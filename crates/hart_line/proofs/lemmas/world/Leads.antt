@@ -34,7 +34,7 @@ Reaches-one identity heard sent a b s t =
     let same = AreHeard-one heard sent s.chars t.chars s.are_heard t.are_heard in
     deliveries_bring_one-one identity t.chars a b (rw same at (brings_among s.among)) (brings_among t.among)
 
--- If what is heard arrives (`Arrives`), its damage is not undetected.
+-- If `Arrives` holds for what is heard in a leg, the leg has no undetected damage.
 arrived_detected : {heard : Heard} {sent : Option SpokenFrame} {arrived : Option FrameParts} → Arrives heard sent arrived
     → IsUndetected heard sent → ⊥
 arrived_detected a u = grind (arith, AreHeard-one, frames_are_unambiguous-one_list)
@@ -117,8 +117,7 @@ fault_before start events number other leg world before f run =
     (rw (take-past number other events f.1 f.3 before) at run) f.2 in
     step_detected start f.0 f.1 on.0 leg on.1 f.4
 
--- DETECTABLE DAMAGE
--- If the frames of characters are detected damage, the characters are not undetected damage.
+-- DETECTABLE DAMAGE If the damage of characters is detected, given their frames, it is not undetected.
 not_undetected : {heard : Heard} {sent : Option SpokenFrame} (chars : List Character) (frames : List Found) (arrived : Option FrameParts)
     → (u : IsUndetected heard sent) → u.chars ≡ chars → AreFrames chars 0 frames → IsDetected (frame_of sent) frames arrived → ⊥
 not_undetected {sent = sent} chars frames arrived u is are detected = grind (arith, common_steps, frames_are_unambiguous-one_list)

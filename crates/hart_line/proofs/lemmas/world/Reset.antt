@@ -45,7 +45,7 @@ after_step start events last run before next event here =
     leads_on start (here.prefix ++ event ∷ []) here.suffix (first_world start) next last (grind (arith, common_steps, append_assoc))
     (leads_more start here.prefix event (first_world start) before next here.led here.step)
 
--- If the master's bit is clear, nothing was executed since its last reset.
+-- If the master's configuration-changed bit is clear, nothing was executed since the master's last reset.
 pub unseen : (start : Start) (events : List LineEvent) (last : World) → IsLast start events last
     → (who : MasterId) (before : World) (given : Option ℕ) → IsLastReset start events who before given
     → of_master who (state_of start.device last).changed ≡ false → IfSome given (λ counter. (state_of start.device last).counter ≡ counter)

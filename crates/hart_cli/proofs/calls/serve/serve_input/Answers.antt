@@ -27,7 +27,7 @@ loop-end-init g c = record {
   quiet = c.requires.quiet;
 }
 
--- taking `count` bytes of a buffer with at least `count` bytes gives `count`
+-- taking `count` bytes of a buffer with at least `count` bytes gives `count` bytes
 len_of : (count : ℕ) (buffer : List ℕ) → count ≤ length buffer → length (take count buffer) ≡ count
 len_of count buffer within = grind (arith, common_steps)
 

@@ -116,7 +116,7 @@ length-value Date size word bytes suits is =
 length-value Float size word bytes suits is = grind (arith, common_steps, nat_tests)
 length-value Variables size word bytes suits is = grind (arith, common_steps, nat_tests)
 
--- there is at least one code
+-- a list of codes has at least one code
 some_codes : (word bytes : List ℕ) → codes_value word ≡ Ok bytes → 0 < length bytes
 some_codes word bytes is = grind (arith, common_steps, nat_tests)
 
@@ -139,7 +139,7 @@ parts (Ok value) (Ok later) bytes is = (value, later, refl, refl, cc)
 parts (Ok value) (Err bad) bytes is = absurd cc
 parts (Err bad) rest bytes is = absurd cc
 
--- a given value is given by a word
+-- a value that is given comes from a word
 by_word : (command field : ℕ) (words : List (List ℕ)) (row : Row) (value : List ℕ) → field_value command field words row ≡ Ok value
     → (place_for words row < length words) × (value_of row.kind row.size (value_in (get_or words (place_for words row) [])) ≡ Ok value)
 by_word command field words row value is = grind (arith, common_steps, nat_tests)

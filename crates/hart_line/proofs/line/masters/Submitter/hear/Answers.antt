@@ -2,7 +2,7 @@ use Rattle.hart_line.proofs.Common.{arith, ◌≡◌, common_steps, Reply, Frame
 use Rattle.hart_line.proofs.Common.{hand_of, refl, hand_sent}
 use Rattle.hart_line.proofs.line.masters.Submitter.hear.Goals as goal
 
--- a master that is brought no reply accepts none
+-- a master that is brought no reply accepts no reply
 none_accepted : (id : MasterId) (hand : Option InHand) (frame : FrameParts)
     → ((reply : Reply) → FrameBrings id (hand_sent (hand_of hand)) frame reply → ⊥) → Accepts id hand (Some frame) None
 none_accepted id None frame none = refl
