@@ -13,7 +13,7 @@ use hex::FromHexError;
 use std::alloc::Global;
 use std::marker::Model;
 
-/// The word of an image, if a call was given one.
+/// The word of an image, if a call was given an image.
 #[derive(Drop)]
 pub struct ImageWord<'a> {
     /// The image in hex, two digits for each byte.

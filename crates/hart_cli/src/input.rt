@@ -26,7 +26,7 @@ pub enum InputEnd {
     Ended,
     /// A read failed.
     ReadFailed,
-    /// A further byte came after the last one within the limit, which is [`INPUT_LIMIT`] except for `explain` and `serve`.
+    /// A further byte came after the last byte within the limit. The limit is [`INPUT_LIMIT`] except for `explain` and `serve`.
     TooLong,
 }
 

@@ -2,9 +2,9 @@
 //!
 //! Each subcommand is a call. [`dump`] lists the messages in what was heard, and [`explain`] says in words what they mean. [`answer`] gives
 //! the bench device's reply to one delivery. [`serve`] gives its replies to many deliveries, one line for each line that it reads.
-//! [`simulate`] carries out a script. [`encode_text`] writes a message to send, and [`request`] makes one from named fields. [`program`]
-//! makes the call that its words name, and returns the exit status. Calls read from a [`Source`] and write to a [`Sink`]; [`Plain`] makes
-//! them from readers and writers of the standard library. A call that cannot do all of its work returns a [`CliFault`].
+//! [`simulate`] carries out a script. [`encode_text`] writes a message to send, and [`request`] makes such a message from named fields.
+//! [`program`] makes the call that its words name, and returns the exit status. Calls read from a [`Source`] and write to a [`Sink`];
+//! [`Plain`] makes them from readers and writers of the standard library. A call that cannot do all of its work returns a [`CliFault`].
 //!
 //! ```rust
 //! let mut reader = Plain::new(b"FF FF 02 80 00 00 82".as_slice());
@@ -18,9 +18,12 @@
 //!
 //! The crate `hart` has only `main`, which calls [`program`] with the arguments and the standard streams.
 //!
-//! The modules at the root are the faults (`fault`), the device with which a call starts (`image_word`), the reading of an input (`input`),
-//! and the writing of a text: whole (`output`), or kept and written piece by piece (`kept`). The other modules:
+//! The modules:
 //!
+//! - `fault`: why a call ended early.
+//! - `image_word`: the device with which a call starts.
+//! - `input`: the reading of an input.
+//! - `output`, `kept`: the writing of a text, either whole or piece by piece.
 //! - `stream`: readers and writers as the calls see them.
 //! - `text`: hex items, and lines of words and bytes.
 //! - `calls`: a module for each call.

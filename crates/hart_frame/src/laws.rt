@@ -78,7 +78,7 @@ pub fn bytes_have_one_fault()
         → BeginsWithBody bytes frame len → IsRefusedWith bytes fault → ⊥ }
 {}
 
-/// Bytes are refused as truncated exactly if they begin with no body, but would begin with one if certain bytes followed.
+/// Bytes are refused as truncated exactly if they begin with no body, but would begin with a body if certain bytes followed.
 pub fn truncated_bytes_can_become_a_body()
     ensures { (bytes : List ℕ) → All (λ byte. byte < 256) bytes
         → IsTruncated bytes ↔ (CanBecomeBody bytes × HasNoBody bytes) }

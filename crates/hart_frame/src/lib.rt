@@ -11,7 +11,7 @@
 //! assert_eq!(rt; (frame.command(), len), (0, 5));
 //! ```
 //!
-//! No call of this crate allocates memory. Its modules, each of which uses only those before it:
+//! No call of this crate allocates memory. Its modules, each of which uses only the modules before it:
 //!
 //! - `wire`: a frame, and the bytes of its body and its message on the wire.
 //! - `heard`: what was heard, as characters: where frames stand in them, why none stands at a place, and which damage is always

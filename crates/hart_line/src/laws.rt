@@ -45,8 +45,8 @@ pub fn texts_have_one_script()
         → IsScript text events → HasFirstBadLine text number → ⊥ }
 {}
 
-/// The events of a script lead to at most one last world: to one if all damage is detected, and to none if an event has undetected
-/// damage. At most one leg is the first with undetected damage.
+/// The events of a script lead to at most one last world: to one if all damage is detected, and to none if an event has undetected damage.
+/// At most one leg is the first leg with undetected damage.
 pub fn scripts_have_one_last_world()
     ensures one_world { (start : Start) (events : List LineEvent) (a b : World)
         → IsLast start events a → IsLast start events b → a ≡ b }

@@ -78,8 +78,8 @@ fn refuses_another(master: &mut Master) -> Result<bool, Fail> {
     Ok(rejected.fault == MasterFault::Pending && rejected.request == Request::ReadPrimary)
 }
 
-/// Whether an idle master takes a submission and then refuses another one, or refuses the first with the fault of its row and stays
-/// idle.
+/// Whether an idle master takes a submission and then refuses another submission, or refuses the first submission with the fault of its row
+/// and stays idle.
 fn is_taken_or_refused(submission: &Submission) -> Result<bool, Fail> {
     let (address, command, data, want) = *submission;
     let mut master = Master::new(MasterId::Secondary, 3, 41)?;

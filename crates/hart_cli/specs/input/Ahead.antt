@@ -21,7 +21,7 @@ pub record ReadsAhead (old new : Stream) (before after : List ℕ) (room : ℕ) 
   pub few : length bytes ≤ most_at_once
   pub added : after ≡ before ++ ended_text bytes (ending_of portion.end)
 
--- The number of bytes read of an input. If the input ended, one is added for the space that stands for its end.
+-- The number of bytes read of an input. If the input ended, the space that stands for its end is counted too.
 abbrev pub ended_length : Option InputEnd → ℕ → ℕ
 ended_length (Some ends.Ended) read = read + 1
 ended_length end read = read

@@ -53,7 +53,7 @@ item_decoding = decoding_by ReadsUpTo NoPieceBegins
 abbrev pub heard_decoding : Decoding (List Heard)
 heard_decoding = decoding_by ReadsHeard NothingBegins
 
--- A raw input is one whose bytes are the characters themselves, without fault bits. It is decoded as one stretch of these characters.
+-- The bytes of a raw input are the characters themselves, without fault bits. A raw input is decoded as one stretch of these characters.
 abbrev pub AreRaw : List ℕ → List Heard → Type 0
 AreRaw input heard = heard ≡ heard_chars (faultless input)
 

@@ -65,9 +65,8 @@ pub record StopsWriting {Heard : Type 0} (decoding : Decoding Heard) (limit : �
   pub fails : FailsToWrite writer writer_after text
   pub in_time : WroteInTime (IsDecidedText decoding IsDecided) input writer writer_after
 
--- At `Ok`, the text of the whole input was written. If a write failed, a prefix of the text of what was decoded by then was
--- written. At a fault of the input, the text of what was heard before the fault was written. Refused memory is no fault of the
--- input.
+-- At `Ok`, the text of the whole input was written. If a write failed, a prefix of the text of what was decoded by then was written. At a
+-- fault of the input, the text of what was heard before the fault was written. The call never fails because memory was refused.
 abbrev pub LiveOutcome : {Heard : Type 0} → Decoding Heard → ℕ → TextRelation Heard → TextRelation Heard → OutcomeRelation
 LiveOutcome decoding limit IsText IsDecided reader reader_after writer writer_after (Ok done) =
     (text : List ℕ) × ReadsText decoding limit IsText reader reader_after None text × WritesAll writer writer_after text

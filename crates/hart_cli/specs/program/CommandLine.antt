@@ -93,7 +93,7 @@ reading_app =
 abbrev pub asking_app : App
 asking_app = with_subcommand reading_app request_app.top
 
--- The command `hart` with all of its seven subcommands: those of `asking_app`, and `encode`.
+-- The command `hart` with all of its seven subcommands: the subcommands of `asking_app`, and `encode`.
 abbrev pub hart_app : App
 hart_app = with_subcommand asking_app encode_app.top
 
@@ -137,7 +137,7 @@ request_words_of rows = request_words
     (unwrap_or (all_of (codes "FIELD") rows) [])
 
 -- The call of the subcommand with this name. `answer`, `serve` and `sim` have the word of the image, if it is given. `encode` and `request`
--- have a call if the matches give their words. `dump` and `explain` always have a call. No other name has one.
+-- have a call if the matches give their words. `dump` and `explain` always have a call. No other name has a call.
 abbrev pub call_named : Text → List Row → Option Call
 call_named name rows =
     if bytes_eq name (codes "answer") then Some (Answer (first_of (codes "image") rows))

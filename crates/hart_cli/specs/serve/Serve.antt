@@ -68,7 +68,7 @@ pub record StopsSaying (device : DeviceState) (reader reader_after writer writer
 abbrev pub line_room : ℕ
 line_room = input_limit + 3
 
--- Room for the characters of a line: one for every two bytes that it may have.
+-- Room for the characters of a line: one character for every two bytes that the line may have.
 abbrev pub chars_room : ℕ
 chars_room = input_limit / 2
 

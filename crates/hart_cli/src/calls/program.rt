@@ -126,7 +126,7 @@ fn make_call<R: Source, W: Sink>(
     }
 }
 
-/// Writes the line of the call's fault, if it has one, to `errors`, and returns the status for the call's result.
+/// Writes the line of the call's fault to `errors`, if the call has a fault, and returns the status for the call's result.
 fn finish<E: Sink>(outcome: Result<(), CliFault>, errors: &mut E) -> u8
     ensures status { result ≡ status_of outcome }
     ensures fault { IfErr outcome (λ fault. WritesUnlessFailed

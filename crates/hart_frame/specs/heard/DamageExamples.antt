@@ -13,7 +13,7 @@ identity_request = request_parts Primary (Polling 0) 0 []
 abbrev pub faulty_address : List Character
 faulty_address = faultless (255 ∷ 255 ∷ 2 ∷ []) ++ record { byte = 129; faults = 64 } ∷ faultless (0 ∷ 0 ∷ 130 ∷ [])
 
--- FF FF 02 81 00 00 82: the same bytes, all heard without faults; the parity is not even.
+-- FF FF 02 81 00 00 82: the bytes of `faulty_address`, all heard without faults. The parity is not even.
 abbrev pub other_address : List Character
 other_address = faultless (255 ∷ 255 ∷ 2 ∷ 129 ∷ 0 ∷ 0 ∷ 130 ∷ [])
 

@@ -38,8 +38,9 @@ pub record IsWhole (layout : Layout) (bytes : List ℕ) : Type 0 where
   pub parts : bytes ≡ 255 ∷ 255 ∷ body ++ rest
   pub whole : IsWholeBody layout body
 
--- How bytes begin. `Never`: the first `count` bytes never begin a frame, and shorter prefixes may still begin one. `Open`: all bytes
--- together may begin a frame. `Whole`: the bytes begin with a frame, and each prefix that is too short for it may still begin one.
+-- How bytes begin. `Never`: the first `count` bytes never begin a frame, and shorter prefixes may still begin a frame. `Open`: all bytes
+-- together may begin a frame. `Whole`: the bytes begin with a frame, and each prefix that is too short for this frame may still begin a
+-- frame.
 abbrev pub IsCandidate : List ℕ → Candidate → Type 0
 IsCandidate bytes (Never count) = (count ≤ length bytes) × NeverBegin (take count bytes) × MayBeginBefore count bytes
 IsCandidate bytes Open = MayBegin bytes

@@ -4,7 +4,7 @@ use Rattle.hart_frame.specs.declared.wire.layout.Layout.{Layout}
 use Rattle.hart_frame.specs.wire.Delimiter.{kind_code}
 use Rattle.hart_frame.specs.wire.Layout.{address_end, byte_count_in, command_place, delimiter_in}
 
--- A layout describes a list of bytes if its kind, its places and its byte count are those that the bytes give.
+-- A layout describes a list of bytes if the bytes have the kind, the places and the byte count of the layout.
 pub record Describes (layout : Layout) (bytes : List ℕ) : Type 0 where
   pub kind : kind_code layout.kind ≡ delimiter_in bytes % 8
   pub address : layout.address_end ≡ address_end bytes

@@ -5,7 +5,7 @@ use Rattle.hart_frame.specs.heard.Character.{Character, faultless}
 use Rattle.hart_frame.specs.private.Candidate.{BeginWithNone, IsWhole, MayBegin, NeverBegin, NothingFollows}
 use Rattle.hart_frame.specs.declared.scan.search.Sighting.{Sighting}
 
--- No frame begins at a place from `from` up to the one before `to`, whatever is heard after the list.
+-- No frame begins at a place from `from` to `to - 1`, whatever is heard after the list.
 abbrev pub NoneBegin : List ℕ → ℕ → ℕ → Type 0
 NoneBegin bytes from to = (place : ℕ) → from ≤ place → place < to → NeverBegin (drop place bytes)
 
@@ -41,8 +41,7 @@ pub record IsSearched (bytes : List ℕ) (from seen : ℕ) (found : Sighting) : 
   pub stands : MatchOption found.layout (IsOpenAll bytes found)
       (λ layout. IsWhole layout (drop found.place (take found.decided bytes)))
 
--- No frame begins at a place from `from` up to the one before `to`, whatever follows the list. If the list ended, what follows cannot
--- belong to a frame.
+-- No frame begins at a place from `from` to `to - 1`, whatever follows the list. If the list ended, what follows cannot belong to a frame.
 abbrev pub NoneBeginThen : List ℕ → Bool → ℕ → ℕ → Type 0
 NoneBeginThen bytes ended from to = (place : ℕ) → from ≤ place → place < to → (next : List Character)
     → (IsTrue ended → NothingFollows next) → BeginWithNone (faultless (drop place bytes) ++ next)

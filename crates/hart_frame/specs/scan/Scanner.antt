@@ -30,7 +30,7 @@ abbrev pub finishing : Scan → Scan
 finishing scan = record scan { finished = true; drained = false }
 
 -- A scanner moves past some frames if it lets go of the first `count` characters that it held, and these frames are the next frames up to
--- `count`. The places in `found` count from the first character held, and those in `given` from the first character heard.
+-- `count`. The places in `found` count from the first character held, and the places in `given` from the first character heard.
 pub record MovesPast (old new : Scan) (given : List Found) : Type 0 where
   pub count : ℕ
   pub found : List Found

@@ -11,7 +11,8 @@ use Rattle.hart_frame.specs.declared.scan.sighting.After.TheVariants.{Damaged, E
 use Rattle.hart_frame.specs.declared.scan.sighting.Sighting.{Sighting}
 use Rattle.hart_frame.specs.declared.scan.sighting.Sighting.TheVariants as given
 
--- The known characters: bytes that were heard without faults, and the character with fault bits after them, if one is known to come.
+-- The known characters: bytes that were heard without faults, and the character with fault bits after them, if such a character is known to
+-- come.
 abbrev pub heard_with : List ℕ → After → List Character
 heard_with bytes More = faultless bytes
 heard_with bytes (Damaged character) = faultless bytes ++ character ∷ []

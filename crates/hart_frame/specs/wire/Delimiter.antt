@@ -6,7 +6,7 @@ use Rattle.hart_frame.specs.declared.wire.kind.FrameKind.{FrameKind}
 use Rattle.hart_frame.specs.declared.wire.kind.FrameKind.TheVariants.{Stx, Ack}
 use Rattle.hart_frame.specs.wire.FrameParts.{FrameParts}
 
--- The kind of frame is 2 for STX and 6 for ACK.
+-- The number of the kind of frame is 2 for STX and 6 for ACK.
 abbrev pub kind_code : FrameKind → ℕ
 kind_code Stx = 2
 kind_code Ack = 6
@@ -16,8 +16,8 @@ abbrev pub address_type : Address → ℕ
 address_type (Polling number) = 0
 address_type (Unique numbers) = 1
 
--- Bit 7 of a delimiter is the address type, bits 6 and 5 are the number of expansion bytes, bits 4 and 3 the physical
--- layer, which is 0 here, and bits 2 to 0 the kind of frame.
+-- Bit 7 of a delimiter is the address type, and bits 6 and 5 are the number of expansion bytes. Bits 4 and 3 are the physical layer, which
+-- is 0 here. Bits 2 to 0 are the kind of frame.
 abbrev pub delimiter_of : FrameParts → ℕ
 delimiter_of frame = 128 * address_type frame.address + 32 * length frame.expansion + kind_code frame.kind
 

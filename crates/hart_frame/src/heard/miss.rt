@@ -44,10 +44,16 @@ pub enum Miss {
 
 /// Returns why no frame stands where a message seems to start, or `None` if a frame stands there or no message seems to start.
 ///
-/// Where a body may start (see [`is_start`](crate::is_start)), the miss is the first of these that holds, in the order of decoding:
-/// the delimiter of a burst message, or another byte that is no delimiter of this profile; an end before the byte count; an ACK
-/// with a byte count below 2; an end before the check byte; a check byte that does not fit. If a character with fault bits comes
-/// before this is decided, the miss is that character. A whole body after a single faultless `FF` is a [`Miss::OnePreamble`].
+/// Where a body may start (see [`is_start`](crate::is_start)), the miss is the first of these that applies:
+///
+/// - The first byte is the delimiter of a burst message, or another byte that is no delimiter of this profile.
+/// - The characters end before the byte count.
+/// - An ACK has a byte count below 2.
+/// - The characters end before the end of the check byte.
+/// - The check byte does not fit.
+///
+/// If a character with fault bits comes before this is decided, the miss is that character. A whole body after a single faultless `FF` is a
+/// [`Miss::OnePreamble`].
 ///
 /// The function looks at no more than 267 characters from `start` on, the length of the longest body.
 ///

@@ -28,7 +28,7 @@ pub enum LoneFrame {
 /// Returns the first frame of what was heard from the place `from` on, or `None` if no frame stands there.
 ///
 /// A frame stands where two faultless preamble bytes `FF`, at or after that place, are followed by its body in faultless characters. Of
-/// several frames, the one with the least start is returned. To find all frames of a list, begin with `from` 0, and continue from the
+/// several frames, the frame with the least start is returned. To find all frames of a list, begin with `from` 0, and continue from the
 /// `stop` of each frame that is found.
 ///
 /// ```rust

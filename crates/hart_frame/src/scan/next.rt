@@ -20,10 +20,10 @@ pub struct NextInBytes<'a> {
 /// Returns the next frame in bytes that were heard without faults; nothing is copied. Its two preamble bytes stand at or after
 /// `from`, which is at most the number of bytes. If `ended` is true, nothing comes after the bytes.
 ///
-/// Continue from [`NextInBytes::used`] to get the frame after the returned one. If no frame is returned and `ended` is true, no
-/// frame is left. If no frame is returned and `ended` is false, the bytes from `used` on, at most 268, may begin a frame together
-/// with what comes after them. Places are counted from the first of `bytes`. So they stay the same if bytes are added at the end,
-/// and change if bytes at the front are dropped.
+/// Continue from [`NextInBytes::used`] to get the frame after the returned frame. If no frame is returned and `ended` is true, no frame is
+/// left. If no frame is returned and `ended` is false, the bytes from `used` on, at most 268, may begin a frame together with what comes
+/// after them. Places are counted from the first of `bytes`. So the places stay the same if bytes are added at the end, and change if bytes
+/// at the front are dropped.
 ///
 /// ```rust
 /// let bytes = [0x55, 0xFF, 0xFF, 0x02, 0x80, 0x00, 0x00, 0x82];

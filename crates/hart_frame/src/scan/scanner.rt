@@ -67,7 +67,7 @@ impl Scanner {
     /// characters pushed so far and the chunk must together be fewer than 2^64.
     ///
     /// The effect is the same as calling [`Scanner::push`] for each of these bytes, with [`Scanner::take`] returning `None` after each byte
-    /// except the last. An empty scanner searches the bytes in place, and copies only those that it then holds.
+    /// except the last. An empty scanner searches the bytes in place, and copies only the bytes that it then holds.
     pub fn push_bytes(&mut self, chunk: &[u8]) -> usize
         requires drained { IsTrue self.old.drained }
         requires room { self.old.first + length self.old.held + length chunk.now < 2 ^ 64 }
@@ -83,7 +83,8 @@ impl Scanner {
         self.buffer.push_bytes(chunk)
     }
 
-    /// Hears the characters of a chunk, with or without faults, as [`Scanner::push_bytes`] hears bytes. Returns how many it heard.
+    /// Hears the characters of a chunk, with or without faults, as [`Scanner::push_bytes`] hears bytes. Returns how many characters it
+    /// heard.
     pub fn push_chars(&mut self, chunk: &[Char]) -> usize
         requires drained { IsTrue self.old.drained }
         requires room { self.old.first + length self.old.held + length chunk.now < 2 ^ 64 }
@@ -136,7 +137,7 @@ impl Scanner {
         self.buffer.first
     }
 
-    /// Returns how many characters were pushed since the scanner was new: those that were let go, and at most 269 that are held.
+    /// Returns how many characters were pushed since the scanner was new. At most 269 of these are still held.
     pub fn pushed(&self) -> u64
         ensures pushed { result ≡ self.now.first + length self.now.held }
         ensures few { length self.now.held ≤ 269 }

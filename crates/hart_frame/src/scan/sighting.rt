@@ -40,8 +40,8 @@ pub enum After {
 pub enum Sighting<'a> {
     /// A message. Its frame is borrowed from the bytes in which it was found.
     Message(FoundView<'a>),
-    /// Why no frame stands at this place. The header is that of the faultless bytes from there on, if they begin with a delimiter of
-    /// this profile and reach the command.
+    /// Why no frame stands at this place. The header is the one that the faultless bytes from this place on have. They have a header if
+    /// they begin with a delimiter of this profile and reach the command.
     Missed {
         place: usize,
         miss: Miss,
@@ -60,9 +60,9 @@ pub struct NextSighting<'a> {
 
 /// Returns the next message or miss of bytes that were heard without faults and of what comes after them.
 ///
-/// The preamble bytes of the message, or those before the place of the miss, stand at or after `from`. Sightings come in the order
-/// of their places. A whole body after a single `FF` is a miss only if no two `FF` in a row begin within it. All places, also those
-/// in a miss, are counted from the first of `bytes`.
+/// The preamble bytes before the message, or before the place of the miss, stand at or after `from`. Sightings come in the order of their
+/// places. A whole body after a single `FF` is a miss only if no two `FF` in a row begin within it. All places, also the places in a miss,
+/// are counted from the first of `bytes`.
 ///
 /// Continue from [`NextSighting::used`] to get the sighting after this one. If there is no sighting and `after` is [`After::More`],
 /// at most 268 bytes are left, and these decide nothing. If there is no sighting and `after` is another value, all bytes are used,

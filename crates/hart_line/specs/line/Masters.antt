@@ -27,7 +27,7 @@ pub record IsSubmitter (id : MasterId) (retries : ℕ) (hand : Hand) (held : Opt
 abbrev pub Holds : MasterId → ℕ → Option InHand → Submitter → Type 0
 Holds id retries held submitter = IsSubmitter id retries (hand_of held) held submitter
 
--- A master has sent the request in its hand once more, if there is one, and awaits the reply.
+-- If a master has a request in its hand, it has sent the request once more and awaits the reply.
 abbrev pub Awaits : MasterId → ℕ → Option InHand → Submitter → Type 0
 Awaits id retries held submitter = IsSubmitter id retries (hand_sent (hand_of held)) held submitter
 

@@ -32,8 +32,9 @@ IsLegWord word Clean = word ≡ codes "ok"
 IsLegWord word Lost = word ≡ codes "lost"
 IsLegWord word (Chars chars) = IsItemsWord word chars
 
--- The words of a line say an event. Each kind of event has its row: `submit`, WHO, ADDRESS, COMMAND and perhaps DATA; `turn`, WHO,
--- and what is heard in its two legs, UP and DOWN; `protect`, and `on` or `off`; `noise`, and the items heard; `restart` alone.
+-- The words of a line say an event. Each kind of event has its row. After `submit` come WHO, ADDRESS, COMMAND and perhaps DATA. After
+-- `turn` come WHO, UP and DOWN; the last two say what is heard in the two legs. After `protect` comes `on` or `off`. After `noise` come the
+-- items heard. `restart` stands alone.
 abbrev pub Says : List (List ℕ) → LineEvent → Type 0
 Says words (Submit who address request) = (master to command : List ℕ) × (payload : List (List ℕ))
     × (words ≡ codes "submit" ∷ master ∷ to ∷ command ∷ payload)

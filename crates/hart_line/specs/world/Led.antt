@@ -5,7 +5,7 @@ use Rattle.hart_line.specs.world.Spoken.{AreSpoken}
 use Rattle.hart_line.specs.world.Step.{IsLast}
 use Rattle.hart_line.specs.world.World.{Start, World, state_of}
 
--- A script has led to this device, these outcomes and these spoken frames if they are those of the script's last world.
+-- A script has led to this device, these outcomes and these spoken frames if the script's last world has them.
 pub record Led (start : Start) (events : List LineEvent) (device : DeviceState) (outcomes : List Outcome) (spoken : List Spoken)
     : Type 0 where
   pub world : World

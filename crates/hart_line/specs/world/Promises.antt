@@ -29,7 +29,7 @@ pub record Submission : Type 0 where
   pub address : Address
   pub request : Request
 
--- The submissions of a script, in order, including refused ones.
+-- The submissions of a script, in order, including refused submissions.
 abbrev pub submissions_of : List LineEvent → List Submission
 submissions_of [] = []
 submissions_of (Submit who address request ∷ events) =
@@ -81,7 +81,7 @@ pub record AnswersLastSending (start : Start) (events : List LineEvent) (number 
   pub reached : slice_get next.outcomes number ≡ Some (Answered reply sendings)
   pub left : of_master who next.hands ≡ None
 
--- The requests that are submitted, in order, including refused ones.
+-- The requests that are submitted, in order, including refused requests.
 abbrev pub requests_of : List LineEvent → List Request
 requests_of events = map (λ submission. submission.request) (submissions_of events)
 
@@ -89,8 +89,8 @@ requests_of events = map (λ submission. submission.request) (submissions_of eve
 abbrev pub AreWellMade : List LineEvent → Type 0
 AreWellMade events = All IsRequest (requests_of events)
 
--- The number of times that a submission was sent, as its outcome says. A refused submission was never sent; one that does not exist counts
--- as 0.
+-- The number of times that a submission was sent, as its outcome says. The number is 0 for a refused submission, and for a submission that
+-- does not exist.
 abbrev pub sendings_in : Option Outcome → ℕ
 sendings_in (Some (Answered reply sendings)) = sendings
 sendings_in (Some (NoReply sendings)) = sendings
@@ -118,8 +118,8 @@ IsUnrefusedWrite state (OneFrame frame) =
     IsTrue (is_write frame.command) × (is_answered state frame ≡ true) × (code_of state frame ≡ 0)
 IsUnrefusedWrite state brought = ⊥
 
--- In a turn of this master one execution is added, with the overwrite of the request in the master's hand and the number of its
--- submission. The request and its address are those that were submitted to this master under this number.
+-- In a turn of this master one execution is added, with the overwrite of the request in the master's hand and the number of its submission.
+-- The request, with its address, was submitted to this master under this number.
 pub record IsExecutedFromHand (start : Start) (events : List LineEvent) (who : MasterId) (before next : World) : Type 0 where
   pub held : InHand
   pub in_hand : of_master who before.hands ≡ Some held
@@ -143,8 +143,8 @@ abbrev pub HasNoReset : Start → World → List LineEvent → MasterId → Type
 HasNoReset start from events who = (before next : World) (up down : Heard)
     (turn : IsStepOf start from events before (Turn who up down) next) → effect_on (state_of start.device before) turn.step.brought ≢ Resets
 
--- The last turn of a script in which a Command 38 of this master was executed with code 0, the world before that turn, and the
--- counter that the command named, if any.
+-- The last turn of a script in which a Command 38 of this master was executed with code 0. `before` is the world before that turn, and
+-- `given` is the counter that the command named, if any.
 pub record IsLastReset (start : Start) (events : List LineEvent) (who : MasterId) (before : World) (given : Option ℕ) : Type 0 where
   pub next : World
   pub up : Heard

@@ -134,7 +134,7 @@ pub record IsNoise (start : Start) (world : World) (chars : List Character) (nex
   pub arrives : Reaches start.device.identity (Chars chars) None brought
   pub next_is : next ≡ replied start world brought
 
--- An event leads from a world to the next world. A submission is refused with its fault, if it has one. A switch of protection changes
+-- An event leads from a world to the next world. A submission that has a fault is refused with this fault. A switch of protection changes
 -- nothing but the protection. A restart of the device sets both masters' cold start bits and nothing else, so what the masters have in hand
 -- stays. A turn or noise with undetected damage leads to no next world.
 abbrev pub Step : Start → World → LineEvent → World → Type 0

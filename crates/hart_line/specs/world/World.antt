@@ -18,9 +18,9 @@ pub record InHand : Type 0 where
   pub request : Request
   pub sendings : ℕ
 
--- A world has the executions, oldest first; each master's mark, if any; whether the device is protected; each master's cold start bit; what
--- each master has in hand; the outcome of each submission so far; and what was spoken. A master's mark is the number of executions when the
--- master's last Command 38 was executed.
+-- A world has the executions, oldest first, each master's mark, if any, and whether the device is protected. It also has each master's cold
+-- start bit, what each master has in hand, the outcome of each submission so far, and what was spoken. A master's mark is the number of
+-- executions when the master's last Command 38 was executed.
 pub record World : Type 0 where
   pub executions : List Execution
   pub marks : EachMaster (Option ℕ)
@@ -36,7 +36,7 @@ pub record Start : Type 0 where
   pub process : Process
   pub retries : EachMaster ℕ
 
--- The world before a script: nothing has happened yet, and protection and cold start bits are those of the device.
+-- The world before a script: nothing has happened yet, and the protection and the cold start bits are as the device has them.
 abbrev pub first_world : Start → World
 first_world start = record {
   executions = [];

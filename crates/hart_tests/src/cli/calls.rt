@@ -8,8 +8,8 @@ use std::alloc::Global;
 use std::process::Abort;
 use std::test::Fail;
 
-/// The streams that a call is given: spaces, an input and what comes after the input, the greatest number of bytes of a read and of
-/// a write, and the number of the write that fails, counted from 0.
+/// The streams that a call is given. The reader returns spaces, then an input, and then what comes after the input. A read returns at most
+/// `most_read` bytes, and a write takes at most `most_written` bytes. The write with the number `fails_at`, counted from 0, fails.
 #[derive(Clone, Copy)]
 pub struct Given<'a> {
     pub spaces: usize,

@@ -14,10 +14,10 @@ pub const IDENTIFY: &str = "FF FF 02 80 00 00 82";
 
 pub const IDENTIFY_LINE: &str = "2 7 STX P 0 @0 - 0 -\n";
 
-/// That message with the separator that makes its last item whole.
+/// The message of `IDENTIFY`, with the separator that makes its last item whole.
 pub const IDENTIFY_WHOLE: &str = "FF FF 02 80 00 00 82 ";
 
-/// What `explain` writes for that message.
+/// What `explain` writes for the message of `IDENTIFY`.
 pub const IDENTIFY_SAID: &str =
     "2-7: request of the primary master to the device at polling address 0, \
     Command 0, read unique identifier\n";

@@ -119,7 +119,7 @@ fn longer_inputs_are_refused(rt: HostRuntime) {
     }
 }
 
-/// How many reads of 64 bytes exceed the limit of an input, even if the first read returns fewer bytes.
+/// How many reads of at most 64 bytes are enough to exceed the limit of an input, even if the first read returns fewer bytes.
 const READS_TO_THE_LIMIT: usize = 16_385;
 
 /// Calls, what each reads before endless spaces, and what it writes.

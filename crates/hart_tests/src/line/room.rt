@@ -45,7 +45,7 @@ struct Growing<'a> {
     spoken: usize,
 }
 
-/// Numbers near those at which lists and counts may change their size, and other numbers.
+/// Numbers near the sizes at which lists and counts may grow, and other numbers.
 const TIMES: &[usize] = &[0, 1, 9, 10, 63, 64, 65, 255, 256, 257, 300, 2500];
 
 const GROWING: &[Growing] = &[
@@ -228,7 +228,7 @@ fn every_command_has_room(rt: HostRuntime) -> Result<(), Fail> {
     Ok(())
 }
 
-/// Sizes of memory that no script above asks for. There must be room for each size.
+/// Numbers of items for which no script above needs room. There must be room for each number of items.
 const ROOMS: &[usize] = &[1, 31, 7_777, 1_048_577];
 
 #[test]

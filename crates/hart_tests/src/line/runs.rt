@@ -343,7 +343,7 @@ fn are_held(registers: &FieldRegisters, row: &Row) -> bool {
         && registers.get(Register::Assembly) == row.assembly.as_slice()
 }
 
-/// Whether two devices, each with another kind of store, did the same.
+/// Whether two devices with different kinds of store did the same.
 fn are_alike(report: &Report<FieldRegisters>, other: &Report<ImageRegisters>) -> bool {
     other.outcomes.as_slice() == report.outcomes.as_slice()
         && other.spoken.as_slice() == report.spoken.as_slice()

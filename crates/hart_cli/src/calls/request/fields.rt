@@ -46,7 +46,7 @@ pub fn payload_of(command: u8, words: &[&str]) -> Result<Payload, BadField>
     }
 }
 
-/// Returns the first word that has a bad name, if there is one.
+/// Returns the first word that has a bad name, or `None` if no word has a bad name.
 fn first_bad_name(rows: &[FieldRow], words: &[&str]) -> Option<BadField>
     ensures { result ≡ first_bad_name (map seen rows.now) [] (map (λ word. word.now) words.now) }
 {

@@ -23,8 +23,8 @@ pub fn fields_of_requests_are_those_given()
         → bytes_of (fields_of (request_rows frame.command) frame.payload) ≡ frame.payload }
 {}
 
-/// `hart explain` shows the bytes of a given value as that value: a number as the same number, a text as its characters and the
-/// added spaces in double quotes, a date as its word, and bytes as the bytes that were read.
+/// `hart explain` shows the bytes of a given value as that value. A number is shown as the same number, and a text as its characters and
+/// the added spaces, in double quotes. A date is shown as its word, and bytes as the bytes that were read.
 pub fn values_are_shown_as_given()
     ensures numbers { (size : ℕ) (word bytes : List ℕ) → value_of Number (Exactly size) word ≡ Ok bytes
         → value_words Number bytes ≡ decimal (digits_value 10 (without_leading_plus word)) }

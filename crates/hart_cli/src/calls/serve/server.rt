@@ -171,7 +171,7 @@ fn keep(part: &mut Filling<u8>, bytes: &[u8])
     part.extend(&bytes[..most]);
 }
 
-/// Puts a space after the line of a part, in the place of the carriage return if the part ends with one.
+/// Puts a space after the line of a part. If the part ends with a carriage return, the space replaces it.
 fn close(part: &mut Filling<u8>)
     requires { length part.old.items + 1 ≤ part.old.room }
     ensures closed { part.new.items ≡ strip_carriage_return part.old.items ++ 32 ∷ [] }

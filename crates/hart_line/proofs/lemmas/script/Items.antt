@@ -22,7 +22,7 @@ first_begins : (text : List ℕ) (item : Item) (items : List Item) → text ≡ 
     → AllByRecursion IsValidItem (item ∷ items) → BeginsWithItem text item (flat_map item_spelling items)
 first_begins text item items spelled valid = record { valid = valid.0; spelled = spelled; ends = items_end item items valid.1 }
 
--- So two lists of items with the same spelling are the same.
+-- So two lists of items with the same spelling are equal.
 items_one : (xs ys : List Item) → AllByRecursion IsValidItem xs → AllByRecursion IsValidItem ys
     → flat_map item_spelling xs ≡ flat_map item_spelling ys → xs ≡ ys
 items_one [] [] v w same = refl
@@ -48,7 +48,8 @@ pub reads_all : (text : List ℕ) (chars : List Character) → ReadsTo text char
 reads_all text chars reads =
     rw append-nil at (reads.on [] (record { items = []; valid = tt; spelled = refl; means = refl }))
 
--- If a text of items begins with an item, its characters are the character of this item, followed by those of the text after the item.
+-- If a text of items begins with an item, its characters are the character of this item, followed by the characters of the text after the
+-- item.
 pub after_item : (rest : List ℕ) (item : Item) (tail : List ℕ) (all : List Character) → BeginsWithItem rest item tail → AreItems rest all
     → (more : List Character) × AreItems tail more × (all ≡ item_meaning item ∷ more)
 after_item rest item tail all begins are = after are.items are.valid are.spelled are.means

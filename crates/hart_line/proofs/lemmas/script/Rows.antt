@@ -86,8 +86,8 @@ pub no_noise : (word : List ℕ) → HasNoValue (IsItemsWord word) → HasNoValu
 no_noise word none (Noise chars) said = let same : said.0 ≡ word = grind arith in none chars (rw same at said.2)
 no_noise word none event said = grind arith
 
--- WHAT A WORD BRINGS ABOUT
--- Suppose that words say nothing whenever one certain word of them says nothing. Then a fault of this word is a fault of the words.
+-- WHAT A WORD BRINGS ABOUT Suppose that words say nothing whenever a certain word among them says nothing. Then a fault of this word is a
+-- fault of the words.
 pub fault_of_word : {A B : Type 0} (words : List (List ℕ)) (k : ℕ) (word : List ℕ) (fault : RowFault) (IsPart : A → Type 0)
     (IsWhole : B → Type 0) → k < length words → get_or words k word ≡ word → (HasNoValue IsPart → HasNoValue IsWhole)
     → ReadsWords (word ∷ []) IsPart (Err fault) → ReadsWords words IsWhole (Err fault)
