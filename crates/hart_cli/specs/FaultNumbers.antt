@@ -3,7 +3,7 @@ use Rattle.std.specs.Prelude.{ℕ}
 use Rattle.hart_cli.specs.declared.fault.CliFault.{CliFault}
 use Rattle.hart_cli.specs.declared.fault.CliFault.TheVariants.{Read, Write, TooLong, BadHex, Line, Image, Memory, BadWord, BadField}
 
--- The number of each fault. A bad word has the same number with and without a reason.
+-- The number of each fault. `BadWord` and `BadField` have the same number, because both report a bad word.
 abbrev pub cli_fault_number : CliFault → ℕ
 cli_fault_number Read = 1
 cli_fault_number Write = 2

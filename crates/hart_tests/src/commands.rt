@@ -51,7 +51,8 @@ const PAYLOAD: [u8; 34] = [
 /// Zeros, enough for the request that needs the most data.
 const ZEROS: [u8; 32] = [0; 32];
 
-/// Whether a command with data is read as a request that is written back as the wanted data, or is refused with the wanted code.
+/// Whether a command with data is read as a request, and writing this request gives the wanted data; or whether the data are refused with
+/// the wanted code.
 fn request_is(command: u8, bytes: &[u8], want: Result<&[u8], u8>) -> bool {
     match (Request::read(command, bytes), want) {
         (Ok(request), Ok(want)) => {
@@ -67,7 +68,8 @@ fn request_is(command: u8, bytes: &[u8], want: Result<&[u8], u8>) -> bool {
     }
 }
 
-/// Whether a payload holds a reply that is written back as its first `want` bytes, or holds no reply if `want` is `None`.
+/// Whether a payload holds a reply, and writing this reply gives the first `want` bytes of the payload; or whether it holds no reply, if
+/// `want` is `None`.
 fn reply_is(command: u8, payload: &[u8], want: Option<usize>) -> bool {
     let Some(reply) = Reply::read(command, payload) else {
         return want.is_none();
@@ -122,7 +124,7 @@ fn every_other_command_is_unknown(rt: HostRuntime) {
     }
 }
 
-/// Commands with data, and the data that the request is written back as, or the code with which it is refused.
+/// Commands with data. Each row also has the data that writing the request gives, or the code with which the data are refused.
 const REQUESTS: &[(u8, &[u8], Result<&[u8], u8>)] = &[
     (0, &[], Ok(&[])),
     (6, &[0x05], Ok(&[0x05, 0x00])),

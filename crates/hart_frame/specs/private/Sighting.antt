@@ -121,8 +121,8 @@ IsUsed bytes from used = (from ≤ used) × (
     ⊎ ((used + 1 ≡ length bytes) × (slice_index bytes used ≡ 255) × ((from < used) → slice_index bytes (used - 1) ≢ 255))
     ⊎ ((used + 2 ≡ length bytes) × (slice_index bytes used ≡ 255) × (slice_index bytes (used + 1) ≡ 255)))
 
--- How far bytes in which nothing is seen are used up. If more may come, preamble bytes at the end are not used up. Otherwise all bytes are
--- used up, and so is the character with fault bits, if there is one.
+-- The place up to which bytes are used up if nothing is seen in them. If more may come, preamble bytes at the end are not used up.
+-- Otherwise all bytes are used up, and so is the character with fault bits, if there is one.
 abbrev pub IsPassed : List ℕ → After → ℕ → ℕ → Type 0
 IsPassed bytes More from used = IsUsed bytes from used
 IsPassed bytes (Damaged character) from used = used ≡ length bytes + 1

@@ -21,7 +21,7 @@ use crate::wire::message::PREAMBLE;
 use crate::wire::prefix::{Prefix, Wrong, prefix_of};
 use crate::{Body, Char};
 
-/// Why no frame stands at a place of what was heard. Places are counted from 0, the first character.
+/// Why no frame stands at a place of what was heard. Places are counted from 0, the place of the first character.
 #[derive(Clone, Copy, Debug, PartialEq, Eq)]
 pub enum Miss {
     /// The character at this place has these fault bits.

@@ -10,8 +10,7 @@ use Rattle.hart_line.specs.world.World.{InHand}
 use Rattle.hart_line.specs.declared.line.masters.Masters.{Masters}
 use Rattle.hart_line.specs.declared.line.masters.Submitter.{Submitter}
 
--- The hand of a master between turns, by what the world has in it: a request to be sent, with the number of its sendings so far, or
--- nothing.
+-- The hand of a master between turns, as the world has it: a request to be sent, with the number of its sendings so far, or nothing.
 abbrev pub hand_of : Option InHand → Hand
 hand_of None = Empty
 hand_of (Some held) = ToSend (record { address = held.address; request = held.request; sendings = held.sendings })
@@ -23,7 +22,7 @@ pub record IsSubmitter (id : MasterId) (retries : ℕ) (hand : Hand) (held : Opt
   pub master_is : submitter.master ≡ record { id = id; retries = retries; reply_limit = reply_limit; hand = hand }
   pub place_is : IfSome held (λ request. submitter.place ≡ request.submission)
 
--- A master has this request in its hand, or nothing if there is none.
+-- A master has this request in its hand, or nothing if there is no request.
 abbrev pub Holds : MasterId → ℕ → Option InHand → Submitter → Type 0
 Holds id retries held submitter = IsSubmitter id retries (hand_of held) held submitter
 

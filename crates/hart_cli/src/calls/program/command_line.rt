@@ -175,7 +175,7 @@ fn request_words<'w, 'a: 'w>(given: &'w ArgMatches<'a>) -> Option<RequestWords<'
     })
 }
 
-/// Returns the words that were given under a name, if any were.
+/// Returns the words that were given under a name, or `None` if no words were given.
 fn words_of<'w, 'a: 'w>(given: &'w ArgMatches<'a>, id: &str) -> Option<&'w [&'a str]>
     ensures { option_map (λ words. map (λ word. word.now) words.now) result ≡ all_of id.now (rows_of (found_of given.now)) }
 {

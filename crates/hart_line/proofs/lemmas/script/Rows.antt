@@ -6,7 +6,7 @@ use Rattle.hart_line.proofs.Common.{Says, lines_in_words, HasNoValue}
 use Rattle.hart_line.specs.declared.script.rows.RowFault.TheVariants.{Bad, Memory}
 use Rattle.hart_line.proofs.lemmas.script.Items.{items_begin_with_digit, words_have_one_value-items}
 
--- ONE THING
+-- AT MOST ONE LIST OF EVENTS
 leg_items : (word : List ℕ) (heard : Heard) (chars : List Character) → AreItems word chars → IsLegWord word heard → heard ≡ Chars chars
 leg_items word (Chars xs) chars are is = ap Chars (words_have_one_value-items word xs chars is.1 are)
 leg_items word Clean chars are is = let digit = items_begin_with_digit 111 (codes "k") chars (rw is at are) in cc
@@ -86,8 +86,8 @@ pub no_noise : (word : List ℕ) → HasNoValue (IsItemsWord word) → HasNoValu
 no_noise word none (Noise chars) said = let same : said.0 ≡ word = grind arith in none chars (rw same at said.2)
 no_noise word none event said = grind arith
 
--- WHAT A WORD BRINGS ABOUT Suppose that words say nothing whenever a certain word among them says nothing. Then a fault of this word is a
--- fault of the words.
+-- FAULTS OF WORDS
+-- Suppose that words say nothing whenever a certain word among them says nothing. Then a fault of this word is a fault of the words.
 pub fault_of_word : {A B : Type 0} (words : List (List ℕ)) (k : ℕ) (word : List ℕ) (fault : RowFault) (IsPart : A → Type 0)
     (IsWhole : B → Type 0) → k < length words → get_or words k word ≡ word → (HasNoValue IsPart → HasNoValue IsWhole)
     → ReadsWords (word ∷ []) IsPart (Err fault) → ReadsWords words IsWhole (Err fault)

@@ -58,7 +58,8 @@ unseen start events last run who before given r clear =
     let same : last.executions ≡ before.executions = grind (arith, nat_tests) in
     rw same (given_one (state_of start.device before) r.frame given _ r.reading r.resets refl, refl, refl)
 
--- A REFUSED COMMAND A command that is refused or not answered has no effect.
+-- A REFUSED COMMAND
+-- A command that is refused or not answered has no effect.
 refused_effect : (state : DeviceState) (frame : FrameParts) → (code_of state frame ≢ 0) ⊎ (is_answered state frame ≡ false)
     → effect_of state frame ≡ Nothing
 refused_effect state frame refused = grind (arith, refused_commands_change_nothing-refused, refused_commands_change_nothing-silent)
