@@ -10,7 +10,7 @@ leg_word Up = codes "up"
 leg_word Down = codes "down"
 leg_word Noise = codes "noise"
 
--- The text of a fault. It has the number of an event, counted from 0, or of a line, counted from 1, in decimal.
+-- The text of a fault. It may have a number in decimal: of an event, counted from 0, or of a line, counted from 1.
 abbrev pub line_fault_text : LineFault → List ℕ
 line_fault_text (Undetected event leg) =
     codes "undetected damage at event " ++ decimal event ++ codes ", " ++ leg_word leg

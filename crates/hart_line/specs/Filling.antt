@@ -1,4 +1,4 @@
--- Lists for whose items room is reserved before they are filled (own profile).
+-- Lists that reserve room for their items before they are filled (own profile).
 use Rattle.std.specs.Prelude.{ℕ, ◌≤◌, List}
 use denote.Memory.{lone}
 use denote.RattleType.{RattleType}

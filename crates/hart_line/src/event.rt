@@ -5,7 +5,7 @@ use hart_values::{Address, MasterId};
 /// What is heard in one leg of a turn.
 #[derive(Debug, Drop)]
 pub enum Heard {
-    /// What was sent in this leg, heard without faults; or nothing if nothing was sent.
+    /// What was sent in this leg is heard without faults. If nothing was sent, nothing is heard.
     Clean,
     /// Nothing is heard.
     Lost,

@@ -42,11 +42,11 @@ impl fmt::Display for Leg {
 /// Why a script could not be read or carried out.
 #[derive(Clone, Copy, Debug, PartialEq, Eq, Error)]
 pub enum LineFault {
-    /// In this leg of this event, counted from 0, a frame was heard that was not sent in this leg, or several frames were heard.
+    /// In this leg of this event, a frame was heard that was not sent in the leg, or several frames were heard. Events are counted from 0.
     Undetected { event: usize, leg: Leg },
     /// Memory was refused.
     Memory(NoRoom),
-    /// The line with this number, counted from 1, is neither empty nor a comment, and says no event.
+    /// The line with this number says no event, although it is neither empty nor a comment. Lines are counted from 1.
     BadLine { number: usize },
 }
 

@@ -13,7 +13,7 @@ pub struct FaultText {
     pub comma: &'static str,
     /// The last word.
     pub word: &'static str,
-    /// With its number, a text is at most 54 bytes long.
+    /// The parts besides the number have at most 34 bytes. A number has at most 20 digits, so a whole text has at most 54 bytes.
     pub ghost short: { length before.now + length comma.now + length word.now ≤ 34 },
 }
 

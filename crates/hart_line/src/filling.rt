@@ -5,7 +5,7 @@ use crate::memory::{NoRoom, make_room, reserved};
 use std::alloc::Global;
 use std::marker::Model;
 
-/// A list for whose items room is reserved beforehand, so that adding an item never fails.
+/// A list that reserves room for its items beforehand, so that adding an item never fails.
 #[derive(Debug, Drop)]
 pub struct Filling<T> {
     items: Vec<T>,
@@ -81,7 +81,8 @@ impl<T> Filling<T> {
         }
     }
 
-    /// Makes room for `more` further items of at most 512 bytes each, if there is less room. Room for 0 items is never refused.
+    /// Makes room for `more` further items of at most 512 bytes each, unless there is room for them already. Room for 0 items is never
+    /// refused.
     ///
     /// # Errors
     ///

@@ -30,7 +30,8 @@ pub fn words_have_one_value()
     ensures items { (word : List ℕ) (xs ys : List Character) → AreItems word xs → AreItems word ys → xs ≡ ys }
 {}
 
-/// Every text is a script or has a first bad line. By [`texts_have_one_script`] no text is both, and the script or the line is unique.
+/// Every text is a script or has a first bad line. No script has a first bad line, and no text has two scripts or two first bad lines: see
+/// [`texts_have_one_script`].
 pub fn every_text_is_a_script_or_has_a_first_bad_line()
     ensures { (text : List ℕ)
         → ((events : List LineEvent) × IsScript text events) ⊎ ((number : ℕ) × HasFirstBadLine text number) }
@@ -46,7 +47,7 @@ pub fn texts_have_one_script()
 {}
 
 /// The events of a script lead to at most one last world: to one if all damage is detected, and to none if an event has undetected damage.
-/// At most one leg is the first leg with undetected damage.
+/// The first leg with undetected damage, if any, is unique.
 pub fn scripts_have_one_last_world()
     ensures one_world { (start : Start) (events : List LineEvent) (a b : World)
         → IsLast start events a → IsLast start events b → a ≡ b }
@@ -85,9 +86,9 @@ pub fn refused_turns_change_nothing()
         → state_of start.device next ≡ after_refusal (state_of start.device before) refused.frame }
 {}
 
-/// In the first world of a script, the device is as it was given. The last world, with its device and outcomes, keeps the promises if the
-/// device, the process values and the requests are well made, as every value of their types is. A script's fault is never detectable
-/// damage.
+/// In the first world of a script, the device is as it was given. The device and the outcomes of the last world keep the promises
+/// (`KeepsPromises`). The device, the process values and the requests must be well made, which every value of their types is. A script
+/// never fails because of detectable damage.
 pub fn scripts_keep_their_promises()
     ensures first_world { (start : Start) → start.device.counter < 2 ^ 16 → state_of start.device (first_world start) ≡ start.device }
     ensures kept { (start : Start) (events : List LineEvent) (world : World)

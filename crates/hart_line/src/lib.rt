@@ -1,8 +1,9 @@
 //! The HART line between a field device and its two masters: the events of a script, how they are written, and what they lead to.
 //!
-//! Each line of a script, unless empty or a comment, is one event: a request for a master, a turn with what is heard in its two
-//! legs, a switch of the write protection, noise, or a restart. [`read_script`] reads the events, or names the first bad line.
-//! [`run`] carries them out. It reports what was spoken, each submission's outcome and the device, or the first undetected damage.
+//! Each line of a script, unless empty or a comment, is one event: a request for a master, a turn with what is heard in its two legs, a
+//! switch of the write protection, noise, or a restart. [`read_script`] reads the events, or names the first bad line. [`run`] carries them
+//! out. It reports what was spoken, the outcome of each submission, and the device. If damage is undetected, it reports the first such
+//! damage instead.
 //!
 //! ```rust
 //! let events = read_script(rt.alloc(), b"submit P @0 0\nturn P ok lost\n")?;

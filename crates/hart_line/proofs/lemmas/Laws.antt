@@ -67,7 +67,7 @@ scripts_keep_their_promises-kept start events here made well_made led =
       no_change_unseen = unseen start events here led;
     }
 
--- The device and the outcomes that a script has led to keep its promises.
+-- If a script has led to this device and these outcomes, they keep the promises of the script.
 pub led_keeps : (start : Start) (events : List LineEvent) (device : DeviceState) (outcomes : List Outcome) (spoken : List Spoken)
     → IsWellMadeStart start → AreWellMade events → Led start events device outcomes spoken → KeepsPromises start events device outcomes
 led_keeps start events device outcomes spoken made well_made led =

@@ -8,8 +8,8 @@ use Rattle.hart_line.specs.world.Step.{Step}
 use Rattle.hart_line.specs.world.World.{MarksWithin, Start, World, state_of}
 use Rattle.hart_line.specs.declared.line.masters.Masters.{Masters}
 
--- A line has a device, its two masters, the outcome of each submission so far, and what was spoken in the last event. It also has the
--- number of outcomes for which there is room in all, and the number of preamble bytes that the device puts before a reply.
+-- A line has a device, its two masters, the outcome of each submission so far, and what was spoken in the last event. It has room for
+-- `outcomes_room` outcomes in all, and its device puts `response_preambles` preamble bytes before a reply.
 pub record LineState : Type 0 where
   pub device : DeviceState
   pub masters : Masters
@@ -18,8 +18,8 @@ pub record LineState : Type 0 where
   pub outcomes_room : ℕ
   pub response_preambles : ℕ
 
--- A line stands for a world if its device, its masters and its outcomes are those of the world, and if the replies of the device have the
--- number of preamble bytes that the device's identity gives.
+-- A line stands for a world if its device, its masters and its outcomes are those of the world. Its `response_preambles` must also be the
+-- number in the device's identity.
 pub record Stands (start : Start) (world : World) (line : LineState) : Type 0 where
   pub device_is : line.device ≡ state_of start.device world
   pub masters_are : AreHeld start.retries world.hands line.masters

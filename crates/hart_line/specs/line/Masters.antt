@@ -10,12 +10,13 @@ use Rattle.hart_line.specs.world.World.{InHand}
 use Rattle.hart_line.specs.declared.line.masters.Masters.{Masters}
 use Rattle.hart_line.specs.declared.line.masters.Submitter.{Submitter}
 
--- The hand of a master between turns, as the world has it: a request to be sent, with the number of its sendings so far, or nothing.
+-- The hand of a master between turns, made from what a world says about it. The hand has a request to be sent, with the number of its
+-- sendings so far, or is empty.
 abbrev pub hand_of : Option InHand → Hand
 hand_of None = Empty
 hand_of (Some held) = ToSend (record { address = held.address; request = held.request; sendings = held.sendings })
 
--- A submitter has the master with this id, this retry limit and this hand. If a request is held, the submitter's place is the number of its
+-- A submitter's master has this id, this retry limit and this hand. If a request is held, the submitter's place is the number of its
 -- submission.
 pub record IsSubmitter (id : MasterId) (retries : ℕ) (hand : Hand) (held : Option InHand) (submitter : Submitter) : Type 0 where
   pub reply_limit : ℕ
@@ -42,7 +43,7 @@ AreInTurn Primary retries hands masters =
 AreInTurn Secondary retries hands masters =
     Awaits Secondary retries.secondary hands.secondary masters.secondary × Holds Primary retries.primary hands.primary masters.primary
 
--- The request of a submission that is not refused is in the master's hand, not sent yet, and unfinished. A refused submission does not
+-- If a submission is not refused, its request is in the master's hand, has not been sent, and is unfinished. A refused submission does not
 -- change the hand.
 abbrev pub Submits : Option InHand → ℕ → Address → Request → Option MasterFault → Outcome → (Option InHand → Type 0) → Type 0
 Submits held place address request None outcome Left = (outcome ≡ Unfinished 0)
@@ -63,7 +64,8 @@ outcomes_after_turn retries None accepted outcomes = outcomes
 outcomes_after_turn retries (Some held) accepted outcomes =
     slice_set outcomes held.submission (outcome_of retries (held.sendings + 1) accepted)
 
--- A master's turn ends: what came back is accepted as the reply, or not, and the request in hand, if any, gets its outcome.
+-- A master's turn ends. The master accepts what came back as the reply, or accepts nothing. The request in its hand, if any, gets its
+-- outcome.
 pub record Concludes (who : MasterId) (retries : ℕ) (hand : Option InHand) (returned : Option FrameParts)
     (outcomes outcomes' : List Outcome) (Left : Option InHand → Type 0) : Type 0 where
   pub accepted : Option Reply

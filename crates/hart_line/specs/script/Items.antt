@@ -10,7 +10,7 @@ pub data Item : Type 0 where
   Plain : (high low : ℕ) → Item
   Faulty : (high low fault_high fault_low : ℕ) → Item
 
--- An item is spelled by these bytes, of which 33 is the `!`.
+-- The bytes that spell an item. The byte 33 is the `!`.
 abbrev pub item_spelling : Item → List ℕ
 item_spelling (Plain high low) = high ∷ low ∷ []
 item_spelling (Faulty high low fault_high fault_low) = high ∷ low ∷ 33 ∷ fault_high ∷ fault_low ∷ []
@@ -45,7 +45,7 @@ EndsBefore tail (Faulty high low fault_high fault_low) = ⊤
 EndsBefore [] (Plain high low) = ⊤
 EndsBefore (next ∷ tail) (Plain high low) = next ≢ 33
 
--- A text begins with a valid item, which may end where the rest of the text, `tail`, begins.
+-- A text is a valid item followed by `tail`, and `EndsBefore` allows the item to end there.
 pub record BeginsWithItem (text : List ℕ) (item : Item) (tail : List ℕ) : Type 0 where
   pub valid : IsValidItem item
   pub spelled : text ≡ item_spelling item ++ tail
@@ -62,7 +62,7 @@ pub record AreItems (word : List ℕ) (chars : List Character) : Type 0 where
   pub spelled : word ≡ flat_map item_spelling items
   pub means : chars ≡ map item_meaning items
 
--- A word means these characters if it is not empty and consists of items, end to end, that mean them.
+-- A word means these characters if it is not empty and consists of items, end to end, whose meanings are these characters.
 abbrev pub IsItemsWord : List ℕ → List Character → Type 0
 IsItemsWord word chars = (word ≢ []) × AreItems word chars
 

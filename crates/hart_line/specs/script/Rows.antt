@@ -25,8 +25,8 @@ request_of command payload = do
   bytes ← payload_of payload
   result_ok (request_reading number bytes)
 
--- The word of a leg is `ok` if the leg is clean, and `lost` if it is lost. Otherwise the word gives the characters heard, as items end to
--- end.
+-- The word of a leg is `ok` if the leg is clean, and `lost` if it is lost. Otherwise the word consists of items, end to end, and the items
+-- mean the characters heard.
 abbrev pub IsLegWord : List ℕ → Heard → Type 0
 IsLegWord word Clean = word ≡ codes "ok"
 IsLegWord word Lost = word ≡ codes "lost"
@@ -77,7 +77,7 @@ pub record HasFirstBadLine (text : List ℕ) (number : ℕ) : Type 0 where
   pub bad : IsBadLine words
   pub good : AreEvents (take before (lines_in_words text)) events
 
--- Words need room for the characters of one of them: half as many characters as the word has bytes, and at least one character.
+-- Words need room for the characters of one of these words. The room is half as many characters as this word has bytes, and at least one.
 abbrev pub IsNeededByWords : List (List ℕ) → ℕ → Type 0
 IsNeededByWords words items = (0 < items) × Any (λ word. items ≡ length word / 2) words
 
@@ -86,7 +86,7 @@ abbrev pub IsNeededByLine : List (List ℕ) → ℕ → Type 0
 IsNeededByLine words items =
     (is_skipped words ≡ false) × (((event : LineEvent) × Says words event × (items ≡ 1)) ⊎ IsNeededByWords words items)
 
--- A text needs room for this number of items if one of its lines does.
+-- A text needs room for this number of items if one of its lines needs it.
 abbrev pub IsNeededByText : List ℕ → ℕ → Type 0
 IsNeededByText text items = Any (λ words. IsNeededByLine words items) (lines_in_words text)
 
@@ -98,7 +98,8 @@ IsScriptFault text (Undetected number leg) = ⊥
 
 -- Only private calls use the definitions from here on. They describe the result of reading one line.
 
--- The result of reading words: a value that the words say; `Bad`, if they say no value; or refused memory that they need.
+-- The result of reading words: a value that the words say; `Bad`, if the words say no value; or `Memory`, if memory for the words was
+-- refused.
 abbrev pub ReadsWords : {T : Type 0} → List (List ℕ) → (T → Type 0) → Result T RowFault → Type 0
 ReadsWords {T} words IsSaid (Ok value) = IsSaid value
 ReadsWords {T} words IsSaid (Err rows.Bad) = HasNoValue IsSaid
@@ -110,7 +111,7 @@ fault_at_line number rows.Bad = BadLine number
 fault_at_line number (rows.Memory room) = Memory room
 
 -- The result of reading the line with this number. If the result has no event, the line is skipped. If the result has an event, the words
--- of the line say this event. A fault says that the line is bad, or that memory that its words need was refused.
+-- of the line say this event. A fault says that the line is bad, or that memory for its words was refused.
 abbrev pub SaysLine : ℕ → List (List ℕ) → Result (Option LineEvent) LineFault → Type 0
 SaysLine number words (Ok None) = IsTrue (is_skipped words)
 SaysLine number words (Ok (Some event)) = (is_skipped words ≡ false) × Says words event

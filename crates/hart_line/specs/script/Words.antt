@@ -12,7 +12,7 @@ use Rattle.hart_values.specs.address.DeviceNumbers.{DeviceNumbers}
 use Rattle.hart_line.specs.Types.{Address, MasterId, Primary, Secondary}
 use Rattle.hart_values.specs.declared.address.Address.TheVariants.{Polling, Unique}
 
--- A second reading takes the value that a first reading found. The result is `None` if either reading finds nothing.
+-- The second reading is given the value that the first reading found. The result is `None` if either reading finds nothing.
 infixl 10 ◌>>=◌
 abbrev pub ◌>>=◌ : {A B : Type 0} → Option A → (A → Option B) → Option B
 read >>= next = option_and_then next read

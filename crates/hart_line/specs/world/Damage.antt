@@ -10,7 +10,7 @@ use Rattle.hart_device.specs.answer.Delivery.{BringsBy}
 use Rattle.hart_device.specs.declared.identity_parts.IdentityParts.{IdentityParts}
 use Rattle.hart_line.specs.world.Spoken.{SpokenFrame, frame_of}
 
--- In a clean leg the message that was sent is heard without faults, or nothing if nothing was sent. In a lost leg nothing is heard.
+-- In a clean leg the message that was sent is heard without faults. If nothing was sent, nothing is heard. In a lost leg nothing is heard.
 -- In any other leg the given characters are heard.
 abbrev pub AreHeard : Heard → Option SpokenFrame → List Character → Type 0
 AreHeard Clean None chars = chars ≡ []
@@ -19,21 +19,20 @@ AreHeard Clean (Some said) chars =
 AreHeard Lost sent chars = chars ≡ []
 AreHeard (Chars given) sent chars = chars ≡ given
 
--- The damage of what was heard is detected in two cases. Either no frame was heard, and nothing arrives. Or the frame that was sent was
--- heard, and no other frame, and the sent frame arrives. So if nothing was sent, any frame that is heard is undetected damage.
+-- The damage of what was heard is detected in two cases. If no frame was heard, nothing arrives. If only the frame that was sent was heard,
+-- this frame arrives. So if nothing was sent, any frame that is heard is undetected damage.
 abbrev pub IsDetected : Option FrameParts → List Found → Option FrameParts → Type 0
 IsDetected sent [] arrived = arrived ≡ None
 IsDetected sent (found ∷ []) arrived = (sent ≡ Some found.frame) × (arrived ≡ sent)
 IsDetected sent (found ∷ other ∷ more) arrived = ⊥
 
--- What arrives, a frame or nothing, if `sent` was sent, these characters were heard, and their damage is detected.
+-- What arrives, which is a frame or nothing. `sent` was sent, these characters were heard, and their damage is detected.
 pub record ArrivesAmong (chars : List Character) (sent arrived : Option FrameParts) : Type 0 where
   pub frames : List Found
   pub are_frames : AreFrames chars 0 frames
   pub detected : IsDetected sent frames arrived
 
--- What the device is brought if `sent` was sent, these characters were heard, and their damage is detected. A frame that is brought was
--- sent.
+-- What the device is brought. `sent` was sent, these characters were heard, and their damage is detected. A frame that is brought was sent.
 pub record ReachesAmong (identity : IdentityParts) (chars : List Character) (sent : Option FrameParts) (brought : Brought) : Type 0 where
   pub frame : Option FrameParts
   pub arrives : ArrivesAmong chars sent frame
@@ -63,8 +62,8 @@ pub record IsUndetected (heard : Heard) (sent : Option SpokenFrame) : Type 0 whe
   pub are_heard : AreHeard heard sent chars
   pub among : IsUndetectedAmong chars (frame_of sent)
 
--- The damage of a clean or lost leg is detectable. The damage of given characters is detectable if a message was sent and they are marked
--- damage or check damage of this message. If nothing was sent, it does not count as detectable.
+-- The damage of a clean or lost leg is detectable. The damage of given characters is detectable if it is marked damage or check damage of a
+-- message that was sent. If nothing was sent, the damage of given characters does not count as detectable.
 abbrev pub IsDetectable : Heard → Option SpokenFrame → Type 0
 IsDetectable Clean sent = Unit {0}
 IsDetectable Lost sent = Unit {0}

@@ -1,5 +1,5 @@
--- The last execution of each submission in a list of executions, and how often a submission was executed. The unrefused write executions of
--- a script are the executions of its last world (own profile).
+-- The last execution of each submission in a list of executions, and how often a submission was executed. The executions of a script's last
+-- world are those of all unrefused writes in the script (own profile).
 use Rattle.std.specs.Prelude.{ℕ, ◌==◌, Bool, List, [], ◌∷◌, count_by, if◌then◌else◌}
 use Rattle.std.specs.List.{list_any}
 use Rattle.hart_line.specs.world.World.{Execution}

@@ -35,11 +35,11 @@ IsFault start events (Undetected number leg) = (world : World) × (event : LineE
 IsFault start events (Memory room) = IsNeededBy events room.items
 IsFault start events (BadLine line) = ⊥
 
--- The damage in a leg is detectable. Noise is never detectable, because nobody sends it.
+-- The damage in a leg is detectable. The damage of noise is never detectable, because nothing was sent.
 abbrev pub HasDetectable : Start → World → LineEvent → Leg → Type 0
 HasDetectable = HasDamage IsDetectable
 
--- If the damage in a leg is detectable, the fault is not undetected damage in that leg.
+-- If a fault is undetected damage in a leg, the damage in this leg is not detectable.
 abbrev pub IsNotDetectable : Start → List LineEvent → LineFault → Type 0
 IsNotDetectable start events (Undetected number leg) = (world : World) (event : LineEvent)
     → IsLast start (take number events) world → slice_get events number ≡ Some event → HasDetectable start world event leg → ⊥

@@ -1,4 +1,5 @@
--- What is promised of a script in addition to `Led`: of its worlds, and of the device and the outcomes that are returned (own profile).
+-- The promises about a script that `Led` does not make: about its worlds, and about the device and the outcomes that are returned (own
+-- profile).
 use Rattle.std.specs.Prelude.{◌≡◌, ◌≤◌, ◌+◌, ◌%◌, ◌^◌, List, [], ℕ, Option, Some, IfSome, IsTrue, false, length, slice_get}
 use Rattle.hart_values.specs.EachMaster.{of_master}
 use Rattle.hart_line.specs.Types.{MasterId, Reply, Request, DeviceState, Heard, LineEvent, Turn, Outcome, Answered}
@@ -25,8 +26,8 @@ pub record KeepsPromises (start : Start) (events : List LineEvent) (device : Dev
   -- The counter has grown by the number of executed writes.
   pub counter_counts_executions : (world : World) → IsLast start events world
       → device.counter ≡ (start.device.counter + length world.executions) % 2 ^ 16
-  -- A command that is not answered changes nothing. A refused command changes only its master's cold start bit, which the reply
-  -- shows and clears. Both hold at the end of a script, and in every turn of it.
+  -- A command that is not answered changes nothing. A refused command changes only its master's cold start bit, which the reply shows and
+  -- clears. These two facts are true at the end of a script, and in each turn of the script.
   pub refused_commands_change_nothing : (before next : World) (refused : IsRefusedByDevice start events before next)
       → refused.turn.suffix ≡ [] → device ≡ after_refusal (state_of start.device before) refused.frame
   pub refused_turns_change_nothing : (before next : World) (refused : IsRefusedByDevice start events before next)

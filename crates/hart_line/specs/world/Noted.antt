@@ -8,7 +8,7 @@ use Rattle.hart_line.specs.world.World.{Start, World}
 use Rattle.hart_line.specs.Types.{LineEvent, LineFault, BadLine, Memory, Undetected, Spoken}
 
 -- The first events of a script, up to some event, lead to a world. To note one of the frames spoken in these events, room for this number
--- of items is needed, at least 1.
+-- of items is needed. The number is at least 1.
 pub record IsNeededByNoting (Needs : Spoken → ℕ → Type 0) (start : Start) (events : List LineEvent) (items : ℕ) : Type 0 where
   pub number : ℕ
   pub world : World
@@ -18,15 +18,17 @@ pub record IsNeededByNoting (Needs : Spoken → ℕ → Type 0) (start : Start) 
   pub needed : Any (λ frame. Needs frame items) spoken
   pub some : 0 < items
 
--- Events that are carried out with a log have one of two faults. One is undetected damage, as without a log; everything that was spoken
--- before the event with this damage has then been noted. The other is refused memory that is needed to note one of the spoken frames.
+-- Events that are carried out with a log have one of two faults. One is undetected damage, which is also a fault without a log. Everything
+-- spoken before the event with this damage has then been noted. The other is refused memory that is needed to note one of the spoken
+-- frames.
 abbrev pub IsNotingFault : (Needs : Spoken → ℕ → Type 0) → (AreNoted : List Spoken → Type 0) → Start → List LineEvent → LineFault → Type 0
 IsNotingFault Needs AreNoted start events (Undetected number leg) = (undetected : IsFault start events (Undetected number leg))
     × (spoken : List Spoken) × AreSpoken undetected.0.spoken spoken × AreNoted spoken
 IsNotingFault Needs AreNoted start events (Memory room) = IsNeededByNoting Needs start events room.items
 IsNotingFault Needs AreNoted start events (BadLine line) = ⊥
 
--- A script with a log has a fault of its events, or memory that its outcomes need is refused; in that case nothing has been noted.
+-- A script with a log has one of the faults of `IsNotingFault`, or memory for its outcomes is refused. If that memory is refused, nothing
+-- has been noted.
 abbrev pub IsLoggedFault : (Needs : Spoken → ℕ → Type 0) → (AreNoted : List Spoken → Type 0) → Start → List LineEvent → LineFault → Type 0
 IsLoggedFault Needs AreNoted start events (Memory room) =
     IsNeededForOutcomes events room.items × AreNoted [] ⊎ IsNotingFault Needs AreNoted start events (Memory room)

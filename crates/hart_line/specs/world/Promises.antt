@@ -49,14 +49,14 @@ pub record IsStepOf (start : Start) (from : World) (events : List LineEvent) (be
   pub led : LeadsTo start from prefix before
   pub step : Step start before event next
 
--- A start is well made if its device and its process are well made, as every value of their types is.
+-- A start is well made if its device and its process are well made. Every value of their types is well made.
 pub record IsWellMadeStart (start : Start) : Type 0 where
   pub device : IsDevice start.device
   pub process : IsProcess start.process
 
 -- An accepted reply is the device's answer in the turn in which its request was last sent. The request in hand, with its address, is the
 -- request that was submitted to this turn's master under this number. It was sent for the last time, and arrived. The device's answer came
--- back and was accepted as this reply, with the device's code, status and data. What the request did entered the executions, and the
+-- back and was accepted as this reply, with the device's code, status and data. The effect of the request entered the executions, and the
 -- request left the hand.
 pub record AnswersLastSending (start : Start) (events : List LineEvent) (number : ℕ) (reply : Reply) (sendings : ℕ) : Type 0 where
   pub before : World

@@ -25,8 +25,8 @@ abbrev pub submission_fault : Option InHand → Address → Request → Option M
 submission_fault (Some held) address request = Some Pending
 submission_fault None address request = if may_ask address request then None else Some WrongAddress
 
--- A submission that is not refused puts its request into the master's hand, not sent yet, and is unfinished. A refused submission only adds
--- its outcome, and does not change the hand.
+-- A submission that is not refused puts its request, which has not been sent yet, into the master's hand. Its outcome is unfinished. A
+-- refused submission only adds its outcome, and does not change the hand.
 abbrev pub submitted : World → MasterId → Address → Request → Option MasterFault → World
 submitted world who address request None = record world {
   hands = with_master who
@@ -93,7 +93,7 @@ abbrev pub hand_left : InHand → Outcome → Option InHand
 hand_left held (Unfinished sendings) = Some (record held { sendings = sendings })
 hand_left held outcome = None
 
--- The device's answer, if any, to what it was brought is spoken, and nothing else changes.
+-- If the device answers what it was brought, the answer is spoken. Nothing else changes.
 abbrev pub replied : Start → World → Brought → World
 replied start world brought = record world { spoken = world.spoken ++ option_to_list (sent_back start world brought) }
 
@@ -116,8 +116,8 @@ turned start world who (Some held) brought accepted =
       spoken = world.spoken ++ spoken_request who held ∷ option_to_list (sent_back start world brought);
     }
 
--- The next world after a turn depends on what the turn brings the device, what comes back of the device's answer, and the reply then
--- accepted.
+-- The next world after a turn depends on what the turn brings the device, what comes back of the device's answer, and which reply the
+-- master then accepts.
 pub record IsTurn (start : Start) (world : World) (who : MasterId) (up down : Heard) (next : World) : Type 0 where
   pub brought : Brought
   pub arrives : Reaches start.device.identity up (sent_by who (of_master who world.hands)) brought
@@ -127,8 +127,8 @@ pub record IsTurn (start : Start) (world : World) (who : MasterId) (up down : He
   pub accepts : Accepts who (of_master who world.hands) returned accepted
   pub next_is : next ≡ turned start world who (of_master who world.hands) brought accepted
 
--- The next world after noise depends on what the noise brings the device; nothing was sent in it. The device's answer, if any, is spoken,
--- and both masters hear it without damage. Neither master accepts the answer, because neither awaits a reply.
+-- The next world after noise depends on what the noise brings the device. In noise nothing was sent. The device's answer, if any, is
+-- spoken, and both masters hear it without damage. Neither master accepts the answer, because neither awaits a reply.
 pub record IsNoise (start : Start) (world : World) (chars : List Character) (next : World) : Type 0 where
   pub brought : Brought
   pub arrives : Reaches start.device.identity (Chars chars) None brought

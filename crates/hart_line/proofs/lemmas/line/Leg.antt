@@ -15,12 +15,12 @@ pub among_frame : (identity : IdentityParts) (chars : List Character) (sent : Op
     → ArrivesAmong chars sent (Some frame) → ReachesAmong identity chars sent (OneFrame frame)
 among_frame identity chars sent frame a = record { frame = Some frame; arrives = a; brings = grind arith }
 
--- If no frame arrives, the device is brought what characters without a frame bring: a garbled request, or no message.
+-- If no frame arrives, the characters bring the device a garbled request or no message.
 pub among_none : (identity : IdentityParts) (chars : List Character) (sent : Option FrameParts) (brought : Brought)
     → ArrivesAmong chars sent None → BringsBy identity chars [] brought → ReachesAmong identity chars sent brought
 among_none identity chars sent brought a brings = record { frame = None; arrives = a; brings = grind arith }
 
--- The code's answer to characters without a frame is the reply to what they bring.
+-- If no frame arrives, the code answers only a garbled request in the characters, with the reply to this request.
 pub answered_among : (chars : List Character) (sent : Option FrameParts) (device : DeviceState) (process : Process)
     (answer : Option FrameParts) → ArrivesAmong chars sent None
     → MatchOption answer ((request : GarbledRequest) → HasGarbled device.identity chars request → ⊥)

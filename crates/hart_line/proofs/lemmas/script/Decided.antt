@@ -145,7 +145,7 @@ event_or_none first words =
     inr (says_none first words (submit, turn, protect, noise, restart)))))))
 
 -- LINES
--- If lines say events, the same lines with this line before them say events too.
+-- If any lines say events, this line and then those lines say events too.
 abbrev GoesBefore : List (List ℕ) → Type 0
 GoesBefore words = (lines : List (List (List ℕ))) (events : List LineEvent) → AreEvents lines events
     → (all : List LineEvent) × AreEvents (words ∷ lines) all

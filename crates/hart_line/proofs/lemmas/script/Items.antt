@@ -1,4 +1,4 @@
--- Texts that are items end to end.
+-- Texts that consist of items, end to end.
 use Rattle.hart_line.proofs.Common.{subst, ◌∙◌, Faulty, BeginsAsItem, ◌≡◌, ◌≢◌, ℕ, ◌≤◌, List, [], ◌∷◌, ◌++◌, get_or, length, map, IsTrue}
 use Rattle.hart_line.proofs.Common.{refl, arith, ap, common_steps, AllByRecursion, flat_map, Character, append-nil, append_assoc, AreDigits}
 use Rattle.hart_line.proofs.Common.{AreItems, BeginsWithItem, byte_of, EndsBefore, IsValidItem, Item, item_meaning, item_spelling, Plain}
@@ -35,7 +35,7 @@ pub words_have_one_value-items : (word : List ℕ) (xs ys : List Character) → 
 words_have_one_value-items word xs ys a b =
     let same = items_one a.items b.items a.valid b.valid (grind arith) in grind arith
 
--- A text is read up to a rest: its characters are these, followed by the characters of the rest.
+-- A text is read up to a rest: its characters are `chars`, followed by the characters of the rest.
 pub record ReadsTo (text : List ℕ) (chars : List Character) (rest : List ℕ) : Type 0 where
   pub on : (more : List Character) → AreItems rest more → AreItems text (chars ++ more)
   pub back : (all : List Character) → AreItems text all → (more : List Character) × AreItems rest more × (all ≡ chars ++ more)
@@ -61,7 +61,7 @@ after_item rest item tail all begins are = after are.items are.valid are.spelled
         let same = begins_one rest item first tail _ begins (first_begins rest first items spelled valid) in
         (map item_meaning items, record { items = items; valid = valid.1; spelled = same.1; means = refl }, cc)
 
--- An item followed by items is items too.
+-- If a text begins with an item and the rest consists of items, the whole text consists of items.
 pub before_items : (text : List ℕ) (item : Item) (tail : List ℕ) (more : List Character) → BeginsWithItem text item tail
     → AreItems tail more → AreItems text (item_meaning item ∷ more)
 before_items text item tail more begins are = record {

@@ -76,7 +76,7 @@ no_leg word other none Clean is = other.0 is
 no_leg word other none Lost is = other.1 is
 no_leg word other none (Chars chars) is = none chars is
 
--- The words of a turn say no event if one of the words for its legs is not the word of a leg.
+-- A turn has two words for its legs. If one of these words is not the word of a leg, the words of the turn say no event.
 pub no_turn : (who up down leg : List ℕ) → (leg ≡ up) ⊎ (leg ≡ down) → HasNoValue (IsLegWord leg)
     → HasNoValue (Says (codes "turn" ∷ who ∷ up ∷ down ∷ []))
 no_turn who up down leg one none event said = grind arith
@@ -87,14 +87,15 @@ no_noise word none (Noise chars) said = let same : said.0 ≡ word = grind arith
 no_noise word none event said = grind arith
 
 -- FAULTS OF WORDS
--- Suppose that words say nothing whenever a certain word among them says nothing. Then a fault of this word is a fault of the words.
+-- If words say nothing when one certain word of them says nothing, a fault of that word is a fault of the words.
 pub fault_of_word : {A B : Type 0} (words : List (List ℕ)) (k : ℕ) (word : List ℕ) (fault : RowFault) (IsPart : A → Type 0)
     (IsWhole : B → Type 0) → k < length words → get_or words k word ≡ word → (HasNoValue IsPart → HasNoValue IsWhole)
     → ReadsWords (word ∷ []) IsPart (Err fault) → ReadsWords words IsWhole (Err fault)
 fault_of_word words k word Bad IsPart IsWhole short here none reads = none reads
 fault_of_word words k word (Memory room) IsPart IsWhole short here none reads = grind arith
 
--- So a fault of a word after the first word of a row is a fault of the row, if the row says nothing whenever that later word says nothing.
+-- So take a word after the first word of a row. If the row says nothing when this word says nothing, a fault of this word is a fault of the
+-- row.
 pub fault_in_row : {A : Type 0} (row : List ℕ) (words given : List (List ℕ)) (k : ℕ) (word : List ℕ) (fault : RowFault)
     (IsPart : A → Type 0) → words ≡ given → k < length given → get_or given k word ≡ word
     → (HasNoValue IsPart → HasNoValue (Says (row ∷ given))) → ReadsWords (word ∷ []) IsPart (Err fault)

@@ -1,4 +1,4 @@
--- What an option and a list hold, and what one of two masters has.
+-- Lemmas about options, about lists, and about the values that two masters have.
 use Rattle.hart_line.proofs.Common.{◌≡◌, ◌≢◌, ℕ, arith, Option, None, Some, inl, inr, refl, List, [], ◌∷◌, ◌++◌, length, slice_set, ◌⊎◌}
 use Rattle.hart_line.proofs.Common.{◌-◌, IsSome, nat_tests, slice_get, option_or, option_map, of_master, with_master, EachMaster, MasterId}
 use Rattle.hart_line.proofs.Common.{◌==◌, if◌then◌else◌}

@@ -118,7 +118,7 @@ fault_before start events number other leg world before f run =
     step_detected start f.0 f.1 on.0 leg on.1 f.4
 
 -- DETECTABLE DAMAGE
--- If the damage of characters is detected, given their frames, it is not undetected.
+-- If these are the frames of some characters and the damage is detected, the damage is not undetected damage.
 not_undetected : {heard : Heard} {sent : Option SpokenFrame} (chars : List Character) (frames : List Found) (arrived : Option FrameParts)
     → (u : IsUndetected heard sent) → u.chars ≡ chars → AreFrames chars 0 frames → IsDetected (frame_of sent) frames arrived → ⊥
 not_undetected {sent = sent} chars frames arrived u is are detected = grind (arith, common_steps, frames_are_unambiguous-one_list)

@@ -11,7 +11,7 @@ use Rattle.hart_line.proofs.lemmas.world.Leads.{leads_on}
 use Rattle.hart_line.proofs.lemmas.world.Steps.{along, entered, leads_more, master_in, turn_cases}
 
 -- A RESET
--- Executions only grow, and a master's mark stays the same as long as no turn of this master resets it.
+-- Executions are added, but never removed. A master's mark stays the same as long as no turn of this master resets it.
 record IsSince (id : MasterId) (world : World) (executions : List Execution) (marks : EachMaster (Option ℕ)) : Type 0 where
   mark : of_master id marks ≡ of_master id world.marks
   few : length executions ≤ length world.executions → executions ≡ world.executions

@@ -1,4 +1,4 @@
--- What is brought to the device, the steps of a script and what each keeps, and the device after an effect.
+-- Lemmas about what is brought to the device, about what each step of a script keeps, and about the device after an effect.
 use Rattle.hart_line.proofs.Common.{arith, ◌≡◌, Bool, ap, refl, subst, Option, None, Some, List, [], ◌∷◌, ◌++◌, ◌⊎◌, inl, inr, ℕ, length}
 use Rattle.hart_line.proofs.Common.{common_steps, map-append, mod-add-mod, nat_tests, of_master, EachMaster, MasterId, Primary, Secondary}
 use Rattle.hart_line.proofs.Common.{Reply, Contents, registers_of, overwritten, Brought, OneFrame, Effect, DeviceState, Executes, after}
@@ -74,7 +74,7 @@ abbrev pub master_in : LineEvent → MasterId
 master_in (Turn who up down) = who
 master_in event = Primary
 
--- So the effect of what a step brought the device enters the executions and the marks.
+-- So the executions and the marks after a step include the effect of what the step brought the device.
 pub entered : (start : Start) (world : World) (event : LineEvent) (next : World) (step : Step start world event next) → (number : ℕ)
     × (next.executions
     ≡ executions_after (effect_on (state_of start.device world) (brought_in_step start world event next step)) number world.executions)
@@ -126,7 +126,7 @@ pub contents-more : (executions : List Execution) (execution : Execution) (initi
     ≡ registers_of (overwrites_of (executions ++ execution ∷ [])) initial
 contents-more executions execution initial = grind (arith, common_steps, map-append, registers_of_lists-last)
 
--- The device's state after an effect, with new cold start bits, is its state in the world after this effect, with the same cold start bits.
+-- The device's state after an effect, but with the cold start bits of the next world, is its state in the next world.
 pub state-after : (initial : DeviceState) (world next : World) (id : MasterId) (number : ℕ) (effect : Effect) → MarksWithin world
     → next.executions ≡ executions_after effect number world.executions
     → next.marks ≡ marks_after effect id (length world.executions) world.marks → next.protected ≡ world.protected

@@ -1,5 +1,5 @@
--- Unrefused writes are executed in their turn, and nothing else is executed. All executions lead to the same registers as the last
--- execution of each submission.
+-- Unrefused writes are executed in their turn, and nothing else is executed. All executions together lead to the same registers as only the
+-- last execution of each submission does.
 use Rattle.hart_line.proofs.Common.{same_Some, ◌≡◌, ℕ, ◌∙◌, sym, refl, Some, IsTrue, List, inl, inr, arith, suc, Ok, Bool, true, false, []}
 use Rattle.hart_line.proofs.Common.{◌∷◌, None, Option, ◌⊎◌, ◌+◌, common_steps, elements, nat_tests, get_or-map, length-map, All-push}
 use Rattle.hart_line.proofs.Common.{slice_get, All, Contains, option_and_then, MasterId, command_of, Reply, Request, Contents, Overwrite}
