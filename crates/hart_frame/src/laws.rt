@@ -71,26 +71,26 @@ pub fn messages_are_short()
         → IsMessage frame preambles message → length message ≤ 287 }
 {}
 
-/// Bytes are refused with at most one fault, and with none if they begin with a body.
+/// Bytes are refused with at most one fault. Bytes that begin with a body are not refused.
 pub fn bytes_have_one_fault()
     ensures one { (bytes : List ℕ) (fault other : FrameFault) → IsRefusedWith bytes fault → IsRefusedWith bytes other → fault ≡ other }
     ensures not_both { (bytes : List ℕ) (frame : FrameParts) (len : ℕ) (fault : FrameFault)
         → BeginsWithBody bytes frame len → IsRefusedWith bytes fault → ⊥ }
 {}
 
-/// Bytes are refused as truncated exactly if they begin with no body, but would begin with a body if certain bytes followed.
+/// Bytes are refused as truncated exactly if they do not begin with a body, but can be continued so that they do.
 pub fn truncated_bytes_can_become_a_body()
     ensures { (bytes : List ℕ) → All (λ byte. byte < 256) bytes
         → IsTruncated bytes ↔ (CanBecomeBody bytes × HasNoBody bytes) }
 {}
 
-/// An open place can begin a frame: if certain characters follow the list, a frame stands there.
+/// A frame can begin at an open place: if certain characters follow the list, a frame stands there.
 pub fn open_places_can_begin_a_frame()
     ensures { (place : ℕ) (chars : List Character) → All (λ character. character.byte < 256) chars → IsOpen place chars
         → (more : List Character) × (found : Found) × StandsIn found (chars ++ more) 0 × (found.start ≡ place) }
 {}
 
-/// Frames are unambiguous: from each place on, a list has at most one first frame, and at most one list of frames.
+/// Frames are unambiguous: from each place on, characters have at most one first frame, and at most one list of frames.
 pub fn frames_are_unambiguous()
     ensures one_first { (f g : Found) (chars : List Character) (from : ℕ)
         → IsFirst f chars from → IsFirst g chars from → f ≡ g }
@@ -103,7 +103,8 @@ pub fn every_list_has_frames()
     ensures { (chars : List Character) (from : ℕ) → (frames : List Found) × AreFrames chars from frames }
 {}
 
-/// A message with at least two preamble bytes, heard without faults, has exactly its own frame; an empty list has no frame.
+/// If a message with at least two preamble bytes is heard without faults, its own frame is the only frame that is heard. An empty list of
+/// characters has no frame.
 pub fn messages_have_their_frame_alone()
     ensures message { (frame : FrameParts) (preambles : ℕ) (bytes : List ℕ) → 2 ≤ preambles → IsMessage frame preambles bytes
         → AreFrames (faultless bytes) 0 (record { start = preambles; stop = length bytes; frame = frame } ∷ []) }

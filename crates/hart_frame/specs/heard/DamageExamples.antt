@@ -9,7 +9,7 @@ use Rattle.hart_frame.specs.wire.FrameParts.{FrameParts, request_parts}
 abbrev pub identity_request : FrameParts
 identity_request = request_parts Primary (Polling 0) 0 []
 
--- FF FF 02 81 00 00 82: two preamble bytes are heard, and the address byte as 81 with a vertical parity fault.
+-- FF FF 02 81 00 00 82: two preamble bytes are heard, and the address byte is heard as 81 with a vertical parity fault.
 abbrev pub faulty_address : List Character
 faulty_address = faultless (255 ∷ 255 ∷ 2 ∷ []) ++ record { byte = 129; faults = 64 } ∷ faultless (0 ∷ 0 ∷ 130 ∷ [])
 

@@ -20,7 +20,8 @@ pub data AreFrames (chars : List Character) : ℕ → List Found → Type 0 wher
   first : (from : ℕ) (found : Found) (later : List Found) → IsFirst found chars from
       → AreFrames chars found.stop later → AreFrames chars from (found ∷ later)
 
--- A list decides no frame in two cases: it has no frame, or an open place, where a frame may still begin, lies before every frame in it.
+-- A list decides no frame in two cases. Either it has no frame, or a place before all its frames is open, so that a frame may still begin
+-- there.
 abbrev pub IsUndecided : List Character → Type 0
 IsUndecided chars = HasNoFrame chars 0
     ⊎ ((place : ℕ) × IsOpen place chars × ((found : Found) → StandsIn found chars 0 → place < found.start))

@@ -32,8 +32,8 @@ abbrev pub faulty_or : Option Character → ℕ → Miss → Miss
 faulty_or None place at_end = at_end
 faulty_or (Some character) place at_end = Faulty place character.faults
 
--- Why no body begins at `start`, or `None` if a body does, by the first condition that holds. `bytes` are the faultless bytes from `start`
--- on. `faulty` is the character with fault bits after them, if there is one, and `faulty_place` is its place.
+-- Why no body begins at `start`, or `None` if a body begins there. The first condition that holds decides. `bytes` are the faultless bytes
+-- from `start` on. `faulty` is the character with fault bits after them, if there is one, and `faulty_place` is its place.
 abbrev pub miss_in : List ℕ → Option Character → ℕ → ℕ → Option Miss
 miss_in bytes faulty faulty_place start =
     if length bytes == 0 then Some (faulty_or faulty faulty_place EndsBeforeByteCount)
@@ -68,7 +68,7 @@ is_start chars place =
 abbrev pub follows_one_preamble : List Character → ℕ → Bool
 follows_one_preamble chars place = follows_preamble chars place && not (follows_preamble chars (place - 1))
 
--- The miss of a place is the reason why no frame stands there. Where a body may start but none begins, the miss is what is wrong there.
+-- The miss of a place is the reason why no frame stands there. Where a body may start but no body begins, the miss is what is wrong there.
 -- Where a whole body stands after a single faultless FF, the miss is `OnePreamble`. Any other place has no miss.
 abbrev pub miss_of : List Character → ℕ → Option Miss
 miss_of chars start =

@@ -19,7 +19,7 @@ pub data Seen : Type 0 where
   Message : (found : Found) → Seen
   Missed : (place : ℕ) (miss : Miss) (header : Option HeaderParts) → Seen
 
--- The miss of a list that begins at the place `from` of a longer list, with its place counted in the longer list.
+-- A miss whose place was counted from the place `from` of a list, now with its place counted in the whole list.
 abbrev pub miss_in_whole : ℕ → Miss → Miss
 miss_in_whole from (Faulty place faults) = Faulty (from + place) faults
 miss_in_whole from (BadCheck place byte fits) = BadCheck (from + place) byte fits
@@ -48,7 +48,7 @@ seen_miss chars place =
 abbrev pub header_at : List Character → ℕ → Option HeaderParts
 header_at chars place = header_in (bytes_from chars place)
 
--- If a miss is seen at a place, the list with just this place, the miss and the header that is heard there. Otherwise the empty list.
+-- If a miss is seen at a place, the list has just this place, its miss and the header that is heard there. Otherwise the list is empty.
 -- Characters before `from`, the end of the last message, do not count.
 abbrev pub missed_at : List Character → ℕ → ℕ → List Seen
 missed_at chars from place =
@@ -71,8 +71,8 @@ pub record AreSightings (chars : List Character) (from : ℕ) (seen : List Seen)
   pub are_frames : AreFrames chars from frames
   pub seen_is : seen ≡ sightings chars from frames
 
--- The sightings from `from` on are `given`, followed by the sightings from `to` on. This is true whatever characters come later; if the
--- characters ended, none come.
+-- The sightings from `from` on are `given`, followed by the sightings from `to` on. This is true whatever characters come later. If `ended`
+-- is true, no characters come later.
 abbrev pub SeesOn : List Character → Bool → ℕ → List Seen → ℕ → Type 0
 SeesOn chars ended from given to = (more : List Character) (later : List Seen) → (IsTrue ended → more ≡ [])
     → AreSightings (chars ++ more) to later → AreSightings (chars ++ more) from (given ++ later)

@@ -46,7 +46,8 @@ IsCandidate bytes (Never count) = (count ≤ length bytes) × NeverBegin (take c
 IsCandidate bytes Open = MayBegin bytes
 IsCandidate bytes (Whole layout) = IsWhole layout bytes × MayBeginBefore (2 + layout_length layout) bytes
 
--- The limits: it takes 2 to 269 bytes to prove that no frame begins; open bytes are fewer than 269; a body has at most 267 bytes.
+-- The limits. It takes 2 to 269 bytes to prove that no frame begins. Bytes that may begin a frame are fewer than 269. A body has at most
+-- 267 bytes.
 abbrev pub IsShort : List ℕ → Candidate → Type 0
 IsShort bytes (Never count) = (2 ≤ count) × (count ≤ 269)
 IsShort bytes Open = length bytes < 269

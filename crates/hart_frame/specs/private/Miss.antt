@@ -20,6 +20,6 @@ abbrev pub cut_miss : Option ℕ → Miss
 cut_miss None = miss.EndsBeforeByteCount
 cut_miss (Some missing) = miss.Missing missing
 
--- The faultless characters at the front, as far as a body may reach, have bytes below 256.
+-- The faultless bytes at the front are below 256, up to the length that their body would have.
 abbrev pub IsOfBytes : List Character → Type 0
 IsOfBytes heard = All (λ byte. byte < 256) (take (body_length (faultless_bytes heard)) (faultless_bytes heard))

@@ -13,8 +13,8 @@ use Rattle.hart_frame.specs.declared.wire.prefix.Prefix.TheVariants as prefix
 use Rattle.hart_frame.specs.declared.wire.prefix.Wrong.{Wrong}
 use Rattle.hart_frame.specs.declared.wire.prefix.Wrong.TheVariants.{BadCheck, BadDelimiter, ShortReply}
 
--- Bytes are a whole body of a layout if nothing is wrong up to their check byte, the layout describes them and ends where they end, their
--- parity is even, and all are below 256.
+-- Bytes are a whole body of a layout if the layout describes them and has their length. Nothing may be wrong up to their check byte, their
+-- parity must be even, and each byte must be below 256.
 pub record IsWholeBody (layout : Layout) (bytes : List ℕ) : Type 0 where
   pub described : Describes layout bytes
   pub checked : HasCheckByte bytes
@@ -22,7 +22,7 @@ pub record IsWholeBody (layout : Layout) (bytes : List ℕ) : Type 0 where
   pub even : HasEvenParity bytes
   pub fits : All (λ byte. byte < 256) bytes
 
--- The last byte of what would be a body is not the check byte that fits there.
+-- Bytes reach their check byte, but the byte that stands there, `byte`, is not the byte that fits, `fits`.
 pub record HasBadCheck (bytes : List ℕ) (len byte fits : ℕ) : Type 0 where
   pub checked : HasCheckByte bytes
   pub whole : len ≡ body_length bytes

@@ -9,8 +9,8 @@ use Rattle.hart_frame.specs.declared.scan.search.Sighting.{Sighting}
 abbrev pub NoneBegin : List ℕ → ℕ → ℕ → Type 0
 NoneBegin bytes from to = (place : ℕ) → from ≤ place → place < to → NeverBegin (drop place bytes)
 
--- A list decides nothing from `from` on if a frame may begin at some place at or after `from`, and no frame begins at an earlier place from
--- `from` on.
+-- A list decides nothing from `from` on in this case: a frame may begin at some place at or after `from`, and no frame begins at a place
+-- between `from` and this place.
 pub record IsOpenFrom (bytes : List ℕ) (from : ℕ) : Type 0 where
   pub place : ℕ
   pub after : from ≤ place
@@ -18,7 +18,7 @@ pub record IsOpenFrom (bytes : List ℕ) (from : ℕ) : Type 0 where
   pub none : NoneBegin bytes from place
   pub may : MayBegin (drop place bytes)
 
--- No prefix of at least `seen` but fewer than `count` bytes decides anything from `from` on.
+-- Take a prefix that has at least `seen` bytes, but fewer than `count`. It decides nothing from `from` on.
 abbrev pub IsOpenBefore : List ℕ → ℕ → ℕ → ℕ → Type 0
 IsOpenBefore bytes from seen count = (fewer : ℕ) → seen ≤ fewer → fewer < count → IsOpenFrom (take fewer bytes) from
 
@@ -29,7 +29,7 @@ IsOpenAll bytes found =
 
 -- A search from `from` on finds a place before which no frame begins. The first `decided` bytes show this. Either a frame stands at the
 -- place and within these bytes, or all bytes together decide nothing. No prefix of at least `seen` but fewer than `decided` bytes decides
--- anything. The first `decided` bytes are at least `seen`, and end at most 269 bytes after the place.
+-- anything. `decided` is at least `seen`, and at most 269 more than the place.
 pub record IsSearched (bytes : List ℕ) (from seen : ℕ) (found : Sighting) : Type 0 where
   pub after : from ≤ found.place
   pub order : found.place ≤ found.decided

@@ -44,7 +44,7 @@ MayFollow More next = ⊤
 MayFollow (Damaged character) next = (character.faults ≢ 0) × (more : List Character) × (next ≡ character ∷ more)
 MayFollow End next = next ≡ []
 
--- `holds` is true of the bytes together with what follows them, whatever that may be.
+-- `holds` is true of the bytes together with any characters that may follow them.
 abbrev pub Whatever : List ℕ → After → (List Character → Type 0) → Type 0
 Whatever bytes after holds = (next : List Character) → MayFollow after next → holds (faultless bytes ++ next)
 
@@ -67,7 +67,7 @@ pub record MayStandAlone (bytes : List ℕ) (start : ℕ) : Type 0 where
   pub other : List Character
   pub not_alone : stands_alone (faultless bytes ++ other) start ≡ false
 
--- Bytes end in FF and lack only the check byte of a body, which would be FF too.
+-- Bytes end in FF and lack only their check byte, and the check byte that fits is FF too.
 pub record LacksOnePreamble (bytes : List ℕ) : Type 0 where
   pub good : HasGoodByteCount bytes
   pub last : body_length bytes ≡ length bytes + 1

@@ -8,8 +8,8 @@ use Rattle.hart_frame.specs.scan.View.{found_of}
 use Rattle.hart_frame.specs.declared.heard.found.Found.{Found}
 use Rattle.hart_frame.specs.declared.scan.view.FoundView.{FoundView}
 
--- The frames from `from` on are `given`, followed by the frames from `to` on. This is true whatever characters come later; if the
--- characters ended, none come.
+-- The frames from `from` on are `given`, followed by the frames from `to` on. This is true whatever characters come later. If `ended` is
+-- true, no characters come later.
 abbrev pub LeadsOn : List Character → Bool → ℕ → List Found → ℕ → Type 0
 LeadsOn chars ended from given to = (more : List Character) (later : List Found) → (IsTrue ended → more ≡ [])
     → AreFrames (chars ++ more) to later → AreFrames (chars ++ more) from (given ++ later)

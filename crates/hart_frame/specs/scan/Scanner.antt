@@ -7,10 +7,10 @@ use Rattle.hart_frame.specs.scan.View.{found_of}
 use Rattle.hart_frame.specs.declared.heard.found.Found.{Found}
 use Rattle.hart_frame.specs.declared.scan.view.FoundView.{FoundView}
 
--- The state of a scanner. `held` are the characters that it holds. `first` is the place of the first of them, or of the next character to
--- come if it holds none. `finished` says that no more characters come. `drained` says that the scanner has no frame to give: it is new, or
--- it was asked for a frame and gave none, or it heard a whole chunk that decided no frame. Since then it has heard neither a character nor
--- the finish.
+-- The state of a scanner. `held` are the characters that it holds. `first` is the place of the first held character, or, if no character is
+-- held, of the next character to come. `finished` says that no more characters come. `drained` says that the scanner has no frame to give:
+-- it is new, or it was asked for a frame and gave none, or it heard a whole chunk that decided no frame. Since then it has heard neither a
+-- character nor the finish.
 pub record Scan : Type 0 where
   pub first : ℕ
   pub held : List Character

@@ -35,7 +35,7 @@ pub record BeginsWithBody (bytes : List ℕ) (frame : FrameParts) (count : ℕ) 
 abbrev pub HasNoBody : List ℕ → Type 0
 HasNoBody bytes = (frame : FrameParts) (count : ℕ) → BeginsWithBody bytes frame count → ⊥
 
--- A list can become a body if there are bytes, `rest`, such that the list followed by them begins with a body.
+-- A list can become a body if some bytes, `rest`, can follow it so that the whole begins with a body.
 pub record CanBecomeBody (bytes : List ℕ) : Type 0 where
   pub rest : List ℕ
   pub frame : FrameParts

@@ -26,13 +26,14 @@ HasGoodByteCount bytes = HasByteCount bytes × ((delimiter_in bytes % 8 ≡ 2) �
 abbrev pub HasCheckByte : List ℕ → Type 0
 HasCheckByte bytes = HasGoodByteCount bytes × (body_length bytes ≤ length bytes)
 
--- A list ends too early in two cases. It is empty. Or it ends before its byte count or its check byte, and nothing before its end is wrong.
+-- A list ends too early in two cases: it is empty, or it ends before its byte count or its check byte and nothing before its end is wrong.
 abbrev pub IsTruncated : List ℕ → Type 0
 IsTruncated bytes = (length bytes ≡ 0)
     ⊎ (HasDelimiter bytes × (length bytes ≤ byte_count_place bytes))
     ⊎ (HasGoodByteCount bytes × (length bytes < body_length bytes))
 
--- The fault of a list is the first thing that is wrong with it. The faults of making and of sending a frame never apply to a list.
+-- The fault of a list is the first thing that is wrong with it. `TooShortReply` and `BadPreamble` never apply to a list, because they are
+-- faults in making and in sending a frame.
 abbrev pub IsRefusedWith : List ℕ → FrameFault → Type 0
 IsRefusedWith bytes BadDelimiter = (0 < length bytes) × (IsDelimiter (delimiter_in bytes) → ⊥)
 IsRefusedWith bytes Truncated = IsTruncated bytes

@@ -8,10 +8,10 @@ ghost use Rattle.hart_frame.specs.heard.Frames.{AreFrames};
 
 /// A damaged message has no frame other than its own.
 ///
-/// In marked damage, every changed character has a fault bit. The message then has no frame, or only its own, in its place. In
-/// check damage, every byte is heard without faults but the parity is not even. The message then has no frame. Neither kind allows
-/// two faultless `FF` in a row after the delimiter, since another frame could stand there. Check damage keeps the delimiter and the
-/// byte count, since they say how long the body is.
+/// In marked damage, every changed character has a fault bit. The message then has no frame, or only its own frame, which starts at the
+/// message's delimiter. In check damage, every byte is heard without faults but the parity is not even. The message then has no frame.
+/// Neither kind allows two faultless `FF` in a row after the delimiter, since another frame could stand there. Check damage keeps the
+/// delimiter and the byte count, since they say how long the body is.
 pub fn damaged_messages_have_no_other_frame()
     ensures marked { (frame : FrameParts) (preambles : ℕ) (chars : List Character) (damage : IsMarkedDamage frame preambles chars)
         → AreFrames chars 0 [] ⊎ AreFrames chars 0 (record { start = damage.left; stop = length chars; frame = frame } ∷ []) }

@@ -34,11 +34,12 @@ pub enum Miss {
     EndsBeforeByteCount,
     /// An ACK has this byte count, below 2.
     ShortReply { byte_count: u8 },
-    /// The characters end before the end of the check byte: `count` of them are missing, and the last of these is the check byte.
+    /// The characters end before the end of the check byte. `count` characters are missing, and the last missing character is the check
+    /// byte.
     Missing { count: usize },
     /// The check byte at this place is `byte`, but the byte that would fit is `fits`.
     BadCheck { place: usize, byte: u8, fits: u8 },
-    /// A whole body stands there, but after a single preamble byte `FF`.
+    /// A whole body stands at the place, but only a single preamble byte `FF` stands before it.
     OnePreamble,
 }
 
@@ -52,8 +53,8 @@ pub enum Miss {
 /// - The characters end before the end of the check byte.
 /// - The check byte does not fit.
 ///
-/// If a character with fault bits comes before this is decided, the miss is that character. A whole body after a single faultless `FF` is a
-/// [`Miss::OnePreamble`].
+/// If a character with fault bits comes too early to decide which of these applies, the miss is that character. A whole body after a single
+/// faultless `FF` is a [`Miss::OnePreamble`].
 ///
 /// The function looks at no more than 267 characters from `start` on, the length of the longest body.
 ///
@@ -80,7 +81,7 @@ pub fn why_none(chars: &[Char], start: usize) -> Option<Miss>
     None
 }
 
-/// Returns why no body begins at the front of `heard`, the characters from `start` on, or `None` if a body does.
+/// Returns why no body begins at the front of `heard`, or `None` if a body begins there. `heard` has the characters from `start` on.
 fn body_miss(heard: &[Char], start: usize) -> Option<Miss>
     requires within { start + length heard.now < 2 ^ 64 }
     ensures found { result ≡ body_miss start heard.now }
@@ -95,7 +96,7 @@ fn body_miss(heard: &[Char], start: usize) -> Option<Miss>
     }
 }
 
-/// Returns the miss of a place whose bytes never become a body.
+/// Returns the miss of a place at which the bytes can never become a body.
 pub(crate) fn wrong_miss(wrong: Wrong, start: usize) -> Miss
     requires some { 0 < shown_by wrong }
     requires within { start + shown_by wrong < 2 ^ 64 }
@@ -122,7 +123,8 @@ fn delimiter_miss(byte: u8) -> Miss
     Miss::BadDelimiter { byte }
 }
 
-/// Returns the miss of bytes that may become a body, if nothing follows: how many are missing, or an end before the byte count.
+/// Returns the miss of bytes that may become a body, if no bytes follow. The miss says that `missing` bytes are missing or, for `None`,
+/// that the bytes end before the byte count.
 pub(crate) fn cut_miss(missing: Option<usize>) -> Miss
     ensures { result ≡ cut_miss missing }
 {
@@ -179,10 +181,10 @@ pub fn every_start_has_a_frame_or_a_miss()
 /// A miss names what really stands in the way of a frame.
 ///
 /// `BadCheck`: if the byte that fits replaces the byte at the named place, a frame stands at the start and ends with that byte. `Faulty`:
-/// the character at the named place has the named fault bits; if any faultless character replaces it, the miss names no fault bits at that
-/// place. `Missing`: append any bytes for the missing bytes except the last, and then the check byte of all bytes from the start on. A
-/// frame then stands at the start and ends with that check byte. `OnePreamble`: if another faultless `FF` is inserted before the single
-/// `FF`, a frame stands after the two.
+/// the character at the named place has the named fault bits. If a faultless character replaces this character, the miss no longer names
+/// the place as faulty. `Missing`: append any `count - 1` bytes, and then the check byte of all bytes from the start on. A frame then
+/// stands at the start and ends with that check byte. `OnePreamble`: if another faultless `FF` is inserted before the single `FF`, a frame
+/// stands after the two.
 pub fn misses_say_what_is_wrong()
     ensures bad_check { (start place byte fits : ℕ) (chars : List Character) → All (λ character. character.byte < 256) chars
         → miss_of chars start ≡ Some (BadCheck place byte fits)

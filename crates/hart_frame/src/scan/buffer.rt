@@ -16,7 +16,7 @@ use hart_values::ByteList;
 /// The greatest number of characters that are held: two preamble bytes and a body.
 pub(crate) const MOST_HELD: usize = 269;
 
-/// The capacity of the list: twice [`MOST_HELD`], so that few bytes have to be moved after earlier ones were let go.
+/// The capacity of the list: twice [`MOST_HELD`], so that the held bytes seldom have to be moved to the start of the list.
 pub(crate) const ROOM: usize = 538;
 
 /// The held characters: the faultless bytes of the list from `from` on, and after them at most one character with faults.
@@ -36,9 +36,9 @@ pub(crate) struct Buffer {
 pub(crate) enum State {
     /// Nothing is decided before the next character.
     Drained,
-    /// Something was heard or let go, and what is held was not looked at since.
+    /// Something was heard or let go, and since then nobody has looked at what is held.
     Busy,
-    /// What is held begins with a frame, by this layout.
+    /// What is held begins with a frame that has this layout.
     Stands(Layout),
 }
 
@@ -186,7 +186,7 @@ impl Buffer {
         }
     }
 
-    /// Takes the held bytes and then those of the chunk, keeps the bytes from `place` up to `stop`, and lets go of the bytes before
+    /// Appends the bytes of the chunk to the held bytes, keeps the bytes from `place` up to `stop`, and lets go of the bytes before
     /// `place`.
     pub(crate) fn keep(&mut self, chunk: &[u8], place: usize, stop: usize)
         requires stored { IsStored self.old }

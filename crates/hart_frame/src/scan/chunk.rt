@@ -13,12 +13,13 @@ use crate::scan::search::{Sighting, search};
 use crate::wire::layout::Layout;
 use hart_values::ByteList;
 
-/// The greatest number of faultless characters that are searched together. They are copied first, so this limit keeps a frame at
-/// the front from causing a copy of many characters after it.
+/// The greatest number of faultless characters that are searched together. They are copied before the search. Because of this limit, a
+/// frame at the front does not cost a copy of many characters after it.
 const STRETCH: usize = 64;
 
 impl Buffer {
-    /// Hears the bytes of a chunk up to the first one at which a frame is decided, or else all. Returns how many it heard.
+    /// Hears the bytes of a chunk up to the first byte at which a frame is decided, or all bytes if no frame is decided. Returns how many
+    /// it heard.
     pub(crate) fn push_bytes(&mut self, chunk: &[u8]) -> usize
         requires sound { IsSound self.old }
         requires drained { self.old.state ≡ Drained }
@@ -85,7 +86,8 @@ impl Buffer {
         found.decided - held
     }
 
-    /// Hears the characters of a chunk up to the first one at which a frame is decided, or else all. Returns how many it heard.
+    /// Hears the characters of a chunk up to the first character at which a frame is decided, or all characters if no frame is decided.
+    /// Returns how many it heard.
     pub(crate) fn push_chars(&mut self, chunk: &[Char]) -> usize
         requires sound { IsSound self.old }
         requires drained { self.old.state ≡ Drained }
@@ -122,7 +124,7 @@ impl Buffer {
     }
 }
 
-/// Returns the state in which a frame stands by this layout, or the drained state if there is no layout.
+/// Returns the state of a buffer that begins with a frame of this layout, or the drained state if there is no layout.
 fn state_of(layout: Option<Layout>) -> State
     ensures { result ≡ state_of layout }
 {

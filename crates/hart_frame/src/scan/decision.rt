@@ -20,7 +20,7 @@ impl Buffer {
         Some(self.release(layout))
     }
 
-    /// Returns the layout of the frame at the front of the held bytes, once one is decided.
+    /// Returns the layout of the frame at the front of the held bytes, or `None` if no frame is decided yet.
     pub(crate) fn peek(&mut self) -> Option<Layout>
         requires sound { IsSound self.old }
         ensures sound { IsSound self.new }
@@ -47,7 +47,8 @@ impl Buffer {
         self.decide_held()
     }
 
-    /// Like [`Buffer::decide`], if bytes are held. This is a separate function, since after most frames no bytes are held.
+    /// Like [`Buffer::decide`], for a buffer that holds bytes. After most frames no bytes are held, so this function is seldom called and
+    /// is not inlined.
     #[inline(never)]
     fn decide_held(&mut self) -> Option<Layout>
         requires sound { IsSound self.old }
@@ -69,7 +70,7 @@ impl Buffer {
         None
     }
 
-    /// Returns what is found in the held bytes. If no byte can follow them, an open place begins no frame.
+    /// Returns what is found in the held bytes. If no byte can follow the held bytes, no frame begins at an open place.
     fn search_held(&self) -> Sighting
         requires sound { IsSound self.now }
         ensures { IsHeldSearched self.now result }

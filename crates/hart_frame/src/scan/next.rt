@@ -62,12 +62,12 @@ pub fn next_in_bytes(bytes: &[u8], from: usize, ended: bool) -> NextInBytes<'_>
     }
 }
 
-/// Frames that are found one after another are the next frames of the list. They stay so if more is heard, and if no more comes. Each frame
-/// uses up some characters.
+/// Frames that are found one after another are the next frames of the list. They stay the next frames, whether more characters are heard or
+/// the list has ended. Each frame uses up some characters.
 ///
-/// A caller may keep only the characters that are not used up: these, with what comes later, have all frames that are left. Their next
-/// frames, with places counted in the whole list, are the next frames of the whole list. Once all characters are used up, all frames of the
-/// list are found.
+/// A caller may keep only the characters that are not used up. All frames that are left stand in these characters followed by what comes
+/// later. The next frames of these characters, with places counted in the whole list, are the next frames of the whole list. Once all
+/// characters are used up, all frames of the list are found.
 pub fn next_frames_are_all()
     ensures nothing { (chars : List Character) (ended : Bool) (place : ℕ) → place ≤ length chars → AreNext chars ended place [] place }
     ensures some { (chars : List Character) (ended : Bool) (from to : ℕ) (found : Found) (more : List Found)

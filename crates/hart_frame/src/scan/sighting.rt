@@ -40,8 +40,8 @@ pub enum After {
 pub enum Sighting<'a> {
     /// A message. Its frame is borrowed from the bytes in which it was found.
     Message(FoundView<'a>),
-    /// Why no frame stands at this place. The header is the one that the faultless bytes from this place on have. They have a header if
-    /// they begin with a delimiter of this profile and reach the command.
+    /// Why no frame stands at this place. The header is that of the faultless bytes from this place on. These bytes have a header if they
+    /// begin with a delimiter of this profile and reach the command.
     Missed {
         place: usize,
         miss: Miss,
@@ -64,9 +64,9 @@ pub struct NextSighting<'a> {
 /// places. A whole body after a single `FF` is a miss only if no two `FF` in a row begin within it. All places, also the places in a miss,
 /// are counted from the first of `bytes`.
 ///
-/// Continue from [`NextSighting::used`] to get the sighting after this one. If there is no sighting and `after` is [`After::More`],
-/// at most 268 bytes are left, and these decide nothing. If there is no sighting and `after` is another value, all bytes are used,
-/// and so is a character with fault bits.
+/// Continue from [`NextSighting::used`] to get the sighting after this one. If there is no sighting and `after` is [`After::More`], at most
+/// 268 bytes are left, and these bytes decide no sighting. If there is no sighting and `after` is another value, all bytes are used up. The
+/// character of [`After::Damaged`] is then used up too.
 pub fn next_sighting(bytes: &[u8], after: After, from: usize) -> NextSighting<'_>
     requires within { from ≤ length (heard_with bytes.now after) }
     requires valid { AfterIsValid after }
@@ -148,7 +148,7 @@ fn message_at(bytes: &[u8], start: usize, layout: Layout) -> NextSighting<'_>
 pub(crate) enum Standing {
     /// No sighting.
     Nothing,
-    /// This is not decided yet. All characters before the place in this field are used.
+    /// What stands there is not decided yet. All characters before the place in this field are used.
     Open(usize),
     /// A message, by the layout of its body.
     Message(Layout),
@@ -211,7 +211,7 @@ fn after_one(bytes: &[u8], after: &After, start: usize) -> Standing
     }
 }
 
-/// Returns what stands at `start` if a whole body stands there, after a single preamble byte and up to `stop`.
+/// Returns what stands at `start` if a single preamble byte stands right before it, and a whole body from `start` up to `stop`.
 fn lone_body(bytes: &[u8], after: &After, start: usize, stop: usize) -> Standing
     requires one { 1 ≤ start }
     requires order { start < stop }
@@ -232,8 +232,8 @@ fn lone_body(bytes: &[u8], after: &After, start: usize, stop: usize) -> Standing
     Standing::Missed(Miss::OnePreamble)
 }
 
-/// Returns true if these bytes, which lack `missing` bytes of a body, may still become a body within which no two preamble bytes in
-/// a row begin.
+/// Returns true if these bytes may still become a body in which no two preamble bytes in a row begin. The bytes lack `missing` bytes of a
+/// body.
 fn can_stand_alone(bytes: &[u8], missing: Option<usize>) -> bool
     requires { IsPrefix bytes.now (Cut missing) }
     ensures may { IsTrue result → MayStandAlone bytes.now 0 }
@@ -242,7 +242,7 @@ fn can_stand_alone(bytes: &[u8], missing: Option<usize>) -> bool
     !has_two_preambles(bytes) && !lacks_one_preamble(bytes, missing)
 }
 
-/// Returns true if the bytes end in a preamble byte and lack only the check byte of a body, which would be a preamble byte too.
+/// Returns true if the bytes end in a preamble byte, lack only their check byte, and the check byte that fits is `FF` too.
 fn lacks_one_preamble(bytes: &[u8], missing: Option<usize>) -> bool
     requires { IsPrefix bytes.now (Cut missing) }
     ensures { IsTrue result ↔ LacksOnePreamble bytes.now }
@@ -319,9 +319,9 @@ pub fn sightings_are_unambiguous()
     ensures some { (chars : List Character) (from : ℕ) → (seen : List Seen) × AreSightings chars from seen }
 {}
 
-/// Sightings that are found one after another are the next sightings of the list. They stay so if more characters follow. The characters
-/// that are not used up, with what comes later, have the sightings that are left. Once all characters are used, all sightings of the list
-/// are found.
+/// Sightings that are found one after another are the next sightings of the list. They stay the next sightings if more characters follow.
+/// All sightings that are left stand in the characters that are not used up, followed by what comes later. Once all characters are used,
+/// all sightings of the list are found.
 pub fn next_sightings_are_all()
     ensures onward { (chars : List Character) (ended : Bool) (from to after : ℕ) (given found : List Seen)
         → SeesOn chars ended from given to → SeesOn chars ended to found after → SeesOn chars ended from (given ++ found) after }

@@ -1,4 +1,4 @@
-//! What follows from the scanner's contracts for a caller that keeps what it pushed and what it was given.
+//! What follows from the scanner's contracts for a caller that keeps the characters that it pushed and the frames that it was given.
 ghost use Rattle.std.specs.Prelude.{◌≡◌, ◌+◌, ◌<◌, ◌≤◌, ◌++◌, [], List, IsTrue, false, length, drop, map};
 ghost use Rattle.hart_frame.specs.heard.Character.{Character};
 ghost use Rattle.hart_frame.specs.heard.Frames.{AreFrames, moved};
@@ -8,8 +8,8 @@ ghost use Rattle.hart_frame.specs.scan.Scanner.{Gives, GivesNothing, MovesPast, 
 ghost use Rattle.hart_frame.specs.scan.Streamed.{IsHistory, IsWholeHistory};
 ghost use Rattle.hart_frame.specs.declared.heard.found.Found.{Found};
 
-/// The frames that a scanner gave are the next ones of all that was pushed, up to the first character that it holds. So these
-/// frames are the first ones of all that is pushed, whatever is still to come. Once the scanner ended, they are all frames.
+/// The frames that a scanner gave are the next frames in all that was pushed, up to the first character that the scanner holds. So these
+/// frames come first in all that is pushed, whatever is still to come. Once the scanner has ended, it has given all frames.
 pub fn frames_are_streamed()
     ensures next { (past : List Character) (scan : Scan) (given : List Found) → IsHistory past scan given
         → AreNext past scan.finished 0 given scan.first }
@@ -20,8 +20,9 @@ pub fn frames_are_streamed()
         → scan.first + length scan.held ≡ length past }
 {}
 
-/// A scanner that moves past frames and then past others moves past all of them. Whatever it hears later, it moved past the same
-/// frames. These frames are the next ones in all that was heard, whatever the scanner let go before and whatever comes later.
+/// A scanner that moves past some frames and then past other frames moves past all these frames. What the scanner hears later does not
+/// change which frames it moved past. These frames are the next ones in all that was heard, whatever the scanner let go before and whatever
+/// comes later.
 pub fn scanners_move_past_the_next_frames()
     ensures onward { (old mid new : Scan) (given found : List Found) → MovesPast old mid given → MovesPast mid new found
         → MovesPast old new (given ++ found) }
@@ -38,15 +39,15 @@ pub fn any_chunking_gives_the_same_frames()
         → given ≡ other }
 {}
 
-/// A scanner whose characters begin with a frame gives a frame, and each frame that it gives leaves it with fewer characters.
+/// A scanner whose characters begin with a frame gives a frame. After each frame that it gives, it holds fewer characters.
 pub fn held_frames_are_given()
     ensures next { (old new : Scan) → BeginsWithFrame old → GivesNothing old new → ⊥ }
     ensures onward { (old new : Scan) (found : Found) → Gives old new found → length new.held < length old.held }
 {}
 
-/// A scanner holds what was pushed from its first held place on. The frames of all that is pushed are the frames that the scanner
-/// gave, and then the frames of what it holds together with what is still to come, whatever that is. Their places are counted in
-/// all that is pushed. So a caller that keeps only what is held, at most 269 characters, has all frames that are left.
+/// A scanner holds what was pushed from its first held place on. The frames of all that is pushed are, first, the frames that the scanner
+/// gave. Then come the frames of what it holds together with whatever is still to come. All places are counted in all that is pushed. So a
+/// caller that keeps only what is held, at most 269 characters, has all frames that are left.
 pub fn held_characters_have_the_later_frames()
     ensures within { (past : List Character) (scan : Scan) (given : List Found) → IsHistory past scan given
         → scan.first ≤ length past }

@@ -1,4 +1,5 @@
-//! Addresses as plain numbers, for a view: a view may not hold a value that has a model of its own.
+//! Addresses as plain numbers. A view holds them in this form, because a field of a view may not have a type that contracts see as another
+//! value (its model).
 ghost use Rattle.std.specs.Prelude.{◌≡◌};
 ghost use Rattle.hart_frame.specs.private.Address.{IsInRange, address_of};
 

@@ -26,7 +26,7 @@ abbrev pub clear : ℕ → Character
 clear byte = record { byte = byte; faults = 0 }
 
 -- CHARACTERS THAT ARE HEARD OR MARKED
--- Bytes may all be heard unchanged and without faults.
+-- Marked damage includes the case that all bytes are heard unchanged and without faults.
 pub heard_faultless : (bytes : List ℕ) → AllZip IsHeardOrMarked bytes (faultless bytes)
 heard_faultless [] = tt
 heard_faultless (byte ∷ bytes) = (inl refl, heard_faultless bytes)
@@ -45,7 +45,7 @@ sent_there [] bytes (character ∷ prefix) rest heard = absurd heard
 sent_there (one ∷ sent) bytes (character ∷ prefix) rest heard = sent_there sent bytes prefix rest heard.1
 
 -- WHERE A FRAME CAN STAND
--- Two FF before another byte are the last two of the preamble, or begin after the delimiter.
+-- If two FF stand before a byte other than FF, they are the last two bytes of the preamble, or begin after the delimiter.
 two_there : (left place head : ℕ) (bytes rest : List ℕ) → delimiter_in bytes ≢ 255 → head ≢ 255
     → drop place (replicate left 255 ++ bytes) ≡ 255 ∷ 255 ∷ head ∷ rest
     → (left < place) ⊎ ((place + 2 ≡ left) × (bytes ≡ head ∷ rest))
@@ -56,8 +56,8 @@ two_there (suc (suc (suc left))) zero head bytes rest one other is = absurd (oth
 two_there zero (suc place) head bytes rest one other is = inl (omega arith)
 two_there (suc left) (suc place) head bytes rest one other is = grind (arith, two_there left place head bytes rest one other is)
 
--- A frame that is heard starts at the delimiter, and its body is a prefix of the body that was sent; or the frame stands after the
--- delimiter.
+-- A frame that is heard either starts at the delimiter or stands after the delimiter. If it starts there, its body is a prefix of the body
+-- that was sent.
 pub stood : (left : ℕ) (body : List ℕ) (chars : List Character) (found : Found) (from : ℕ) → delimiter_in body ≢ 255
     → AllZip IsHeardOrMarked (replicate left 255 ++ body) chars → (stands : StandsIn found chars from)
     → (rest : List ℕ) × ((left < length stands.prefix) ⊎ ((length stands.prefix + 2 ≡ left) × (body ≡ stands.body ++ rest)))
@@ -92,7 +92,7 @@ marked_own frame preambles chars damage found from stands =
     let long = AllZip-long IsHeardOrMarked (replicate damage.left 255 ++ damage.body) chars damage.heard in
     grind (arith, bodies_are_unambiguous-one_frame found.frame frame stands.body, append-nil, length-append, length-replicate)
 
--- If only one frame can stand in a list, and it ends the list, the list has no frame or that one alone.
+-- If only one frame can stand in a list, and its stop is the end of the list, the list has no frame or just this frame.
 none_or_own : (chars : List Character) (from : ℕ) (one : Found) → ((found : Found) → StandsIn found chars from → found ≡ one)
     → length chars ≤ one.stop → (frames : List Found) → AreFrames chars from frames
     → AreFrames chars from [] ⊎ AreFrames chars from (one ∷ [])

@@ -1,4 +1,4 @@
--- What the first frames of a delivery say of all its frames.
+-- The first frames of a delivery decide whether it has no frame, one frame or several.
 use Rattle.std.proofs.Common.{arith, ◌≡◌, List, [], ◌∷◌}
 use Rattle.hart_frame.specs.declared.scan.first.LoneFrame.{LoneFrame}
 use Rattle.hart_frame.specs.declared.heard.found.Found.{Found}

@@ -1,4 +1,4 @@
--- A frame stands where a body may start and its own body stands, and every list of characters has its frames.
+-- A frame stands where a body may start and a whole body stands. Every list of characters has a list of frames.
 use Rattle.std.proofs.Common.{append_assoc, ◌≡◌, ℕ, zero, suc, ◌+◌, ◌≤◌, ◌⊎◌, inl, inr, List, [], ◌∷◌, length, take, drop, arith, ◌++◌}
 use Rattle.std.proofs.Common.{length-append, refl}
 use Rattle.std.proofs.lemmas.Grind.{common_steps}
@@ -62,7 +62,8 @@ body_frame chars start is has =
     let found = frame_up_to chars at.prefix has.rest has.body has.frame start (start + length has.body) has.is_body split at.at refl in
     (found.0, found.1, found.2)
 
--- Where a frame stands, the list splits at its two FF, its body and the rest, so its body stands where a body may start.
+-- Where a frame stands, the list consists of a front that ends in two FF, then the frame's body, and then the rest. So this body stands
+-- where a body may start.
 pub parts_of : (chars : List Character) (found : Found) (from : ℕ) (stands : StandsIn found chars from)
     → (chars ≡ (stands.prefix ++ (preamble ∷ preamble ∷ [])) ++ (faultless stands.body ++ stands.rest))
     × (drop found.start chars ≡ faultless stands.body ++ stands.rest)
@@ -83,7 +84,7 @@ pub start_of : (chars : List Character) (found : Found) (from : ℕ) → StandsI
 start_of chars found from stands =
     grind (arith, common_steps, head_of found.frame stands.body stands.is_body, parts_of chars found from stands, append_assoc)
 
--- At each place a frame starts, or none does.
+-- At each place either a frame starts or no frame starts.
 frame_decided : (chars : List Character) (start : ℕ) → HasFrameAt chars start ⊎ (HasFrameAt chars start → ⊥)
 frame_decided chars start =
     let starts : IsStart start chars ⊎ (IsStart start chars → ⊥) = grind (arith, start_test chars start) in
@@ -127,7 +128,7 @@ frames_found chars (suc fuel) from enough = elim (frame_decided chars (from + 2)
 pub AreFrames-found : (chars : List Character) (from : ℕ) → (frames : List Found) × AreFrames chars from frames
 AreFrames-found chars from = frames_found chars (length chars) from (omega arith)
 
--- The first of the frames of a list is its first frame.
+-- The frame at the head of a list of frames is the frame with the least start.
 pub head_first : (chars : List Character) (from : ℕ) (g : Found) (later : List Found) → AreFrames chars from (g ∷ later)
     → IsFirst g chars from
 head_first chars from g later (first n h others is rest) = is

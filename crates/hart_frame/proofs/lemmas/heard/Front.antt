@@ -25,7 +25,8 @@ faultless_bytes-end first others bad = grind (arith, nat_tests, take_while-cons 
 pub length-faultless_bytes : (chars : List Character) → length (faultless_bytes chars) ≤ length chars
 length-faultless_bytes chars = grind (arith, length-map, length-take)
 
--- The faultless bytes of a faultless body and the characters after it are the body and then the faultless bytes of those characters.
+-- If a body is heard without faults, followed by other characters, the faultless bytes are the body and then the faultless bytes of those
+-- characters.
 pub faultless_bytes-append : (body : List ℕ) (rest : List Character)
     → faultless_bytes (faultless body ++ rest) ≡ body ++ faultless_bytes rest
 faultless_bytes-append [] rest = refl
@@ -87,7 +88,7 @@ of_chars chars start fit =
 pub regrouped : (xs ys : List ℕ) (tail : List Character) → faultless (xs ++ ys) ++ tail ≡ faultless xs ++ (faultless ys ++ tail)
 regrouped xs ys tail = grind (arith, common_steps, map-append, append_assoc)
 
--- The first faultless bytes are no more than the characters that are heard.
+-- A prefix of the faultless bytes is not longer than the list of characters that are heard.
 pub length-front : (heard : List Character) (most : ℕ) (bytes : List ℕ) → bytes ≡ take most (faultless_bytes heard)
     → length bytes ≤ length heard
 length-front heard most bytes is = grind (arith, length-take, length-faultless_bytes)

@@ -51,7 +51,7 @@ heard_body chars start fits has same =
     let begins : BeginsWithBody bytes frame n = grind arith in
     body_at chars start frame n begins
 
--- At each place a whole body begins, or there is a reason why none does.
+-- At each place a whole body begins, or there is a reason why no body begins.
 body_or_miss : (chars : List Character) (start : ℕ) → IsOfBytes (drop start chars)
     → HasBodyAt chars start ⊎ (is_some (body_miss start (drop start chars)) ≡ true)
 body_or_miss chars start fit = grind (arith, nat_tests, heard_body chars start fit)
@@ -110,7 +110,7 @@ pub one_miss : (start : ℕ) (chars : List Character) (miss other : Miss) → Al
 one_miss start chars miss other fit is again =
     let same = sym ((miss_is start chars miss fit).1 is) ∙ (miss_is start chars other fit).1 again in cc
 
--- A miss that is found is the miss of the place, and if none is found the place has none.
+-- If a miss is found, it is the miss of the place. If no miss is found, the place has no miss.
 pub is_told : (chars : List Character) (start : ℕ) (found : Option Miss)
     → (IsStart start chars ⊎ IsSome found → IsOfBytes (drop start chars)) → found ≡ miss_of chars start
     → MatchOption found ((miss : Miss) → IsMiss chars start miss → ⊥) (IsMiss chars start)
@@ -173,7 +173,7 @@ fault_is_there start place faults chars is =
     let (here, (early, at, has)) =
     way_of start chars (Faulty place faults) (λ place byte fits same. absurd cc) is (λ same. cc) in has
 
--- Where bytes are missing, a frame stands once that many bytes are appended, if the last of them is the check byte that fits.
+-- Where `count` bytes are missing, a frame stands once `count` bytes are appended and the last appended byte is the check byte that fits.
 pub missing_fits : (start count : ℕ) (chars : List Character) (bytes : List ℕ) → All (λ c. c.byte < 256) chars
     → All (λ byte. byte < 256) bytes → miss_of chars start ≡ Some (Missing count) → count ≡ length bytes + 1
     → (last : ℕ) × IsCheckByte (bytes_from chars start ++ bytes) last

@@ -1,4 +1,4 @@
--- Where a body may start, the miss is what stands in the way, and its fault is that with which the bytes are refused.
+-- Where a body may start, the miss is what stands in the way. The bytes are refused with the fault that corresponds to this miss.
 use Rattle.std.proofs.Common.{◌≡◌, ◌≢◌, ℕ, ◌+◌, ◌-◌, ◌<◌, ◌⊎◌, List, fold, bit_xor, length, take, ◌↔◌, drop, get_or, None, Some, refl}
 use Rattle.std.proofs.Common.{arith, Option, ◌∙◌}
 use Rattle.std.proofs.lemmas.Bool.Decides.{nat_tests}

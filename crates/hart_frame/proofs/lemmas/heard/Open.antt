@@ -17,7 +17,7 @@ open_fits place chars all opened = All-from_get_or (λ byte. byte < 256) opened.
     let there = all (length opened.prefix + suc (suc k)) preamble (grind (arith, length-append, length-map)) in
     grind (arith, get_or-append-add, get_or-map))
 
--- For each open place there are characters after which a frame stands there.
+-- For each open place there are characters that, appended to the list, make a frame stand there.
 pub open_begins : (place : ℕ) (chars : List Character) → All (λ character. character.byte < 256) chars → IsOpen place chars
     → (more : List Character) × (found : Found) × StandsIn found (chars ++ more) 0 × (found.start ≡ place)
 open_begins place chars all opened =

@@ -37,7 +37,7 @@ stands_at chars place f body rest within parts is =
       stop = omega (arith, long);
     }
 
--- A frame of a list also stands from any place on that is at least two places before its start.
+-- If a frame stands in a list, it also stands from `from` on, for each `from` that is at least two places before its start.
 pub StandsIn-from : (found : Found) (chars : List Character) (place from : ℕ) → StandsIn found chars place → from + 2 ≤ found.start
     → StandsIn found chars from
 StandsIn-from found chars place from stands after = grind arith

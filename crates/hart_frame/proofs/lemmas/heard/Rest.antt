@@ -76,7 +76,7 @@ rest_frames place chars frames are =
           (AreFrames.none place (HasNoFrame-end chars place (omega (arith, past))))
     ]
 
--- All frames of a list from a place on are moved frames of the rest from that place on.
+-- The list of frames from a place on is the list of frames of the rest from that place on, moved.
 pub rest_all : (place : ℕ) (chars : List Character) (frames : List Found) → AreFrames chars place frames
     → (own : List Found) × AreFrames (drop place chars) 0 own × (frames ≡ map (moved place) own)
 rest_all place chars frames are = grind (arith, common_steps, AreFrames-found (drop place chars) 0, AreFrames-one, rest_frames)

@@ -18,8 +18,8 @@ use Rattle.hart_frame.specs.heard.Frames.{AreFrames, IsFirst, first, none}
 use Rattle.hart_frame.specs.heard.Place.{StandsIn}
 use Rattle.hart_frame.specs.heard.Sighting.{AreSightings, Message, Missed, Seen, header_at, missed, missed_at, sightings}
 
--- A list passes to `to` if three things hold: `given` is seen before `to`; no frame begins before `to`; and at each place from `to`
--- on the same is seen whether characters count from `from` on or from `to` on.
+-- A list passes to `to` if three things hold: `given` is seen before `to`; no frame begins before `to`; and what is seen at a place from
+-- `to` on does not depend on whether characters count from `from` on or from `to` on.
 pub record Passes (chars : List Character) (from to : ℕ) (given : List Seen) : Type 0 where
   pub order : from ≤ to
   pub within : to ≤ length chars
@@ -32,7 +32,7 @@ range_parts : (a n m : ℕ) → range_with_len a (n + m) ≡ range_with_len a n 
 range_parts a zero m = grind arith
 range_parts a (suc n) m = let long : suc n + m ≡ suc (n + m) = omega arith in rw long (grind (arith, range_parts (a + 1) n m))
 
--- If the same is seen from `from` as from `to` at each place, the same is seen at a row of places.
+-- If what is seen at each place is the same from `from` on as from `to` on, what is seen at a row of places is the same too.
 same_places : (chars : List Character) (from to a k : ℕ) → to ≤ a
     → ((place : ℕ) → to ≤ place → missed_at chars from place ≡ missed_at chars to place)
     → flat_map (λ p. missed_at chars from p) (range_with_len a k) ≡ flat_map (λ p. missed_at chars to p) (range_with_len a k)
@@ -124,7 +124,7 @@ missed_one chars from start order silent =
     let before = missed_none chars from start silent in
     rw (long, parts, flat_map-append, before, append-nil) refl
 
--- A list passes to a clean place with nothing seen if no miss is seen before that place and no frame begins before it.
+-- If no miss is seen before a clean place, and no frame begins before it, the list passes to this place with nothing seen.
 pub passes_silent : (chars : List Character) (from used : ℕ) → from ≤ used → used ≤ length chars → NoneSeen chars from used
     → ((found : Found) → StandsIn found chars from → used + 2 ≤ found.start) → IsClean chars from used → Passes chars from used []
 passes_silent chars from used order within silent frames clean = record {
@@ -135,7 +135,8 @@ passes_silent chars from used order within silent frames clean = record {
   same = λ place after. same_from chars from used place order after clean;
 }
 
--- A list passes to the place after a miss if this miss alone is seen and no frame begins before that place.
+-- If a miss is seen, no miss is seen before it, and no frame begins before the next place, the list passes to the next place with this miss
+-- seen.
 pub passes_miss : (chars : List Character) (from start : ℕ) (miss : Miss) → from ≤ start → start < length chars
     → NoneSeen chars from start → missed_at chars from start ≡ Missed start miss (header_at chars start) ∷ []
     → ((found : Found) → StandsIn found chars from → start + 3 ≤ found.start) → is_preamble_at chars start ≡ false

@@ -60,7 +60,7 @@ sightings_moved chars n from (found ∷ later) =
 pub body_moved : (n start : ℕ) (heard : List Character) → option_map (miss_in_whole n) (body_miss start heard) ≡ body_miss (n + start) heard
 body_moved n start heard = grind (arith, nat_tests)
 
--- A faultless FF stands at a place; `follows_from` says that one stands right before a place that lies after `from`.
+-- Whether a faultless FF stands at a place. `follows_from`: whether the place lies after `from` and a faultless FF stands right before it.
 abbrev pub is_preamble_at : List Character → ℕ → Bool
 is_preamble_at chars place = option_map_or is_preamble (slice_get chars place) false
 
@@ -144,7 +144,7 @@ same_at chars from to place after later one two =
     rw (told_at chars from place after, told_at chars to place later, one)
     (ap (told place (header_at chars place)) (same_miss chars place (follows_from chars to place) _ _ (is_other_at chars place) two))
 
--- Nothing is seen at a place without an FF right before it, or without a character other than FF at it.
+-- Nothing is seen at a place if no FF stands right before it, or if FF or nothing stands at it.
 pub unasked : (chars : List Character) (from place : ℕ) → from ≤ place → follows_from chars from place ≡ false
     → missed_at chars from place ≡ []
 unasked chars from place after not = told_at chars from place after ∙ rw not refl
@@ -180,14 +180,14 @@ pub after_one-miss : (chars : List Character) (from place : ℕ) → from ≤ pl
     → missed_at chars from place ≡ Missed place OnePreamble (header_at chars place) ∷ []
 after_one-miss chars from place after follows one alone = told_at chars from place after ∙ rw (follows, one, alone) refl
 
--- After two FF the miss of what begins at a place is seen there.
+-- After two FF, the reason why no body begins at a place is the miss that is seen there.
 pub after_two-miss : (chars : List Character) (from place : ℕ) (miss : Miss) → from ≤ place → follows_from chars from place ≡ true
     → follows_from chars from (place - 1) ≡ true → is_other_at chars place ≡ true → body_miss place (drop place chars) ≡ Some miss
     → missed_at chars from place ≡ Missed place miss (header_at chars place) ∷ []
 after_two-miss chars from place miss after follows two other is = told_at chars from place after ∙ rw (follows, two, other, is) refl
 
--- A place `used` is clean in three cases: it is `from`, or no FF stands right before it; two FF begin there; or the list ends
--- there. At each place from a clean one on, the same is seen whether characters count from `from` on or from `used` on.
+-- A place `used` is clean in three cases: it is `from`, or no FF stands right before it; two FF begin there; or the list ends there. What
+-- is seen from a clean place on does not depend on whether characters count from `from` on or from `used` on.
 abbrev pub IsClean : List Character → ℕ → ℕ → Type 0
 IsClean chars from used = (from < used → is_preamble_at chars (used - 1) ≡ false)
     ⊎ ((is_preamble_at chars used ≡ true) × (is_preamble_at chars (used + 1) ≡ true))

@@ -16,7 +16,8 @@ use Rattle.hart_frame.proofs.lemmas.heard.Place.{preamble}
 pub IsFirstStart-one : (place other : ℕ) (chars : List Character) → IsFirstStart place chars → IsFirstStart other chars → place ≡ other
 IsFirstStart-one place other chars p q = omega (arith, p.least other q.start, q.least place p.start)
 
--- Two FF stand right before a start, and a character other than FF stands at it, whatever `d` is read past the end of the list.
+-- Two FF stand right before a start, and a character other than FF stands at it. `d` is the default that is read past the end of the list,
+-- and may be any character.
 pub record StartsAt (chars : List Character) (place : ℕ) (d : Character) : Type 0 where
   pub after_two : 2 ≤ place
   pub within : place < length chars
@@ -37,7 +38,8 @@ is_start_from chars place d at =
     let long = length-take-le k chars (omega (arith, at.within)) in
     grind (arith, at.after_two, at.other)
 
--- At a place stands a faultless FF, another character, or nothing, and the two tests tell which.
+-- At a place stands a faultless FF, another character, or nothing. The tests for FF and for another character tell which of the three it
+-- is.
 pub tested : (chars : List Character) (k : ℕ)
     → ((option_map_or is_preamble (slice_get chars k) false ≡ true) × (k < length chars) × (get_or chars k preamble ≡ preamble)
     × (option_map_or (λ (c : Character). not (is_preamble c)) (slice_get chars k) false ≡ false))

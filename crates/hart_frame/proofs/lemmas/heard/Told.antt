@@ -1,4 +1,4 @@
--- The miss of a place, from how the bytes there begin.
+-- The miss of a place follows from how the bytes there begin.
 use Rattle.std.proofs.Common.{◌≡◌, ℕ, ◌+◌, ◌<◌, ◌≤◌, List, ◌++◌, Option, None, Some, drop, get_or, length, take, ◌∙◌, arith, length-append}
 use Rattle.std.proofs.lemmas.Bool.Decides.{nat_tests}
 use Rattle.std.proofs.lemmas.List.{get_or-take, get_or_append_left, length-take, take_all, take-append-drop, take-append-le, take-take}
@@ -25,7 +25,7 @@ same_check xs ys start has = grind (arith, get_or_append_left, take-append-le)
 checked : (xs ys : List ℕ) (f : Option Character) (fp start : ℕ) → HasCheckByte xs → miss_in (xs ++ ys) f fp start ≡ check_miss xs start
 checked xs ys f fp start has = grind (arith, nat_tests, length-append, get_or_append_left, same_check)
 
--- What is wrong with bytes is their miss, whatever follows.
+-- If something is wrong with bytes, it is their miss, whatever follows.
 pub wrong_told : (xs ys : List ℕ) (w : Wrong) (f : Option Character) (fp start : ℕ) → IsWrong xs w
     → miss_in (xs ++ ys) f fp start ≡ Some (wrong_miss w start)
 wrong_told xs ys (BadDelimiter byte) f fp start is = grind (arith, nat_tests, length-append, get_or_append_left)
@@ -40,7 +40,8 @@ whole_told xs ys layout f fp start is =
     let has = whole_has xs layout is in
     checked xs ys f fp start has.0 ∙ grind (arith, nat_tests, has, is.1.even, odd xs (layout_length layout) is.1.fits)
 
--- Where bytes end too early, the miss is the character with fault bits after them, or else says what is missing at the end.
+-- Where bytes end too early, the miss is the character with fault bits after them. If there is no such character, the miss says what is
+-- missing at the end.
 pub cut_told : (xs : List ℕ) (missing : Option ℕ) (f : Option Character) (fp start : ℕ) → IsPrefix xs (Cut missing)
     → miss_in xs f fp start ≡ Some (faulty_or f fp (cut_miss missing))
 cut_told xs None None fp start is = grind (arith, nat_tests)

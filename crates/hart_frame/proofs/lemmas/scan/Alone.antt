@@ -1,4 +1,4 @@
--- When no two FF in a row begin in a whole body.
+-- Lemmas about when two FF in a row begin in a whole body, and when they do not.
 use Rattle.std.proofs.Common.{◌≡◌, ◌≢◌, ℕ, ◌+◌, ◌-◌, ◌<◌, ◌≤◌, ◌⊎◌, true, false, List, [], ◌∷◌, ◌++◌, length, take, drop, get_or, min, ◌∙◌}
 use Rattle.std.proofs.Common.{add-zero, ap, sym, arith, refl, length-append, length-drop, None, Option}
 use Rattle.std.proofs.lemmas.Bool.Decides.{nat_tests}
@@ -29,7 +29,7 @@ unfolding has_two_preambles
 two_step x [] = grind (arith, nat_tests)
 two_step x (y ∷ xs) = refl
 
--- Two FF in a row stay when more bytes follow.
+-- If bytes have two FF in a row, they still have them when more bytes follow.
 pub two_more : (xs ys : List ℕ) → has_two_preambles xs ≡ true → has_two_preambles (xs ++ ys) ≡ true
 two_more [] ys two = absurd (grind (arith, two_none))
 two_more (x ∷ []) ys two = absurd (grind (arith, nat_tests, two_step, two_none))
@@ -131,7 +131,7 @@ pub whole_has : (xs : List ℕ) (f : Option Character) (fp start : ℕ) → miss
     → HasCheckByte xs × (check_miss xs start ≡ None)
 whole_has xs f fp start is = grind (arith, nat_tests)
 
--- If bytes that end too early become a body with more bytes after them, the body ends among the added bytes.
+-- If bytes end too early, and more bytes make them a whole body, this body ends among the added bytes.
 pub whole_past : (xs ys : List ℕ) → IsTruncated xs → HasCheckByte (xs ++ ys) → length xs < body_length (xs ++ ys)
 whole_past xs ys truncated has = grind (arith, length-append, get_or_append_left)
 

@@ -57,7 +57,7 @@ miss_faulty xs c more start bad =
     grind (arith, length-map, length-append, slice_get-get_or (faultless xs ++ c ∷ more) (length xs) c, get_or_at) in
     rw (all, there) refl
 
--- If the bytes from a place on decide the miss there, it is the miss whatever follows.
+-- If the bytes from a place on decide the miss there, the miss stays the same whatever follows.
 whatever : (bytes : List ℕ) (after : After) (start : ℕ) (miss : Option Miss) → start ≤ length bytes
     → ((ys : List ℕ) (f : Option Character) (fp : ℕ) → miss_in (drop start bytes ++ ys) f fp start ≡ miss)
     → Whatever bytes after (HasBodyMiss start miss)
@@ -110,7 +110,7 @@ cut_not_alone bytes End start missing within over is = not_alone bytes End start
 cut_not_alone bytes (Damaged c) start missing within over is =
     not_alone bytes (Damaged c) start _ (cut_damaged bytes c start missing within is)
 
--- Bytes that are wrong have at least one byte, and reach the command unless the first byte is no delimiter.
+-- If something is wrong with bytes, there is at least one byte. If the first byte is a delimiter, the bytes reach the command.
 wrong_some : (xs : List ℕ) (w : Wrong) → IsWrong xs w → 0 < length xs
 wrong_some xs w is = omega (arith, wrong_within xs w is)
 

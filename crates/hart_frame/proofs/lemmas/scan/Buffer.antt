@@ -38,7 +38,7 @@ moves_passed b found state is =
 pub held_clear : (b : Buffer) → b.damaged ≡ None → (scan_of b).held ≡ faultless (held_bytes b)
 held_clear b clear = grind (arith, append-nil)
 
--- In what a waiting buffer holds nothing is decided.
+-- Nothing is decided in what a waiting buffer holds.
 pub undecided_waiting : (b : Buffer) → IsWaiting b → IsUndecided (scan_of b).held
 undecided_waiting b waiting = search (arith, held_clear, undecided_open)
 
@@ -47,7 +47,8 @@ pub waits : (b : Buffer) (new : Scan) → IsWaiting b → new ≡ record (scan_o
 waits b new waiting same =
     rw same (search (arith, common_steps, moves_none, undecided_waiting))
 
--- What is kept from a held byte on is the rest of the held bytes, and then the bytes of the chunk up to `stop`.
+-- A buffer that keeps everything from a held byte up to `stop` keeps the rest of the held bytes, and then the bytes of the chunk up to
+-- `stop`.
 pub kept_after : (held chunk bytes new : List ℕ) (from place stop count : ℕ) → from ≤ length bytes → drop from bytes ≡ held
     → count ≡ length held
     → count ≤ stop → place ≤ length held → new ≡ bytes ++ take (stop - count) chunk
@@ -55,7 +56,7 @@ pub kept_after : (held chunk bytes new : List ℕ) (from place stop count : ℕ)
 kept_after held chunk bytes new from place stop count within same long after inside is =
     grind (arith, drop-append-le, drop-drop place from new, take_both held chunk stop)
 
--- What is kept from a byte of the chunk on is the bytes of the chunk up to `stop`.
+-- A buffer that keeps everything from a byte of the chunk up to `stop` keeps just these bytes of the chunk.
 pub kept_past : (held chunk bytes new : List ℕ) (from place stop count : ℕ) → from ≡ length bytes → count ≡ length held
     → count ≤ place → place ≤ stop → new ≡ bytes ++ take (stop - count - (place - count)) (drop (place - count) chunk)
     → drop from new ≡ drop place (take stop (held ++ chunk))

@@ -48,7 +48,7 @@ pub never_more : (xs ys : List ℕ) → NeverBegin xs → NeverBegin (xs ++ ys)
 never_more xs ys never more f body rest is same =
     never (faultless ys ++ more) f body rest is (grind (arith, append_assoc, map-append))
 
--- Bytes that may begin a frame begin no frame if what follows cannot belong to one.
+-- Bytes that may begin a frame do not begin a frame if what follows cannot belong to a frame.
 pub nothing_open : (xs : List ℕ) (tail : List Character) → MayBegin xs → NothingFollows tail → BeginWithNone (faultless xs ++ tail)
 nothing_open xs tail (inl none) ends f body rest is same = grind (arith, preamble)
 nothing_open xs tail (inr (inl one)) ends f body rest is same = grind (arith, preamble)
@@ -57,7 +57,7 @@ nothing_open xs tail (inr (inr (after, two, truncated))) ends f body rest is sam
     grind (arith, append-nil, faultless_bytes-append after tail, faultless_bytes-append body rest, faultless_bytes-end) in
     grind (arith, not_refused after f (length body) Truncated, BeginsWithBody-append f body (faultless_bytes rest) is)
 
--- In bytes that may begin a frame nothing is decided.
+-- Nothing is decided in bytes that may begin a frame.
 pub undecided_open : (xs : List ℕ) → MayBegin xs → IsUndecided (faultless xs)
 undecided_open (x ∷ y ∷ after) may =
     let xs = x ∷ y ∷ after in

@@ -22,14 +22,14 @@ use Rattle.hart_frame.proofs.lemmas.scan.Decision.{holds_frame}
 use Rattle.hart_frame.proofs.lemmas.scan.Scan.{moves_hearing, moves_length, moves_then}
 use Rattle.hart_frame.proofs.lemmas.scan.Undecided.{undecided_before, waits_only}
 
--- A buffer has heard the first `taken` characters of a chunk, and with fewer of them nothing is decided.
+-- A buffer has heard the first `taken` characters of a chunk. After fewer characters of the chunk nothing is decided.
 pub record IsHearing (old now : Buffer) (chunk : List Character) (taken : ℕ) : Type 0 where
   pub going : old.finished ≡ false
   pub within : taken ≤ length chunk
   pub moves : MovesPast (hearing (scan_of old) (take taken chunk)) (scan_of now) []
   pub before : (fewer : ℕ) → fewer < taken → IsUndecided ((scan_of old).held ++ take fewer chunk)
 
--- A buffer that heard some characters of a chunk, and then a part of the rest, has heard both.
+-- If a buffer heard some characters of a chunk, and then a part of the rest, it has heard the chunk up to the end of this part.
 pub hearing_on : (old now new : Buffer) (chunk rest : List Character) (n r : ℕ) → IsHearing old now chunk n → rest ≡ drop n chunk
     → HearsPart (scan_of now) (scan_of new) rest r → IsHearing old new chunk (n + r)
 hearing_on old now new chunk rest n r so is whole =

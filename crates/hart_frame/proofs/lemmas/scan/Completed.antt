@@ -92,7 +92,7 @@ never_lacks xs more fit lacks = elim (bool_cases (stands_alone (faultless xs ++ 
       absurd (cc (is.clear, lacks_next xs (faultless_bytes more) fit lacks is.has is.check))
 ]
 
--- Bytes 2 and then a check byte hold no two FF in a row.
+-- A row of bytes with the value 2, followed by a check byte, has no two FF in a row.
 twos : (k check : ℕ) → has_two_preambles (replicate k 2 ++ check ∷ []) ≡ false
 twos zero check = grind (arith, nat_tests, two_step, two_none)
 twos (suc zero) check = grind (arith, nat_tests, two_step, two_none)

@@ -27,7 +27,7 @@ use Rattle.hart_frame.proofs.lemmas.scan.Undecided.{nothing_before}
 use Rattle.hart_frame.proofs.lemmas.wire.BodiesFound.{held_frame}
 use Rattle.hart_frame.proofs.lemmas.wire.Body.{IsBody-whole}
 
--- What a search of the held bytes to their end finds is found in what the buffer holds.
+-- If a search of the held bytes to their end has a result, this is also the result for what the buffer holds.
 pub held_searched : (b : Buffer) (ended : Bool) (found : Sighting) → IsSound b → (IsTrue ended ↔ IsEnded b)
     → IsSearchedToEnd (held_bytes b) 0 ended found → IsHeldSearched b found
 held_searched b ended found sound over is =
@@ -39,7 +39,7 @@ held_searched b ended found sound over is =
 abbrev released : Buffer → Layout → Buffer
 released b layout = passed b (2 + layout_length layout)
 
--- If the held bytes begin with a frame, what is held is two FF, the body, and what is held after the frame is given.
+-- If the held bytes begin with a frame, two FF and the body are held first. The rest is what is still held after the frame is given.
 held_whole : (b : Buffer) (layout : Layout) (whole : IsWhole layout (held_bytes b))
     → (scan_of b).held ≡ faultless (255 ∷ 255 ∷ whole.body) ++ (scan_of (released b layout)).held
 held_whole b layout whole = grind (arith, map-append, append_assoc, held_passed, drop_at)
@@ -56,7 +56,7 @@ gives_span old b layout sound holds =
     (moves_frame (scan_of b) new frame whole.body (held_whole b layout whole) is (omega (arith, whole.whole.exact)) refl) in
     grind (arith, length-append, length-drop b.from b.bytes)
 
--- A scanner that moves past no frame and then gives nothing gives nothing in both steps together.
+-- If a scanner moves past no frame, and in a second step gives nothing, the two steps together give nothing.
 gives_nothing_then : (old mid new : Scan) → MovesPast old mid [] → GivesNothing mid new → GivesNothing old new
 gives_nothing_then old mid new moves (inl waits) =
     inl (record {
@@ -70,7 +70,7 @@ gives_nothing_then old mid new moves (inr ends) =
     let none = nothing_before old mid moves ends.none in
     inr (record { finished = sym moves.finished ∙ ends.finished; none = none; renewed = ends.renewed })
 
--- A whole body by a layout is the body of a frame.
+-- A whole body that a layout describes is the body of a frame.
 pub frame_of_whole : (layout : Layout) (body : List ℕ) → IsWholeBody layout body → (frame : FrameParts) × IsBody frame body
 frame_of_whole layout body is =
     let exact : body_length body ≡ length body = omega (arith, is.described.command, is.described.count, is.exact) in
@@ -78,7 +78,7 @@ frame_of_whole layout body is =
     let Part : ℕ → Type 0 = λ k. IsCheckedPart frame.frame (take (k - 1) body) in
     (frame.frame, IsBody-whole body frame.frame (omega (arith, exact)) is.fits (subst Part exact frame.part) is.even)
 
--- If the held bytes begin with a frame by a layout, the scanner begins with a frame.
+-- If the held bytes begin with a frame of a layout, the scanner begins with a frame.
 pub holds_frame : (b : Buffer) (layout : Layout) → IsWhole layout (held_bytes b) → BeginsWithFrame (scan_of b)
 holds_frame b layout whole =
     let body = whole.body in

@@ -1,4 +1,4 @@
--- The first frame of a list, from what a scanner gives that hears the list.
+-- How a scanner that hears a list gives the first frame of the list.
 use Rattle.std.proofs.Common.{inl, inr, add-zero, ◌≡◌, ℕ, ◌<◌, ◌≤◌, false, Option, Some, None, List, [], ◌∷◌, ◌++◌, length, take, drop}
 use Rattle.std.proofs.Common.{arith, refl, subst}
 use Rattle.std.proofs.Math.Seq.{take-length}
@@ -57,7 +57,7 @@ pub some_first : (chars : List Character) (buffer : Buffer) (span : Span) → Ho
 some_first chars buffer span holds =
     let (frame, is) = frame_of_whole span.layout (body_at buffer span) holds.body in (_, holds.first frame is, refl)
 
--- The frame that is copied from a span with the first frame of a list is this first frame.
+-- If a span holds the first frame of a list, a copy of the frame at the span is this first frame.
 pub first_copied : (chars : List Character) (buffer : Buffer) (span : Span) (found : Found) → HoldsFirst buffer chars span
     → IsBody found.frame (body_at buffer span) → found.start ≡ span.start → found.stop ≡ span.stop → IsFirst found chars 0
 first_copied chars buffer span found holds is start stop = rw (← start, ← stop) at (holds.first found.frame is)

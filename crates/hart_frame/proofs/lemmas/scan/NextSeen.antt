@@ -1,4 +1,4 @@
--- What comes next in bytes is what is seen next, whatever follows the bytes.
+-- The message or miss that the search in bytes finds next is what is seen next, whatever follows the bytes.
 use Rattle.std.proofs.Common.{◌≡◌, ◌≢◌, ℕ, ◌+◌, ◌-◌, ◌<◌, ◌≤◌, ◌⊎◌, inl, inr, true, false, List, [], ◌∷◌, ◌++◌, length, drop, get_or}
 use Rattle.std.proofs.Common.{None, Some, Option, ◌∙◌, ap, sym, arith, refl, append_assoc, length-append, length-drop, take-append-drop}
 use Rattle.std.proofs.lemmas.List.{drop_more, get_or-drop, length-take-le, length-map}
@@ -52,7 +52,7 @@ sees bytes after from to given valid passes more later closed are =
 apart : (a b : ℕ) → a ≤ b → (b ≡ a) ⊎ (b ≡ a + 1) ⊎ (b ≡ a + 2) ⊎ (a + 3 ≤ b)
 apart a b order = grind arith
 
--- Where two FF stand right before a place, the list consists there of these two and then the bytes from the place on.
+-- Where two FF stand right before a place, the bytes from the first FF on are FF, FF and the bytes from the place on.
 pub two_parts : (bytes : List ℕ) (start : ℕ) → 2 ≤ start → start ≤ length bytes → get_or bytes (start - 2) 0 ≡ 255
     → get_or bytes (start - 1) 0 ≡ 255 → drop (start - 2) bytes ≡ 255 ∷ 255 ∷ drop start bytes
 two_parts bytes start low within first second = grind (arith, drop_more bytes (start - 2) 0, drop_more bytes (start - 1) 0)
@@ -262,7 +262,7 @@ le_or a b = grind arith
 lt_or : (a b : ℕ) → a ≤ b → (a < b) ⊎ (a ≡ b)
 lt_or a b order = grind arith
 
--- A place that is asked from `from` on is also asked from any other place before the asked one.
+-- If a place is asked from `from` on, it is also asked from any other place before it.
 asked_after : (bytes : List ℕ) (after : After) (from place start : ℕ) → place < start → IsAsked bytes after from start
     → IsAsked bytes after place start
 asked_after bytes after from place start order is = grind arith
@@ -300,7 +300,8 @@ message_seen bytes after from start used view valid silent is two at more later 
     (message bytes after next from start may silent is (parts_of view.frame) used later two (omega (arith, at.order)) at.within at.body
     (rw same at are))
 
--- Whatever follows, nothing is seen up to the FF before an open place, and up to a missed place only its miss is seen.
+-- Whatever follows, nothing is seen up to the FF before an open place. Up to and including a missed place, only the miss of this place is
+-- seen.
 pub open_seen : (bytes : List ℕ) (after : After) (from start used : ℕ) → SilentBefore bytes after from start
     → IsAsked bytes after from start → IsStandingAt bytes after from start (Open used)
     → Whatever bytes after (λ chars. Passes chars from used [])

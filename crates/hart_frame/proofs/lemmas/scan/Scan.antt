@@ -42,7 +42,8 @@ moves_hearing a b cs given going moves = record {
   finished = moves.finished;
 }
 
--- The frames that a scanner moves past are the next ones of all that was heard, whatever was let go before and comes later.
+-- The frames that a scanner moves past are the next frames in all that was heard. This is true whatever was let go before and whatever
+-- comes later.
 pub moves_frames : (old new : Scan) (given later : List Found) (past more : List Character) → MovesPast old new given
     → length past ≡ old.first → (IsTrue old.finished → more ≡ []) → AreFrames (past ++ (old.held ++ more)) new.first later
     → AreFrames (past ++ (old.held ++ more)) old.first (given ++ later)

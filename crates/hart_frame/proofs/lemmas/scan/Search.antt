@@ -26,7 +26,7 @@ take_more xs n m order = ap (λ (k : ℕ). take k xs) (let e : m ≡ n + (m - n)
 pub take_both : (xs ys : List ℕ) (n : ℕ) → length xs ≤ n → take n (xs ++ ys) ≡ xs ++ take (n - length xs) ys
 take_both xs ys n long = grind (arith, take-append-add xs ys (n - length xs))
 
--- If no frame begins at some places in the first `n` bytes of a list, none begins there in its first `m` bytes.
+-- If no frame begins from `from` up to `to` in the first `n` bytes of a list, none begins there in a longer prefix.
 pub none_more : (xs : List ℕ) (n m from to : ℕ) → to ≤ n → n ≤ m → m ≤ length xs → NoneBegin (take n xs) from to
     → NoneBegin (take m xs) from to
 none_more xs n m from to within order long none place after before =
@@ -44,7 +44,7 @@ pub record IsSearching (bytes : List ℕ) (from seen place decided : ℕ) : Type
   pub none : NoneBegin (take decided bytes) from place
   pub before : IsOpenBefore bytes from seen decided
 
--- What holds of the places before `mid` and of those from `mid` on holds of them all.
+-- What is true of each place before `mid`, and of each place from `mid` on, is true of all these places.
 pub joined : (Of : ℕ → Type 0) (from mid to : ℕ) → ((place : ℕ) → from ≤ place → place < mid → Of place)
     → ((place : ℕ) → mid ≤ place → place < to → Of place) → (place : ℕ) → from ≤ place → place < to → Of place
 joined Of from mid to before after place since below = grind arith
@@ -132,7 +132,7 @@ module _ (xs : List ℕ) (from seen : ℕ) where
       searching_never start needed count more on (rw (take_rest xs start) at never) (omega (arith, some)) few
       (omega (arith, is, least, most, some))
 
-  -- A search ends at a place from which the bytes left, if any, may begin a frame.
+  -- A search ends at a place if the bytes that are left from there on may begin a frame. No bytes need be left.
   pub searched_open : (place decided start : ℕ) → IsSearching xs from seen place decided → place ≤ start → start ≤ length xs
       → ((here : ℕ) → place ≤ here → here < start → (get_or xs here 0 ≢ 255) ⊎ HasThree xs here)
       → MayBegin (drop start xs) → length xs < start + 269

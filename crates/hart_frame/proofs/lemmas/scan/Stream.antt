@@ -1,4 +1,4 @@
--- The frames given since a scanner was new are the next ones of what was pushed, and after the finish all of them.
+-- The frames given since a scanner was new are the next frames in what was pushed. After the end they are all frames of what was pushed.
 use Rattle.std.proofs.Common.{◌≡◌, ◌+◌, Bool, true, false, IsTrue, ℕ, List, [], ◌∷◌, ◌++◌, length, map, drop, refl, sym, arith, length-drop}
 use Rattle.std.proofs.lemmas.List.{append-nil, drop-append-le, drop-drop}
 use Rattle.hart_frame.specs.declared.heard.found.Found.{Found}

@@ -10,7 +10,7 @@ use Rattle.hart_frame.specs.private.Search.{IsSearched, NoneBeginThen}
 use Rattle.hart_frame.proofs.lemmas.scan.Candidate.{nothing_open}
 use Rattle.hart_frame.proofs.lemmas.scan.Search.{joined, none_more, whole_append}
 
--- No frame begins in a list from `first` up to the found place, and at that place one stands or may begin.
+-- No frame begins in a list from `first` up to the found place. At the found place a frame stands or may begin.
 pub record IsLookedAt (bytes : List ℕ) (first : ℕ) (ended : Bool) (found : Sighting) : Type 0 where
   pub after : first ≤ found.place
   pub within : found.place ≤ length bytes

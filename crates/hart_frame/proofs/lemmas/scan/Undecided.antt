@@ -15,8 +15,8 @@ use Rattle.hart_frame.proofs.lemmas.heard.Rest.{none_moved, some_moved, stands_i
 use Rattle.hart_frame.proofs.lemmas.scan.Next.{next_frames, next_some}
 use Rattle.hart_frame.proofs.lemmas.scan.Scan.{moves_length}
 
--- If a list has the same frames from `from` on as from `to` on, then for each frame that stands from `from` on there is one that
--- stands from `to` on and starts no later.
+-- Suppose that a list has the same frames from `from` on as from `to` on. For each frame that stands from `from` on, some frame stands from
+-- `to` on and starts no later.
 same_first : (chars : List Character) (from to : ℕ) (frames : List Found) (found : Found) → AreFrames chars from frames
     → AreFrames chars to frames → StandsIn found chars from → (g : Found) × StandsIn g chars to × (g.start ≤ found.start)
 same_first chars from to [] found (none n empty) new stands = absurd (empty found stands)

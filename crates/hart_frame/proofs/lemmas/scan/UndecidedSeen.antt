@@ -1,4 +1,4 @@
--- No sighting is decided if different characters may follow, with which different sightings come first.
+-- If the characters that follow change which sighting comes first, no sighting is decided.
 use Rattle.std.proofs.Common.{◌≡◌, ◌≢◌, ℕ, zero, suc, ◌+◌, ◌-◌, ◌<◌, ◌≤◌, ◌⊎◌, inl, inr, List, [], ◌∷◌, ◌++◌, length, drop, get_or}
 use Rattle.std.proofs.Common.{None, Some, Option, ◌∙◌, ap, sym, arith, refl, length-drop}
 use Rattle.std.proofs.lemmas.List.{append-nil, drop_more, get_or-drop, length-map}
@@ -83,7 +83,7 @@ module _ (rest : List ℕ) (fit : All (λ byte. byte < 256) rest) (truncated : I
       (record { stands = stands; least = λ other stands. omega (arith, at, first_frame other stands) }) are_after) in
       cc (one.1, two.1)
 
--- At a place one miss or nothing is seen, so where nothing is seen no miss of that place comes first.
+-- At a place either nothing or one miss is seen. If nothing is seen at a place, the first sighting is not a miss of that place.
 form : (m : Option Miss) (h : Option HeaderParts) (from place : ℕ)
     → (option_map_or (λ miss. Missed place (miss_in_whole from miss) h ∷ []) m [] ≡ [])
     ⊎ ((miss : Miss) × (option_map_or (λ miss. Missed place (miss_in_whole from miss) h ∷ []) m [] ≡ Missed place miss h ∷ []))
@@ -132,7 +132,7 @@ module _ (rest : List ℕ) (some : 0 < length rest) (other : get_or rest 0 0 ≢
       let same : first ≡ Missed 1 OnePreamble h = cc (one.1) in
       not_one chars frames two.0 OnePreamble h none (rw same at two.1)
 
--- In at most two FF no sighting is decided.
+-- If the bytes are at most two FF, no sighting is decided.
 pub undecided_few : (bytes : List ℕ) → length bytes ≤ 2 → ((i : ℕ) → i < length bytes → get_or bytes i 0 ≡ 255)
     → IsUndecidedSighting (faultless bytes)
 undecided_few bytes few preambles first always =
@@ -162,7 +162,7 @@ undecided_used bytes from used (low, inr (inr (last, one, two))) =
     let long = length-drop used bytes in
     let here : (i ≡ 0) ⊎ (i ≡ 1) = grind arith in grind (arith, get_or-drop))
 
--- No sighting is decided in what is left from the preamble bytes before an open place on.
+-- Take the bytes that are left, from the preamble bytes before an open place on. No sighting is decided in them.
 pub open_undecided : (bytes : List ℕ) (after : After) (place from start used : ℕ) → All (λ byte. byte < 256) bytes
     → IsAsked bytes after place start → after ≡ More → IsStandingAt bytes after from start (Open used)
     → IsUndecidedSighting (faultless (drop used bytes))

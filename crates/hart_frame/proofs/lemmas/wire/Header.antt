@@ -26,7 +26,7 @@ first_read Primary false six byte low is = grind arith
 first_read Secondary true six byte low is = grind arith
 first_read Secondary false six byte low is = grind arith
 
--- Bytes whose address bytes stand after the delimiter have that master and that address.
+-- If the address bytes of a master and an address stand after the delimiter, the bytes have this master and this address.
 pub address_read : (bytes xs : List ℕ) (master : MasterId) (burst : Bool) (address : Address) → IsAddressBytes master burst address xs
     → ((k : ℕ) → k < length xs → get_or bytes (1 + k) 0 ≡ get_or xs k 0) → delimiter_in bytes / 128 ≡ address_type address
     → (master_in bytes ≡ master) × (address_in bytes ≡ address)

@@ -1,4 +1,4 @@
--- The exclusive or taken lane by lane, and then over all lanes, is the exclusive or of all bytes.
+-- Taking the exclusive or (XOR) in each lane and then over all lanes gives the XOR of all bytes.
 use Rattle.std.proofs.Common.{◌≡◌, ℕ, zero, suc, ◌+◌, ◌*◌, ◌/◌, ◌<◌, ◌≤◌, List, [], ◌∷◌, refl, arith, fold, bit_xor, take, drop}
 use Rattle.std.proofs.Common.{length, get_or, mul_comm, take-add, take-append-drop}
 use Rattle.std.proofs.lemmas.Grind.{common_steps}
@@ -16,12 +16,12 @@ use Rattle.hart_frame.proofs.lemmas.wire.Parity.{IsCheckByte-fold}
 abbrev pub xor_of : List ℕ → ℕ
 xor_of bytes = fold bit_xor 0 bytes
 
--- A byte that an exclusive or takes in at the start can be taken in at the end instead.
+-- It makes no difference whether a byte enters the XOR of other bytes at the start or at the end.
 fold_moved : (start byte : ℕ) (bytes : List ℕ) → fold bit_xor (bit_xor start byte) bytes ≡ bit_xor (fold bit_xor start bytes) byte
 fold_moved start byte [] = refl
 fold_moved start byte (first ∷ bytes) = grind (arith, common_steps, bit_xor, xor_comm, fold_moved (bit_xor start first) byte bytes)
 
--- If two equally long lists are combined element by element, the exclusive or of the result is that of both lists, one after the other.
+-- If two equally long lists are combined element by element, the XOR of the result is the XOR of both lists, one after the other.
 fold-zip2 : (start : ℕ) (xs ys : List ℕ) → length xs ≡ length ys
     → fold bit_xor start (zip2 bit_xor xs ys) ≡ fold bit_xor (fold bit_xor start xs) ys
 fold-zip2 start [] [] same = refl

@@ -93,7 +93,7 @@ wrong_shown xs (BadCheck len byte fits) is =
       are_bytes = rw all is.are_bytes;
     }
 
--- Fewer bytes than are needed to show what is wrong end too early for a body.
+-- If a prefix has fewer bytes than are needed to show what is wrong, it ends too early for a body.
 pub wrong_fewer : (xs : List ℕ) (w : Wrong) → IsWrong xs w → (fewer : ℕ) → fewer < shown_by w → IsTruncated (take fewer xs)
 wrong_fewer xs (BadDelimiter byte) is fewer below = inl (grind (arith, length-take))
 wrong_fewer xs (ShortReply len count) is fewer below =

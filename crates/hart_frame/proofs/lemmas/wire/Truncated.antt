@@ -35,7 +35,8 @@ fitted bytes fit good last =
     let len = length_more bytes (0 ∷ []) good.0.1 in
     completed (bytes ++ 0 ∷ []) bytes fits (grind (arith, HasGoodByteCount-more, length-append)) (grind (arith, take_at))
 
--- Bytes that end too early reach a check byte if 300 bytes 2 follow: 2 is the delimiter of an STX, and a good byte count.
+-- Bytes that end too early reach a check byte if 300 bytes with the value 2 follow. The value 2 is the delimiter of an STX, and also a good
+-- byte count.
 pub filled : (bytes : List ℕ) (more : ℕ) → All (λ byte. byte < 256) bytes → IsTruncated bytes → 300 ≤ more
     → HasCheckByte (bytes ++ replicate more 2) × (length bytes < body_length (bytes ++ replicate more 2))
 filled bytes more fit truncated enough =

@@ -39,7 +39,7 @@ pub spread : (f : FrameParts) (body rest : List ℕ) (is : IsBody f body)
     ≡ delimiter_of f ∷ (is.checked_part.address ++ (f.expansion ++ (f.command ∷ length f.payload ∷ (f.payload ++ (is.check ∷ rest)))))
 spread f body rest is = rw (is.parts, is.checked_part.parts) (simp append_assoc)
 
--- If two bodies, each with a rest after it, are equal lists, then their frames, the bodies and the rests are equal.
+-- If a body and a rest are the same list as another body and its rest, then the frames, the bodies and the rests are equal.
 same_bodies : (f g : FrameParts) (body other rest more : List ℕ) → IsBody f body → IsBody g other → body ++ rest ≡ other ++ more
     → (f ≡ g) × (body ≡ other) × (rest ≡ more)
 same_bodies f g body other rest more p q whole = grind (arith, spread f body rest p, spread g other more q, same_parts)

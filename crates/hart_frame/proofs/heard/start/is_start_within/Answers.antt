@@ -20,7 +20,7 @@ differ-yes a b e same = grind (arith, nat_tests)
 differ-not : (a b : Character) (answer : Bool) → differ a b ≡ answer → a ≢ b → answer ≡ true
 differ-not a b answer e other = grind (arith, differ-no)
 
--- If any value that is found equals `y`, and `x` is found, then `x` equals `y`.
+-- If `x` is found, and a found value can only be `y`, then `x` equals `y`.
 of_some : (found : Option Character) (x y : Character) → found ≡ Some x → IfSome found (λ character. character ≡ y) → x ≡ y
 of_some found x y is known = grind arith
 
