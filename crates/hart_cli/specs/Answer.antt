@@ -24,7 +24,7 @@ pub record IsTextFor (device : DeviceState) (delivery : List Character) (text : 
   pub brings : Brings device.identity delivery brought
   pub answered : IsAnswerText device (answer_to device bench_process brought) text
 
--- The text for an input is the text for the delivery as which the input is read.
+-- An input is read as a delivery. The text for the input is the text for this delivery.
 pub record IsAnswer (device : DeviceState) (input text : List ℕ) : Type 0 where
   pub delivery : List Character
   pub reads : ReadsAs input delivery

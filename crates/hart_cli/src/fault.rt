@@ -146,7 +146,7 @@ impl fmt::Display for CliFault {
 impl From<Failed> for CliFault {
     ghost from_gives = { λ _ e. e ≡ Write };
 
-    /// Reports a failure as a write fault. A reader's failure counts as an end of the input instead.
+    /// Reports a failed write as [`CliFault::Write`]. A failed read does not come here, because it is an end of the input.
     fn from(_failed: Failed) -> CliFault {
         CliFault::Write
     }
@@ -182,7 +182,7 @@ impl From<LineFault> for CliFault {
 
     ghost from_gives = { λ fault e. e ≡ call_fault fault };
 
-    /// Reports refused memory as refused memory, whatever part asked for it.
+    /// Reports refused memory as [`CliFault::Memory`], and any other fault of a script as [`CliFault::Line`].
     fn from(fault: LineFault) -> CliFault {
         match fault {
             LineFault::Memory(none) => CliFault::Memory(none),

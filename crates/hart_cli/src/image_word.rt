@@ -34,8 +34,9 @@ impl<'a> Model for ImageWord<'a> {
 ///
 /// # Errors
 ///
-/// [`CliFault::BadHex`] at the word's length if that length is odd, and otherwise at the first byte that is no hex digit; then
-/// [`CliFault::Image`]. [`CliFault::Memory`] if room for the bytes of the image is refused.
+/// [`CliFault::BadHex`] at the word's length if that length is odd, and otherwise at the first byte that is no hex digit. If the word is
+/// good hex, but no device can start from the image, [`CliFault::Image`]. [`CliFault::Memory`] if room for the bytes of the image is
+/// refused.
 pub fn device_of(alloc: Global, image: Option<&str>) -> Result<Device<ImageRegisters>, CliFault>
     ensures device { IfOk result (IsDeviceOf (option_map (λ word. word.now) image.entry)) }
     ensures fault { IfErr result (HasNoDevice (option_map (λ word. word.now) image.entry)) }

@@ -31,7 +31,7 @@ pub enum InputEnd {
 }
 
 impl InputEnd {
-    /// Returns the fault of this end, if the end is a fault whatever the input holds.
+    /// Returns the fault of this end, or `None` if only the content of the input decides whether there is a fault.
     pub fn fault(self) -> Option<CliFault>
         ensures { result ≡ fault_of_end self }
     {
@@ -43,7 +43,7 @@ impl InputEnd {
     }
 }
 
-/// What one read gave: bytes at the beginning of its buffer, and how the input ended with them, if it did.
+/// The result of one read: the bytes at the beginning of the read's buffer, and how the input ended, if this read ended it.
 #[derive(Clone, Copy)]
 pub struct Portion {
     /// The number of bytes that are still within the limit.
@@ -91,7 +91,8 @@ fn read_into<R: Source>(reader: &mut R, text: &mut Filling<u8>) -> InputEnd
     }
 }
 
-/// Reads once, at most one byte more than the `room` left within an input's limit, and says how many bytes are within the limit.
+/// Reads once. The read returns at most one byte more than `room`, the number of bytes that are left within an input's limit. The result
+/// says how many of the bytes are within the limit.
 pub fn read_portion<R: Source>(reader: &mut R, buffer: &mut [u8], room: usize) -> Portion
     requires some { 0 < length buffer.old }
     requires fits { length buffer.old ≤ most_at_once }

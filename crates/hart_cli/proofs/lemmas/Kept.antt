@@ -17,12 +17,12 @@ pub adds_then : (a b c : Stream) (p q r x y : List ℕ) → AddsText a b p q x �
 adds_then a b c p q r x y h k =
     let wrote = WritesAll-on a b c h.written k.written h.wrote k.wrote in grind (arith, common_steps, append_assoc)
 
--- a write that failed in the second of two texts failed in both together
+-- a write that failed in the second of two texts failed in the joined text
 pub fails_then : (a b c : Stream) (p q x y : List ℕ) → AddsText a b p q x → FailsToWrite b c (q ++ y) → FailsToWrite a c (p ++ (x ++ y))
 fails_then a b c p q x y h fails =
     grind (arith, common_steps, append_assoc, FailsToWrite-on a b c h.written (q ++ y) h.wrote fails)
 
--- a write that failed in the first of two texts failed in both together
+-- a write that failed in the first of two texts failed in the joined text
 pub fails_first : (a b : Stream) (p x y : List ℕ) → FailsToWrite a b (p ++ x) → FailsToWrite a b (p ++ (x ++ y))
 fails_first a b p x y fails = rw (← append_assoc) (FailsToWrite-longer a b (p ++ x) y fails)
 

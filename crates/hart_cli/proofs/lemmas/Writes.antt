@@ -10,7 +10,7 @@ use Rattle.hart_cli.specs.stream.Stream.{FailsToWrite, Stream, WritesAll}
 pub WritesAll-on : (a b c : Stream) (xs ys : List ℕ) → WritesAll a b xs → WritesAll b c ys → WritesAll a c (xs ++ ys)
 WritesAll-on a b c xs ys h k = grind (arith, common_steps, Appends-trans)
 
--- a write that failed in the second of two texts, after the first was written, failed in both together
+-- a write that failed in the second of two texts, after the first text was written, failed in the joined text
 pub FailsToWrite-on : (a b c : Stream) (xs ys : List ℕ) → WritesAll a b xs → FailsToWrite b c ys → FailsToWrite a c (xs ++ ys)
 FailsToWrite-on a b c xs ys h k = grind (arith, common_steps, Appends-trans)
 

@@ -28,8 +28,8 @@ ended_length end read = read
 
 -- The next step depends on the rest of an input after its pieces, which are items and separators. If the input ended, an empty rest means
 -- no fault, and any other rest is bad hex. If the input may go on, or went past the limit, the rest is bad hex unless a piece may begin
--- with it. If a piece may begin with the rest, the call reads on, or returns `TooLong` past the limit. A failed read is the fault whatever
--- the rest is.
+-- with it. If a piece may begin with the rest, the call reads on within the limit, and returns `TooLong` if the input went past the limit.
+-- A failed read is the fault whatever the rest is.
 abbrev pub IsNextStep : Option InputEnd → List ℕ → ℕ → NextStep → Type 0
 IsNextStep None rest place ReadOn = MayBegin rest
 IsNextStep None rest place (Stop fault) = (MayBegin rest → ⊥) × (fault ≡ Some (faults.BadHex place))

@@ -36,7 +36,7 @@ pub record AreDecodedBy {Heard : Type 0} (Reads : List ℕ → List Heard → Li
   pub reads : Reads (ended_text input ending) heard rest
   pub few : length rest ≤ most_ahead
 
--- The decoding that reads the texts of inputs by `Reads`. `Stops` holds for a rest that begins with nothing that can be decoded.
+-- The decoding that reads the texts of inputs by `Reads`. `Stops` holds for a rest if nothing that can be decoded stands at its beginning.
 abbrev pub decoding_by : {Heard : Type 0} → (List ℕ → List Heard → List ℕ → Type 0) → (List ℕ → Type 0) → Decoding (List Heard)
 decoding_by Reads Stops = record {
   Has = HasHeardBy Reads Stops;

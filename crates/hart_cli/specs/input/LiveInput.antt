@@ -40,7 +40,7 @@ pub record IsDecidedText {Heard : Type 0} (decoding : Decoding Heard) (IsDecided
   pub reads : decoding.SoFar input heard
   pub decided : IsDecided heard text
 
--- Everything that the input without its last bytes decides was written. There are at most as many of these last bytes as one read returns.
+-- Take the input without its last bytes. Everything that it decides was written. The last bytes are no more than one read can return.
 pub record WroteInTime (IsDecided : List ℕ → List ℕ → Type 0) (input : List ℕ) (writer writer_after : Stream) : Type 0 where
   pub before : List ℕ
   pub last : List ℕ
@@ -52,7 +52,7 @@ pub record WroteInTime (IsDecided : List ℕ → List ℕ → Type 0) (input : L
   pub written : Appends writer.bytes writer_after.bytes (text ++ more)
 
 -- A write failed within the text of what had been decoded by then: a prefix of that text was written, but not all of it. Nothing was
--- written late: the text that the input without its last bytes decides had been written.
+-- written late: the text decided by the input without its last bytes had been written.
 pub record StopsWriting {Heard : Type 0} (decoding : Decoding Heard) (limit : ℕ) (IsText IsDecided : TextRelation Heard)
     (reader reader_after writer writer_after : Stream) : Type 0 where
   pub input : List ℕ

@@ -89,7 +89,7 @@ reading_app =
     let serve = with_subcommand hearing_app (image_app (codes "serve")).top in
     with_subcommand serve (image_app (codes "sim")).top
 
--- The command `hart` with the subcommands that read an input, and `request`.
+-- The command `hart` with the subcommand `request` and all subcommands that read an input.
 abbrev pub asking_app : App
 asking_app = with_subcommand reading_app request_app.top
 

@@ -72,13 +72,13 @@ place_for words row = position_or_len (is_for row) words
 abbrev pub value_in : List ℕ → List ℕ
 value_in word = option_map_or (λ parts. parts.1) (named word) []
 
--- The bytes of a field from the word at a place, or the fault of that word.
+-- The bytes that the word at a place gives for a field, or the fault with the number of this word.
 abbrev pub given_at : ℕ → Result (List ℕ) FieldFault → Result (List ℕ) BadField
 given_at place (Ok bytes) = Ok bytes
 given_at place (Err fault) = Err (bad_at place fault)
 
--- The bytes of the field of a command that has this row and this place. They are the bytes of the value that the field's word gives. If no
--- word gives the field a value, the fault has the place after the last word.
+-- The bytes of a command's field with this row and this place. They are the bytes of the value in the field's word. If no word gives the
+-- field a value, the fault has the place after the last word.
 abbrev pub field_value : (command field : ℕ) → List (List ℕ) → Row → Result (List ℕ) BadField
 field_value command field words row =
     if nat_lt (place_for words row) (length words)
@@ -101,8 +101,8 @@ data_of_fields command field words [] = Ok []
 data_of_fields command field words (row ∷ rows) =
     joined (field_value command field words row) (data_of_fields command (field + 1) words rows)
 
--- A command takes data that are read as a request of this command. If the command refuses the data, that is a fault of the third
--- word, COMMAND.
+-- A command accepts data if the data can be read as a request of this command. If the command refuses the data, that is a fault of the
+-- third word, COMMAND.
 abbrev pub taken : List ℕ → Reading → Result (List ℕ) BadField
 taken bytes (Ok request) = Ok bytes
 taken bytes (Err code) = Err (record { number = 3; fault = Refused code })

@@ -42,7 +42,7 @@ number_or_fault size (Some number) = Ok (number_bytes size number)
 abbrev pub number_value : ℕ → List ℕ → Result (List ℕ) FieldFault
 number_value size word = number_or_fault size (number_up_to (greatest_of size) word)
 
--- Bytes are written as `0x` (the bytes 48 and 120) and then in hex like the word DATA. There are at most 255 of them.
+-- Bytes are written as `0x` (the bytes 48 and 120), followed by at most 255 bytes in hex like the word DATA.
 abbrev pub hex_of : List ℕ → Option (List ℕ)
 hex_of (first ∷ second ∷ digits) = if (first == 48) && (second == 120) then data_of digits else None
 hex_of _ = None

@@ -36,7 +36,7 @@ pub record BeginsWithPart (text part rest : List ℕ) : Type 0 where
 abbrev pub most_kept : ℕ
 most_kept = input_limit + 2
 
--- A device heard the characters as which a text is read, or the text has bad hex at a place, which changes nothing.
+-- A text is read as characters, and a device heard them. Or the text has bad hex at a place, and the device does not change.
 abbrev pub HearsText : DeviceState → List ℕ → DeviceState → List ℕ → Type 0
 HearsText device text after said =
     ((delivery : List Character) × ReadsUpTo text delivery [] × Hears device delivery after said)

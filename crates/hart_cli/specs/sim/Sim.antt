@@ -52,8 +52,8 @@ HasLineFault device input (line_faults.BadLine number) = HasFirstBadLine input n
 HasLineFault device input (line_faults.Undetected number leg) = IsScriptWithFault device input (line_faults.Undetected number leg)
 HasLineFault device input (line_faults.Memory none) = ⊥
 
--- At the end of a script, the line of one of its submissions, or the last two lines of its text together, need room for this number
--- of bytes. The number is at least 1.
+-- Room for this number of bytes is needed at the end of a script: for the line of one of its submissions, or for the last two lines of its
+-- text together. The number is at least 1.
 pub record IsNeededByLastLines (start : Start) (events : List LineEvent) (items : ℕ) : Type 0 where
   pub after : DeviceState
   pub outcomes : List Outcome
@@ -72,8 +72,8 @@ IsNeededForSimulation device input items =
     ⊎ IsNeededByNoting IsNeededByFrame (start_with device) events items
     ⊎ IsNeededByLastLines (start_with device) events items))
 
--- An input that is not carried out has this fault in its lines or its events. Or memory was refused for a number of items that the
--- input needs room for, which is no fault of the input.
+-- An input is not carried out for one of two reasons: its lines or its events have this fault, or memory was refused for a number of items
+-- that the input needs room for. Refused memory is no fault of the input.
 abbrev pub IsSimulationFault : DeviceState → List ℕ → CliFault → Type 0
 IsSimulationFault device input (Line fault) = HasLineFault device input fault
 IsSimulationFault device input (Memory none) = IsNeededForSimulation device input none.items

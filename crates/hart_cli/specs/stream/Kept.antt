@@ -10,7 +10,7 @@ pub record AddsText (old new : Stream) (before after text : List ℕ) : Type 0 w
   pub wrote : WritesAll old new written
   pub whole : written ++ after ≡ before ++ text
 
--- A text was added to what was kept before, or a write failed after it had written a prefix of both together.
+-- A text was added to the text that was kept before. Or a write failed after a prefix of the two texts, joined, had been written.
 abbrev pub Tells : {T : Type 0} → Stream → Stream → List ℕ → List ℕ → List ℕ → Result T Failed → Type 0
 Tells old new before after text result =
     MatchResult result (λ _. AddsText old new before after text) (λ _. FailsToWrite old new (before ++ text))

@@ -24,7 +24,7 @@ use std::alloc::Global;
 ///
 /// # Errors
 ///
-/// The faults of the image come first: [`CliFault::BadHex`], then [`CliFault::Image`]. At these nothing is read. Then come
+/// The faults of the image come first: [`CliFault::BadHex`], then [`CliFault::Image`]. If the image has a fault, nothing is read. Then come
 /// [`CliFault::Read`] and [`CliFault::TooLong`], then [`CliFault::BadHex`] of the input, and then [`CliFault::Write`]. The fault is
 /// [`CliFault::Memory`] if memory for the image, the input or its characters is refused. At `Write` a prefix of the line is written, but
 /// not all of it. At any other fault nothing is written.

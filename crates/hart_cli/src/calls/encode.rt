@@ -48,8 +48,9 @@ impl<'a> Model for EncodeWords<'a> {
 ///
 /// # Errors
 ///
-/// [`CliFault::BadWord`] with the number of the first bad word: 1 is WHO, 2 ADDRESS, 3 COMMAND, 4 DATA; then [`CliFault::Write`]. At a bad
-/// word nothing is written. At `Write` a prefix of the line is written, but not all of it. Nothing is allocated.
+/// [`CliFault::BadWord`] with the number of the first bad word: 1 is WHO, 2 ADDRESS, 3 COMMAND, 4 DATA. If a word is bad, nothing is
+/// written. The fault is [`CliFault::Write`] if no word is bad, but a write fails. At `Write` a prefix of the line is written, but not all
+/// of it. Nothing is allocated.
 pub fn encode_text<W: Sink>(
     _alloc: Global,
     who: &str,
@@ -83,8 +84,8 @@ pub fn encode_text<W: Sink>(
     Ok(())
 }
 
-/// Words have at most one text or one first bad word, and never both. So, unless a write fails, they determine what `encode_text`
-/// writes and returns.
+/// Words have at most one text and at most one first bad word, but never both. So, unless a write fails, the words determine what
+/// `encode_text` writes and returns.
 pub fn one_encoding()
     ensures one_text { (words : MessageWords) (xs ys : List ℕ) → IsEncoding words xs → IsEncoding words ys → xs ≡ ys }
     ensures one_bad_word { (words : MessageWords) (m n : ℕ) → IsFirstBad words m → IsFirstBad words n → m ≡ n }

@@ -39,9 +39,9 @@ pub const NO_CALL: u8 = 2;
 ///
 /// `answer`, `dump`, `explain`, `serve` and `sim` read from `reader` and write to `writer`; `encode` and `request` read only their words.
 /// At status 0 nothing goes to `errors`. At status 1 the line of the call's fault goes to `errors`, or a beginning of that line if `errors`
-/// failed. Status 2 says that clap found no matches for the words; no clause of the contract says this. At status 2 the reader and the
-/// writer are not touched, and clap's own text goes to `errors`, even if the text is help. No clause says what this text is. A failed write
-/// to `errors` ends the text there, and does not change the status.
+/// failed. Status 2 means that clap found no matches for the words, but no clause of the contract promises this meaning. At status 2 the
+/// reader and the writer are not touched, and clap's own text goes to `errors`, even if the text is help. No clause says what this text is.
+/// A failed write to `errors` ends the text there, and does not change the status.
 pub fn program<R: Source, W: Sink, E: Sink>(
     alloc: Global,
     words: &[String],

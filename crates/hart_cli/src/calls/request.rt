@@ -63,9 +63,9 @@ impl<'w, 'a: 'w> Model for RequestWords<'w, 'a> {
 ///
 /// # Errors
 ///
-/// [`CliFault::BadWord`] with the number of the first bad word: 1 is WHO, 2 ADDRESS, 3 COMMAND; then [`CliFault::BadField`]; then
-/// [`CliFault::Write`]. At a bad word nothing is written. At `Write` a prefix of the line is written, but not all of it. Nothing is
-/// allocated.
+/// [`CliFault::BadWord`] with the number of the first bad word: 1 is WHO, 2 ADDRESS, 3 COMMAND. If these three are good,
+/// but a word of the fields is bad, [`CliFault::BadField`]. If a word is bad, nothing is written. The fault is [`CliFault::Write`] if no
+/// word is bad, but a write fails. At `Write` a prefix of the line is written, but not all of it. Nothing is allocated.
 pub fn request<W: Sink>(
     _alloc: Global,
     words: &RequestWords<'_, '_>,
@@ -79,8 +79,8 @@ pub fn request<W: Sink>(
     Ok(())
 }
 
-/// Words have at most one text, one first bad word or one bad field, and never two of the three. So, unless a write
-/// fails, they determine what `request` writes and returns.
+/// Words have at most one text, at most one first bad word and at most one bad field, but never two of the three. So, unless a write fails,
+/// the words determine what `request` writes and returns.
 pub fn one_request()
     ensures one_text { (words : Given) (xs ys : List ℕ) → IsRequestText words xs → IsRequestText words ys → xs ≡ ys }
     ensures one_bad_word { (words : Given) (m n : ℕ) → IsFirstBadWord words m → IsFirstBadWord words n → m ≡ n }

@@ -1,4 +1,4 @@
-//! `hart serve`: a device that answers many deliveries, a line for each line.
+//! `hart serve`: a device that answers many deliveries. It writes one line for each line that it reads.
 ghost use Rattle.std.specs.Prelude.{◌≡◌, [], ℕ, List};
 ghost use Rattle.std.specs.Option.{option_map};
 ghost use Rattle.hart_device.specs.Device.{DeviceState};
@@ -27,9 +27,9 @@ mod server;
 /// # Errors
 ///
 /// The first faults are [`CliFault::BadHex`] and [`CliFault::Image`] of the image, and [`CliFault::Memory`] if memory for the image or for
-/// a line is refused. At these nothing is read. Then come [`CliFault::Read`], and [`CliFault::TooLong`] at an input of more than 2^64 - 1
-/// bytes. At these two, the answers to the whole lines before the fault are written. If a write fails, the fault is [`CliFault::Write`],
-/// and a prefix of the answers to what was read by then is written.
+/// a line is refused. At these faults nothing is read. Then come [`CliFault::Read`], and [`CliFault::TooLong`] at an input of more than
+/// 2^64 - 1 bytes. At these two faults, the answers to the whole lines before the fault are written. If a write fails, the fault is
+/// [`CliFault::Write`], and a prefix of the answers to what was read by then is written.
 pub fn serve<R: Source, W: Sink>(
     alloc: Global,
     image: Option<&str>,

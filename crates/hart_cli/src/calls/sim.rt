@@ -35,10 +35,11 @@ const SECONDARY_REPLY_LIMIT: u8 = 41;
 ///
 /// # Errors
 ///
-/// First [`CliFault::BadHex`] and [`CliFault::Image`] of the image, at which nothing is read. Then [`CliFault::Read`] and
-/// [`CliFault::TooLong`]. Then [`CliFault::Line`] with the first bad line or, if no line is bad, with the first leg whose damage is
-/// undetected. Then [`CliFault::Write`]. [`CliFault::Memory`] at the first allocation that is refused: what is left of the script
-/// is not looked at. At `Write` a prefix of the text is written, short of its end. At any other fault nothing is written.
+/// The faults of the image come first: [`CliFault::BadHex`], then [`CliFault::Image`]. If the image has a fault, nothing is read. Then come
+/// [`CliFault::Read`] and [`CliFault::TooLong`]. Then comes [`CliFault::Line`] with the first bad line or, if no line is bad, with the
+/// first leg whose damage is undetected. [`CliFault::Write`] comes last. At the first allocation that is refused, the call ends with
+/// [`CliFault::Memory`] and does not look at what is left of the script. At `Write` a prefix of the text is written, but not all of it. At
+/// any other fault nothing is written.
 pub fn simulate<R: Source, W: Sink>(
     alloc: Global,
     image: Option<&str>,

@@ -32,8 +32,8 @@ pub enum NextStep {
     Stop(Option<CliFault>),
 }
 
-/// Reads once, and adds the bytes that are within the `room` left of the input's limit to `ahead`. Returns how many bytes these are, and
-/// how the input ended with them, if it did.
+/// Reads once, and adds the bytes that are within the `room` left of the input's limit to `ahead`. Returns how many bytes it added, and how
+/// the input ended, if this read ended it.
 pub fn read_ahead<R: Source>(
     reader: &mut R,
     buffer: &mut [u8],
@@ -70,9 +70,9 @@ pub fn next_step(end: Option<InputEnd>, rest: &[u8], read: usize) -> NextStep
         None if may_begin(rest) => NextStep::ReadOn,
         None => bad_hex(read - rest.len()),
         Some(InputEnd::Ended) if rest.is_empty() => NextStep::Stop(None),
-        // The last byte of the rest is the space that the end stands for.
+        // The last byte of the rest is the space that stands for the end of the input.
         Some(InputEnd::Ended) => bad_hex(read - (rest.len() - 1)),
-        // Nothing was read, so a piece may still begin with the rest, as it might before.
+        // This read got no bytes, so the rest is unchanged. A piece may still begin with the rest.
         Some(InputEnd::ReadFailed) => NextStep::Stop(Some(CliFault::Read)),
         Some(InputEnd::TooLong) if may_begin(rest) => NextStep::Stop(Some(CliFault::TooLong)),
         Some(InputEnd::TooLong) => bad_hex(read - rest.len()),

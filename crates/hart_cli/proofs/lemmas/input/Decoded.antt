@@ -19,7 +19,7 @@ use Rattle.hart_cli.specs.text.Items.{MayBegin}
 use Rattle.hart_cli.proofs.lemmas.Writes.{in_time_on}
 use Rattle.hart_cli.proofs.lemmas.text.Reads.{Laws, decided_rest}
 
--- what one more read gave comes after what was read before, within the limit
+-- the bytes of one more read come after what was read before, within the limit
 pub read_more : (a b c : Stream) (text bytes : List ℕ) (room limit : ℕ) (end : Option InputEnd) → ReadsWell a b text
     → length text + room ≡ limit → ReadsPortion b c bytes room end
     → MatchOption end (ReadsWell a c (text ++ bytes) × (length (text ++ bytes) ≤ limit))
@@ -56,7 +56,7 @@ ended_on : (input bytes : List ℕ) (end : Option InputEnd)
     → ended_text (input ++ bytes) (ending_of end) ≡ input ++ ended_text bytes (ending_of end)
 ended_on input bytes end = grind (arith, common_steps, append_assoc)
 
--- an input is read on only if it did not come to its end, and a piece may begin in the rest
+-- reading goes on only if the input did not come to its end and a piece may begin in the rest
 pub read_on : (end : Option InputEnd) (rest : List ℕ) (place : ℕ) → IsNextStep end rest place ReadOn → (end ≡ None) × MayBegin rest
 read_on None rest place step = (refl, step)
 read_on (Some Ended) rest place step = absurd step
@@ -98,7 +98,7 @@ module _ {Heard : Type 0} (Reads : List ℕ → List Heard → List ℕ → Type
   rest_within limit old new end rest read input chars h =
       rw h.count (omega (arith, ended_long input end, laws.shorter _ chars rest h.reads))
 
-  -- what one read gave is decoded after what was read before
+  -- the bytes of one read are decoded after what was read before
   reads_on : (input bytes ahead after rest : List ℕ) (end : Option InputEnd) (chars more : List Heard) → Reads input chars ahead
       → after ≡ ahead ++ ended_text bytes (ending_of end) → Reads after more rest
       → Reads (ended_text (input ++ bytes) (ending_of end)) (chars ++ more) rest
@@ -107,7 +107,7 @@ module _ {Heard : Type 0} (Reads : List ℕ → List Heard → List ℕ → Type
       rw (ended_on input bytes end)
       (laws.on _ _ (ahead ++ ended) _ _ (laws.more _ _ _ ended before) (rw added at reads))
 
-  -- what one read gave was read within the limit
+  -- the bytes of one read were within the limit
   came_on : (limit : ℕ) (r r1 r2 : Stream) (ahead after : List ℕ) (read : ℕ) (portion : Portion) (input : List ℕ) (chars : List Heard)
       → DecodedUpTo Reads Stops limit r r1 None ahead read input chars → (one : ReadsAhead r1 r2 ahead after (limit - read) portion)
       → MatchOption portion.end (ReadsWell r r2 (input ++ one.bytes) × (length (input ++ one.bytes) ≤ limit))
@@ -125,7 +125,7 @@ module _ {Heard : Type 0} (Reads : List ℕ → List Heard → List ℕ → Type
       let stay = laws.stays ahead more rest (rw same at reads) due.no_piece in
       rw (← stay.1) may
 
-  -- what one read gave is decoded
+  -- the bytes of one read are decoded
   pub decoded_step : (limit : ℕ) (r r1 r2 : Stream) (ahead after rest : List ℕ) (read : ℕ) (portion : Portion) (input : List ℕ)
       (chars more : List Heard) → DecodedUpTo Reads Stops limit r r1 None ahead read input chars → MayBegin ahead
       → (one : ReadsAhead r1 r2 ahead after (limit - read) portion) → length after ≤ most_ahead → Stops rest
@@ -140,7 +140,7 @@ module _ {Heard : Type 0} (Reads : List ℕ → List Heard → List ℕ → Type
     still_open = failed_open limit r r1 r2 ahead after rest read portion input chars more due may one reads;
   }
 
-  -- a part of what one read gave is decoded
+  -- a part of the bytes of one read is decoded
   pub decoded_part : (limit : ℕ) (r r1 r2 : Stream) (ahead after rest : List ℕ) (read : ℕ) (portion : Portion) (input : List ℕ)
       (chars more : List Heard) → DecodedUpTo Reads Stops limit r r1 None ahead read input chars
       → (one : ReadsAhead r1 r2 ahead after (limit - read) portion) → length after ≤ most_ahead → Reads after more rest

@@ -33,7 +33,7 @@ pub record ServedUpTo (device : DeviceState) (server : Server) (room : ℕ) (old
   pub serves : ServesParts device parts server.device said
   pub wrote : WritesAll writer writer_after said
 
--- what the last read gave was served, and the input came to its end
+-- the bytes of the last read were served, and the input came to its end
 pub served_end : (device : DeviceState) (now next : Server) (room : ℕ) (r r1 r2 w w1 w2 : Stream) (bytes : List ℕ) (end : InputEnd)
     → (h : ServedUpTo device now room r r1 w w1) → ReadsPortion r1 r2 bytes room (Some end) → now.kept ≡ [] → next.kept ≡ []
     → ServesWhole now next (h.rest ++ bytes) w1 w2 → ServesAll device next end r r2 w w2
@@ -52,7 +52,7 @@ served_end device now next room r r1 r2 w w1 w2 bytes end h more was quiet k =
       wrote = WritesAll-on w w1 w2 h.said k.said h.wrote (rw same at k.adds.wrote);
     }
 
--- what one read gave was served, and the input may go on
+-- the bytes of one read were served, and the input may go on
 pub served_on : (device : DeviceState) (now next : Server) (room : ℕ) (r r1 r2 w w1 w2 : Stream) (bytes : List ℕ)
     → (h : ServedUpTo device now room r r1 w w1) → ReadsPortion r1 r2 bytes room None → now.kept ≡ [] → next.kept ≡ []
     → ServesWhole now next (h.rest ++ bytes) w1 w2 → ServedUpTo device next (room - length bytes) r r2 w w2
@@ -71,7 +71,7 @@ served_on device now next room r r1 r2 w w1 w2 bytes h more was quiet k =
       wrote = WritesAll-on w w1 w2 h.said k.said h.wrote (rw same at k.adds.wrote);
     }
 
--- all answers to the whole lines of an input without its last bytes were written in time
+-- answers were written in time: the answers to the whole lines of an input without its last bytes had been written
 said_in_time : (device after : DeviceState) (input bytes : List ℕ) (parts : List (List ℕ)) (rest said : List ℕ) (w w1 w2 : Stream)
     → IsCut input parts rest → ServesParts device parts after said → WritesAll w w1 said → length bytes ≤ most_at_once
     → (more : List ℕ) → Appends w1.bytes w2.bytes more → WroteInTime (IsServedSoFar device) (input ++ bytes) w w2

@@ -25,9 +25,9 @@ use std::alloc::{AllocError, Global};
 /// The version that `hart --version` shows.
 const VERSION: &str = "0.1.0";
 
-/// The word `answer`, `dump`, `explain`, `serve` or `sim` alone calls that subcommand, without an image. After `answer`, `serve` or
-/// `sim`, `--image 01` gives the image `01`; after `explain`, `--raw` makes the input raw. `encode P @0 0` has no data and 5
-/// preamble bytes, or 20 if `--preambles 20` follows. `request P @0 0` has no fields, and `request P @0 6 a=1 b=2` has two.
+/// If the only word is `answer`, `dump`, `explain`, `serve` or `sim`, it calls that subcommand, without an image. After `answer`, `serve`
+/// or `sim`, `--image 01` gives the image `01`; after `explain`, `--raw` makes the input raw. `encode P @0 0` has no data and 5 preamble
+/// bytes, or 20 if `--preambles 20` follows. `request P @0 0` has no fields, and `request P @0 6 a=1 b=2` has two.
 pub fn words_are_calls()
     ensures answer { Calls (Answer None) (codes "answer" ∷ []) }
     ensures answer_image { Calls (Answer (Some (codes "01"))) (codes "answer" ∷ codes "--image" ∷ codes "01" ∷ []) }
@@ -98,8 +98,8 @@ pub fn matches_of<'a>(alloc: Global, words: &'a [String]) -> Result<ArgMatches<'
     Ok(matches)
 }
 
-/// Returns the call of the subcommand that the words name. Returns `None` if they name none of the seven subcommands, or if `encode_words`
-/// or `request_words` returns `None`; clap lets neither happen.
+/// Returns the call of the subcommand that the words name. Returns `None` if the words name none of the seven subcommands, or if
+/// `encode_words` or `request_words` returns `None`. clap excludes all three cases.
 pub fn call_of<'w, 'a: 'w>(matches: &'w ArgMatches<'a>) -> Option<Call<'w, 'a>>
     ensures { result ≡ call_of (subcommand_rows_of matches.now) }
 {
@@ -142,8 +142,8 @@ fn word_of<'a>(given: &ArgMatches<'a>, id: &str) -> Option<&'a str>
     given.get_str(id)
 }
 
-/// Returns the words of `hart encode`. Returns `None` if WHO, ADDRESS or COMMAND is missing, or if the number of preamble bytes is
-/// not from 5 to 20; clap lets neither happen.
+/// Returns the words of `hart encode`. Returns `None` if WHO, ADDRESS or COMMAND is missing, or if the number of preamble bytes is outside
+/// 5 to 20. clap excludes both cases.
 fn encode_words<'a>(given: &ArgMatches<'a>) -> Option<EncodeWords<'a>>
     ensures { result ≡ words_of (rows_of (found_of given.now)) }
 {
@@ -157,8 +157,8 @@ fn encode_words<'a>(given: &ArgMatches<'a>) -> Option<EncodeWords<'a>>
     })
 }
 
-/// Returns the words of `hart request`. Returns `None` if WHO, ADDRESS or COMMAND is missing, or if the number of preamble bytes is
-/// not from 5 to 20; clap lets neither happen.
+/// Returns the words of `hart request`. Returns `None` if WHO, ADDRESS or COMMAND is missing, or if the number of preamble bytes is outside
+/// 5 to 20. clap excludes both cases.
 fn request_words<'w, 'a: 'w>(given: &'w ArgMatches<'a>) -> Option<RequestWords<'w, 'a>>
     ensures { result ≡ request_words_of (rows_of (found_of given.now)) }
 {
@@ -202,7 +202,7 @@ fn hart_command<'a>(alloc: Global) -> Result<Command<'a>, AllocError>
     hart.bin_name("hart")
 }
 
-/// Returns `hart` with the subcommands that read an input, and `request`.
+/// Returns `hart` with the subcommand `request` and all subcommands that read an input.
 fn asking_command<'a>(alloc: Global) -> Result<Command<'a>, AllocError>
     ensures { IfOk result (λ command. app_of command ≡ asking_app) }
 {
@@ -312,7 +312,7 @@ fn image_command<'a>(
 // A `?` on a command takes the prover seconds, since the command is dropped there. So each such `?` stands in one of the next two
 // functions.
 
-/// Returns a command with one more subcommand, if both could be made.
+/// Returns a command with one more subcommand, if the command and the subcommand could be made.
 fn with_made<'a>(
     command: Result<Command<'a>, AllocError>,
     subcommand: Result<Command<'a>, AllocError>,
@@ -324,7 +324,7 @@ fn with_made<'a>(
     command?.subcommand(subcommand?)
 }
 
-/// Returns a command with one more argument, if it could be made.
+/// Returns a command with one more argument, if the command could be made.
 fn with_arg<'a>(
     command: Result<Command<'a>, AllocError>,
     arg: Arg<'a>,

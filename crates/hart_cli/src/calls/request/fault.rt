@@ -9,8 +9,8 @@ use hart_commands::request_rows;
 /// A bad word, and why it is bad.
 #[derive(Clone, Copy, Debug)]
 pub struct BadField {
-    /// The number of the bad word, from 4 on. It is 3 if the command is unknown or refuses the fields. If a field is missing, it is the
-    /// number after the last word.
+    /// The number of the bad word, from 4 on. It is 3 if the command is unknown or refuses the fields. If a field is missing, the number is
+    /// one more than the number of the last word.
     pub number: usize,
     /// What is wrong.
     pub fault: FieldFault,

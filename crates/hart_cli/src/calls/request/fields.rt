@@ -21,8 +21,8 @@ const FIRST_FIELD: usize = 4;
 ///
 /// # Errors
 ///
-/// [`BadField`] if the command is not known; then for the first word with a bad name; then for the first field of the command that is
-/// missing or whose value is bad; then if the command refuses the data.
+/// [`BadField`] for the first of these: the command, if it is not known; the first word with a bad name; the first field of the command
+/// that is missing or has a bad value; the command, if it refuses the data.
 pub fn payload_of(command: u8, words: &[&str]) -> Result<Payload, BadField>
     ensures { result ≡ payload_of command (map (λ word. word.now) words.now) }
 {
@@ -148,7 +148,7 @@ fn field_value(
     }
 }
 
-/// Returns the fault with the number of the word at this place among the words for fields, counted from 0.
+/// Returns the fault of the word at this place, with the number of the word. Places count only the words for fields, from 0.
 fn bad_at(place: usize, fault: FieldFault) -> BadField
     requires { place < 2 ^ 63 }
     ensures { result ≡ bad_at place fault }

@@ -12,7 +12,7 @@ pub struct Reason {
     pub number: Option<usize>,
     /// The part after the number. If there is no number, the last word, or nothing.
     pub after: &'static str,
-    /// With its number, a reason is at most 80 bytes long.
+    /// The parts besides the number have at most 60 bytes. A number has at most 20 digits, so a whole reason has at most 80 bytes.
     pub ghost short: { length before.now + length after.now ≤ 60 },
 }
 

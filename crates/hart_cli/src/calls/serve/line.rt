@@ -20,7 +20,7 @@ use hart_device::{Device, ImageRegisters, bench};
 use hart_frame::Char;
 use hart_line::{Digits, Filling};
 
-/// What a line that is no delivery asks of the device.
+/// What a line of words asks of the device. Such a line is no delivery.
 #[derive(Clone, Copy)]
 pub enum LineWord {
     /// The device was without power and is on again.

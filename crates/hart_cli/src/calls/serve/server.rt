@@ -1,4 +1,5 @@
-//! A device that serves, with the bytes read so far of its next line, and with its answers until they are written.
+//! A server: a device that answers lines. It keeps the bytes of the next line that were read so far, and its answers until they are
+//! written.
 ghost use Rattle.std.specs.Prelude.{◌≡◌, ◌≤◌, ◌↔◌, ◌+◌, ◌⊎◌, ◌++◌, ◌∷◌, [], ℕ, List, IfErr, IfOk, IsTrue, MatchOption, OnOk, length, take};
 ghost use Rattle.std.specs.Str.Lines.{strip_carriage_return};
 ghost use Rattle.hart_cli.specs.serve.Serve.{chars_room, line_room};
@@ -15,8 +16,8 @@ use hart_frame::Char;
 use hart_line::{Digits, Filling, NoRoom};
 use std::alloc::Global;
 
-/// The greatest number of bytes of a part that are kept. A part with this number of bytes or more is a line that is too long, even if its
-/// last byte is a carriage return.
+/// The greatest number of bytes that are kept of a part, which is the text from one line feed to the next. A part with this number of bytes
+/// or more is a line that is too long, even if its last byte is a carriage return.
 const MOST_KEPT: usize = INPUT_LIMIT + 2;
 
 /// The room for a part, and for the space after its line.

@@ -144,7 +144,8 @@ fn make_outcome_line(line: &mut TextLine, pairs: &Pairs, number: usize, outcome:
     line.push(b'\n');
 }
 
-/// Adds the words for the outcome of a submission to a line, which has at most the submission's number, of 20 digits, and a space.
+/// Adds the words for the outcome of a submission to a line. The line may already have the submission's number, of at most 20 digits, and a
+/// space.
 fn push_outcome(line: &mut TextLine, pairs: &Pairs, outcome: &Outcome)
     requires { length line.old ≤ 21 }
     ensures words { line.new ≡ line.old ++ join_with_byte 32 (outcome_words outcome.now) }
@@ -158,7 +159,7 @@ fn push_outcome(line: &mut TextLine, pairs: &Pairs, outcome: &Outcome)
     }
 }
 
-/// Adds the words of an answered submission to a line, which has at most the submission's number and a space.
+/// Adds the words of an answered submission to a line. The line may already have the submission's number and a space.
 fn push_answered(line: &mut TextLine, pairs: &Pairs, reply: &Reply, sendings: u8)
     requires { length line.old ≤ 21 }
     ensures words { line.new ≡ line.old ++ join_with_byte 32 (outcome_words (Answered reply.now sendings)) }

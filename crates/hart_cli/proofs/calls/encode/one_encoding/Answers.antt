@@ -8,7 +8,7 @@ use Rattle.hart_cli.specs.encode.MessageWords.{MessageWords}
 use Rattle.hart_cli.proofs.lemmas.text.MessageLine.{IsMessageLine-one}
 use Rattle.hart_cli.proofs.calls.encode.one_encoding.Goals as goal
 
--- the number of the first bad word says which words before it have values
+-- if a word is the first bad word, the words before it have values
 bad_parts : (words : MessageWords) (number : ℕ) → IsFirstBad words number
     → ((number ≡ 1) × HasNoValue (IsWho words.who))
     ⊎ ((number ≡ 2) × ((master : MasterId) × IsWho words.who master) × HasNoValue (IsAddressWord words.address))

@@ -8,7 +8,7 @@ use Rattle.hart_cli.specs.request.RequestWords.{RequestWords}
 use Rattle.hart_cli.proofs.lemmas.text.MessageLine.{IsMessageLine-one}
 use Rattle.hart_cli.proofs.calls.request.one_request.Goals as goal
 
--- the number of the first bad word says which words before it have values
+-- if a word is the first bad word, the words before it have values
 bad_parts : (words : RequestWords) (number : ℕ) → IsFirstBadWord words number
     → ((number ≡ 1) × HasNoValue (IsWho words.who))
     ⊎ ((number ≡ 2) × ((master : MasterId) × IsWho words.who master) × HasNoValue (IsAddressWord words.address))

@@ -32,7 +32,7 @@ use Rattle.hart_cli.specs.request.Values.{can_have, codes_value, date_value, dat
 use Rattle.hart_cli.specs.request.Values.{year_byte}
 use Rattle.hart_cli.proofs.calls.request.laws.fields_of_requests_are_those_given.Goals as goal
 
--- whether a row of fixed size can be written, or whether a row that takes all bytes left is the last row
+-- for a row of fixed size, whether it can be written; for a row that takes all bytes that are left, whether it is the last row
 abbrev closes : FieldKind → FieldSize → List Row → Bool
 closes kind (Exactly size) rows = is_writable kind (Exactly size)
 closes kind (AllBut after) [] = after == 0

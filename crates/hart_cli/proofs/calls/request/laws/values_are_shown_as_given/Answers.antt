@@ -122,7 +122,7 @@ dated_shown word day month (Some year) bytes is =
       | inr other ↦ absurd cc
     ]
 
--- if each date that may be read is shown as the word, the date that was read is shown as the word
+-- if every date that gives these bytes is shown as the word, the date that was read is shown as the word too
 read_shown : {A : Type 0} (read : Option A) (given : A → Result (List ℕ) FieldFault) (word bytes : List ℕ)
     → ((date : A) → given date ≡ Ok bytes → date_words bytes ≡ word) → option_map_or given read (Err NoDate) ≡ Ok bytes
     → date_words bytes ≡ word

@@ -27,7 +27,7 @@ counted : (year : ℤ) → pos 1900 ≤ℤ year → year ≤ℤ pos 2155
 counted (pos n) from to = (grind (arith, ints, to_z_pos), grind (arith, ints, to_z_pos), grind (arith, ints, nat_tests, to_z_pos))
 counted (negsuc n) from to = absurd (grind (arith, ints))
 
--- a day that jiff has in these years is in the calendar too, and its day, month and year become the bytes of that day
+-- a day of the years 1900 to 2155 that jiff has is a calendar day too, and its day, month and year become the bytes of that day
 jiff_day : (year : ℤ) (month day : ℕ) (year_given month_given day_given : ℤ) → IsYear year → IsInRange 1 12 month
     → IsInRange 1 (days_in_month year month) day → pos 1900 ≤ℤ year → year ≤ℤ pos 2155
     → year_given ≡ year → month_given ≡ pos month → day_given ≡ pos day

@@ -7,7 +7,7 @@ use Rattle.hart_cli.specs.serve.Line.{ServesLine, bad_hex, delivery, line_words,
 use Rattle.hart_cli.specs.serve.Server.{HearsText}
 use Rattle.hart_cli.proofs.calls.serve.line.serve_line.Goals as goal
 
--- a line and a space after it, without the last byte, are the line
+-- if a space follows a line, the text without its last byte is the line
 front : (text line : List ℕ) (count : ℕ) → text ≡ line ++ 32 ∷ [] → count ≡ length text - 1 → take count text ≡ line
 front text line count is len = grind (arith, common_steps)
 
