@@ -51,8 +51,8 @@ const PAYLOAD: [u8; 34] = [
 /// Zeros, enough for the request that needs the most data.
 const ZEROS: [u8; 32] = [0; 32];
 
-/// Whether a command with data is read as a request, and writing this request gives the wanted data; or whether the data are refused with
-/// the wanted code.
+/// Whether a command with data has the wanted result. Either it is read as a request, and writing this request gives the wanted data, or
+/// the data are refused with the wanted code.
 fn request_is(command: u8, bytes: &[u8], want: Result<&[u8], u8>) -> bool {
     match (Request::read(command, bytes), want) {
         (Ok(request), Ok(want)) => {
@@ -68,8 +68,8 @@ fn request_is(command: u8, bytes: &[u8], want: Result<&[u8], u8>) -> bool {
     }
 }
 
-/// Whether a payload holds a reply, and writing this reply gives the first `want` bytes of the payload; or whether it holds no reply, if
-/// `want` is `None`.
+/// Whether a payload is read as wanted. If `want` is a number, it holds a reply, and writing this reply gives the first `want` bytes of the
+/// payload. If `want` is `None`, it holds no reply.
 fn reply_is(command: u8, payload: &[u8], want: Option<usize>) -> bool {
     let Some(reply) = Reply::read(command, payload) else {
         return want.is_none();
@@ -172,8 +172,8 @@ const NO_IDENTITY: [u8; 24] = [
     0x00, 0x00, 0x00, 0x00, 0x37, 0x00, 0x37, 0x01,
 ];
 
-/// Commands and payloads. If the payload holds a reply, writing this reply gives the first bytes of the payload again, and the row says how
-/// many.
+/// Commands and payloads. If the payload holds a reply, the row has the number of bytes that writing this reply gives. They are the first
+/// bytes of the payload.
 const REPLIES: &[(u8, &[u8], Option<usize>)] = &[
     (0, &IDENTITY, Some(2 + 22)),
     (0, &NO_IDENTITY, None),
@@ -239,7 +239,7 @@ fn replies_say_their_content(rt: HostRuntime) {
     assert!(rt; says(19, &[0x07, 0x40], 7, 0x40, &ReplyContent::Refused));
 }
 
-/// Each register, and the bytes that a write of `TAG` puts into it, if it puts any.
+/// Each register, and the bytes that a write of `TAG` puts into the register, or `None` if the write does not set it.
 const NAMED: &[(Register, Option<&[u8]>)] = &[
     (Register::Polling, None),
     (Register::Mode, None),

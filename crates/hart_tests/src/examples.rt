@@ -1,4 +1,4 @@
-//! The examples in doc comments, as they stand there: `tools/doc_examples.py` compares them.
+//! The examples in doc comments. `tools/doc_examples.py` checks that the lines here are the same as there.
 //!
 //! The values that an example takes as given are made above the example.
 use crate::rows::chars_of_items;

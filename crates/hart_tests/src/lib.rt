@@ -1,5 +1,5 @@
-//! The tests of the crates from hart_values to hart_cli, a module for each crate. These tests try what no clause of a contract
-//! says: worked messages, texts, readers and writers that fail, and refused memory. What the modules share is in `rows`.
+//! The tests of the crates from hart_values to hart_cli, a module for each crate. These tests try what no contract promises: worked
+//! messages, texts, readers and writers that fail, and refused memory. What the modules share is in `rows`.
 //!
 //! The tests use only what a crate offers to every other crate. `tools/runs.py` runs the built program, and `tools/library_calls.c`
 //! tests the calls of hart_c from C.

@@ -159,7 +159,7 @@ fn is_read_as(alloc: Global, text: &[u8], want: Result<&str, usize>) -> Result<b
     })
 }
 
-/// Whether this command, submitted without data, is read if the command makes a request without data, and is a bad line otherwise.
+/// Submits this command without data. Returns whether the line is read if the command needs no data, and is a bad line otherwise.
 fn is_read_if_asked(alloc: Global, command: u8) -> Result<bool, Fail> {
     let text = format!(in alloc; "submit P 37420A1B2C {command}")?;
     let want = if Request::read(command, &[]).is_ok() {

@@ -78,8 +78,8 @@ fn refuses_another(master: &mut Master) -> Result<bool, Fail> {
     Ok(rejected.fault == MasterFault::Pending && rejected.request == Request::ReadPrimary)
 }
 
-/// Whether an idle master takes a submission and then refuses another submission, or refuses the first submission with the fault of its row
-/// and stays idle.
+/// Whether an idle master does with a submission what its row says. Without a fault it takes the submission, and refuses another one. With
+/// a fault it refuses the submission with this fault, and stays idle.
 fn is_taken_or_refused(submission: &Submission) -> Result<bool, Fail> {
     let (address, command, data, want) = *submission;
     let mut master = Master::new(MasterId::Secondary, 3, 41)?;
@@ -243,7 +243,7 @@ fn event_of(command: u8, payload: Option<&[u8]>) -> Result<MasterEvent, Fail> {
     Ok(answered.ok_or("either a code or content")?)
 }
 
-/// Returns whether a master accepts nothing before it sends, and whether it then accepts exactly the wanted reply.
+/// Returns whether a master accepts nothing before it sends, and whether it accepts exactly the wanted reply after it sent.
 fn accepts(row: &Heard) -> Result<(bool, bool), Fail> {
     let (address, command, data, first, second, want) = *row;
     let chars = heard(first, second).ok_or("characters")?;

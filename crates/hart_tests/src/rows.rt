@@ -1,4 +1,5 @@
-//! Helpers that compare results with what tests expect. A contract that is proved here is not proved again in each test.
+//! Helpers that compare results with what tests expect. What has to be proved about a helper is proved here once, and not again in each
+//! test.
 use hart_frame::Char;
 use hart_line::leading_item;
 use std::alloc::{AllocError, Global};

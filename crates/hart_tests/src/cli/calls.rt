@@ -65,7 +65,8 @@ pub const WRITE: Fault = (2, "write fault");
 
 pub const TOO_LONG: Fault = (3, "input too long");
 
-/// The fault and the text that are wanted of a call, and how often it must read and write; `None` if that does not matter.
+/// The fault and the text that are wanted of a call, and how often the call must read and write. `None` says that any number of reads or
+/// writes will do.
 #[derive(Clone, Copy)]
 pub struct Wanted<'a> {
     pub fault: Fault<'a>,
@@ -187,8 +188,8 @@ pub type Row<'a> = (&'a str, &'a str, Fault<'a>);
 /// The greatest numbers of bytes that a read returns. The numbers from 4 to 8 cut the second item of `FF FF!40` after each of its bytes.
 const PORTIONS: &[usize] = &[1, 2, 3, 4, 5, 6, 7, 8, 100, ALL];
 
-/// Whether a call does what a row says if `after` follows the row's input, for each size of a read in `PORTIONS`. A call that succeeds
-/// makes one read more than the input needs, and so finds the end of the input.
+/// Whether a call does what a row says. `after` follows the row's input, and each size of a read in `PORTIONS` is tried. A call that
+/// succeeds makes one read more than the input needs, and so finds the end of the input.
 pub fn does_as(
     rt: &impl Eprint,
     alloc: Global,

@@ -51,8 +51,8 @@ const DUMPED: &[Row] = &[
     ("02!08", "", (4, "bad hex at 0")),
 ];
 
-/// Inputs after which a read fails. An item is whole only if something follows its digits, and a failed read does not count. Bad
-/// hex before the failed read is reported first.
+/// Inputs after which a read fails. An item is whole only if something follows its digits. A failed read does not count as something that
+/// follows. Bad hex before the failed read is reported first.
 const BROKEN_OFF: &[Row] = &[
     ("", "", READ),
     (IDENTIFY, "", READ),
@@ -175,7 +175,7 @@ const EXPLAINED: &[Row] = &[
         to the device at polling address 0, Command 0, read unique identifier\n",
         NONE,
     ),
-    // The message lies in what would be a whole body after one preamble byte.
+    // After one preamble byte comes what would be a whole body, and the message lies inside it.
     (
         "FF 82 B7 42 0A 1B 2C 13 09 FF FF 02 80 00 00 82 00 00 50",
         "11-16: request of the primary master to the device at polling address 0, \

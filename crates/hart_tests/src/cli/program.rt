@@ -82,7 +82,8 @@ const REFUSALS: &[(&str, u8)] = &[
     ("frob", NO_CALL),
 ];
 
-/// Whether the status stays the same, and the text is written up to the failed write, if the write to `errors` with this number fails.
+/// Lets the write to `errors` with this number fail. Returns whether the status stays the same, and the text is written up to the failed
+/// write.
 fn leaves_status(
     rt: &impl Eprint,
     alloc: Global,

@@ -105,7 +105,7 @@ const TEXTS: &[Row] = &[
     ),
 ];
 
-/// Numbers, bytes, and no fields.
+/// Requests with fields of numbers and of bytes, and requests without fields.
 const NUMBERS: &[Row] = &[
     (
         "P",

@@ -72,7 +72,7 @@ const LINES: &[Row] = &[
     ),
     // A message has to stand in one line.
     ("FF FF 02 80\n00 00 82\n", "-\n-\n", NONE),
-    // Damage is heard.
+    // The device hears a character with fault bits, and replies with its communication faults.
     (
         "FF FF 82 B7 42 0A 1B 2C 13 03 01 23!40 45 3D\n",
         "FF FF FF FF FF 86 B7 42 0A 1B 2C 13 02 C0 00 9F\n",

@@ -42,7 +42,7 @@ pub const AS_NEW: &str = "counter 0\nimage 020001\
     820820820820820820820820820820820820820820820820820820820820820820820820820820820820\
     0000000000002020202020202020202020202020202020202020202020202020202020202020000000\n";
 
-/// The texts that are written before a failed read, each with the least number of bytes that must have been read before it is written.
+/// The texts that are written before a failed read. The number says how many bytes must have been read before the text is written.
 type Lines<'a> = &'a [(usize, &'a str)];
 
 /// Calls that read, their inputs, and what they write if a read fails.

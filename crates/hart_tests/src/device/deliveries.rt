@@ -155,8 +155,8 @@ fn is_met_with_fault_bits(exchange: &Exchange, place: usize, byte: u8) -> Result
     Ok(met)
 }
 
-/// Whether a request has the effect that it must have if it ends before a place, or if it has a character other than this byte
-/// there.
+/// Whether a request has the effect that it must have in two cases: it ends before a place, or it has there another character than this
+/// byte.
 fn is_met_with_damage(exchange: &Exchange, place: usize, byte: u8) -> Result<bool, Fail> {
     let cut = is_silent_before(exchange, place)?;
     let other = is_met_with_other_bytes(exchange, place, byte)?;

@@ -63,7 +63,7 @@ const BAD_IMAGES: &[BadImage] = &[
     (&[0xFF], 53, 85, DeviceFault::BadField),
 ];
 
-/// Bytes of the wrong length for an image of their version, or of an unknown version, and the fault.
+/// Bytes that are no image because their version is unknown or their length is wrong for their version, and the fault.
 const BAD_LENGTHS: &[(&[u8], DeviceFault)] = &[
     (&[], DeviceFault::BadLength),
     (&[0x00], DeviceFault::BadVersion),

@@ -104,8 +104,8 @@ fn replies_with_faults(device: &mut Device<FieldRegisters>) -> Result<bool, Fail
     Ok(reply.payload() == [0x88, 0x00].as_slice())
 }
 
-/// Whether a device shows a cold start to the primary master in the first of two replies but not in the second, and then to the other
-/// master too.
+/// Whether a device shows a cold start to the primary master in the first of two replies, but not in the second, and afterwards shows the
+/// cold start to the secondary master.
 fn is_shown_once(
     device: &mut Device<FieldRegisters>,
     row: &Row,

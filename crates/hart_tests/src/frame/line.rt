@@ -361,7 +361,7 @@ const MISSES: &[Missed] = &[
     ),
 ];
 
-/// Whether the reason why no frame stands at a place is the reason in its row.
+/// Whether `why_none` returns the reason that a row has for its place.
 fn has_its_reason((bytes, count, start, want): &Missed) -> Result<bool, Fail> {
     let chars = heard(bytes).ok_or("characters")?;
     let chars = chars.get(..*count).ok_or("at most 300 characters")?;

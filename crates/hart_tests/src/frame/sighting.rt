@@ -1,4 +1,4 @@
-//! Checks that the sightings that are decided while characters are heard are the messages and misses of the whole list.
+//! Compares the sightings that are decided while characters are heard with the messages and misses of the whole list.
 use crate::rows::{hold, hold_ok};
 use hart_frame::{After, Char, Miss, NextSighting, Sighting, first_frame, next_sighting, why_none};
 use std::alloc::Global;
@@ -236,7 +236,8 @@ fn heard(alloc: Global, chars: &[Char], ended: bool, size: usize) -> Result<Vec<
     Ok(hearing.seen)
 }
 
-/// Returns what is seen of the whole list: its messages, and the misses in each gap, judged without what comes before the gap.
+/// Returns what is seen of the whole list: its messages, and the misses in each gap. A miss is found from the gap and what follows it,
+/// without what comes before.
 fn of_whole(alloc: Global, chars: &[Char]) -> Result<Vec<Seen>, Fail> {
     let mut seen = Vec::new(alloc);
     let mut from = 0;
@@ -336,8 +337,8 @@ fn begins(all: &[Seen], first: &[Seen]) -> bool {
     all.get(..first.len()) == Some(first)
 }
 
-/// Whether characters that are made from a number have the sightings of the whole list, whether they are heard at once or in pieces. The
-/// sightings that are decided before the end must be the first sightings of the whole list.
+/// Makes characters from a number. Returns whether their sightings are those of the whole list, both when they are heard at once and in
+/// pieces. The sightings that are decided before the end must be the first sightings of the whole list.
 fn is_whole(alloc: Global, number: u64) -> Result<bool, Fail> {
     let mut chars = Vec::new(alloc);
     let mut state = number;

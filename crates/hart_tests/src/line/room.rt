@@ -12,7 +12,7 @@ const ZEROS: &[u8] = &[0; 80];
 /// Commands with more data than they need.
 const LONGER: &[&str] = &["6 0501", "9 0001020304F4F5F6", "38 0001"];
 
-/// What is heard in the two legs of a turn: each of three cases up with each of three cases down.
+/// What is heard in the two legs of a turn. Each of three cases for the leg up is combined with each of three cases for the leg down.
 const LEGS: &[&str] = &[
     "ok ok",
     "ok lost",
@@ -110,7 +110,7 @@ fn lens_of(alloc: Global, script: &str) -> Result<(usize, usize), Fail> {
     ))
 }
 
-/// Whether this number of submissions have an outcome each when a master has `times` turns after them.
+/// Gives a master `times` turns after submissions. Returns whether there are `submissions` outcomes, one for each submission.
 fn have_outcomes(
     alloc: Global,
     submitted: &str,
@@ -123,7 +123,7 @@ fn have_outcomes(
     Ok(outcomes == submissions)
 }
 
-/// Fails the test unless submissions have an outcome each, with one to four turns of a master after them.
+/// Gives a master one to four turns after submissions. Fails the test unless there is one outcome for each submission.
 fn take_turns(
     rt: &impl Abort,
     alloc: Global,

@@ -71,7 +71,8 @@ pub const COMMUNICATION_FAULTS: &str =
 pub const NOTHING_ASKED: &str =
     "turn P FFFF82B7420A1B2C13030123453C ok\nturn S FFFF82B7420A1B2C13030123453C lost";
 
-/// The reply to a request with another check byte is heard as it was sent, with a fault bit, and with another check byte.
+/// Three times a request is heard with another check byte. The device's reply is heard first as it was sent, then with a fault bit, then
+/// with another check byte.
 pub const REPLY_HEARD: &str = "submit P 37420A1B2C 19 012345\n\
     turn P FFFF82B7420A1B2C13030123453C FFFF86B7420A1B2C13028800D7\n\
     turn P FFFF82B7420A1B2C13030123453C FFFF86B7420A1B2C13028800D7!02\n\

@@ -3,7 +3,7 @@
 use super::{Row, is_written};
 use crate::rows::hold_ok;
 
-/// Names that are no fields of the command, are given twice or are missing.
+/// Words whose name is no field of the command or is given twice, and requests in which a field is missing.
 const NAMES: &[Row] = &[
     (
         "P",
