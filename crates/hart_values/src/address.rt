@@ -61,7 +61,8 @@ impl Address {
         }
     }
 
-    /// Returns the bytes of the address in a message from or to this master, with this burst bit.
+    /// Returns the bytes of the address in a message. The first byte includes the bit of this master (from or to whom the message is) and
+    /// the burst bit.
     pub fn bytes(self, master: MasterId, burst: bool) -> AddressBytes
         ensures { IsAddressBytes master burst self result }
     {

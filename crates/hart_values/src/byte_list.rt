@@ -3,7 +3,7 @@ ghost use Rattle.std.specs.Prelude.{◌≡◌, ◌+◌, ◌<◌, ◌≤◌, ◌�
 use arrayvec::ArrayVec;
 use std::marker::Model;
 
-/// A list of at most `N` bytes, stored in the value itself.
+/// A list of at most `N` bytes, stored inline, without an allocation.
 #[derive(Debug, Drop, PartialEq, Eq)]
 pub struct ByteList<const N: usize> {
     bytes: ArrayVec<u8, N>,

@@ -6,7 +6,7 @@ use thiserror::Error;
 /// Why a value was refused.
 #[derive(Clone, Copy, Debug, PartialEq, Eq, Error)]
 pub enum ValueFault {
-    /// A text or a list of bytes does not have the length that the value needs.
+    /// A text or a list of bytes does not have the required length.
     #[error("wrong length")]
     WrongLength,
     /// The byte at `place`, counted from 0, is no character of packed text.

@@ -1,4 +1,4 @@
-//! Laws: facts about the definitions without any code, for the crates that use this crate.
+//! Laws: facts about the definitions, not about code. They are for the crates that use this crate.
 ghost use Rattle.std.specs.Prelude.{◌≡◌, ◌↔◌, Bool, true, false, List, ℕ};
 ghost use Rattle.hart_values.specs.address.AddressBytes.{IsAddressBytes};
 ghost use Rattle.hart_values.specs.hart_date.Calendar.{IsDateBytes, is_date};

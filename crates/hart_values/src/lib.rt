@@ -26,8 +26,8 @@
 //! - `hart_date`: dates, and the calendar that they are checked against.
 //! - `status`: the two status bytes of a reply: either a response code and a device status, or communication faults.
 //!
-//! All other types are in the root of the crate: values of one or four bytes without an invariant, lists of bytes, and a pair of
-//! values for the two masters. The module [`laws`] states what is proved of the definitions without any code.
+//! All other types are in the root of the crate: small values (one or four bytes) that need no invariant, lists of bytes, and a pair of
+//! values for the two masters. The module [`laws`] states what is proved about the definitions, not about code.
 #![tactic(auto)]
 
 mod address;

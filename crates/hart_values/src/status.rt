@@ -13,7 +13,7 @@ const FAULTS_BIT: u8 = 0x80;
 /// What the two status bytes of a reply mean (HCF_SPEC-099).
 #[derive(Clone, Copy, Debug, PartialEq, Eq)]
 pub enum Status {
-    /// The response code and the device status: the device has received the request without faults.
+    /// The device has received the request without communication faults: a response code and the device status.
     Code(ResponseCode, DeviceStatus),
     /// The communication faults with which the device has received the request.
     Faulty(CommFaults),

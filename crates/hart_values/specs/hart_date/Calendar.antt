@@ -15,7 +15,7 @@ february_length year = if is_leap_year year then 29 else 28
 abbrev pub month_lengths : ℕ → List ℕ
 month_lengths year = 31 ∷ february_length year ∷ 31 ∷ 30 ∷ 31 ∷ 30 ∷ 31 ∷ 31 ∷ 30 ∷ 31 ∷ 30 ∷ 31 ∷ []
 
--- The calendar has a day if its month is from 1 to 12 and its day is from 1 to the length of that month.
+-- The calendar has a date if its month is from 1 to 12 and its day is from 1 to the length of that month.
 pub record IsCalendarDay (day month year : ℕ) : Type 0 where
   pub month_from : 1 ≤ month
   pub month_to : month ≤ 12

@@ -4,7 +4,7 @@ ghost use Rattle.hart_values.specs.hart_date.Calendar.{IsCalendarDay};
 
 use jiff::civil::Date;
 
-/// The year that the byte 0 stands for.
+/// The year that is written as the byte value 0.
 const FIRST_YEAR: i16 = 1900;
 
 /// Returns true if the calendar has this day. The year 0 means 1900.

@@ -1,4 +1,4 @@
-//! Four characters in three bytes, group by group.
+//! Packs every four characters into three bytes, and unpacks them.
 ghost use Rattle.std.specs.Prelude.{◌≡◌, ◌+◌, ◌*◌, ◌%◌, ◌<◌, ◌↔◌, length, slice_index, All, IsTrue, MatchOption};
 ghost use Rattle.hart_values.specs.packed_text.Packing.{IsCharacter, IsFirstBadCharacter, IsPacked, IsPackedGroup};
 
@@ -8,10 +8,10 @@ const FIRST_CHARACTER: u8 = 0x20;
 /// The last character of packed text.
 const LAST_CHARACTER: u8 = 0x5F;
 
-/// The six bits of a character that packed text keeps.
+/// The lower six bits of a character, which packed text keeps.
 const SIX_BITS: u32 = 0x3F;
 
-/// The bit of a character that packed text drops. A character has this bit set exactly if its next lower bit is clear.
+/// Bit 6 of a character, which packed text drops. It can be restored, because it is set exactly if bit 5 is clear.
 const DROPPED_BIT: u8 = 0x40;
 
 /// Returns true if this character can be packed.
@@ -57,7 +57,7 @@ fn pack_group(w: u8, x: u8, y: u8, z: u8) -> [u8; 3]
     [a, b, c]
 }
 
-/// Unpacks the four characters of three bytes.
+/// Unpacks three bytes into four characters.
 fn unpack_group(a: u8, b: u8, c: u8) -> [u8; 4]
     ensures packed { IsPackedGroup (slice_index result 0) (slice_index result 1) (slice_index result 2)
         (slice_index result 3) a b c }

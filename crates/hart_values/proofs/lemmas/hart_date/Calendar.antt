@@ -19,7 +19,7 @@ IsDate-iff y m d day month year same_year same_month same_day small = grind (ari
 pub passed_byte : (z : ℤ) (n : ℕ) → FitsSigned w8 (pos n) → z ≡ pos n → to_z w8 (of_z w8 z) ≡ pos n
 passed_byte z n fits e = rw e (to_z-of_z w8 (pos n) fits)
 
--- 1900 plus the byte of a year is unchanged when passed as a signed number of 16 bits
+-- the year 1900 + `year` fits in a signed number of 16 bits, so it is unchanged when it is passed as such a number
 pub passed_year : (z : ℤ) (year : ℕ) → year < 256 → z ≡ pos year
     → to_z w16 (of_z w16 (pos 1900 +ℤ to_z w16 (of_z w16 z))) ≡ pos (1900 + year)
 passed_year z year small e = grind (arith, ints, to_z_pos)
