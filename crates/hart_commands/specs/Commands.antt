@@ -20,32 +20,32 @@ use Rattle.hart_commands.specs.RequestReading.{Reading, needing, polling_reading
 use Rattle.hart_commands.specs.SensorBytes.{sensor_of}
 use Rattle.hart_commands.specs.Values.{unit_value_of}
 
--- How the data of a request are read. Either the request is always the same, or the bytes that the command needs determine the
--- request, or the command has its own reading.
+-- How the data of a request are read. There are three cases: the request is always the same; the bytes that the command needs determine it;
+-- or the command has a function that reads the data.
 pub data Asked : Type 0 where
   Always : Request → Asked
   Needing : (List ℕ → Request) → Asked
   AskedBy : (List ℕ → Reading) → Asked
 
--- The request that `bytes` ask for, or the code that refuses them. Their command needs `needed` bytes.
+-- The request that `bytes` ask for, or the code that refuses these bytes. The command needs `needed` bytes.
 abbrev pub asked : ℕ → Asked → List ℕ → Reading
 asked needed (Always request) bytes = Ok request
 asked needed (Needing request) bytes = needing needed request bytes
 asked needed (AskedBy reading) bytes = reading bytes
 
--- How the data of a reply are read. Either the bytes of the reply's fields determine the content, or the command has its own reading.
+-- How the data of a reply are read. Either the bytes of the reply's fields determine the content, or the command has a function that reads
+-- the data.
 pub data Replied : Type 0 where
   Saying : (List ℕ → ReplyContent) → Replied
   SaidBy : (List ℕ → Option ReplyContent) → Replied
 
--- The content that the data of a reply hold, if they hold a content. The data have these fields.
+-- The content of a reply's data, if the data hold a content. `fields` are the fields of the data.
 unfoldable pub replied : List Row → Replied → List ℕ → Option ReplyContent
 replied fields (Saying content) bytes = saying (total fields) content bytes
 replied fields (SaidBy reading) bytes = reading bytes
 
--- A command has a number, a name, the fields of its request data, how many bytes of request data it needs, the fields of its reply
--- data with code 0, and the registers that it writes. A write sets the first register to the first part of the written request
--- data, and so on.
+-- A command has a number, a name, the fields of its request data, how many bytes of request data it needs, the fields of its reply data
+-- with code 0, and the registers that it writes. A write sets each of its registers to one field of its request data, in the same order.
 pub record Command : Type 0 where
   pub number : ℕ
   pub name : List ℕ
@@ -80,8 +80,8 @@ writes number name fields needed asked replied registers = record {
   replied = replied;
 }
 
--- The known commands, one row each. Command 6 needs only the first of its two bytes. A list of fields has a name if it is used more
--- than once or has more than one field.
+-- The known commands, one row each. Command 6 needs only the first of its two bytes. A list of fields that is used more than once, or has
+-- more than one field, is defined by a name in `Fields`.
 abbrev pub commands : List CommandRow
 commands =
     reads 0 "read unique identifier" requests.Identify fields.identity (SaidBy identity_reading)
@@ -148,7 +148,7 @@ reply_rows number = option_map_or (λ command. command.reply) (known number) []
 unfoldable pub written_by : ℕ → List Register
 written_by number = option_map_or (λ row. row.command.writes) (command_row number) []
 
--- A command of the code's table, as contracts describe it.
+-- Turns a row of the code's table into a `Command` of the definitions.
 abbrev pub seen_command : CommandInCode → Command
 seen_command command = record {
   number = command.number;

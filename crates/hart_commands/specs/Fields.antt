@@ -155,14 +155,14 @@ long_tag = field "long tag" (Exactly 32) LatinText ∷ []
 abbrev pub counter : List Row
 counter = field "configuration change counter" (Exactly 2) Number ∷ []
 
--- How many of the `left` bytes a field takes. A field of exact size takes that size if there are enough bytes. A field of `AllBut
+-- How many of the `left` bytes a field takes. A field of exact size takes this number of bytes, if there are enough. A field of `AllBut
 -- after` takes all bytes except the last `after` bytes, if there are more than `after` bytes.
 abbrev pub size_in : FieldSize → ℕ → Option ℕ
 size_in (Exactly size) left = if nat_lt left size then None else Some size
 size_in (AllBut after) left = if nat_lt after left then Some (left - after) else None
 
--- If there are enough bytes for a field of this size, splits them into the bytes of the field, which come first, and the bytes
--- after the field.
+-- The first bytes, which are the bytes of a field of this size, and the bytes after the field. There is no result if there are too few
+-- bytes.
 abbrev pub split : FieldSize → List ℕ → Option (List ℕ × List ℕ)
 split size bytes = option_map (λ n. (take n bytes, drop n bytes)) (size_in size (length bytes))
 
@@ -188,6 +188,6 @@ field_bytes fields = map (λ field. field.bytes) fields
 abbrev pub bytes_of : List Field → List ℕ
 bytes_of fields = flat_map (λ field. field.bytes) fields
 
--- The row of a field in the code, as contracts describe it.
+-- Turns a row of a field in the code into a `Row` of the definitions.
 abbrev pub seen : FieldRow → Row
 seen row = record { name = row.name.now; size = row.size; kind = row.kind }

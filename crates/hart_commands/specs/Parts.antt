@@ -1,5 +1,5 @@
--- The parts of the data of requests and replies, one for each field, and the data that they make (HCF_SPEC-127). Own profile:
--- Command 6 is always written with two bytes.
+-- The data of requests and replies as parts, one for each field, and how the parts are joined (HCF_SPEC-127). Own profile: Command 6 is
+-- always written with two bytes.
 use Rattle.std.specs.Prelude.{ℕ, ◌/◌, ◌%◌, List, [], ◌∷◌, map, None, Some}
 use Rattle.std.specs.List.{flat_map}
 pub use Rattle.hart_values.specs.LoopMode.{mode_byte}

@@ -109,12 +109,12 @@ part_for register (first ∷ registers) (part ∷ parts) =
     if place_of first == place_of register then Some part else part_for register registers parts
 part_for register _ _ = None
 
--- The new bytes of a register, if the overwrite names that register. They are the part of the request for this register, among the
--- registers that the command writes.
+-- The new bytes of a register, if the overwrite names that register. These bytes are one part of the request's data: the part at the
+-- register's place in the list of registers that the command writes.
 abbrev pub named_in : Overwrite → Register → Option (List ℕ)
 named_in overwrite register = part_for register (written_by (command_of overwrite)) (request_parts overwrite)
 
--- An overwrite names valid bytes if the new bytes of each register that it names are valid in this register.
+-- An overwrite names valid bytes if all new bytes that it has for a register are valid in that register.
 abbrev pub NamesValid : Overwrite → Type 0
 NamesValid overwrite = (register : Register) → IfSome (named_in overwrite register) (IsValidIn register)
 

@@ -26,8 +26,8 @@ abbrev pub data_code : Reading → ℕ → ℕ
 data_code (Err code) counter = code
 data_code (Ok request) counter = counter_code request counter
 
--- Refusals come in this order: a command that is not in the table, too few data bytes, a write under protection, other bad data or
--- a wrong counter. Otherwise the code is 0.
+-- The first reason that applies refuses the request: an unknown command, too few data bytes, a write to a protected device, other bad data,
+-- a wrong counter. Without a reason the code is 0.
 abbrev pub request_code : ℕ → Reading → Bool → ℕ → ℕ
 request_code command reading protected counter =
     let code = data_code reading counter in

@@ -23,7 +23,7 @@ polling_with address mode =
     else if mode == 1 then Ok (SetPolling address Enabled)
     else Err 12
 
--- Without a mode, as older masters send it, Command 6 means mode 1 for address 0 and mode 0 for every other address.
+-- Older masters send Command 6 without a mode. Then the mode is 1 for address 0, and 0 for every other address.
 abbrev pub mode_left_out : ℕ → ℕ
 mode_left_out address = if address == 0 then 1 else 0
 

@@ -202,6 +202,6 @@ unit_row code = find (λ row. row.code == code) units
 abbrev pub unit_name : ℕ → Option (List ℕ)
 unit_name code = option_map (λ row. row.name) (unit_row code)
 
--- The row of a unit in the code, as contracts describe it.
+-- Turns a row of a unit in the code into a `UnitRow` of the definitions.
 abbrev pub seen_unit : UnitRowInCode → UnitRow
 seen_unit row = record { code = row.code; name = row.name.now }

@@ -1,4 +1,4 @@
--- The bytes of one variable in a reply, and how parts make data (HCF_SPEC-127).
+-- The bytes of one variable in a reply, and how parts are joined to data (HCF_SPEC-127).
 use Rattle.std.specs.Prelude.{ℕ, ◌+◌, List, [], ◌∷◌, ◌++◌, slice_index, slice_range}
 use Rattle.hart_values.specs.declared.bits32.Bits32.{Bits32}
 use Rattle.hart_commands.specs.declared.value.UnitValue.{UnitValue}

@@ -3,7 +3,7 @@ ghost use Rattle.std.specs.Prelude.{◌≡◌, ◌<◌, ◌≤◌, ◌↔◌, le
 use hart_values::{ByteList, ValueFault};
 use std::marker::Model;
 
-/// The codes of device variables that a request asks for, one to eight (HCF_SPEC-127, Command 9).
+/// A list of one to eight codes: the device variables that a request asks for (HCF_SPEC-127, Command 9).
 ///
 /// In contracts, a value of this type is the list of its codes.
 #[derive(Debug, Drop, PartialEq, Eq)]

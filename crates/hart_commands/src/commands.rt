@@ -26,7 +26,8 @@ pub fn command_name(command: u8) -> Option<&'static str>
 }
 
 /// Returns the fields of this command's request data, in order. An unknown command has no fields. The fields cover the first
-/// [`Request::data_len`](crate::Request::data_len) bytes. The caller has to cut off further bytes, which the command ignores.
+/// [`Request::data_len`](crate::Request::data_len) bytes. The command ignores further bytes, so the caller has to cut them off before it
+/// splits the data.
 pub fn request_rows(command: u8) -> &'static [FieldRow]
     ensures { map seen result.now ≡ request_rows command }
 {
@@ -36,9 +37,9 @@ pub fn request_rows(command: u8) -> &'static [FieldRow]
     }
 }
 
-/// Returns the fields of this command's reply data with response code 0, in order. An unknown command has no fields. The fields
-/// cover the first [`Reply::data_len`](crate::Reply::data_len) data bytes. The caller has to cut off further data, which are
-/// ignored.
+/// Returns the fields of this command's reply data with response code 0, in order. An unknown command has no fields. The fields cover the
+/// first [`Reply::data_len`](crate::Reply::data_len) data bytes. Further data are ignored, so the caller has to cut them off before it
+/// splits the data.
 pub fn reply_rows(command: u8) -> &'static [FieldRow]
     ensures { map seen result.now ≡ reply_rows command }
 {

@@ -13,7 +13,7 @@ use hart_values::{Bits32, ByteList, PackedText, Payload};
 mod reading;
 mod writing;
 
-/// The content of a reply: what its data after the status bytes mean for its command (HCF_SPEC-127).
+/// The content of a reply: the meaning of the data after the two status bytes, which depends on the command (HCF_SPEC-127).
 ///
 /// Numbers are not checked: a polling address may be above 63, a mode may be above 1, and a date may be outside the calendar.
 #[derive(Debug, Drop, PartialEq, Eq)]

@@ -1,4 +1,4 @@
-//! The fields of the data of requests and replies.
+//! The fields of request data and of reply data.
 ghost use Rattle.std.specs.Prelude.{◌≡◌, option_map};
 ghost use Rattle.hart_commands.specs.Fields.{split};
 

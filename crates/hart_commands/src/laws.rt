@@ -1,4 +1,4 @@
-//! Laws: facts about the definitions without any code, for the crates that use this crate.
+//! Laws: facts about the definitions, not about code. They are for the crates that use this crate.
 ghost use Rattle.std.specs.Prelude.{◌≡◌, ◌≢◌, ◌==◌, ◌||◌, ◌<◌, ◌≤◌, All, AllPairs, Contains, ◌↔◌, ◌++◌, List, ℕ, false, true, Ok, Err, Some};
 ghost use Rattle.std.specs.Prelude.{IsTrue, IsSome, drop, is_some, length, take};
 ghost use Rattle.hart_commands.specs.RequestData.{IsRequest, MayFollow, command_of, is_known, request_data, request_reading};
@@ -17,15 +17,14 @@ ghost use Rattle.hart_commands.specs.declared.content.ReplyContent.TheVariants.{
 
 use crate::{Register, Request};
 
-/// Every value of the type `Request` is well made, because the types of its parts ensure this.
+/// Every value of the type `Request` is well made (`IsRequest`), because the types of its parts ensure this.
 pub fn requests_are_well_made(request: &Request)
     ensures { IsRequest request.now }
 {
     request.command();
 }
 
-/// The written data of a well-made request are read back as that request, even with further bytes after them, if `MayFollow` allows
-/// these bytes.
+/// The written data of a well-made request are read back as that request. Bytes that `MayFollow` allows may come after these data.
 #[tactic(auto, using(crate::proofs::lemmas::Request::written_is_read))]
 pub fn written_data_are_read_again()
     ensures { (request : Request) (rest : List ℕ) → IsRequest request → MayFollow request rest
@@ -45,8 +44,8 @@ pub fn requests_have_their_command()
         → request_reading command bytes ≡ Ok request → (command_of request ≡ command) × IsRequest request }
 {}
 
-/// If data are read as a request, they agree with the request's written data in every place that both have. The data begin with
-/// all the written data, except for Command 6 without its mode. In this case the data are one byte, which is the first field.
+/// If data are read as a request, they begin with the request's written data, except for Command 6 without its mode. Data of Command 6
+/// without its mode are one byte, the first of the two fields that are written.
 pub fn read_data_begin_as_written()
     ensures agree { (command : ℕ) (bytes : List ℕ) (request : Request) → All (λ byte. byte < 256) bytes
         → request_reading command bytes ≡ Ok request
@@ -63,9 +62,8 @@ pub fn read_data_begin_as_written()
         ≡ take 1 (fields_of (request_rows command) (request_data request)) }
 {}
 
-/// Data are refused with code 5 exactly if they are too few for their command. So data of at least the needed length are never
-/// refused with code 5. If data are refused with code 5 and bytes are added to them, the longer data are refused with code 5 too, as
-/// long as they are shorter than needed.
+/// Data are refused with code 5 exactly if they are too few for their command. So data of at least the needed length are never refused with
+/// code 5. If bytes are added to refused data and the longer data are still too short, they are refused with code 5 too.
 pub fn too_few_data_are_fewer_than_needed()
     ensures exactly { (command : ℕ) (bytes : List ℕ) → (request_reading command bytes ≡ Err 5) ↔ AreTooFew command bytes }
     ensures enough { (command : ℕ) (bytes : List ℕ) → needed_data command ≤ length bytes → request_reading command bytes ≢ Err 5 }
@@ -104,14 +102,14 @@ pub fn configuration_writes_have_these_numbers()
         ≡ ((command == 6) || (command == 17) || (command == 18) || (command == 19) || (command == 22)) }
 {}
 
-/// The overwrite of a well-made write leaves valid contents valid.
+/// If the contents of all registers are valid, they are still valid after the overwrite of a well-made write.
 #[tactic(auto, unfolding(crate::specs::Commands::written_by))]
 pub fn overwrites_are_valid()
     ensures { (write : Request) (old : Contents) → IsRequest write → AreValid old → AreValid (overwritten write old) }
 {}
 
-/// The written payload of a well-made reply is read back as that reply. Every reply that is read from a payload is well made. If it
-/// is written again, the result is the first bytes of that payload. Its command is known and its response code is below 128. If the
+/// The written payload of a well-made reply is read back as that reply. Every reply that is read from a payload is well made. If such a
+/// reply is written again, the result is a prefix of that payload. Such a reply has a known command and a response code below 128. If the
 /// code is not 0, the content is `Refused`.
 pub fn written_payloads_are_read_again()
     ensures again { (reply : Reply) → IsReply reply → reply_reading reply.command (reply_payload reply) ≡ Some reply }

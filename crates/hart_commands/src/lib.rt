@@ -12,15 +12,16 @@
 //! assert_eq!(rt; data.as_slice(), [0x01, 0x23, 0x45].as_slice());
 //! ```
 //!
-//! [`request_code`] returns the response code of a request to a device with this write protection and this counter. [`writes_of`]
-//! returns the registers that a write sets. The crate `hart_device` decides whether a device answers. No call of this crate allocates.
+//! [`request_code`] returns the response code of a request, which depends on the device's write protection and configuration change
+//! counter. [`writes_of`] returns the registers that a write sets. The crate `hart_device` decides whether a device answers. No call of
+//! this crate allocates.
 //!
 //! [`command_name`] names a command; [`request_rows`] and [`reply_rows`] name the fields of its data. [`needed_data`] returns how
 //! many data bytes a command needs; [`Request::data_len`] and [`Reply::data_len`] return how many data bytes a message has.
 //!
-//! No other crate of `hart` calls [`is_write`] or [`CodeList::new`]: they are for programs that make requests. The module [`laws`]
-//! states what is proved of the definitions without any code: written data are read back, fields cover the data and have the width
-//! of their kind, and the configuration writes are Commands 6, 17, 18, 19 and 22.
+//! No other crate of `hart` calls [`is_write`] or [`CodeList::new`]: they are for programs that make requests. The module [`laws`] states
+//! what is proved about the definitions, not about code: written data are read back, fields cover the data and have the width of their
+//! kind, and the configuration writes are Commands 6, 17, 18, 19 and 22.
 #![tactic(auto)]
 
 mod code_list;

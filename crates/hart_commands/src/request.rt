@@ -58,15 +58,15 @@ pub enum Request {
     IdentifyByLongTag([u8; 32]),
     /// Command 22, a write: the long tag.
     WriteLongTag([u8; 32]),
-    /// Command 38: this master has seen the configuration changes. If a configuration change counter is given, it has seen the
-    /// changes up to this counter.
+    /// Command 38: this master has seen the configuration changes. If the request has a configuration change counter, the master has seen
+    /// the changes up to this counter.
     ResetChanged(Option<u16>),
     /// Command 48: the additional status bytes.
     ReadMore,
 }
 
 impl Request {
-    /// Reads the data bytes of a request of this command. Bytes after those that the command takes are ignored.
+    /// Reads the data bytes of a request of this command. Ignores any bytes after the data of the command.
     ///
     /// ```rust
     /// let request = Request::read(19, &[0x01, 0x23, 0x45, 0x67])?;
@@ -75,9 +75,8 @@ impl Request {
     ///
     /// # Errors
     ///
-    /// The first response code that applies and does not depend on the device: code 64 if no request has this command; code 5 if
-    /// there are too few bytes; for Command 6, code 2 for an address above 63, then code 12 for a mode above 1; for Command 18,
-    /// code 9 for a bad date.
+    /// The first response code that applies and does not depend on the device: code 64 if the command is not known; code 5 if there are too
+    /// few bytes; for Command 6, code 2 for an address above 63, then code 12 for a mode above 1; for Command 18, code 9 for a bad date.
     pub fn read(command: u8, bytes: &[u8]) -> Result<Self, ResponseCode>
         ensures read { result ≡ request_reading command bytes.now }
         ensures well_made { IfOk result IsRequest }
@@ -114,7 +113,7 @@ impl Request {
         ensures command { result ≡ command_of self.now }
         ensures well_made { IsRequest self.now }
     {
-        // The contract of `parts` says that the request is well made.
+        // Called only for its contract, which says that the request is well made.
         self.parts(&mut [0; 2]);
         match self {
             Request::Identify => 0,

@@ -3,7 +3,7 @@ ghost use Rattle.std.specs.Prelude.{◌≡◌, ◌+◌, ◌<◌, ◌≤◌, [], 
 use arrayvec::ArrayVec;
 use std::marker::Model;
 
-/// A list of at most `N` items, stored in the value itself.
+/// A list of at most `N` items, stored inline, without an allocation.
 ///
 /// In contracts, a value of this type is the list of its items.
 #[derive(Debug, Drop, PartialEq, Eq)]

@@ -194,8 +194,8 @@ const UNITS: &[UnitRow] = units! {
     253, "special";
 };
 
-/// Returns the name of a unit code, such as `degrees Celsius` for 32, or `None` if the code has no name that holds for every class
-/// of device variables (HCF_SPEC-183).
+/// Returns the name of a unit code, such as `degrees Celsius` for 32, or `None` if the code does not name the same unit in every class of
+/// device variables (HCF_SPEC-183).
 pub fn unit_name(code: u8) -> Option<&'static str>
     ensures { option_map (λ name. name.now) result ≡ unit_name code }
 {

@@ -1,4 +1,4 @@
--- Each field of data has a number of bytes that its kind allows.
+-- Each field of data has a width of its kind: a number of bytes that its kind allows.
 use Rattle.std.proofs.Common.{◌≡◌, ℕ, ◌+◌, ◌*◌, ◌<◌, ◌≤◌, ◌⊎◌, inl, inr, List, [], ◌∷◌, All, Option, None, Some, IfSome, take, drop, length}
 use Rattle.std.proofs.Common.{arith, length-drop, length-take, lit<, refl, rules}
 use Rattle.std.proofs.lemmas.Bool.Decides.{nat_tests}
@@ -24,7 +24,7 @@ use Rattle.hart_commands.proofs.lemmas.Reply.{variables_whole}
 use Rattle.hart_commands.proofs.lemmas.Rows.{of_known}
 use Rattle.hart_commands.specs.Fields as fields
 
--- whether a field of this kind and size has a width of this kind, in any data
+-- whether each field of this size, in any data, has a width of this kind
 abbrev pub Suits : FieldKind → FieldSize → Type 0
 Suits kind (Exactly size) = IsWidthOf kind size
 Suits Bytes (AllBut after) = Unit {0}
@@ -33,7 +33,7 @@ Suits _ (AllBut after) = ⊥
 abbrev pub AreSuited : List Row → Type 0
 AreSuited these = AllByRecursion (λ row. Suits row.kind row.size) these
 
--- each field that these rows have in the data has a width of its kind
+-- in these data, the field of each row has a width of its kind
 abbrev pub Fit : List Row → List ℕ → Type 0
 Fit these bytes = All HasWidthOfKind (fields_of these bytes)
 
@@ -63,7 +63,7 @@ widths (row ∷ others) bytes suited = step row others bytes _ refl suited.0 (λ
 requests_suited : AllByRecursion (λ row. AreSuited row.command.request) commands
 requests_suited = search rules
 
--- whether the command is Command 9 with the fields of device variables in its reply, or the size of each reply row suits its kind
+-- whether the size of each reply row suits its kind, or the command is Command 9 and its reply has the fields `variables`
 abbrev pub SuitsReplies : Command → Type 0
 SuitsReplies command = ((command.number ≡ 9) × (command.reply ≡ fields.variables)) ⊎ AreSuited command.reply
 
@@ -98,7 +98,7 @@ said : (code status : ℕ) (bytes : List ℕ) (reply : Reply) → reply_reading 
 unfolding replied
 said code status bytes reply read = grind (arith, nat_tests)
 
--- in the data that the content of a reply to Command 9 takes, each field has a width of its kind
+-- if bytes are read as the content of a reply to Command 9, each field in the bytes of this content has a width of its kind
 of_content : (bytes : List ℕ) (content : ReplyContent) → (content ≡ Refused) ⊎ (variables_reading bytes ≡ Some content)
     → Fit fields.variables (take (length (content_bytes content)) bytes)
 of_content bytes content (inl refused) = rw refused (All-nil HasWidthOfKind)

@@ -1,4 +1,4 @@
--- Parts of data, one after another, and lists of `n` bytes, seen byte by byte.
+-- Lemmas about joined parts of data, and about lists that are written byte by byte.
 use Rattle.std.proofs.Common.{◌≡◌, ℕ, ◌≤◌, zero, suc, List, [], ◌∷◌, ◌++◌, take, drop, length, map, refl, subst, arith, slice_index}
 use Rattle.std.proofs.Common.{ap, append-nil, sym}
 use Rattle.std.proofs.lemmas.Grind.{common_steps}
@@ -27,7 +27,7 @@ whole n xs long = take_all n xs (omega (arith, long))
 pub by_spelling : (n : ℕ) (P : List ℕ → Type 0) → ((xs : List ℕ) → P (spell n xs)) → (xs : List ℕ) → length xs ≡ n → P xs
 by_spelling n P each xs long = subst P (spelled n xs long) (each xs)
 
--- if the parts of values with units are joined after other bytes, the result is these bytes, then the bytes of the values
+-- joining some bytes and the parts of values with units gives these bytes, then the bytes of the values
 pub joined_values : (bytes : List ℕ) (vs : List UnitValue)
     → joined (bytes ∷ flat_map unit_value_parts vs) ≡ bytes ++ flat_map unit_value_bytes vs
 joined_values bytes [] = sym (append-nil bytes)

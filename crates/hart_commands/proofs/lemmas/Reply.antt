@@ -31,7 +31,7 @@ use Rattle.hart_commands.specs.Fields as fields
 abbrev pub IsParted : ℕ → ReplyContent → Type 0
 IsParted command content = field_bytes (fields_of (reply_rows command) (content_bytes content)) ≡ content_parts content
 
--- a content that was read from bytes is written as the first of these bytes, it is read back, and its fields are its parts
+-- a content that was read from bytes is kept: it is written as a prefix of these bytes, is read back, and its fields are its parts
 abbrev pub IsKept : ℕ → (List ℕ → Option ReplyContent) → List ℕ → ReplyContent → Type 0
 IsKept command read bytes content =
     (content_bytes content ≡ take (length (content_bytes content)) bytes) × (read (content_bytes content) ≡ Some content)
@@ -40,7 +40,7 @@ IsKept command read bytes content =
 abbrev pub Keeps : ℕ → (List ℕ → Option ReplyContent) → Type 0
 Keeps command read = (bytes : List ℕ) → IfSome (read bytes) (IsKept command read bytes)
 
--- a reading of `size` bytes keeps every content if it keeps the content of any `size` bytes that are spelled one by one
+-- to show that a reading of `size` bytes keeps every content, it is enough to show it for bytes that `spell` writes one by one
 said : (command size : ℕ) (read : List ℕ → Option ReplyContent)
     → ((xs : List ℕ) → IfSome (read (spell size xs)) (λ content. (content_bytes content ≡ spell size xs) × IsParted command content))
     → Keeps command (having size None read)
@@ -65,7 +65,7 @@ in_groups _ some few bytes long = absurd (omega arith)
 dynamic : Keeps 3 dynamic_reading
 dynamic bytes = grind (arith, common_steps, nat_tests, in_groups)
 
--- if a device status, one to eight variables and a time stamp are all of the bytes, they are kept
+-- a device status, one to eight variables and a time stamp are kept, if no other bytes follow
 in_variables : (groups : ℕ) → 0 < groups → groups < 9 → (bytes : List ℕ) → length bytes ≡ 5 + 8 * groups
     → IfSome (variables_reading bytes) (λ content. (content_bytes content ≡ bytes) × IsKept 9 variables_reading bytes content)
 unfolding known
@@ -82,7 +82,7 @@ in_variables _ some few bytes long = absurd (omega arith)
 variables : Keeps 9 variables_reading
 variables bytes = grind (arith, common_steps, nat_tests, in_variables ((length bytes - 5) / 8))
 
--- bytes that are read as device variables have the length 5 + 8 n, where n is the number of variables, from 1 to 8
+-- bytes that are read as `n` device variables, one to eight, have the length 5 + 8 n
 variables_sized : (bytes : List ℕ) (content : ReplyContent) → variables_reading bytes ≡ Some content
     → (0 < (length bytes - 5) / 8) × ((length bytes - 5) / 8 < 9) × (length bytes ≡ 5 + 8 * ((length bytes - 5) / 8))
 variables_sized bytes content e = grind (arith, nat_tests)

@@ -12,12 +12,12 @@ use Rattle.hart_commands.specs.declared.request.Request.{Request}
 use Rattle.hart_commands.specs.declared.request.Request.TheVariants.{SetPolling, ReadVariables, ResetChanged, WriteTag}
 use Rattle.hart_commands.proofs.lemmas.Parts.{spelled}
 
--- if there are as many bytes as a request needs, they are read, whatever follows them
+-- if the first `size` bytes are all that a request needs, the request is read from them, whatever bytes follow
 needing-append : (size : ℕ) (asked : List ℕ → Request) (bytes rest : List ℕ) → length bytes ≡ size
     → needing size asked (bytes ++ rest) ≡ Ok (asked bytes)
 needing-append size asked bytes rest long = grind (arith, common_steps, nat_tests, length-append, take_at)
 
--- if there are eight codes, or at most eight with nothing after them, all of them are taken, and nothing else
+-- exactly the codes are taken if there are eight of them, or if there are fewer and no bytes follow
 take-codes : (codes rest : List ℕ) → length codes ≤ 8 → (length codes ≡ 8) ⊎ (rest ≡ []) → take 8 (codes ++ rest) ≡ codes
 take-codes codes rest few (inl eight) = take_at codes rest 8 eight
 take-codes codes rest few (inr none) = rw (none, append-nil) (take_all 8 codes few)

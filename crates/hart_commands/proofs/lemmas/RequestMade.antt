@@ -19,7 +19,7 @@ use Rattle.hart_commands.specs.TagBytes.{tag_in, descriptor_in, date_in}
 use Rattle.hart_commands.specs.declared.request.Request.{Request}
 use Rattle.hart_commands.proofs.lemmas.Rows.{by_row}
 
--- data begin with the data of the written request, or are a polling address without the mode that is written after it
+-- data begin with the data of the written request, or are only the polling address of a Command 6, which is written with a mode too
 abbrev pub AreBegun : ℕ → List ℕ → List ℕ → Type 0
 AreBegun command bytes written =
     (take (length written) bytes ≡ written) ⊎ ((command ≡ 6) × (length bytes ≡ 1) × (length written ≡ 2) × (bytes ≡ take 1 written))

@@ -12,8 +12,7 @@ by_row P Q [] number all none some = none
 by_row P Q (row ∷ rows) number all none some =
     grind (arith, nat_tests, some row, by_row P Q rows number all.1 none some)
 
--- If a test looks at the mapped row, then finding the first row and mapping it has the same result as mapping all rows and finding
--- the first of these.
+-- If rows are mapped, the first mapped row that passes a test comes from the first row whose mapped form passes it.
 pub find-map : {X Y : Type 0} (v : X → Y) (p : Y → Bool) (xs : List X) → option_map v (find (λ x. p (v x)) xs) ≡ find p (map v xs)
 find-map v p [] = refl
 find-map v p (x ∷ xs) = grind (arith, find-map v p xs)

@@ -2,9 +2,8 @@
 use crate::FieldSize::{AllBut, Exactly};
 use crate::{FieldKind, FieldRow, Register};
 
-/// A command: its number, its name, the fields of its request data, how many bytes of request data it needs, the fields of its
-/// reply data with code 0, and the registers that it writes. A write sets the first register to the first part of the written
-/// request data, and so on.
+/// A command: its number, its name, the fields of its request data, how many bytes of request data it needs, the fields of its reply data
+/// with code 0, and the registers that it writes. A write sets each of its registers to one field of its request data, in the same order.
 pub struct Command {
     pub number: u8,
     pub name: &'static str,

@@ -5,9 +5,9 @@ ghost use Rattle.hart_commands.specs.RequestCode.{counter_code, data_code, reque
 use crate::{Request, is_write};
 use hart_values::ResponseCode;
 
-/// Returns the response code of a request of this command. `reading` is what its data were read as; `protected` and `counter` are
-/// the device's write protection and configuration change counter. Codes 64 and 5 come first, then code 7 for a write under
-/// protection, then the other codes of the data and of the counter.
+/// Returns the response code of a request of this command. `reading` is the result of [`Request::read`]; `protected` and `counter` are the
+/// device's write protection and configuration change counter. The first of these applies: code 64 or 5 of `reading`; code 7 for a write to
+/// a protected device; any other code of `reading`; code 9 for a wrong counter; code 0.
 pub fn request_code(
     command: u8,
     reading: &Result<Request, ResponseCode>,
@@ -29,7 +29,7 @@ pub fn request_code(
     }
 }
 
-/// Returns the code that refuses bad data, or for good data the code of the counter.
+/// Returns the code that refuses the data. If the data are good, returns the code that depends on the counter.
 fn data_code(reading: &Result<Request, ResponseCode>, counter: u16) -> ResponseCode
     ensures { result ≡ data_code reading.now counter }
 {

@@ -1,4 +1,4 @@
-//! Reads the data of requests that need more than one line in `Request::read`.
+//! Helpers of `Request::read`: they read the data for which one line of code is not enough.
 ghost use Rattle.std.specs.Prelude.{◌≡◌, ◌≤◌, ◌↔◌, if◌then◌else◌, length, take, IsOk, IfOk, IfErr, Ok, Err};
 ghost use Rattle.hart_values.specs.hart_date.Calendar.{is_date};
 ghost use Rattle.hart_commands.specs.RequestReading.{polling_reading, codes_reading, tag_reading, reset_reading};
@@ -19,7 +19,7 @@ pub fn needed<const N: usize>(all: &[u8]) -> Result<[u8; N], ResponseCode>
     }
 }
 
-/// Reads a request of Command 6: a polling address, and a loop current mode, which older masters leave out.
+/// Reads a request of Command 6: a polling address and a loop current mode. Older masters leave out the mode.
 pub fn read_set_polling(bytes: &[u8]) -> Result<Request, ResponseCode>
     ensures { result ≡ polling_reading bytes.now }
 {
