@@ -1,5 +1,5 @@
--- The state of a device in contracts, and how a command, a reply and a restart change it (HCF_SPEC-099, HCF_SPEC-127; own profile:
--- Command 38 is no write, a write counts even if the register already holds its bytes, and each master has a cold start bit).
+-- The state of a device in contracts, and how a command, a reply and a restart change it (HCF_SPEC-099, HCF_SPEC-127). Own profile: Command
+-- 38 is no write; a write counts even if the register already holds the same bytes; each master has its own cold start bit.
 use Rattle.std.specs.Prelude.{ℕ, ◌<◌, ◌+◌, ◌%◌, ◌^◌, Bool, true, false}
 use Rattle.hart_values.specs.declared.master_id.MasterId.{MasterId}
 use Rattle.hart_values.specs.EachMaster.{with_master}

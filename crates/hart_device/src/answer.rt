@@ -26,10 +26,10 @@ mod variables;
 const IDENTIFY: u8 = 0;
 
 impl<S: RegisterStore> Device<S> {
-    /// Hears a delivery, which is all that was heard at once, and returns the reply. If the delivery has exactly one frame, the
-    /// device receives that frame as [`Device::receive`] does. If the delivery has no frame, but a garbled request (a request to
-    /// this device, heard with faults), the reply has the communication faults of the request, and the device is unchanged. For any
-    /// other delivery the device is silent (`None`) and unchanged.
+    /// Hears a delivery, which is all that was heard at once, and returns the reply. If the delivery has exactly one frame, the device
+    /// receives that frame as [`Device::receive`] does. A garbled request is a request to this device that was heard with faults. If the
+    /// delivery has no frame but a garbled request, the reply has the communication faults of this request, and the device is unchanged.
+    /// For any other delivery the device is silent (`None`) and unchanged.
     ///
     /// ```rust
     /// let mut device: Device<FieldRegisters> = Device::new(
@@ -130,8 +130,8 @@ impl<S: RegisterStore> Device<S> {
         }
     }
 
-    /// Returns true if the device answers a frame with this reading (its request, or the code that refuses its data) and this
-    /// response code.
+    /// Returns true if the device answers a frame. `reading` is the request in the frame, or the code that refuses the frame's data; `code`
+    /// is the frame's response code.
     fn answers(
         &self,
         frame: &Frame,
@@ -172,7 +172,8 @@ impl<S: RegisterStore> Device<S> {
         }
     }
 
-    /// Returns true if Command 11 names a tag other than the device's, or Command 21 a long tag other than the device's.
+    /// Returns true if the request is Command 11 with a tag that is not the device's, or Command 21 with a long tag that is not the
+    /// device's.
     fn names_another(&self, reading: &Result<Request, ResponseCode>) -> bool
         ensures { result ≡ names_another self.now reading.now }
     {

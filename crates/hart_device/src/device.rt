@@ -10,11 +10,10 @@ use crate::{Identity, RegisterStore, RegisterValues};
 use hart_values::{EachMaster, MasterId};
 use std::marker::Model;
 
-/// A HART field device (HCF_SPEC-081, HCF_SPEC-127), over any store of its registers.
+/// A HART field device (HCF_SPEC-081, HCF_SPEC-127), generic over the store of its registers.
 ///
-/// Contracts see its identity, the contents of its registers, the configuration change counter, the configuration-changed bit of
-/// each master, whether it is write protected, and the cold start bit of each master. Every register holds bytes that are valid in
-/// it.
+/// In contracts, a device is its identity, the contents of its registers, its configuration change counter, whether it is write protected,
+/// and the configuration-changed bit and the cold start bit of each master. Every register holds bytes that are valid in it.
 #[derive(Debug, Drop)]
 pub struct Device<S: RegisterStore> {
     pub(crate) identity: Identity,
@@ -105,7 +104,7 @@ impl<S: RegisterStore> Device<S> {
         *self.cold_start.get(master)
     }
 
-    /// Sets the cold start bits, which are clear in a device made from an image. Nothing else changes.
+    /// Sets the cold start bits. They are clear in a device that was made from an image. Nothing else changes.
     pub fn restore_cold_start(&mut self, cold_start: EachMaster<bool>)
         ensures { self.new ≡ record self.old { cold_start = cold_start } }
     {
@@ -141,7 +140,7 @@ impl<S: RegisterStore> Device<S> {
         self.counter
     }
 
-    /// Returns true if a configuration write was executed since this master's last reset.
+    /// Returns this master's configuration-changed bit: true if a configuration write was executed since the master last reset this bit.
     pub fn changed(&self, master: MasterId) -> bool
         ensures { result ≡ of_master master self.now.changed }
     {

@@ -5,7 +5,7 @@ ghost use Rattle.hart_device.specs.FaultText.{device_fault_text};
 use std::fmt;
 use thiserror::Error;
 
-/// Why the parts of an identity, or an image, were refused.
+/// Why the parts of an identity were refused, or why an image was refused.
 #[derive(Clone, Copy, Debug, PartialEq, Eq, Error)]
 pub enum DeviceFault {
     /// The unique address would be the broadcast address.

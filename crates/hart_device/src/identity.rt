@@ -11,9 +11,9 @@ use std::marker::Model;
 /// The major revision of the protocol.
 const PROTOCOL_REVISION: u8 = 7;
 
-/// Who a device is (HCF_SPEC-127). Its numbers are in range, and its unique address is not broadcast.
+/// Who a device is (HCF_SPEC-127). Its numbers are in range, and its unique address is not the broadcast address.
 ///
-/// Contracts see its parts.
+/// In contracts, an identity is its parts.
 #[derive(Clone, Copy, Debug, PartialEq, Eq)]
 pub struct Identity {
     parts: IdentityParts,
@@ -37,9 +37,9 @@ impl Identity {
     ///
     /// # Errors
     ///
-    /// [`DeviceFault::OutOfRange`] if the device id is above 16,777,215, a number of preamble bytes is outside 5 to 20, the
-    /// hardware revision is above 31 or the signalling code is above 7. Otherwise [`DeviceFault::BroadcastAddress`] if the lower 14
-    /// bits of the device type and the device id are both 0.
+    /// [`DeviceFault::OutOfRange`] if the device id is above 16,777,215, a number of preamble bytes is outside 5 to 20, the hardware
+    /// revision is above 31 or the signalling code is above 7. Otherwise [`DeviceFault::BroadcastAddress`] if the device id and the lower
+    /// 14 bits of the device type are both 0.
     pub fn new(parts: IdentityParts) -> Result<Self, DeviceFault>
         ensures accepted { IsOk result ↔ AreIdentityParts parts }
         ensures kept { IfOk result (λ identity. identity ≡ parts) }

@@ -49,8 +49,8 @@ pub fn refused_commands_change_nothing()
         → is_answered state frame ≡ false → state_after state frame ≡ state }
 {}
 
-/// An answer is a reply to the frame, and the first byte of its payload is the response code for the frame. If the device is
-/// silent, the frame is not answered.
+/// An answer is a reply to the frame, and the first byte of its payload is the response code for the frame. If there is no answer,
+/// `is_answered` is false for the frame.
 pub fn answers_give_their_code()
     ensures answered { (state : DeviceState) (process : Process) (frame reply : FrameParts)
         → answer_of state process frame ≡ Some reply
@@ -105,9 +105,9 @@ pub fn answers_are_replies()
         → reply_reading frame.command answer.payload ≡ Some (reply_of state process frame) }
 {}
 
-/// A restart sets both masters' cold start bits. A reply with a response code shows the bit of its master and clears it. The bit of
-/// the other master is unchanged, and without a reply both bits are unchanged. So after a restart only the first such reply to each
-/// master shows the bit, until the next restart.
+/// A restart sets both masters' cold start bits. A reply with a response code shows the bit of its master and clears it. The bit of the
+/// other master is unchanged, and without a reply both bits are unchanged. So from a restart until the next one, only the first reply with
+/// a response code to each master shows the bit.
 pub fn cold_starts_are_shown_once()
     ensures shown { (state : DeviceState) (process : Process) (frame reply : FrameParts)
         → answer_of state process frame ≡ Some reply
@@ -123,8 +123,8 @@ pub fn cold_starts_are_shown_once()
         → (state_after state frame).cold_start ≡ state.cold_start }
 {}
 
-/// A list of characters has at most one garbled request for a device, and whether it has one is decided. The test for the device's
-/// own address accepts exactly the bytes of its unique address, for either master and with any burst bit.
+/// A list of characters has exactly one garbled request for a device, or none. The test for the device's own address accepts exactly the
+/// bytes of its unique address, for either master and with any burst bit.
 pub fn garbled_requests_are_decided()
     ensures one { (identity : IdentityParts) (chars : List Character) (request other : GarbledRequest)
         → HasGarbled identity chars request → HasGarbled identity chars other → request ≡ other }
@@ -149,8 +149,8 @@ pub fn frames_leave_identity_and_protection()
     ensures protected { (state : DeviceState) (frame : FrameParts) → (state_after state frame).protected ≡ state.protected }
 {}
 
-/// A configuration write answered with code 0 executes its own well-made overwrite (the registers that it sets, with their new
-/// bytes). Nothing else executes an overwrite.
+/// If a configuration write is answered with code 0, the device executes the overwrite of this write: it sets the write's registers to
+/// their new bytes. Nothing else executes an overwrite, and every executed overwrite is well made.
 pub fn writes_execute_their_overwrite()
     ensures executes { (state : DeviceState) (frame : FrameParts) (request : Request) (overwrite : Overwrite)
         → is_answered state frame ≡ true → code_of state frame ≡ 0
@@ -164,8 +164,8 @@ pub fn writes_execute_their_overwrite()
         → effect_of state frame ≡ Executes overwrite → IsRequest overwrite }
 {}
 
-/// Command 38 answered with code 0 resets the configuration-changed bit of its master, and nothing else does. If the command names
-/// a counter, it is the device's counter.
+/// If Command 38 is answered with code 0, it resets the configuration-changed bit of its master. Nothing else resets this bit. A counter
+/// that such a command names is equal to the device's counter.
 pub fn resets_name_this_counter()
     ensures resets { (state : DeviceState) (frame : FrameParts) (counter : Option ℕ)
         → is_answered state frame ≡ true → code_of state frame ≡ 0 → reading_of frame ≡ Ok (ResetChanged counter)
@@ -182,9 +182,8 @@ pub fn overwrites_absorb()
         → overwritten first (overwritten other (overwritten first old)) ≡ overwritten first (overwritten other old) }
 {}
 
-/// The registers of a list of overwrites result from applying these overwrites in order: each register holds the bytes of the last
-/// overwrite that names it, or else its initial bytes. If the same overwrite comes again later in the list, the earlier one can be
-/// left out.
+/// If a list of overwrites is applied in order, each register holds the bytes of the last overwrite that names it. A register that no
+/// overwrite names holds its initial bytes. An overwrite can be left out of the list if the same overwrite comes again later.
 pub fn registers_of_lists()
     ensures each { (overwrites : List Overwrite) (initial : Contents) (register : Register)
         → bytes_in (registers_of overwrites initial) register
@@ -219,15 +218,14 @@ pub fn images_have_one_state()
         → IsImageOf state image → IsImageOf other image → state.identity ≡ other.identity → state.cold_start ≡ other.cold_start
         → state ≡ other }
 {
-    // These calls do nothing, but their contracts are needed: they say that the list has every register, and that bytes are the
-    // packed form of at most one text.
+    // These calls do nothing, but their contracts are needed: `registers` lists every register, and bytes are the packed form of at most
+    // one text.
     all_registers_are_listed_once();
     packed_text_and_bytes_determine_each_other();
 }
 
-/// A device that is made again from its identity, an image and its cold start bits has the same state. Any image of the device will
-/// do: the image that the device writes, or another image of it, in either version. Its images do not depend on its cold start
-/// bits.
+/// A device that is made again from its identity, an image and its cold start bits has the same state. This is true for the image that the
+/// device writes and for any other image of it, in either version. The images of a device do not depend on its cold start bits.
 pub fn devices_are_kept_whole()
     ensures image { (state : DeviceState) → IsDevice state → IsImageOf state (image_of state) }
     ensures any_cold_start { (state : DeviceState) (image : List ℕ) (cold_start : EachMaster Bool)

@@ -1,9 +1,8 @@
 //! A HART field device (HCF_SPEC-081, HCF_SPEC-099, HCF_SPEC-127): its registers, how it answers what it hears, and its state
 //! afterwards.
 //!
-//! A [`Device`] has an [`Identity`], registers in a [`RegisterStore`], a configuration change counter, a configuration-changed bit
-//! and a cold start bit for each master, and write protection. The caller passes what the device measures with each request, as a
-//! [`Process`].
+//! A [`Device`] has an [`Identity`], registers in a [`RegisterStore`], a configuration change counter, a configuration-changed bit and a
+//! cold start bit for each master, and write protection. With each request, the caller passes what the device measures, as a [`Process`].
 //!
 //! ```rust
 //! let mut device: Device<FieldRegisters> = Device::new(
@@ -23,11 +22,11 @@
 //! `cold_starts_are_shown_once`, `garbled_requests_are_decided` and `devices_are_kept_whole`. They are for whoever proves more
 //! about a device, and `devices_are_kept_whole` is also for whoever stores a device as bytes.
 //!
-//! The root exports the device and what it is made with. The modules:
+//! The root exports the device and the types of the values that it is made from. The modules:
 //!
-//! - `registers`: the trait of a register store, and two stores. One has a field for each register, the other one array for all
-//!   registers.
-//! - `answer`: which frames are answered, with what, and how that changes the device.
+//! - `registers`: the trait of a register store, and two stores. One store has a field for each register. The other store has a single
+//!   array for all registers.
+//! - `answer`: which frames the device answers, what it answers, and how a frame changes it.
 //! - `image`: the bytes that are kept of a device while it is stopped.
 #![tactic(auto)]
 

@@ -14,11 +14,11 @@ pub mod values;
 
 /// A store of the registers of a device, in any layout.
 ///
-/// Contracts see the contents: the bytes of each register.
+/// In contracts, a store is its contents: the bytes of each register.
 pub trait RegisterStore {
     ghost contents: { Self → Contents };
 
-    /// Makes a store in which each register holds its value in `values`.
+    /// Makes a store. Each register holds the value that `values` has for it.
     fn with(values: &RegisterValues) -> Self
         ensures held { (register : Register) → bytes_in (contents result) register ≡ bytes_in (values_of values.now) register }
         ensures valid { AreValid (contents result) };

@@ -1,4 +1,4 @@
--- The answer: which frame is answered, with what, and what the frame does to the device.
+-- The answer: which frames the device answers, what it answers, and how a frame changes it.
 pub mod Effect
 pub mod Garbled
 pub mod Delivery

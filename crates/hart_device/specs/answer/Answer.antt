@@ -1,5 +1,5 @@
--- What a device answers to a frame, and how the frame changes the device (HCF_SPEC-081, HCF_SPEC-127; which frames are answered,
--- and the order of refusals, are of the own profile).
+-- What a device answers to a frame, and how the frame changes the device (HCF_SPEC-081, HCF_SPEC-127; own profile: which frames are
+-- answered, and the order of refusals).
 use Rattle.std.specs.Prelude.{ℕ, ◌==◌, ◌&&◌, ◌||◌, not, if◌then◌else◌, Bool, true, false, length, slice_index}
 use Rattle.std.specs.Prelude.{Option, Some, None, Ok, Err}
 use Rattle.std.specs.Str.{bytes_eq}
@@ -35,7 +35,7 @@ is_request Ack = false
 abbrev pub same_numbers : DeviceNumbers → DeviceNumbers → Bool
 same_numbers a b = (a.expanded_type == b.expanded_type) && (a.device_id == b.device_id)
 
--- The device accepts Command 0 at its polling address, every command at its own unique address, and at the broadcast address the
+-- The device accepts Command 0 at its polling address, and every command at its own unique address. At the broadcast address it accepts the
 -- commands that may be broadcast.
 abbrev pub is_paired : DeviceState → Address → ℕ → Bool
 is_paired state (Polling number) command = (command == 0) && (slice_index state.contents.polling 0 == number)
@@ -52,12 +52,12 @@ is_addressed state frame =
 abbrev pub reading_of : FrameParts → Reading
 reading_of frame = request_reading frame.command frame.payload
 
--- The response code of the request in a frame, for this device's write protection and counter.
+-- The response code of the request in a frame. It depends on the device's write protection and counter.
 abbrev pub code_of : DeviceState → FrameParts → ℕ
 code_of state frame = request_code frame.command (reading_of frame) state.protected state.counter
 
--- Command 11 names another device if its tag differs from the register Tag, and Command 21 if its long tag differs from the
--- register LongTag. No other request names another device.
+-- Command 11 names another device if its tag differs from the register Tag. Command 21 names another device if its long tag differs from
+-- the register LongTag. No other request names another device.
 abbrev pub names_another : DeviceState → Reading → Bool
 names_another state (Ok (IdentifyByTag tag)) = not (bytes_eq state.contents.tag tag)
 names_another state (Ok (IdentifyByLongTag long_tag)) = not (bytes_eq state.contents.long_tag long_tag)
@@ -70,7 +70,7 @@ is_answered state frame =
     is_addressed state frame && not (names_another state (reading_of frame))
     && not (is_broadcast frame.address && not (code_of state frame == 0))
 
--- The effect of an overwrite is that it is executed. Without an overwrite there is no effect.
+-- The effect that executes an overwrite, or no effect if there is no overwrite.
 abbrev pub executed : Option Overwrite → Effect
 executed None = Nothing
 executed (Some overwrite) = Executes overwrite
@@ -91,8 +91,7 @@ effect_of state frame =
 abbrev pub after_command : DeviceState → FrameParts → DeviceState
 after_command state frame = after frame.master (effect_of state frame) state
 
--- After an answered frame, the device is in the state that follows the command and then the reply. Any other frame leaves the state
--- unchanged.
+-- If a frame is answered, its command changes the state, and then the reply changes the state. Any other frame leaves the state unchanged.
 abbrev pub state_after : DeviceState → FrameParts → DeviceState
 state_after state frame = if is_answered state frame then after_reply frame.master (after_command state frame) else state
 
@@ -103,7 +102,7 @@ after_refusal state frame = record state {
   cold_start = if is_answered state frame then with_master frame.master false state.cold_start else state.cold_start;
 }
 
--- The content of the reply to a request with this reading, if the code is 0.
+-- The content of a reply with code 0 to this request. If the data were refused, there is no content.
 abbrev pub asked_content : DeviceState → Process → Reading → ReplyContent
 asked_content state process (Ok request) = reply_content state process request
 asked_content state process (Err code) = Refused

@@ -1,5 +1,5 @@
--- Requests that a device heard with faults, and its replies to them (HCF_SPEC-081, HCF_SPEC-099; which of these requests it answers
--- is of the own profile).
+-- Requests that a device heard with faults, and its replies to them (HCF_SPEC-081, HCF_SPEC-099; own profile: which of these requests a
+-- device answers).
 use Rattle.std.specs.Prelude.{◌≡◌, ◌+◌, ◌%◌, ◌==◌, ◌&&◌, if◌then◌else◌, ℕ, Bool, false, List, [], ◌∷◌, ◌++◌, Option, None, Some}
 use Rattle.std.specs.Prelude.{length, map, slice_index, take, drop, count_by, nat_lt}
 use Rattle.std.specs.Int.{bit_at}
@@ -22,7 +22,7 @@ use Rattle.hart_device.specs.Bits.{bit_if}
 abbrev pub has_fault : ℕ → List Character → Bool
 has_fault bit chars = list_any (λ character. bit_at character.faults bit == 1) chars
 
--- Whether this bit is set in the bytes of an odd number of the characters.
+-- Whether an odd number of the characters have this bit set in their byte.
 abbrev pub is_odd : List Character → ℕ → Bool
 is_odd chars bit = count_by (λ character. bit_at character.byte bit == 1) chars % 2 == 1
 
@@ -70,9 +70,8 @@ garbled_after chars (command ∷ byte_count ∷ after) master =
     }) else None
 garbled_after chars _ master = None
 
--- Characters begin with a garbled request if a master asks the device with the first six, and the other characters of the request
--- follow them. A request without any fault has this form too, but a delivery with such a request has a frame, and so brings no
--- garbled request.
+-- Characters begin with a garbled request if the first six name an asking master, and the other characters of a request follow. A request
+-- without any fault has this form too, but a delivery with such a request has a frame, and so brings no garbled request.
 abbrev pub garbled_request : IdentityParts → List Character → Option GarbledRequest
 garbled_request identity chars = option_and_then (garbled_after chars (drop 6 chars)) (asking_master identity (take 6 chars))
 

@@ -1,5 +1,5 @@
--- The device variables that Command 9 asks for by their codes (HCF_SPEC-127; of the own profile: the classification and status of
--- the variables 244 and 245, and 0 to 3 as codes of the dynamic variables).
+-- The device variables that Command 9 asks for by their codes (HCF_SPEC-127). Own profile: the classification and the status of the
+-- variables 244 and 245; the codes 0 to 3 for the dynamic variables.
 use Rattle.std.specs.Prelude.{ℕ, ◌-◌, ◌==◌, ◌&&◌, nat_lt, if◌then◌else◌, [], ◌∷◌, Option, Some, None, slice_get, unwrap_or}
 use Rattle.hart_commands.specs.declared.value.VariableReading.{VariableReading}
 use Rattle.hart_device.specs.declared.process.Process.{Process}
@@ -37,8 +37,8 @@ abbrev pub dynamic_at : Process → Option ℕ → Option ProcessVariable
 dynamic_at process None = None
 dynamic_at process (Some place) = slice_get (dynamic_variables process) place
 
--- The variable of a code: 244 is the percent of range, 245 the loop current, and 246 to 249 and 0 to 3 are dynamic variables. The
--- variable is absent for any other code, and for a dynamic variable that the process lacks.
+-- The variable of a code: 244 is the percent of range, 245 the loop current, and 246 to 249 and 0 to 3 are dynamic variables. Any other
+-- code means an absent variable, and so does the code of a dynamic variable that the process does not have.
 abbrev pub variable_of_code : Process → ℕ → ProcessVariable
 variable_of_code process code =
     if code == 244 then percent_variable process

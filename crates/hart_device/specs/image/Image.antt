@@ -43,9 +43,9 @@ image_ending state = two_bytes state.counter ++ flags_of state.changed state.pro
 abbrev pub image_bytes : ℕ → List Register → DeviceState → List ℕ
 image_bytes version listed state = version ∷ (flat_map (bytes_in state.contents) listed ++ image_ending state)
 
--- Bytes are an image of a device's state if they are its image bytes in a known version. Every register of the state holds valid
--- bytes, and the counter of the state is below 65536. If images of that version have no long tag, the state has the long tag that
--- belongs to its tag. An image has neither the identity of the device nor its cold start bits.
+-- Bytes are an image of a device's state if they are what `image_bytes` writes of this state in a known version. Every register of the
+-- state holds valid bytes, and the counter of the state is below 65536. If images of that version have no long tag, the state has the long
+-- tag that belongs to its tag. An image has neither the identity of the device nor its cold start bits.
 pub record IsImageOf (state : DeviceState) (image : List ℕ) : Type 0 where
   pub contents : AreValid state.contents
   pub counter : state.counter < 2 ^ 16
@@ -76,8 +76,8 @@ HasBadRegister listed array = (register : Register) × Contains listed register 
 abbrev pub HasBadField : List Register → List ℕ → Type 0
 HasBadField listed image = HasBadRegister listed (drop 1 image) ⊎ (7 < slice_index image (length image - 1))
 
--- Bytes are refused as an image for the first of these reasons that holds: there are no bytes (a bad length); the version is not
--- known; the length is not that of an image of this version; a field is bad.
+-- Bytes are refused as an image for the first of these reasons that holds: there are no bytes (a bad length); the version is not known;
+-- images of this version have another length; a field is bad.
 abbrev pub IsImageFault : List ℕ → DeviceFault → Type 0
 IsImageFault [] BadLength = Unit {0}
 IsImageFault (version ∷ rest) BadVersion = registers_of_version version ≡ None

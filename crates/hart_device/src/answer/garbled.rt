@@ -50,7 +50,7 @@ pub(crate) fn garbled_in(identity: &Identity, delivery: &[Char]) -> Option<Garbl
     garbled_at(identity, &delivery[first_start(delivery)?..])
 }
 
-/// Reads the garbled request at the front of the characters, or returns `None`.
+/// Reads the garbled request with which the characters begin, or returns `None` if they begin with none.
 fn garbled_at(identity: &Identity, chars: &[Char]) -> Option<GarbledRequest>
     ensures { result ≡ garbled_request identity.now chars.now }
 {
@@ -65,8 +65,8 @@ fn garbled_at(identity: &Identity, chars: &[Char]) -> Option<GarbledRequest>
     })
 }
 
-/// Returns the master that asks, if these six characters are the delimiter and the address of a request to the device with this
-/// identity, and otherwise `None`.
+/// Returns the master that sent a request to the device with this identity. The six characters are the delimiter and the address of this
+/// request. Returns `None` if they are anything else.
 fn asking_master(identity: &Identity, head: &[Char]) -> Option<MasterId>
     ensures { result ≡ asking_master identity.now head.now }
 {

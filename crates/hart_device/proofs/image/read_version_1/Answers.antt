@@ -10,12 +10,12 @@ use Rattle.hart_device.proofs.image.read_version_1.Goals as goal
 pub returns-then-rest-clause-refused : goal.returns-then-rest-clause-refused
 returns-then-rest-clause-refused c = (registers_of_version_1, refl, λ same. absurd (c.if-rest.true (omega (arith, same))))
 
--- Every register except the long tag stands in the 50 bytes of the registers of version 1, whatever follows these bytes.
+-- The bytes of every register except the long tag are among the first 50, so they do not depend on the bytes that follow.
 stands_before : (prefix others : List ℕ) → length prefix ≡ 50 → (register : Register) → register ≢ LongTag
     → standing_for register (prefix ++ others) ≡ standing_for register prefix
 stands_before prefix others len register differ = grind (arith, common_steps, before_others)
 
--- The array holds what the image holds for each register but the long tag.
+-- For each register except the long tag, the array holds the same bytes as the image.
 is_read : (c : goal.After-ok_or) (register : Register) → register ≢ LongTag
     → standing_for register c.set_long_tag.new.self.bytes ≡ standing_for register c.split_at.result.0.now
 is_read c register differ =

@@ -19,7 +19,7 @@ no_fault : (bit : ℕ) (bytes : List ℕ) → has_fault bit (faultless bytes) �
 no_fault bit [] = refl
 no_fault bit (byte ∷ bytes) = grind (arith, nat_tests, bit_at-zero, no_fault bit bytes)
 
--- among faultless characters, a bit is set as often as among their bytes
+-- a bit is set in as many faultless characters as in the bytes that these characters have
 counted : (bit : ℕ) (bytes : List ℕ) → count_by (λ (c : Character). bit_at c.byte bit == 1) (faultless bytes) ≡ bit_count bit bytes
 counted bit [] = refl
 counted bit (byte ∷ bytes) = simp (sum_by-cons, counted bit bytes)

@@ -41,7 +41,7 @@ pub write_executes : (request : Request) (overwrite : Overwrite) → overwrite_o
 unfolding written_by
 write_executes request overwrite is = grind arith
 
--- An overwrite is executed only if the answer has code 0. It is the overwrite of the write that was asked.
+-- Only the overwrite of the requested write is executed, and only if the answer has code 0.
 executes_if : (reading : Reading) (answered : Bool) (code : ℕ) (overwrite : Overwrite)
     → (if answered && (code == 0) then asked_effect reading else Nothing) ≡ Executes overwrite
     → (answered ≡ true) × (code ≡ 0) × (request : Request) × (reading ≡ Ok request) × (overwrite_of request ≡ Some overwrite)
@@ -79,7 +79,7 @@ code_if reading counter code good = grind (arith, nat_tests)
 judged_has_code : (state : DeviceState) (frame : FrameParts) → judged_code (judged_of state frame) ≡ code_of state frame
 judged_has_code state frame = code_if (reading_of frame) state.counter (code_of state frame) (code_good state frame)
 
--- The content of a reply is the content that was asked for if the code is 0, and a refusal otherwise.
+-- If the code is 0, the content of a reply is the requested content; otherwise it is a refusal.
 content_judged : (state : DeviceState) (process : Process) (code : ℕ) (reading : Reading)
     → asked_content state process (if code == 0 then reading else Err code)
     ≡ (if code == 0 then asked_content state process reading else Refused)

@@ -25,7 +25,7 @@ count bit chars = count_by (λ character. bit_at character.byte bit == 1) chars
 abbrev pub IsCheck : List Character → ℕ → Type 0
 IsCheck chars check = (bit : ℕ) → bit_at check bit ≡ count bit chars % 2
 
--- a check byte is 0 unless an odd number of characters have some bit
+-- a check byte is not 0 exactly if at least one bit is set in an odd number of characters
 pub odd_is : (chars : List Character) (check : ℕ) → IsCheck chars check → check < 256 → not (check == 0) ≡ has_odd_bit chars
 odd_is chars check is small = grind (arith, nat_tests, is 0, is 1, is 2, is 3, is 4, is 5, is 6, is 7)
 

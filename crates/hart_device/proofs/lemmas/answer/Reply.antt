@@ -37,7 +37,7 @@ reply_again : (state : DeviceState) (process : Process) (frame : FrameParts) (ju
 reply_again state process frame (Ok request) valid is known made = grind (arith, common_steps, content_again)
 reply_again state process frame (Err code) valid is known made = grind (arith, nat_tests)
 
--- A command leaves valid contents valid.
+-- If the contents of the registers are valid, they are still valid after a command.
 after_valid : (master : MasterId) (effect : Effect) (state : DeviceState)
     → ((overwrite : Overwrite) → effect ≡ Executes overwrite → IsRequest overwrite)
     → AreValid state.contents → AreValid (after master effect state).contents

@@ -29,7 +29,8 @@ use Rattle.hart_device.specs.registers.Values.{values_of}
 use Rattle.hart_device.proofs.lemmas.registers.Range.{end_to_end, filled, length_written, written}
 use Rattle.hart_device.proofs.lemmas.registers.Registers.{bytes_in-contents_by, same_contents}
 
--- If a property holds of the registers of version 1 and of all registers, it holds of the registers of every known version.
+-- To prove a property of the list of registers of every known version, it is enough to prove it of the list of version 1 and of the list of
+-- all registers.
 by_version : (P : List Register → Type 0) → P registers_of_version_1 → P registers → (version : ℕ) (listed : List Register)
     → registers_of_version version ≡ Some listed → P listed
 by_version P first second version listed known = grind (arith, nat_tests)
@@ -95,7 +96,7 @@ same_bytes f g (register ∷ later) same =
     let rest = same_bytes f g later (λ r there. same r (suc there.0, omega (arith, there.1), there.2)) in
     grind (arith, same register (0, omega arith, refl), rest)
 
--- What was read from the registers in an array, and from the last bytes of an image, is what the image says.
+-- Bytes are an image of the state that was read from their registers (in an array) and from their last bytes.
 pub read_is : (version : ℕ) (listed : List Register) → registers_of_version version ≡ Some listed
     → (parts : ImageParts) (array prefix end : List ℕ) → length prefix ≡ sum_by size_of listed
     → ((register : Register) → Contains listed register → standing_for register array ≡ standing_for register prefix)
@@ -124,7 +125,7 @@ pub last_is : (version : ℕ) (prefix end : List ℕ) → length end ≡ 3
 last_is version prefix end three =
     grind (arith, common_steps, elements)
 
--- If a register ends within some bytes, other bytes after them do not change the bytes of the register.
+-- If a register ends within a prefix, its bytes do not depend on the bytes after this prefix.
 pub before_others : (register : Register) (prefix others : List ℕ) → end_of register ≤ length prefix
     → standing_for register (prefix ++ others) ≡ standing_for register prefix
 before_others register prefix others fits = grind (arith, common_steps, between_is, take-append-le)
@@ -138,7 +139,7 @@ pub bad_field : (version : ℕ) (listed : List Register) → registers_of_versio
 bad_field version listed known array prefix end long three has whole bad =
     (listed, known, grind (arith, common_steps), grind (arith, has, whole, last_is))
 
--- If nothing was read, the fault is the right one. If something was read, its known properties are kept.
+-- If nothing was read, `ok_or` returns the right fault. If something was read, `ok_or` returns it with its properties.
 pub refused_or : {A E Bad : Type 0} (P : E → Type 0) (read : Option A) (fault : E) → IfNone read Bad → (Bad → P fault)
     → IfErr (ok_or read fault) P
 refused_or P read fault bad gives = grind (arith, gives)

@@ -14,7 +14,7 @@ abbrev pub end_to_end : ℕ → List Register → Bool
 end_to_end from [] = true
 end_to_end from (register ∷ later) = (start_of register == from) && end_to_end (end_of register) later
 
--- Registers whose ranges stand end to end fill the array from the first one on.
+-- If registers are end to end up to the end of the array, their bytes together are the array from the first register on.
 pub filled : (array : List ℕ) (from : ℕ) (held : List Register) → end_to_end from held ≡ true
     → from + sum_by size_of held ≡ length array → flat_map (λ register. standing_for register array) held ≡ drop from array
 filled array from [] ends spans = grind (arith, common_steps)

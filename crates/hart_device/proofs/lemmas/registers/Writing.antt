@@ -34,7 +34,7 @@ AreWrittenBefore place given old now = (k : ℕ) → k < length registers
     → standing_for (register_at k) now
     ≡ (if nat_lt k place then given_to given old (register_at k) else standing_for (register_at k) old)
 
--- Once the next register is written, the registers up to it are written.
+-- Once the register at `place` is written too, all registers before `place + 1` are written.
 pub one_more : (given : Register → Option (List ℕ)) (old now new : List ℕ) (place : ℕ) → place < length registers
     → standing_for (register_at place) new ≡ given_to given old (register_at place)
     → ((other : Register) → other ≢ register_at place → standing_for other new ≡ standing_for other now)

@@ -9,7 +9,7 @@ use Rattle.hart_device.specs.answer.Garbled.{asking_master, communication_faults
 use Rattle.hart_device.specs.declared.identity_parts.IdentityParts.{IdentityParts}
 use Rattle.hart_device.proofs.answer.garbled.garbled_at.Goals as goal
 
--- after the head stand the command, the byte count and the later characters
+-- the command, the byte count and the later characters stand after the head
 asked : (identity : IdentityParts) (chars head : List Character) (master : MasterId) (found : Option MasterId) (command count : Character)
     → head ≡ take 6 chars → found ≡ asking_master identity head → found ≡ Some master → 7 < length chars
     → command ≡ get_or chars 6 command → count ≡ get_or chars 7 count
