@@ -12,8 +12,8 @@ use Rattle.hart_commands.specs.ReplyData.{reply_reading}
 use Rattle.hart_commands.specs.declared.request.Request.{Request}
 use Rattle.hart_commands.specs.declared.reply.Reply.{Reply}
 
--- A frame answers a request that a master sends to an address if the frame is an ACK without expansion bytes, with this master's
--- bit, this address and the command of the request. The burst bit is ignored.
+-- A frame answers a request of a master to an address if the frame is an ACK without expansion bytes, and has this master's bit, this
+-- address and the request's command. The burst bit is ignored.
 pub record MatchesRequest (id : MasterId) (address : Address) (request : Request) (frame : FrameParts) : Type 0 where
   pub kind : frame.kind ≡ Ack
   pub expansion : frame.expansion ≡ []

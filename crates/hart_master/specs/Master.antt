@@ -30,7 +30,7 @@ sendings_of Empty = 0
 sendings_of (ToSend transaction) = transaction.sendings
 sendings_of (Awaiting transaction time) = transaction.sendings
 
--- A request that is to be sent was sent at most `retries` times so far. A request whose reply is awaited was sent at least once and
+-- If a request is due to be sent, it was sent at most `retries` times so far. If a reply is awaited, the request was sent at least once and
 -- at most `retries + 1` times.
 abbrev pub IsWithin : ℕ → Hand → Type 0
 IsWithin retries Empty = Unit {0}
@@ -52,15 +52,15 @@ hand_submitted Empty address request =
 hand_submitted (ToSend transaction) address request = ToSend transaction
 hand_submitted (Awaiting transaction time) address request = Awaiting transaction time
 
--- The frame that is sent is that of the request that is to be sent, with its written data. If no request is to be sent, there is no
--- frame.
+-- The frame that a master sends: the frame of the request that is due to be sent, with the data of this request. If no request is due,
+-- there is no frame.
 abbrev pub frame_sent : MasterId → Hand → Option FrameParts
 frame_sent id Empty = None
 frame_sent id (ToSend transaction) =
     Some (request_parts id transaction.address (command_of transaction.request) (request_data transaction.request))
 frame_sent id (Awaiting transaction time) = None
 
--- A request that is sent counts one more sending, and its reply is awaited from then on.
+-- When a request is sent, its number of sendings grows by one, and its reply is awaited from then on.
 abbrev pub hand_sent : Hand → Hand
 hand_sent Empty = Empty
 hand_sent (ToSend transaction) = Awaiting (record transaction { sendings = transaction.sendings + 1 }) 0
@@ -97,8 +97,8 @@ hand_heard hand (NoReply sendings) = hand
 abbrev pub time_ticked : ℕ → ℕ → ℕ
 time_ticked time character_times = min (time + character_times) 255
 
--- Below the reply limit, a reply is still awaited. From the limit on, the request is to be sent again if it was sent at most
--- `retries` times; otherwise the request has no reply.
+-- While the time is below the reply limit, the reply is still awaited. When the time reaches the limit, the request is due again if it was
+-- sent at most `retries` times so far; otherwise the event is `NoReply`.
 abbrev pub event_ticked : (retries reply_limit : ℕ) → Hand → ℕ → MasterEvent
 event_ticked retries reply_limit Empty character_times = Nothing
 event_ticked retries reply_limit (ToSend transaction) character_times = Nothing
@@ -107,8 +107,8 @@ event_ticked retries reply_limit (Awaiting transaction time) character_times =
     else if nat_le transaction.sendings retries then Retry
     else NoReply transaction.sendings
 
--- A wait that is not over goes on with its new time, a request that is to be sent again stays in hand, and a request without a
--- reply is dropped.
+-- If the event is `Nothing`, the wait goes on with the new time. After `Retry` the request stays in hand, to be sent again. After `NoReply`
+-- it is dropped.
 abbrev pub hand_ticked : (retries reply_limit : ℕ) → Hand → ℕ → Hand
 hand_ticked retries reply_limit Empty character_times = Empty
 hand_ticked retries reply_limit (ToSend transaction) character_times = ToSend transaction

@@ -8,7 +8,7 @@ use hart_commands::Reply;
 use hart_frame::{Frame, FrameKind};
 use hart_values::MasterId;
 
-/// Returns the reply to this request that the frame holds, or `None` if the frame is no reply to this request.
+/// Returns the reply that the frame holds, or `None` if the frame is no reply to this request.
 pub(crate) fn accepted_reply(
     id: MasterId,
     transaction: &Transaction,

@@ -1,9 +1,9 @@
 use hart_commands::Reply;
 
-/// What became of the request that the master holds (has in hand).
+/// What became of the request in hand, which is the request that the master holds.
 #[derive(Debug, Drop, PartialEq, Eq)]
 pub enum MasterEvent {
-    /// This reply was accepted, after this number of sendings.
+    /// This reply was accepted, after the request was sent this number of times.
     Answered(Reply, u8),
     /// Nothing new: no request is in hand, the request in hand is due to be sent, or the reply to it is still awaited.
     Nothing,

@@ -12,7 +12,7 @@ ghost use Rattle.hart_master.specs.Acceptance.{IsAccepted, IsReplyTo};
 
 use hart_frame::laws::{every_list_has_frames, frames_are_unambiguous};
 
-/// A frame is either exactly one reply to a request, or no reply to this request.
+/// A frame is read as exactly one reply to a request, or it is no reply to this request.
 pub fn replies_are_decided()
     ensures one_reply { (id : MasterId) (address : Address) (request : Request) (frame : FrameParts) (r s : Reply)
         → IsReplyTo id address request frame r → IsReplyTo id address request frame s → r ≡ s }
@@ -41,8 +41,8 @@ pub fn acceptance_is_decided()
     replies_are_decided();
 }
 
-/// Communication faults are no reply. A frame whose first status byte has bit 7 set is not a reply to any request. So a delivery
-/// that has only this frame is never accepted.
+/// A frame with communication faults, that is with bit 7 of the first status byte set, is not a reply to any request. So a delivery whose
+/// only frame has communication faults is never accepted.
 pub fn communication_faults_are_no_reply()
     ensures frame { (id : MasterId) (address : Address) (request : Request) (frame : FrameParts) (reply : Reply)
         → 128 ≤ slice_index frame.payload 0 → IsReplyTo id address request frame reply → ⊥ }

@@ -91,7 +91,7 @@ impl Master {
         }
     }
 
-    /// Takes a request to this address in hand, to send it later.
+    /// Takes in hand a request to this address, to send it later.
     ///
     /// # Errors
     ///
@@ -226,9 +226,10 @@ impl Master {
 
     /// Lets this number of character times pass. A number of 255 means 255 or more.
     ///
-    /// While a reply is awaited, the times of these calls add up, to 255 at most. When the sum reaches the reply limit, the request
-    /// is due again, and the result is [`MasterEvent::Retry`]. If the request was already sent `retries + 1` times, the master
-    /// drops it instead, and the result is [`MasterEvent::NoReply`]. In all other cases the result is [`MasterEvent::Nothing`].
+    /// While a reply is awaited, the character times of all calls are added up. The sum is never more than 255. When the sum reaches the
+    /// reply limit, the request is due again, and the result is [`MasterEvent::Retry`]. If the request was already sent `retries + 1`
+    /// times, the master drops it instead, and the result is [`MasterEvent::NoReply`]. In all other cases the result is
+    /// [`MasterEvent::Nothing`].
     pub fn tick(&mut self, character_times: u8) -> MasterEvent
         ensures event { result ≡ event_ticked self.old.retries self.old.reply_limit self.old.hand character_times }
         ensures state { self.new ≡ record self.old {
@@ -256,8 +257,8 @@ impl Master {
         }
     }
 
-    /// Ends the wait for the reply to a request, which the caller has taken out of the hand. The request is due again, unless it
-    /// was already sent `retries + 1` times.
+    /// Ends the wait for the reply to this request. The caller has already taken the request out of the hand. The request is due again,
+    /// unless it was already sent `retries + 1` times.
     fn end_wait(&mut self, transaction: Transaction) -> MasterEvent
         requires { self.old.hand ≡ hands.Empty }
         ensures event { result ≡

@@ -1,4 +1,4 @@
--- Whether a frame is a reply, and whether a delivery is accepted, is decided.
+-- A frame is a reply or it is not, and a delivery is accepted or it is not: a proof of one of the two always exists.
 use Rattle.std.proofs.Common.{◌≡◌, ◌<◌, List, [], ◌∷◌, ◌⊎◌, inl, inr, length, Option, None, Some, refl, arith}
 use Rattle.std.proofs.lemmas.List.{nil_from_length}
 use Rattle.hart_values.specs.declared.address.Address.{Address}
@@ -21,7 +21,7 @@ reading_decided : (read : Option Reply) → OneOrNone (λ reply. read ≡ Some r
 reading_decided None = inr (λ reply is. cc)
 reading_decided (Some reply) = inl (reply, refl)
 
--- whether a frame is a reply to a request is decided
+-- a frame is a reply to a request, or it is no reply to it
 pub reply_decided : (id : MasterId) (address : Address) (request : Request) (frame : FrameParts)
     → OneOrNone (IsReplyTo id address request frame)
 reply_decided id address request frame =
@@ -37,7 +37,7 @@ pub acceptance_is_decided-by_its_frame : (id : MasterId) (address : Address) (re
 acceptance_is_decided-by_its_frame id address request delivery found reply alone accepted =
     grind (arith, frames_are_unambiguous-one_list delivery 0 (found ∷ []) (accepted.found ∷ []))
 
--- whether a delivery is accepted as a reply is decided
+-- a delivery is accepted as a reply, or it is not accepted
 decided_by : (id : MasterId) (address : Address) (request : Request) (chars : List Character) (frames : List Found)
     → AreFrames chars 0 frames → OneOrNone (IsAccepted id address request chars)
 decided_by id address request chars (found ∷ []) are = elim (reply_decided id address request found.frame) [
