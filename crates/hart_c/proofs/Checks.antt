@@ -3,7 +3,7 @@ use Rattle.std.proofs.Common.{◌≡◌, inl, inr, List, [], ◌∷◌, ◌++◌
 use Rattle.hart_c.specs.Faults.{AllPass, Check, IsFirstOf, needs, refused_if}
 use Rattle.hart_c.specs.declared.fault.Fault.{Fault}
 
--- a check that refuses with at most one fault, and refuses no call that passes the check
+-- a sound check: it refuses with at most one fault, and it does not refuse a call that passes it
 pub record IsSound (check : Check) : Type 0 where
   pub one : (fault other : Fault) → check.refuses fault → check.refuses other → fault ≡ other
   pub not_both : (fault : Fault) → check.passes → check.refuses fault → ⊥

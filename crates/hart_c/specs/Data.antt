@@ -28,7 +28,7 @@ rows_for false command = request_rows command
 abbrev pub field_name : Bool → ℕ → ℕ → Option (List ℕ)
 field_name is_reply command index = option_map (λ row. row.name) (slice_get (rows_for is_reply command) index)
 
--- The numbers of the kinds of fields.
+-- The number that each kind of field has in C.
 abbrev pub kind_number : FieldKind → ℕ
 kind_number Bytes = 0
 kind_number Number = 1
@@ -39,7 +39,7 @@ kind_number Variables = 5
 kind_number LatinText = 6
 kind_number UnitCode = 7
 
--- The first field starts at `start`, and each other field where the field before it stops.
+-- The first field starts at `start`, and each other field starts where the field before it stops.
 abbrev pub placed : ℕ → List Field → List HartField
 placed start [] = []
 placed start (field ∷ fields) =
@@ -56,7 +56,8 @@ pub record IsShown (start : ℕ) (fields : List Field) (taken code status : ℕ)
   pub told : reading ≡ record { count = length fields; taken = taken; code = code; status = status; fault = 0 }
   pub shown : after ≡ written_over (placed start fields) before
 
--- A request that is read has the fields of its command in the data bytes that it takes. A refused request has no fields.
+-- If data are read as a request, the fields are those of the request's command, in the data bytes that the request takes. A refused request
+-- has no fields.
 abbrev pub request_fields : ℕ → List ℕ → Reading → List Field
 request_fields command bytes (Ok request) = fields_of (request_rows command) (take (length (request_data request)) bytes)
 request_fields command bytes (Err code) = []
@@ -72,13 +73,14 @@ RequestShown command bytes (Err code) before after reading = IsShown 0 [] 0 code
 abbrev pub RequestOutcome : ℕ → List ℕ → List HartField → List HartField → HartReading → Type 0
 RequestOutcome command bytes = RequestShown command bytes (request_reading command bytes)
 
--- A reply with code 0 has the fields of its command in the data bytes that its content takes. Any other reply has no fields.
+-- If a reply has code 0, the fields are those of the reply's command, in the data bytes that the reply's content takes. Any other reply has
+-- no fields.
 abbrev pub reply_fields : ℕ → List ℕ → Reply → List Field
 reply_fields command payload reply =
     if reply.code == 0 then fields_of (reply_rows command) (take (length (content_bytes reply.content)) (drop 2 payload)) else []
 
--- The fields of a reply are shown from place 2 on, and the result has its code and its device status. Without a reply the fault is
--- 14.
+-- The fields of a reply are shown from place 2 on, and the result has the code and the device status of the reply. Without a reply the
+-- fault is 14.
 abbrev pub ReplyShown : ℕ → List ℕ → Option Reply → List HartField → List HartField → HartReading → Type 0
 ReplyShown command payload (Some reply) before after reading =
     IsShown 2 (reply_fields command payload reply) (length (reply_payload reply)) reply.code reply.status.0 before after reading
@@ -89,8 +91,8 @@ ReplyShown command payload None before after reading =
 abbrev pub ReplyOutcome : ℕ → List ℕ → List HartField → List HartField → HartReading → Type 0
 ReplyOutcome command payload = ReplyShown command payload (reply_reading command payload)
 
--- The place shown at an index is the place of the field with this index. The field has the name, kind and width of its row, its
--- bytes stand at that place, and it follows the fields before it.
+-- What is shown at an index is the field with this index. The field has the name and the kind of its row, and a width that this kind
+-- allows. The shown place is right after the fields before it, and the field's bytes stand there.
 pub record StandsAt (is_reply : Bool) (command first : ℕ) (fields : List Field) (bytes : List ℕ) (index : ℕ) (shown : HartField)
     : Type 0 where
   pub row : Row

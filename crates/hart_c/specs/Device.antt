@@ -20,8 +20,7 @@ use Rattle.hart_c.specs.declared.{fault.HartOutcome.HartOutcome, identity.HartId
 abbrev pub image_in : HartDevice → List ℕ
 image_in device = take device.image_len device.image
 
--- A kept device with this identity stands for a state if its image is an image of the state, and its cold start bits are the cold
--- start bits of the state.
+-- The state of a kept device with this identity: its image is an image of the state, and its cold start bits are those of the state.
 pub record IsKept (parts : IdentityParts) (device : HartDevice) (state : DeviceState) : Type 0 where
   pub is_identity : AreIdentityParts parts
   pub identity : state.identity ≡ parts
@@ -79,8 +78,7 @@ pub record Hears (identity : HartIdentity) (process : HartProcess) (heard : List
   pub kept : IsKept (parts_of identity) after (state_after_delivery hearing.state hearing.brought)
   pub silent : len ≡ 0 → state_after_delivery hearing.state hearing.brought ≡ hearing.state
 
--- First the identity is checked, then whether the image has at most 86 bytes, and then whether the kept device stands for some
--- state.
+-- First the identity is checked, then whether the image has at most 86 bytes, and then whether the kept device has a state.
 abbrev pub state_checks : HartIdentity → HartDevice → List Check
 state_checks identity device =
     needs_or (AreIdentityParts (parts_of identity)) (IsIdentityFault (parts_of identity)) Device
@@ -95,7 +93,7 @@ hear_checks identity process heard device room =
     ∷ heard_checks heard ++ refused_if ((hearing : IsHearing identity process heard device)
     × HasNoRoom (IsSaid (answer_to hearing.state hearing.measured hearing.brought) identity.response_preambles) room) NoRoom ∷ []
 
--- The device has heard the delivery, and the call returns the length of its reply. Or the call returns a fault, and the kept device
+-- Either the device has heard the delivery, and the call returns the length of the reply; or the call returns a fault, and the kept device
 -- and the output are unchanged.
 abbrev pub HearOutcome : HartIdentity → HartProcess → List HartChar → HartDevice → HartDevice → List ℕ → List ℕ → HartOutcome → Type 0
 HearOutcome identity process heard before after old new =

@@ -1,4 +1,4 @@
--- The faults of calls: their numbers for C, what a call is checked for, and which fault is the first that holds (own profile).
+-- The faults of calls: their numbers in C, the checks of a call, and which fault a call returns (own profile).
 use Rattle.std.specs.Prelude.{◌≡◌, ◌⊎◌, ℕ, Result, Ok, Err, List, [], ◌∷◌}
 use Rattle.hart_frame.specs.wire.FaultNumbers.{frame_fault_number}
 use Rattle.hart_device.specs.declared.fault.DeviceFault.TheVariants.{BadField, BadLength, BadVersion, BroadcastAddress, OutOfRange}
@@ -28,20 +28,20 @@ abbrev pub outcome_of : Result ℕ Fault → HartOutcome
 outcome_of (Ok len) = record { len = len; fault = 0 }
 outcome_of (Err fault) = record { len = 0; fault = number_of fault }
 
--- A check of a call says when the call passes the check, and with which fault the check refuses the call otherwise.
+-- A check of a call: when a call passes the check, and the fault of a call that does not pass.
 pub record Check : Type 1 where
   pub passes : Type 0
   pub refuses : Fault → Type 0
 
--- A check that a condition holds. If it does not hold, this is the fault.
+-- A check that a condition holds. If the condition does not hold, the check refuses with `fault`.
 abbrev pub needs : Type 0 → Fault → Check
 needs good fault = record { passes = good; refuses = λ told. (good → ⊥) × (told ≡ fault) }
 
--- A check that a condition does not hold. If it holds, this is the fault.
+-- A check that a condition does not hold. If the condition holds, the check refuses with `fault`.
 abbrev pub refused_if : Type 0 → Fault → Check
 refused_if bad fault = record { passes = bad → ⊥; refuses = λ told. bad × (told ≡ fault) }
 
--- A check that a condition holds. If it does not hold, the fault is one that a lower crate names.
+-- A check that a condition holds. If the condition does not hold, a lower crate says with which fault the check refuses.
 abbrev pub needs_or : {F : Type 0} → Type 0 → (F → Type 0) → (F → Fault) → Check
 needs_or {F} good refuses named =
     record { passes = good; refuses = λ told. (fault : F) × refuses fault × (told ≡ named fault) }
@@ -56,7 +56,7 @@ abbrev pub AllPass : List Check → Type 0
 AllPass [] = Unit {0}
 AllPass (check ∷ checks) = check.passes × AllPass checks
 
--- A call has done its work, and returns the result. Or the call returns the first fault of its checks, and its output is unchanged.
+-- Either a call has done its work, and returns the result; or the call returns the first fault of its checks, and its output is unchanged.
 abbrev pub Outcome : {D T : Type 0} → List Check → (D → Type 0) → Type 0 → (Result D Fault → T) → T → Type 0
 Outcome {D} checks IsDone stays telling told =
     ((done : D) × IsDone done × (told ≡ telling (Ok done)))

@@ -10,13 +10,13 @@ use Rattle.hart_c.specs.declared.{find.HartChar.HartChar, find.HartSearch.HartSe
 abbrev pub HaveFaultBits : List HartChar → Type 0
 HaveFaultBits heard = All (λ given. AreFaultBits given.faults) heard
 
--- First it is checked whether the characters of a delivery have fault bits only, and then whether there are at most 1,024
+-- The checks of a delivery: first, whether the `faults` of its characters are fault bits only; then, whether it has at most 1,024
 -- characters.
 abbrev pub heard_checks : List HartChar → List Check
 heard_checks heard = needs (HaveFaultBits heard) BadFaultBits ∷ needs (length heard ≤ 1024) TooLong ∷ []
 
--- A search shows the next frames. If `frames` has room for more, the search leaves at most 268 characters, in which no frame is
--- decided, or none if the input ended.
+-- A search shows the next frames. If `frames` has room for more, the search leaves at most 268 characters, and no frame is decided in them.
+-- If the input has also ended, the search leaves no characters.
 pub record Finds (chars : List Character) (ended : Bool) (before after : List HartFrame) (search : HartSearch) : Type 0 where
   pub within : search.count ≤ length after
   pub untouched : drop search.count after ≡ drop search.count before

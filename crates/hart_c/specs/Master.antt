@@ -10,12 +10,12 @@ use Rattle.hart_c.specs.{Find.char_of, Messages.IsFrame, Numbers.IsTidy, Numbers
 use Rattle.hart_c.specs.{Find.heard_checks, Messages.frame_checks, declared.find.HartChar.HartChar, declared.frame.HartFrame.HartFrame}
 use Rattle.hart_c.specs.{declared.fault.Fault.Fault, declared.master.HartAcceptance.HartAcceptance, declared.master.HartUnique.HartUnique}
 
--- A master asks a request with a frame if the frame is a request frame, and the data of the frame are read as this request.
+-- A frame asks a request if it is a request frame of a master, and the data of the frame are read as this request.
 pub record IsAsked (frame : FrameParts) (request : Request) : Type 0 where
   pub parts : frame ≡ request_parts frame.master frame.address frame.command frame.payload
   pub reading : request_reading frame.command frame.payload ≡ Ok request
 
--- These numbers are those of a request that a master has sent: their frame asks this request, and the request may be sent to the
+-- The numbers describe a request that a master has sent: the frame in the numbers asks this request, and the request may be sent to the
 -- frame's address.
 pub record IsSent (numbers : HartFrame) (request : Request) : Type 0 where
   pub is_frame : IsFrame numbers
@@ -29,15 +29,14 @@ send_checks numbers =
     frame_checks numbers ++ needs ((request : Request) × IsAsked (frame_in numbers) request) NoRequest
     ∷ needs ((request : Request) × IsSent numbers request) WrongAddress ∷ []
 
--- If what is heard is accepted as the reply to a request, its frame is shown. If it is no such reply, the frame that was shown
--- before is unchanged.
+-- If what is heard is accepted as the reply to a request, its frame is shown. Otherwise the frame that was shown before is unchanged.
 abbrev pub IsShownReply : MasterId → Address → Request → List Character → HartFrame → HartFrame → Option Reply → Type 0
 IsShownReply id address request chars before after None =
     ((reply : Reply) → IsAccepted id address request chars reply → ⊥) × (after ≡ before)
 IsShownReply id address request chars before after (Some reply) =
     (accepted : IsAccepted id address request chars reply) × (found_in after ≡ accepted.found) × IsTidy after
 
--- A reply to the request that was sent is accepted, or no reply is accepted.
+-- The master accepts a reply to the sent request, or accepts no reply.
 pub record Accepts (numbers : HartFrame) (heard : List HartChar) (before after : HartFrame) (said : Option Reply) : Type 0 where
   pub request : Request
   pub sent : IsSent numbers request
@@ -55,13 +54,13 @@ acceptance_of (Ok (Some reply)) = record { is_accepted = true; code = reply.code
 acceptance_of (Ok None) = record { is_accepted = false; code = 0; status = 0; fault = 0 }
 acceptance_of (Err fault) = record { is_accepted = false; code = 0; status = 0; fault = number_of fault }
 
--- The call returns the accepted reply, or that there is none. Or the call returns a fault, and the frame that was shown before is
+-- Either the call returns the accepted reply, or that no reply was accepted; or it returns a fault, and the frame that was shown before is
 -- unchanged.
 abbrev pub AcceptOutcome : HartFrame → List HartChar → HartFrame → HartFrame → HartAcceptance → Type 0
 AcceptOutcome numbers heard before after =
     Outcome (accept_checks numbers heard) (Accepts numbers heard before after) (after ≡ before) acceptance_of
 
--- The numbers of a unique address. For a polling address, or without an address, they say that no unique address is given.
+-- The numbers of a unique address. For a polling address, or without an address, `is_given` is false and the numbers are 0.
 abbrev pub given_of : Option Address → HartUnique
 given_of (Some (Unique numbers)) = record { is_given = true; expanded_type = numbers.expanded_type; device_id = numbers.device_id }
 given_of _ = record { is_given = false; expanded_type = 0; device_id = 0 }

@@ -7,7 +7,7 @@ use Rattle.hart_c.specs.Faults.{AllPass, Check, Outcome, needs, needs_or, outcom
 use Rattle.hart_c.specs.declared.fault.Fault.TheVariants.{BadAddress, Frame, LongExpansion, NoRoom}
 use Rattle.hart_c.specs.{Numbers.IsTidy, Numbers.frame_in, declared.fault.HartOutcome.HartOutcome, declared.frame.HartFrame.HartFrame}
 
--- The frame at the front of the bytes is shown at place 0, and the call returns its length. Or the call returns a fault, and the
+-- Either the frame at the front of the bytes is shown at place 0, and the call returns its length; or the call returns a fault, and the
 -- frame that was shown before is unchanged.
 abbrev pub DecodeOutcome : List ℕ → HartFrame → HartFrame → HartOutcome → Type 0
 DecodeOutcome bytes before after =
@@ -48,7 +48,7 @@ encode_checks frame preambles room =
     frame_checks frame ++ needs (IsPreambleCount preambles) (Frame BadPreamble)
     ∷ refused_if (HasNoRoom (IsMessage (frame_in frame) preambles) room) NoRoom ∷ []
 
--- A message of the frame is written, and the call returns its length. Or the call returns the number of a fault, and the output is
+-- Either a message of the frame is written, and the call returns its length; or the call returns the number of a fault, and the output is
 -- unchanged.
 abbrev pub EncodeOutcome : HartFrame → ℕ → List ℕ → List ℕ → HartOutcome → Type 0
 EncodeOutcome frame preambles before after =

@@ -17,7 +17,7 @@ pub const HART_NUMBER: u8 = 1;
 /// Packed text in 6, 12 or 24 bytes, four characters in three bytes.
 pub const HART_PACKED_TEXT: u8 = 2;
 
-/// A date in three bytes: day, month, and year after 1900.
+/// A date in three bytes: the day, the month, and the year minus 1900.
 pub const HART_DATE: u8 = 3;
 
 /// A floating point number of IEEE 754 in four bytes, the most significant byte first.
@@ -50,7 +50,7 @@ pub struct HartField {
 pub struct HartReading {
     /// How many fields there are. Only fields that have room in the array are shown.
     pub count: usize,
-    /// How many bytes were read. Unless the data are refused, the bytes after them are ignored.
+    /// How many bytes were read. If the data are not refused, further bytes are ignored.
     pub taken: usize,
     /// For a reply its response code; for a request the response code that refuses it, or 0.
     pub code: u8,
@@ -60,7 +60,8 @@ pub struct HartReading {
     pub fault: u8,
 }
 
-/// Reads the data of a request of this command, and shows where its fields stand, as far as there is room (HCF_SPEC-127).
+/// Reads the data of a request of this command, and shows in `fields` where the request's fields stand, as far as `fields` has room
+/// (HCF_SPEC-127).
 ///
 /// A refused request has no fields. Its code is the first of these that applies: 64 for an unknown command, 5 for too few bytes, 2
 /// for Command 6 with an address above 63, 12 for Command 6 with a mode above 1, 9 for Command 18 with a bad date.
@@ -93,13 +94,13 @@ pub extern "C" fn hart_read_request(
     }
 }
 
-/// Reads the payload of a reply to this command, from its two status bytes on, and shows where the fields of its data stand, as far
-/// as there is room (HCF_SPEC-127). With a code other than 0 there are no fields.
+/// Reads the payload of a reply to this command, which begins with the two status bytes. Shows in `fields` where the fields of the data
+/// stand, as far as `fields` has room (HCF_SPEC-127). With a code other than 0 there are no fields.
 ///
 /// # Errors
 ///
-/// [`HART_NO_REPLY`] if the payload is no reply to this command: if it has fewer than two bytes, if bit 7 of the first byte is set,
-/// if the command is not known, or if with code 0 the data are no content of the command. Nothing is then shown.
+/// [`HART_NO_REPLY`] if the payload is no reply to this command: if it has fewer than two bytes, if bit 7 of the first byte is set, if the
+/// command is not known, or if the code is 0 and the data are no content of the command. Nothing is then shown.
 #[unsafe(no_mangle)]
 pub extern "C" fn hart_read_reply(
     command: u8,
@@ -141,8 +142,8 @@ fn show_reply(command: u8, payload: &[u8], reply: &Reply, fields: &mut [HartFiel
     }
 }
 
-/// Shows where the fields of these rows stand in the data, as far as there is room, and returns the number of fields. The first
-/// field stands at `start`.
+/// Shows in `fields` where the field of each row stands in the data, as far as `fields` has room. The first field stands at `start`.
+/// Returns the number of fields.
 fn show_fields(rows: &[FieldRow], bytes: &[u8], start: u8, fields: &mut [HartField]) -> usize
     requires { start + length bytes.now ≤ 255 }
     ensures count { result ≡ length (fields_of (map seen rows.now) bytes.now) }
@@ -176,7 +177,7 @@ fn show_field(kind: FieldKind, start: u8, len: u8, count: usize, fields: &mut [H
     }
 }
 
-/// Returns the number of a kind of field for C.
+/// Returns the number that a kind of field has in C.
 fn kind_number(kind: FieldKind) -> u8
     ensures { result ≡ kind_number kind }
 {

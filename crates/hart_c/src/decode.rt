@@ -5,12 +5,12 @@ use crate::fault::{HART_OK, HartOutcome, number_of_frame_fault};
 use crate::frame::{HartFrame, show_frame};
 use hart_frame::decode;
 
-/// Reads the frame at the front of `bytes`, from its delimiter on, and returns the length of its body. `frame` then shows the
-/// frame, with place 0 as its start.
+/// Reads the frame at the front of `bytes`, from its delimiter on, and returns the length of its body. `frame` then shows the frame, which
+/// starts at place 0.
 ///
 /// # Errors
 ///
-/// The first of these that holds, in the order of the bytes: a bad delimiter, an end before the byte count, a short reply, an end
+/// The first of these that holds, checked from the first byte on: a bad delimiter, an end before the byte count, a short reply, an end
 /// before the check byte, a bad check byte (HCF_SPEC-081). The frame is then unchanged.
 #[unsafe(no_mangle)]
 pub extern "C" fn hart_decode(bytes: &[u8], frame: &mut HartFrame) -> HartOutcome

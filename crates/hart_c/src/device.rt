@@ -24,7 +24,7 @@ use hart_values::{EachMaster, MasterId};
 #[repr(C)]
 #[derive(Clone, Copy)]
 pub struct HartDevice {
-    /// The image of the device, of version 2 (86 bytes) or of version 1 (54 bytes). Only the first `image_len` bytes count.
+    /// The image of the device, of version 2 (86 bytes) or of version 1 (54 bytes). Only the first `image_len` bytes are used.
     pub image: [u8; 86],
     /// How many bytes the image has.
     pub image_len: u8,
@@ -34,8 +34,8 @@ pub struct HartDevice {
     pub secondary_cold_start: bool,
 }
 
-/// Makes a new device with these register values, counter 0 and all bits clear. Writes what the caller keeps of it to `device`, and
-/// returns the length of its image.
+/// Makes a new device with these register values, counter 0 and all bits clear. Writes to `device` what the caller keeps of the new device,
+/// and returns the length of the image.
 ///
 /// # Errors
 ///
@@ -65,8 +65,8 @@ pub extern "C" fn hart_restart(device: &mut HartDevice)
     device.secondary_cold_start = true;
 }
 
-/// Lets a device with this process hear a delivery, which is all that it hears at once. Carries out what the delivery asks, and
-/// updates `device`. Writes the reply as a message to the front of `reply`, and returns its length, or 0 if the device is silent.
+/// Lets a device with this process hear a delivery: all that the device hears at once. Carries out what the delivery asks, and updates
+/// `device`. Writes the reply as a message to the front of `reply`, and returns its length, or 0 if the device is silent.
 ///
 /// # Errors
 ///
@@ -125,7 +125,7 @@ fn kept_state(identity: &HartIdentity, device: &HartDevice) -> Result<Device<Ima
     Ok(state)
 }
 
-/// Writes what the caller keeps of a device to `device`.
+/// Writes to `device` what the caller keeps of a device in this state.
 fn keep(state: &Device<ImageRegisters>, device: &mut HartDevice)
     ensures { device.new ≡ device_of state.now }
 {

@@ -11,7 +11,7 @@ use crate::output::{outcome_of, put};
 use hart_frame::{Expansion, Frame, FrameKind, Message, Payload, encode};
 use hart_values::{Address, MasterId};
 
-/// Writes a frame as a message to the front of `output`: this number of preamble bytes and its body. An output of 287 bytes has
+/// Writes a frame as a message to the front of `output`: `preambles` preamble bytes, then the body of the frame. An output of 287 bytes has
 /// room for any message. `start` and `stop` of the frame are ignored.
 ///
 /// # Errors

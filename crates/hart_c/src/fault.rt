@@ -9,7 +9,7 @@ use hart_frame::FrameFault;
 /// No fault.
 pub const HART_OK: u8 = 0;
 
-/// A reply with a payload of fewer than two bytes, so without its two status bytes.
+/// A reply whose payload is shorter than the two status bytes.
 pub const HART_TOO_SHORT_REPLY: u8 = 1;
 
 /// A number of preamble bytes outside 5 to 20.
@@ -127,7 +127,7 @@ impl Fault {
     }
 }
 
-/// Returns the number of a fault of a device for C.
+/// Returns the number that a fault of a device has in C.
 fn number_of_device_fault(fault: DeviceFault) -> u8
     ensures { result ≡ number_of (Fault.Device fault) }
 {
@@ -140,7 +140,7 @@ fn number_of_device_fault(fault: DeviceFault) -> u8
     }
 }
 
-/// Returns the number of a fault of a frame for C.
+/// Returns the number that a fault of a frame has in C.
 pub(crate) fn number_of_frame_fault(fault: FrameFault) -> u8
     ensures { result ≡ frame_fault_number fault }
 {

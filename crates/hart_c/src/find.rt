@@ -1,4 +1,4 @@
-//! Finding the frames in what was heard, some at a time.
+//! Finding the frames in what was heard. Each call finds the next frames.
 ghost use Rattle.std.specs.Prelude.{◌≡◌, ◌<◌, ◌≤◌, ℕ, false, true, List, IsTrue, All, drop, length, map, min, take};
 ghost use Rattle.hart_frame.specs.heard.Character.{AreFaultBits, Character, faultless};
 ghost use Rattle.hart_frame.specs.heard.Frames.{IsUndecided};
@@ -37,7 +37,7 @@ pub struct HartChar {
     pub faults: u8,
 }
 
-/// Finds the next frames in bytes that were heard without faults, as many as `frames` has room for, and returns how many bytes are
+/// Finds the next frames in bytes that were heard without faults. Finds as many frames as `frames` has room for. Returns how many bytes are
 /// used up. `ended` is true if no more bytes come.
 #[unsafe(no_mangle)]
 pub extern "C" fn hart_find_in_bytes(
@@ -72,7 +72,7 @@ fn found_so_far(used: usize, count: usize) -> HartSearch
     }
 }
 
-/// Finds the next frames like [`hart_find_in_bytes`], but in characters with fault bits.
+/// Finds the next frames in characters, which may have fault bits. Otherwise the call is like [`hart_find_in_bytes`].
 ///
 /// # Errors
 ///
@@ -130,7 +130,7 @@ pub(crate) fn char_of(given: &HartChar) -> Char
     Char::new(given.byte, given.faults).unwrap()
 }
 
-/// Shows the next frames of a scanner from index `count` on, until there are no more frames or no more room. Returns the index
+/// Shows the next frames of a scanner in `frames`, from index `count` on, until there are no more frames or no more room. Returns the index
 /// after the last shown frame.
 #[inline(always)]
 fn fill(scanner: &mut Scanner, frames: &mut [HartFrame], count: usize) -> usize

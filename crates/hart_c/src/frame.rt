@@ -24,7 +24,8 @@ pub struct HartFrame {
     pub is_primary: bool,
     /// The burst bit.
     pub is_burst: bool,
-    /// Whether the address of the frame is a unique address of five bytes, not a polling address. Both numbers 0 mean broadcast.
+    /// Whether the address of the frame is a unique address of five bytes, not a polling address. If `expanded_type` and `device_id` of a
+    /// unique address are 0, it is the broadcast address.
     pub is_unique: bool,
     /// The polling address, at most 63; 0 for a unique address.
     pub polling_address: u8,
@@ -34,9 +35,9 @@ pub struct HartFrame {
     pub expansion_len: u8,
     /// How many payload bytes there are.
     pub payload_len: u8,
-    /// The expansion bytes; the first `expansion_len` count.
+    /// The expansion bytes. Only the first `expansion_len` bytes are used.
     pub expansion: [u8; 3],
-    /// The payload. The payload of a reply begins with the two status bytes. The first `payload_len` bytes count.
+    /// The payload. The payload of a reply begins with the two status bytes. Only the first `payload_len` bytes are used.
     pub payload: [u8; 255],
 }
 

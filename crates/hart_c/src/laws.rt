@@ -34,10 +34,10 @@ use hart_commands::laws::{read_data_begin_as_written, written_payloads_are_read_
 use hart_device::laws::bytes_have_one_image_fault;
 use hart_frame::laws::{bytes_have_one_fault, messages_are_short};
 
-/// If the caller always passes the unused characters again, followed by what comes next, repeated searches find exactly the frames
-/// of the whole input. It does not matter in which pieces the input comes. The frames of each search are the next frames of the
-/// input, once the number of characters that were used up before is added to their places. Once the input has ended and all of it
-/// is used up, all its frames were found.
+/// Repeated searches find exactly the frames of the whole input, if each search begins with the characters that the last search left
+/// unused. It does not matter in which pieces the input comes. Each search finds the next frames of the input. To get the place of a frame
+/// in the whole input, add the number of characters that earlier searches used up. When the input has ended and is used up, all its frames
+/// were found.
 pub fn searches_give_all_frames()
     ensures next { (heard : List Character) (ended : Bool) (given : List Found) (used : ℕ)
         → IsSearchedSoFar heard ended given used → AreNext heard ended 0 given used }
@@ -45,17 +45,17 @@ pub fn searches_give_all_frames()
         → IsSearchedSoFar heard true given (length heard) → AreFrames heard 0 given }
 {}
 
-/// What the caller keeps of a device determines exactly one state. So a device that goes on from it is in the state in which it was
-/// left.
+/// What the caller keeps of a device determines exactly one state. So a device that is made from what was kept has the state in which the
+/// caller left the device.
 pub fn devices_are_kept()
     ensures kept { (state : DeviceState) → IsDevice state → IsKept state.identity (device_of state) state }
     ensures one_state { (parts : IdentityParts) (device : HartDevice) (state other : DeviceState)
         → IsKept parts device state → IsKept parts device other → state ≡ other }
 {}
 
-/// The field shown at an index is the field whose name `hart_field_name` writes for this index. It lies within the data, right
-/// after the fields before it. Its kind is that of the field's row in the table of fields, and its length is one that this kind may
-/// have: a float has 4 bytes, a date 3, a number 1 or 2, packed text 6, 12 or 24, and device variables 8 each.
+/// The field shown at an index is the field whose name `hart_field_name` writes for this index. It lies within the data, right after the
+/// fields before it. Its kind is the kind in the field's row of the table, and its length is allowed for this kind: a float has 4 bytes, a
+/// date 3, a number 1 or 2, packed text 6, 12 or 24, and device variables 8 each.
 pub fn fields_stand_where_they_are_shown()
     ensures requests { (command index : ℕ) (bytes : List ℕ) (before after : List HartField) (reading : HartReading) (shown : HartField)
         → RequestOutcome command bytes before after reading → index < reading.count → slice_get after index ≡ Some shown
@@ -78,8 +78,8 @@ pub fn sixteen_fields_and_names_of_64_bytes_have_room()
         → NameOutcome (field_name is_reply command index) before after outcome → outcome.fault ≢ 12 }
 {}
 
-/// Bytes that are not taken are ignored: if only the taken bytes are passed, the call returns and shows the same. Of a reply at
-/// least two bytes are taken, its response code and its device status.
+/// Bytes that are not taken are ignored: if only the taken bytes are passed, the call has the same result and shows the same fields. A
+/// reply takes at least two bytes: its response code and its device status.
 pub fn bytes_that_are_not_taken_are_ignored()
     ensures requests { (command : ℕ) (bytes : List ℕ) (request : Request) (before after : List HartField) (reading : HartReading)
         → All (λ byte. byte < 256) bytes → request_reading command bytes ≡ Ok request
@@ -105,9 +105,9 @@ pub fn shown_frames_can_be_written()
         → AcceptOutcome numbers heard before after acceptance → acceptance.is_accepted ≡ true → IsFrame after }
 {}
 
-/// A message depends only on the frame: two structs that describe the same frame, with the same `expansion_len`, have the same
-/// message. The message does not depend on the places of the frame, the numbers of the unused kind of address, or the bytes after
-/// the first `expansion_len` or `payload_len` ones.
+/// A message depends only on the frame: if two structs describe the same frame and have the same `expansion_len`, they have the same
+/// message. These parts of a struct do not matter: `start` and `stop`, the numbers of the other kind of address, and the bytes in
+/// `expansion` and `payload` after the lengths.
 pub fn numbers_of_one_frame_are_written_alike()
     ensures { (frame other : HartFrame) (preambles : ℕ) (before after : List ℕ) (outcome : HartOutcome)
         → frame_in other ≡ frame_in frame → other.expansion_len ≡ frame.expansion_len
@@ -125,8 +125,8 @@ pub fn messages_of_287_bytes_have_room()
     messages_are_short();
 }
 
-/// In a kept image, byte 1 is the polling address, byte 2 is the loop current mode, and bit 2 of the last byte, its flags, is write
-/// protection. Setting or clearing that bit changes the kept state only in its write protection.
+/// In a kept image, byte 1 is the polling address, and byte 2 is the loop current mode. The last byte has the flags, and its bit 2 is write
+/// protection. If that bit is set or cleared, the kept state differs only in its write protection.
 pub fn kept_bytes_are_what_they_say()
     ensures registers { (parts : IdentityParts) (device : HartDevice) (state : DeviceState) → length device.image ≡ 86
         → IsKept parts device state
@@ -138,9 +138,9 @@ pub fn kept_bytes_are_what_they_say()
         → IsKept parts device state → IsKept parts (with_protection on device) (record state { protected = on }) }
 {}
 
-/// A call that can fail is deterministic: for the same arguments its contract allows one result and one shown frame or written
-/// output. So with the same arguments a call has at most one fault, and no fault if it can succeed. The searches for frames are an
-/// exception: a contract does not fix how many characters a search uses up where no frame depends on this number.
+/// A call that can fail is deterministic: for the same arguments its contract allows one result and one shown frame or written output. So
+/// with the same arguments a call has at most one fault, and no fault if it can succeed. Searches for frames are an exception: their
+/// contracts allow different numbers of used-up characters, but no frame depends on this number.
 pub fn calls_have_one_outcome()
     ensures decode { (bytes : List ℕ) (before after other : HartFrame) (outcome another : HartOutcome)
         → DecodeOutcome bytes before after outcome → DecodeOutcome bytes before other another

@@ -51,13 +51,13 @@ const NO_ADDRESS: HartUnique = HartUnique {
     device_id: 0,
 };
 
-/// Returns whether a master accepts a delivery, which is all that was heard at once, as the reply to the request that the master
-/// sent. If so, `reply` shows the frame of the reply and where this frame stands.
+/// Returns whether a master accepts a delivery as the reply to the request that the master sent. A delivery is all that was heard at once.
+/// If the delivery is accepted, `reply` shows the frame of the reply and where this frame stands.
 ///
 /// # Errors
 ///
-/// The first of these that holds: a fault of the frame, as [`hart_encode`](crate::hart_encode) returns it, a frame that is no
-/// request of a master, a request that may not be sent to its address, or a fault of the characters. `reply` is then unchanged.
+/// The first of these that holds: a fault of the frame (as [`hart_encode`](crate::hart_encode) returns it), a frame that is no request of a
+/// master, a request that may not be sent to its address, or a fault of the characters. `reply` is then unchanged.
 #[unsafe(no_mangle)]
 pub extern "C" fn hart_accept(
     request: &HartFrame,
@@ -85,7 +85,7 @@ fn acceptance_of(accepted: Result<Option<Reply>, Fault>) -> HartAcceptance
     }
 }
 
-/// Returns the result of a call that accepted no reply, with its fault, or 0 for no fault.
+/// Returns the result of a call that accepted no reply. `fault` is 0 if the call had no fault.
 fn not_accepted(fault: u8) -> HartAcceptance
     ensures { result ≡ record { is_accepted = false; code = 0; status = 0; fault = fault } }
 {
@@ -97,7 +97,8 @@ fn not_accepted(fault: u8) -> HartAcceptance
     }
 }
 
-/// Returns the reply to the request that was sent and shows its frame, or returns `None` if what was heard is not this reply.
+/// Returns the reply to the request that was sent. Then `reply` shows the frame of this reply. Returns `None` if what was heard is not this
+/// reply.
 fn accept(
     request: &HartFrame,
     heard: &[HartChar],
@@ -151,8 +152,8 @@ fn asked_by(frame: &Frame) -> Result<Request, Fault>
     }
 }
 
-/// Returns the unique address in the payload of a reply to this command. The reply has one if it has code 0 and an identity whose
-/// address is not broadcast. Replies to Commands 0, 11 and 21 have an identity.
+/// Returns the unique address in the payload of a reply to this command. A reply has a unique address if its code is 0 and it has an
+/// identity whose address is not the broadcast address. Replies to Commands 0, 11 and 21 have an identity.
 #[unsafe(no_mangle)]
 pub extern "C" fn hart_unique_of(command: u8, payload: &[u8]) -> HartUnique
     ensures given { result ≡ given_by (reply_reading command payload.now) }

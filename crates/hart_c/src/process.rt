@@ -65,7 +65,7 @@ pub struct HartProcess {
     pub loop_current: [u8; 4],
     /// The percent of range, a float.
     pub percent_of_range: [u8; 4],
-    /// The dynamic variables, the primary one first; the first `variables_len` count.
+    /// The dynamic variables, the primary one first. Only the first `variables_len` variables are used.
     pub variables: [HartVariable; 4],
     /// How many dynamic variables there are, 1 to 4.
     pub variables_len: u8,

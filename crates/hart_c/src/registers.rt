@@ -23,7 +23,7 @@ pub struct HartRegisters {
     pub tag: [u8; 6],
     /// The descriptor, 16 characters of packed text.
     pub descriptor: [u8; 12],
-    /// The date: the day, the month and the year less 1900, or three zeros if it is not set.
+    /// The date: the day, the month and the year minus 1900, or three zeros if the date is not set.
     pub date: [u8; 3],
     /// The final assembly number.
     pub assembly: [u8; 3],

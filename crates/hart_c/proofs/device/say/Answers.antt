@@ -9,7 +9,7 @@ use Rattle.hart_c.specs.declared.fault.Fault.{Fault}
 use Rattle.hart_c.specs.declared.fault.Fault.TheVariants.{NoRoom}
 use Rattle.hart_c.proofs.device.say.Goals as goal
 
--- If the message of an answer does not fit into the output, the answer has no room.
+-- If the message of an answer is longer than the output, `HasNoRoom` is true of the answer.
 no_room : {T : Type 0} (result : Result T Fault) (said : Option FrameParts) (frame : FrameParts) (preambles room : ℕ) (message : List ℕ)
     → said ≡ Some frame → IsMessage frame preambles message → IfErr result (λ fault. (fault ≡ NoRoom) × (room < length message))
     → IfErr result (λ fault. (fault ≡ NoRoom) × HasNoRoom (IsSaid said preambles) room)

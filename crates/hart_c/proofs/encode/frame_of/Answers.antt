@@ -17,7 +17,7 @@ too_short : (frame : HartFrame) (fault : Fault) → IsInRange frame.is_unique fr
     → IsFirstOf (frame_checks frame) fault
 too_short frame fault is few short told = inr (is, inr (few, inl (short, told)))
 
--- if a frame is not made, the fault is that of the first check that refuses the frame
+-- if no frame is made, the fault is the fault of the first check that refuses the frame
 not_made : {T : Type 0} (frame : HartFrame) (result : Result T Fault) → IsInRange frame.is_unique frame → frame.expansion_len ≤ 3
     → (IsErr result → (IsLongEnough (frame_in frame).kind (frame_in frame).payload → ⊥))
     → IfErr result (λ fault. fault ≡ Frame TooShortReply) → IfErr result (IsFirstOf (frame_checks frame))

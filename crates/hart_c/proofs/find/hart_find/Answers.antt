@@ -50,8 +50,8 @@ loop-taken-preserved c =
     let fill = c.fill-count.ensures in
     search (arith, rest, history, fill.tidy, fill.going, fill.waits, fill.few, fill.undecided, fill.so_far)
 
--- the next frames of the first `n` characters are the next frames of all characters, if the scan goes on or all characters were
--- scanned and the input ended
+-- the next frames of the first `n` characters are the next frames of all characters, if the scan goes on, or if `n` is the number of all
+-- characters and the input ended
 next_of_all : (n : ℕ) (chars : List Character) (finished ended : Bool) (given : List Found) (used : ℕ)
     → (finished ≡ false) ⊎ (IsTrue ended × (n ≡ length chars)) → AreNext (take n chars) finished 0 given used
     → AreNext chars ended 0 given used
@@ -60,7 +60,7 @@ next_of_all n chars finished ended given used (inl going) next =
 next_of_all n chars finished ended given used (inr (over, all)) next =
     next_frames_are_all-ended chars finished 0 used given ended (λ _. over) (rw (all, take-length) at next)
 
--- the outcome of a search whose scanner goes on, or that has searched all characters of an input that ended
+-- the outcome of a search: either its scanner goes on, or the input ended and all its characters were searched
 finds_more : (n count : ℕ) (chars : List Character) (ended : Bool) (before after : List HartFrame)
     (scan : Scan) → n ≤ length chars → count ≤ length after → drop count after ≡ drop count before → All IsTidy (take count after)
     → (scan.finished ≡ false) ⊎ (IsTrue ended × (n ≡ length chars)) → IsHistory (take n chars) scan (found_in_first count after)

@@ -21,7 +21,7 @@ again n bytes = take_all n (take n bytes) (omega (arith, length-take n bytes))
 as_many : (n : ℕ) (bytes : List ℕ) → take (length (take n bytes)) bytes ≡ take n bytes
 as_many n bytes = rw length-take (take_min n bytes)
 
--- a reply has the same fields in the part of the payload that it takes
+-- a reply has the same fields if only the bytes that it takes are passed
 same_fields : (command code status : ℕ) (bytes : List ℕ) (reply : Reply)
     → reply_fields command (take (length (reply_payload reply)) (code ∷ status ∷ bytes)) reply
     ≡ reply_fields command (code ∷ status ∷ bytes) reply

@@ -30,7 +30,7 @@ use Rattle.hart_c.proofs.Kept.{devices_are_kept-one_state}
 use Rattle.hart_c.proofs.laws.calls_have_one_outcome.Goals.{After-bytes_have_one_image_fault}
 use Rattle.hart_c.proofs.laws.calls_have_one_outcome.Goals as goal
 
--- an outcome is unique if the success is unique, if the fault is unique, and if success and fault exclude each other
+-- an outcome is unique if there is only one success, only one fault, and never a success and a fault together
 one_outcome : {A B C D R : Type 0} → (A → C → R) → (A → D → ⊥) → (B → C → ⊥) → (B → D → R) → A ⊎ B → C ⊎ D → R
 one_outcome both free none one is again = grind arith
 

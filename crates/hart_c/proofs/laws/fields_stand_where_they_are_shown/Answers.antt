@@ -15,7 +15,7 @@ use Rattle.hart_c.specs.declared.data.HartField.{HartField}
 use Rattle.hart_c.specs.declared.data.HartReading.{HartReading}
 use Rattle.hart_c.proofs.laws.fields_stand_where_they_are_shown.Goals as goal
 
--- each shown place is the place of a field, and the place of this field's bytes among the bytes of all fields
+-- what is shown at an index is the field with this index, whose bytes stand between the bytes of the fields before and after it
 field_of : (from : ℕ) (fields : List Field) (before : List HartField) (index : ℕ) (shown : HartField) → index < length fields
     → slice_get (written_over (placed from fields) before) index ≡ Some shown
     → (field : Field) × (slice_get fields index ≡ Some field) × (shown.start ≡ from + length (bytes_of (take index fields)))
@@ -45,7 +45,7 @@ width_of : (fields : List Field) (index : ℕ) (field : Field) → All HasWidthO
     → HasWidthOfKind field
 width_of fields index field wide is = grind (arith, slice_get_cases, wide index field)
 
--- each place that is shown is the place of the field of the row with the same index
+-- what is shown at an index is the field of the row with this index
 stands : (is_reply : Bool) (command n : ℕ) (bytes before : List ℕ) (taken code status : ℕ) (old new : List HartField)
     (reading : HartReading) (index : ℕ) (shown : HartField) (done : Bool) (fields : List Field)
     → fields ≡ (if done then fields_of (rows_for is_reply command) (take n bytes) else [])
@@ -64,7 +64,7 @@ stands is_reply command n bytes before taken code status old new reading index s
     grind (arith, bytes_first rows (take n bytes), take-append-drop n bytes, append_assoc) in
     grind (arith, common_steps, length-append, drop-append_seam, take-append_seam)
 
--- each place that is shown for a request is the place of the field of the row with the same index
+-- what is shown at an index for a request is the field of the row with this index
 of_reading : (command index : ℕ) (bytes : List ℕ) (read : Reading) (old new : List HartField) (reading : HartReading) (shown : HartField)
     → RequestShown command bytes read old new reading → index < reading.count → slice_get new index ≡ Some shown
     → StandsAt false command 0 (request_fields command bytes read) bytes index shown

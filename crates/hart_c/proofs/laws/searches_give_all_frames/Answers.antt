@@ -9,7 +9,7 @@ use Rattle.hart_frame.proofs.lemmas.Laws.{next_frames_are_all-nothing, next_fram
 use Rattle.hart_c.specs.Find.{begin, search}
 use Rattle.hart_c.proofs.laws.searches_give_all_frames.Goals as goal
 
--- the frames that were given are still the next frames when more is heard
+-- if more is heard later, the frames that were found before are still the next frames of the longer input
 still_next : (heard piece : List Character) (was ended : Bool) (given : List Found) (used : ℕ)
     → (IsTrue was → (piece ≡ []) × IsTrue ended) → AreNext heard was 0 given used → AreNext (heard ++ piece) ended 0 given used
 still_next heard piece false ended given used stays before = next_frames_are_all-grown heard piece ended 0 used given before
@@ -26,7 +26,7 @@ next_more heard piece was ended given found used further stays before now =
     next_frames_are_all-onward (heard ++ piece) ended 0 used (used + further) given (map (moved used) found) first
     (next_frames_are_all-moved used (heard ++ piece) ended found further first.within rest)
 
--- after every search the frames that were given are the next frames, and in the end they are all frames
+-- after every search, the frames found so far are the next frames of the input; in the end they are all its frames
 pub returns-clause-next : goal.returns-clause-next
 returns-clause-next c heard ended given used begin = next_frames_are_all-nothing [] false 0 (omega arith)
 returns-clause-next c heard ended given used (search past piece was end frames found gone further before stays now) =

@@ -19,7 +19,7 @@ use Rattle.hart_c.specs.Numbers.{IsTidy, address_of, found_in, frame_in}
 use Rattle.hart_c.specs.declared.frame.HartFrame.{HartFrame}
 use Rattle.hart_c.proofs.laws.shown_frames_can_be_written.Goals as goal
 
--- if a body has the address of some numbers, these numbers are in range
+-- if a body has the address that some numbers describe, these numbers are in range
 in_range : (is_unique : Bool) (frame : HartFrame) (master : MasterId) (burst : Bool) (bytes : List ℕ)
     → IsAddressBytes master burst (address_of is_unique frame) bytes → IsInRange is_unique frame
 in_range true frame master burst bytes is = grind arith
