@@ -36,7 +36,7 @@ typedef struct hart_frame {
     uint8_t command;         /* the command number */
     uint8_t expansion_len;   /* 0 to 3 */
     uint8_t payload_len;     /* 0 to 255; at least 2 for a reply */
-    uint8_t expansion[3];    /* the first expansion_len bytes count */
+    uint8_t expansion[3];    /* only the first expansion_len bytes are used */
     uint8_t payload[255];    /* the first payload_len bytes count; a reply begins with its two status bytes */
 } hart_frame;
 
