@@ -31,7 +31,7 @@ pub tells_failure : {T : Type 0} (old new : Stream) (before after text : List �
     → IsErrAnd result P → FailsToWrite old new (before ++ text) → Tells old new before after text result
 tells_failure old new before after text P result failed fails = grind (arith, common_steps)
 
--- a text is written as soon as the part of it that was kept is written
+-- once the kept part of a text is written, the whole text is written
 pub writes_kept : {T : Type 0} (a b c : Stream) (kept text : List ℕ) (result : Result T Failed) → AddsText a b [] kept text
     → Writes b c kept result → Writes a c text result
 writes_kept a b c kept text result h wrote = grind (arith, common_steps, WritesAll-on, FailsToWrite-on)

@@ -10,7 +10,7 @@ pub struct Reason {
     pub before: &'static str,
     /// The number, written in decimal, if there is one.
     pub number: Option<usize>,
-    /// The part after the number. If there is no number, the last word, or nothing.
+    /// The part after the number. If the reason has no number, this is its last word, or empty.
     pub after: &'static str,
     /// The parts besides the number have at most 60 bytes. A number has at most 20 digits, so a whole reason has at most 80 bytes.
     pub ghost short: { length before.now + length after.now ≤ 60 },
