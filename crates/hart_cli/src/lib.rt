@@ -49,7 +49,9 @@ pub use calls::explain::{explain, explain_raw, one_explanation};
 pub use calls::program::command_line::{one_call, words_are_calls};
 pub use calls::program::{DONE, FAULT, NO_CALL, program};
 pub use calls::request::fault::{BadField, FieldFault};
-pub use calls::request::laws::{fields_of_requests_are_those_given, values_are_shown_as_given};
+pub use calls::request::laws::{
+    fields_of_requests_are_those_given, shown_values_are_accepted, values_are_shown_as_given,
+};
 pub use calls::request::{RequestWords, one_request, request};
 pub use calls::serve::{one_service, serve};
 pub use calls::sim::{one_simulation, simulate};

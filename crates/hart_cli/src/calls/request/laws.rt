@@ -1,12 +1,14 @@
 //! How `hart request` and `hart explain` agree.
-ghost use Rattle.std.specs.Prelude.{◌≡◌, ◌++◌, ◌*◌, ◌/◌, ℕ, List, None, Ok, Some, codes, decimal, encode_utf8_all};
+ghost use Rattle.std.specs.Prelude.{◌≡◌, ◌≤◌, ◌++◌, ◌*◌, ◌/◌, ℕ, List, None, Ok, Some, codes, decimal, encode_utf8_all, length};
 ghost use Rattle.std.specs.Str.{chars};
 ghost use Rattle.std.specs.Str.Parse.{digits_value, without_leading_plus};
+ghost use Rattle.hex.specs.Hex.{IsBytes};
+ghost use Rattle.hart_values.specs.hart_date.Calendar.{IsDateBytes};
 ghost use Rattle.hart_values.specs.packed_text.Packing.{IsPackedSize};
 ghost use Rattle.hart_commands.specs.declared.fields.FieldKind.TheVariants.{Bytes, Date, LatinText, Number, PackedText};
-ghost use Rattle.hart_commands.specs.declared.fields.FieldSize.TheVariants.{Exactly};
-ghost use Rattle.hart_cli.specs.explain.Values.{value_words};
-ghost use Rattle.hart_cli.specs.request.Values.{hex_of, padded, value_of};
+ghost use Rattle.hart_commands.specs.declared.fields.FieldSize.TheVariants.{AllBut, Exactly};
+ghost use Rattle.hart_cli.specs.explain.Values.{date_words, value_words};
+ghost use Rattle.hart_cli.specs.request.Values.{greatest_of, hex_of, number_bytes, padded, value_of};
 ghost use Rattle.hart_commands.specs.Commands.{request_rows};
 ghost use Rattle.hart_commands.specs.Fields.{bytes_of, fields_of};
 ghost use Rattle.hart_frame.specs.wire.FrameParts.{FrameParts};
@@ -33,5 +35,18 @@ pub fn values_are_shown_as_given()
     ensures latin { (word bytes : List ℕ) → hex_of word ≡ None → value_of LatinText (Exactly 32) word ≡ Ok bytes
         → value_words LatinText bytes ≡ codes "\"" ++ encode_utf8_all (padded 32 (chars word)) ++ codes "\"" }
     ensures dates { (size : ℕ) (word bytes : List ℕ) → value_of Date (Exactly size) word ≡ Ok bytes → value_words Date bytes ≡ word }
+    ensures hex { (size : ℕ) (word given bytes : List ℕ) → hex_of word ≡ Some given
+        → value_of LatinText (Exactly size) word ≡ Ok bytes → bytes ≡ given }
     ensures bytes { (size : ℕ) (word bytes : List ℕ) → value_of Bytes (Exactly size) word ≡ Ok bytes → hex_of word ≡ Some bytes }
+    ensures codes { (after : ℕ) (word bytes : List ℕ) → value_of Bytes (AllBut after) word ≡ Ok bytes → hex_of word ≡ Some bytes }
+{}
+
+/// `hart request` accepts the dates, numbers and bytes that `hart explain` shows, and makes the same bytes of them again. A date is a day
+/// from 1900 to 2155, or `not set`.
+pub fn shown_values_are_accepted()
+    ensures dates { (size : ℕ) (bytes : List ℕ) → IsDateBytes bytes → value_of Date (Exactly size) (date_words bytes) ≡ Ok bytes }
+    ensures numbers { (size number : ℕ) → number ≤ greatest_of size
+        → value_of Number (Exactly size) (decimal number) ≡ Ok (number_bytes size number) }
+    ensures bytes { (bytes : List ℕ) → IsBytes bytes → length bytes ≤ 255
+        → value_of Bytes (Exactly (length bytes)) (value_words Bytes bytes) ≡ Ok bytes }
 {}
