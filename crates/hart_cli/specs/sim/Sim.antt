@@ -28,8 +28,8 @@ start_with device = record {
   retries = record { primary = 3; secondary = 3 };
 }
 
--- The text for an input has the frames that were spoken by the end of its script, the outcome of each submission, and the counter
--- and the image of the device at that end.
+-- The text for an input has the frames that were spoken in its script, the outcome of each submission, and the device's counter and image
+-- at the end of the script.
 pub record IsSimulation (device : DeviceState) (input text : List ℕ) : Type 0 where
   pub events : List LineEvent
   pub script : IsScript input events

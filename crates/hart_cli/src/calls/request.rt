@@ -112,7 +112,7 @@ fn read_request(words: &RequestWords<'_, '_>) -> Result<Frame, CliFault>
     Ok(Frame::request(master, address, command, payload))
 }
 
-/// Returns the data of this command's request, from the words for its fields, if there are any.
+/// Returns the data that the words for its fields give a request of this command. No words are like an empty list of words.
 fn payload_of_any(command: u8, fields: Option<&[&str]>) -> Result<Payload, BadField>
     ensures { result ≡ payload_of command (option_map_or (λ words. map (λ word. word.now) words.now) fields.entry []) }
 {

@@ -62,8 +62,8 @@ pub fn next_in_bytes(bytes: &[u8], from: usize, ended: bool) -> NextInBytes<'_>
     }
 }
 
-/// Frames that are found one after another are the next frames of the list. They stay the next frames, whether more characters are heard or
-/// the list has ended. Each frame uses up some characters.
+/// Frames that are found one after another are the next frames of the list. They are the next frames whether more characters follow or not.
+/// Each frame uses up some characters.
 ///
 /// A caller may keep only the characters that are not used up. All frames that are left stand in these characters followed by what comes
 /// later. The next frames of these characters, with places counted in the whole list, are the next frames of the whole list. Once all

@@ -12,7 +12,7 @@ use Rattle.hart_cli.specs.declared.calls.request.fault.BadField.{BadField}
 use Rattle.hart_cli.specs.request.Fields.{after_bytes, data_of_fields, field_value, is_writable, joined}
 use Rattle.hart_cli.proofs.calls.request.fields.data_of_fields.Goals as goal
 
--- a value can be written for the field at each place
+-- if a value can be written for the field of every row, it can be written for the field of the row at place `k`
 writable_at : (rows : List FieldRow) (k : ℕ) (d : FieldRow) → list_all (λ row. is_writable row.kind row.size) (map seen rows) ≡ true
     → k < length rows → is_writable (get_or rows k d).kind (get_or rows k d).size ≡ true
 writable_at [] k d all below = absurd (omega arith)
