@@ -19,6 +19,10 @@ const ACK: u8 = 0x06;
 
 const BURST: u8 = 0x01;
 
+/// The bits in which all delimiters of this profile are alike: those of the physical layer, and those of the kind but for the one
+/// in which an STX and an ACK differ.
+const ALIKE: u8 = 0x1B;
+
 /// The delimiter of a request to a unique address, without expansion bytes.
 pub const UNIQUE_REQUEST: u8 = 0x82;
 
@@ -106,13 +110,13 @@ pub(crate) fn read_delimiter(byte: u8) -> Option<Delimiter>
     ensures address { IfSome result (λ delimiter. delimiter.address_len ≡ 1 + 4 * (byte / 128)) }
     ensures expansion { IfSome result (λ delimiter. delimiter.expansion_len ≡ byte / 32 % 4) }
 {
-    if byte / PHYSICAL_LAYER % 4 != 0 {
+    if byte & ALIKE != STX {
         return None;
     }
-    let kind = match byte % PHYSICAL_LAYER {
-        STX => FrameKind::Stx,
-        ACK => FrameKind::Ack,
-        _ => return None,
+    let kind = if byte & ACK == STX {
+        FrameKind::Stx
+    } else {
+        FrameKind::Ack
     };
     Some(Delimiter {
         kind,
