@@ -5,7 +5,7 @@ ghost use Rattle.hart_frame.specs.private.Prefix.{IsPrefix, fault_in, shown_by};
 use crate::FrameFault;
 use crate::wire::delimiter::read_delimiter;
 use crate::wire::layout::Layout;
-use crate::wire::parity::body_check;
+use crate::wire::parity::front_check;
 
 /// How bytes begin.
 #[derive(Clone, Copy)]
@@ -77,7 +77,7 @@ pub(crate) fn prefix_of(bytes: &[u8]) -> Prefix
     if bytes.len() < len {
         return Prefix::Cut(Some(len - bytes.len()));
     }
-    let check = body_check(&bytes[..len]);
+    let check = front_check(bytes, len);
     if check == 0 {
         return Prefix::Whole(layout);
     }

@@ -1,16 +1,18 @@
 -- Taking the exclusive or (XOR) in each lane and then over all lanes gives the XOR of all bytes.
-use Rattle.std.proofs.Common.{◌≡◌, ℕ, zero, suc, ◌+◌, ◌*◌, ◌/◌, ◌<◌, ◌≤◌, List, [], ◌∷◌, refl, arith, fold, bit_xor, take, drop}
-use Rattle.std.proofs.Common.{length, get_or, mul_comm, take-add, take-append-drop}
+use Rattle.std.proofs.Common.{◌≡◌, ℕ, zero, suc, ◌+◌, ◌*◌, ◌-◌, ◌/◌, ◌<◌, ◌≤◌, List, [], ◌∷◌, ◌++◌, refl, sym, ap, ◌∙◌, arith, fold}
+use Rattle.std.proofs.Common.{bit_xor, take, drop, length, get_or, ltb, replicate, take-add, take-append-drop}
+use Rattle.std.proofs.lemmas.Bool.Decides.{nat_tests}
 use Rattle.std.proofs.lemmas.Grind.{common_steps}
-use Rattle.std.proofs.lemmas.List.{drop-drop}
+use Rattle.std.proofs.lemmas.List.{drop-drop, drop-take, length-append, length-replicate, length-take-le, take-take}
 use Rattle.std.proofs.lemmas.List.Sums.{fold-append}
 use Rattle.std.proofs.lemmas.Nat.{xor_comm}
 use Rattle.std.proofs.lemmas.Simd.{length-chunk}
-use Rattle.std.specs.List.{slice_index_or}
+use Rattle.std.specs.Int.Bits.{xor_assoc, xor_zero_r}
+use Rattle.std.specs.List.{range_with_len, slice_index_or}
 use Rattle.std.specs.Simd.{first_chunks}
-use Rattle.std.specs.Simd.Lanes.{zip2, fold_l}
+use Rattle.std.specs.Simd.Lanes.{zip2, fold_l, sel_l}
 use Rattle.hart_frame.specs.wire.Parity.{IsCheckByte}
-use Rattle.hart_frame.proofs.lemmas.wire.Parity.{IsCheckByte-fold}
+use Rattle.hart_frame.proofs.lemmas.wire.Parity.{IsCheckByte-fold, fits_take}
 
 -- The exclusive or of bytes.
 abbrev pub xor_of : List ℕ → ℕ
@@ -44,11 +46,84 @@ pub xor_of-block : (width index : ℕ) (bytes lanes : List ℕ) (chunks : List (
 xor_of-block width index bytes lanes chunks is below within full before =
     grind (arith, first_chunks-at, length-chunk, fold-zip2, fold-append, take-add)
 
--- The exclusive or of the lanes and of the bytes after the blocks is the check byte of all bytes.
-pub IsCheckByte-rest : (width index : ℕ) (bytes lanes rest : List ℕ) (check : ℕ) → ((i : ℕ) → get_or bytes i 0 < 256)
-    → xor_of lanes ≡ xor_of (take (width * index) bytes) → length bytes / width ≡ index → rest ≡ drop (length bytes / width * width) bytes
-    → check ≡ fold bit_xor (fold_l bit_xor 0 lanes) rest → IsCheckByte bytes check
-IsCheckByte-rest width index bytes lanes rest check each before blocks is folded =
-    let count = length bytes / width * width in
-    let same = rw (mul_comm width index, ← blocks) at before in
-    grind (arith, IsCheckByte-fold, take-append-drop count bytes, fold-append bit_xor 0 (take count bytes) (drop count bytes))
+-- An exclusive or that begins with a number is that number and the exclusive or of the bytes.
+fold_from : (start : ℕ) (bytes : List ℕ) → fold bit_xor start bytes ≡ bit_xor start (fold bit_xor 0 bytes)
+fold_from start [] = sym (xor_zero_r start)
+fold_from start (byte ∷ bytes) =
+    grind (arith, common_steps, bit_xor, xor_comm, fold_moved start byte bytes, fold_moved 0 byte bytes, fold_from start bytes, xor_assoc)
+
+-- The exclusive or of a number, of lanes and of the bytes after those that the lanes have is that of the number and all the bytes.
+pub fold-rest : (start n : ℕ) (bytes lanes rest : List ℕ) → xor_of lanes ≡ xor_of (take n bytes) → rest ≡ drop n bytes
+    → fold bit_xor (bit_xor start (fold_l bit_xor 0 lanes)) rest ≡ fold bit_xor start bytes
+fold-rest start n bytes lanes rest same is =
+    grind (
+      arith,
+      fold_from start (take n bytes),
+      take-append-drop n bytes,
+      fold-append bit_xor start (take n bytes) (drop n bytes),
+    )
+
+-- The exclusive or of the lanes and of the bytes after those that the lanes have is the check byte of all the bytes.
+pub IsCheckByte-rest : (n : ℕ) (bytes lanes rest : List ℕ) (check : ℕ) → ((i : ℕ) → get_or bytes i 0 < 256)
+    → xor_of lanes ≡ xor_of (take n bytes) → rest ≡ drop n bytes → check ≡ fold bit_xor (fold_l bit_xor 0 lanes) rest
+    → IsCheckByte bytes check
+IsCheckByte-rest n bytes lanes rest check each before is folded =
+    grind (arith, IsCheckByte-fold, take-append-drop n bytes, fold-append bit_xor 0 (take n bytes) (drop n bytes))
+
+-- If the first place is not below a limit, no lane is kept: all become 0.
+none_kept : (from limit n : ℕ) (xs : List ℕ) → length xs ≡ n → limit ≤ from
+    → sel_l (zip2 ltb (range_with_len from n) (replicate n limit)) xs (replicate n 0) ≡ replicate n 0
+none_kept from limit zero [] same order = refl
+none_kept from limit (suc n) (x ∷ xs) same order = grind (arith, nat_tests, none_kept (from + 1) limit n xs)
+none_kept from limit n xs same order = absurd (omega arith)
+
+-- The lanes whose places are below a limit are kept, and the others become 0.
+pub kept : (from count limit n : ℕ) (xs : List ℕ) → length xs ≡ n → count ≤ n → limit ≡ from + count
+    → sel_l (zip2 ltb (range_with_len from n) (replicate n limit)) xs (replicate n 0) ≡ take count xs ++ replicate (n - count) 0
+kept from zero limit n xs same few is = grind (arith, none_kept from limit n xs same)
+kept from (suc count) limit (suc n) (x ∷ xs) same few is = grind (arith, nat_tests, kept (from + 1) count limit n xs)
+kept from (suc count) limit n xs same few is = absurd (omega arith)
+
+-- Zeros do not change an exclusive or.
+fold-zeros : (start n : ℕ) → fold bit_xor start (replicate n 0) ≡ start
+fold-zeros start zero = refl
+fold-zeros start (suc n) = ap (λ (s : ℕ). fold bit_xor s (replicate n 0)) (xor_zero_r start) ∙ fold-zeros start n
+
+-- The exclusive or of lanes and of bytes with zeros after them is that of the lanes and of the bytes.
+fold-front : (lanes front bytes : List ℕ) (n : ℕ) → length lanes ≡ length front → front ≡ bytes ++ replicate n 0
+    → fold_l bit_xor 0 (zip2 bit_xor lanes front) ≡ fold bit_xor (fold_l bit_xor 0 lanes) bytes
+fold-front lanes front bytes n same is =
+    grind (arith, fold-zip2 0 lanes front, fold-append bit_xor (fold bit_xor 0 lanes) bytes (replicate n 0), fold-zeros)
+
+-- What is left of the first `len` bytes after some of them begins the bytes after those.
+rest_at : (bytes : List ℕ) (len whole : ℕ) → whole ≤ len → drop whole (take len bytes) ≡ take (len - whole) (drop whole bytes)
+rest_at bytes len whole order =
+    let all : len ≡ whole + (len - whole) = omega arith in
+    ap (λ (n : ℕ). drop whole (take n bytes)) all ∙ drop-take whole (len - whole) bytes
+
+-- The lanes have the exclusive or of the first `whole` of the first `len` bytes of a list.
+module _ (len whole : ℕ) (bytes lanes : List ℕ) (order : whole ≤ len) (each : (i : ℕ) → get_or bytes i 0 < 256)
+    (before : xor_of lanes ≡ xor_of (take whole (take len bytes))) where
+  -- With the other bytes it is their check byte.
+  pub IsCheckByte-few : (check : ℕ) → check ≡ fold bit_xor (fold_l bit_xor 0 lanes) (take (len - whole) (drop whole bytes))
+      → IsCheckByte (take len bytes) check
+  IsCheckByte-few check folded =
+      IsCheckByte-rest whole (take len bytes) lanes _ check (fits_take bytes len each) before (sym (rest_at bytes len whole order)) folded
+
+  -- With a block that begins with the other bytes and has zeros after them it is their check byte too.
+  pub IsCheckByte-front : (front block : List ℕ) → len ≤ whole + 16 → block ≡ take 16 (drop whole bytes) → length block ≡ 16
+      → length lanes ≡ 16 → front ≡ take (len - whole) block ++ replicate (16 - (len - whole)) 0
+      → IsCheckByte (take len bytes) (fold_l bit_xor 0 (zip2 bit_xor lanes front))
+  IsCheckByte-front front block few is full wide parts =
+      let n = len - whole in
+      let long : length front ≡ 16 =
+      omega (
+        arith,
+        ap length parts,
+        length-append (take n block) (replicate (16 - n) 0),
+        length-take-le n block (omega arith),
+        length-replicate {A = ℕ} (16 - n) 0,
+      ) in
+      let same : take n block ≡ take n (drop whole bytes) = ap (take n) is ∙ take-take n 16 (drop whole bytes) (omega arith) in
+      IsCheckByte-few _
+      (fold-front lanes front (take n block) (16 - n) (omega arith) parts ∙ ap (fold bit_xor (fold_l bit_xor 0 lanes)) same)

@@ -3,7 +3,8 @@ use Rattle.std.proofs.Common.{◌≡◌, ◌≢◌, ℕ, ◌+◌, ◌-◌, ◌%�
 use Rattle.std.proofs.Common.{arith}
 use Rattle.std.proofs.lemmas.Bool.Decides.{nat_tests}
 use Rattle.std.proofs.lemmas.Grind.{common_steps}
-use Rattle.std.proofs.lemmas.List.{get_or-drop, get_or_append_left, get_or_at, get_or_past, length-take-le, take_all, take_more}
+use Rattle.std.proofs.lemmas.List.{get_or-drop, get_or-take, get_or_append_left, get_or_at, get_or_past, length-take, length-take-le}
+use Rattle.std.proofs.lemmas.List.{take_all, take_more}
 use Rattle.std.proofs.lemmas.List.Elements.{All-get_or}
 use Rattle.std.proofs.lemmas.List.Sums.{fold-append, sum_by_push}
 use Rattle.std.proofs.lemmas.Nat.{xor_of_8}
@@ -19,6 +20,9 @@ fits_at bytes fit i = grind (arith, All-get_or, get_or_past)
 
 pub fits_drop : (bytes : List ℕ) (n : ℕ) → ((i : ℕ) → get_or bytes i 0 < 256) → (i : ℕ) → get_or (drop n bytes) i 0 < 256
 fits_drop bytes n fits i = grind (arith, get_or-drop, fits (n + i))
+
+pub fits_take : (bytes : List ℕ) (n : ℕ) → ((i : ℕ) → get_or bytes i 0 < 256) → (i : ℕ) → get_or (take n bytes) i 0 < 256
+fits_take bytes n fits i = grind (arith, get_or-take, get_or_past, length-take, fits i)
 
 -- An appended byte adds its bit to the bit count of the bytes before it.
 bit_count-push : (bit byte : ℕ) (bytes : List ℕ) → bit_count bit (bytes ++ byte ∷ []) ≡ bit_count bit bytes + bit_at byte bit

@@ -1,10 +1,11 @@
-use Rattle.std.proofs.Common.{arith}
-use Rattle.hart_frame.proofs.lemmas.wire.Lane.{IsCheckByte-rest, xor_of-block}
+use Rattle.std.proofs.Common.{◌*◌, ◌/◌, length, arith}
+use Rattle.std.proofs.lemmas.List.{take_rest}
+use Rattle.hart_frame.proofs.lemmas.wire.Lane.{IsCheckByte-rest}
 use Rattle.hart_frame.proofs.wire.parity.check_byte.Goals as goal
-
-pub loop-block-preserved : goal.loop-block-preserved
-loop-block-preserved c = grind (arith, xor_of-block 32 c.loop-block.block-index c.args.bytes.now c.loop-block.lanes)
 
 pub returns : goal.returns
 returns c =
-    grind (arith, IsCheckByte-rest 32 c.loop-block.block-index c.args.bytes.now c.loop-block.lanes c.as_chunks.result.1.now c.fold.result)
+    let bytes = c.args.bytes.now in
+    let whole = length bytes / 16 * 16 in
+    IsCheckByte-rest whole bytes c.fold_blocks-lanes.result _ _ (λ i. omega (arith, c.type_inv.bytes i)) c.fold_blocks-lanes.ensures.front
+    (take_rest bytes whole) c.fold_few.ensures
