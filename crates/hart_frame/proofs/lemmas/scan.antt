@@ -14,6 +14,7 @@ pub mod Undecided
 pub mod Stream
 pub mod Buffer
 pub mod Decision
+pub mod Pairs
 pub mod Part
 pub mod Chunk
 pub mod First

@@ -60,19 +60,17 @@ pub record IsSearchedToEnd (bytes : List ℕ) (from : ℕ) (ended : Bool) (found
   pub none : NoneBeginThen bytes ended from found.place
   pub stands : MatchOption found.layout (IsLeftOpen bytes ended found.place) (λ layout. IsWhole layout (drop found.place bytes))
 
--- No preamble byte stands in a list from a place on.
-abbrev pub HasNoPreamble : List ℕ → ℕ → Type 0
-HasNoPreamble bytes from = (place : ℕ) → from ≤ place → place < length bytes → slice_index bytes place ≢ 255
+-- A pair stands at a place of a list if two preamble bytes and then another byte stand there.
+abbrev pub HasPair : List ℕ → ℕ → Type 0
+HasPair bytes place = (place + 3 ≤ length bytes) × (slice_index bytes place ≡ 255) × (slice_index bytes (place + 1) ≡ 255)
+    × (slice_index bytes (place + 2) ≢ 255)
 
--- Three preamble bytes stand in a row, the first of them at this place.
-abbrev pub HasThree : List ℕ → ℕ → Type 0
-HasThree bytes place = (place + 3 ≤ length bytes) × (slice_index bytes place ≡ 255) × (slice_index bytes (place + 1) ≡ 255)
-    × (slice_index bytes (place + 2) ≡ 255)
+-- No pair stands in a list at a place from `from` on but before `to`.
+abbrev pub HasNoPair : List ℕ → ℕ → ℕ → Type 0
+HasNoPair bytes from to = (place : ℕ) → from ≤ place → place < to → HasPair bytes place → ⊥
 
--- The next candidate from a place on is the first preamble byte there that does not begin three preamble bytes in a row.
-pub record IsNextCandidate (bytes : List ℕ) (from start : ℕ) : Type 0 where
+-- The next pair from a place on is the first that stands there.
+pub record IsNextPair (bytes : List ℕ) (from start : ℕ) : Type 0 where
   pub after : from ≤ start
-  pub within : start < length bytes
-  pub preamble : slice_index bytes start ≡ 255
-  pub last : HasThree bytes start → ⊥
-  pub passed : (place : ℕ) → from ≤ place → place < start → (slice_index bytes place ≢ 255) ⊎ HasThree bytes place
+  pub pair : HasPair bytes start
+  pub passed : HasNoPair bytes from start

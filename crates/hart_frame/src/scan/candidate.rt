@@ -1,9 +1,8 @@
 //! How the bytes that a scanner looks at begin.
-ghost use Rattle.std.specs.Prelude.{◌≡◌, ◌<◌, length, slice_index};
+ghost use Rattle.std.specs.Prelude.{◌≡◌, ◌≤◌, length, slice_index};
 ghost use Rattle.hart_frame.specs.private.Candidate.{IsCandidate, IsShort};
 
 use crate::wire::layout::Layout;
-use crate::wire::message::PREAMBLE;
 use crate::wire::prefix::{Prefix, prefix_of};
 
 /// How bytes begin.
@@ -17,19 +16,14 @@ pub(crate) enum Candidate {
     Whole(Layout),
 }
 
-/// Returns how the bytes begin. The first of them is a preamble byte.
+/// Returns how the bytes begin. The first two of them are preamble bytes.
 pub(crate) fn candidate_in(bytes: &[u8]) -> Candidate
-    requires some { 0 < length bytes.now }
-    requires preamble { slice_index bytes.now 0 ≡ 255 }
+    requires some { 2 ≤ length bytes.now }
+    requires first { slice_index bytes.now 0 ≡ 255 }
+    requires second { slice_index bytes.now 1 ≡ 255 }
     ensures candidate { IsCandidate bytes.now result }
     ensures few { IsShort bytes.now result }
 {
-    if bytes.len() == 1 {
-        return Candidate::Open;
-    }
-    if bytes[1] != PREAMBLE {
-        return Candidate::Never(2);
-    }
     match prefix_of(&bytes[2..]) {
         Prefix::Whole(layout) => Candidate::Whole(layout),
         Prefix::Cut(_) => Candidate::Open,

@@ -1,11 +1,18 @@
 //! The search for frames in faultless bytes, without a copy.
-ghost use Rattle.std.specs.Prelude.{None, ◌≡◌, ◌≢◌, ◌<◌, ◌≤◌, ◌+◌, ℕ, All, MatchOption, length, slice_index, take};
-ghost use Rattle.hart_frame.specs.private.Search.{HasNoPreamble, IsNextCandidate, IsSearched, IsSearchedToEnd};
+ghost use Rattle.std.specs.Prelude.{None, ◌≡◌, ◌≢◌, ◌<◌, ◌≤◌, ◌+◌, ◌-◌, ℕ, All, MatchOption, drop, length, replicate, slice_index, take};
+ghost use Rattle.hart_frame.specs.private.Search.{HasNoPair, IsNextPair, IsSearched, IsSearchedToEnd};
 
 use crate::scan::candidate::{Candidate, candidate_in};
 use crate::wire::layout::Layout;
 use crate::wire::message::PREAMBLE;
 use memchr::memchr;
+use std::simd::prelude::*;
+
+/// The number of places that are looked at together for a pair.
+const LANES: usize = 16;
+
+/// The number of bytes that are looked at for this: a pair has three.
+const LOOKED_AT: usize = LANES + 2;
 
 /// What a search of bytes finds.
 #[derive(Clone, Copy)]
@@ -27,7 +34,7 @@ pub(crate) fn search(bytes: &[u8], from: usize, seen: usize) -> Sighting
 {
     let mut place = from;
     let mut decided = seen;
-    while let Some(start) = next_candidate(bytes, place) {
+    while let Some(start) = next_pair(bytes, place) {
         match candidate_in(&bytes[start..]) {
             Candidate::Never(count) => {
                 decided = decided.max(start + count);
@@ -43,7 +50,7 @@ pub(crate) fn search(bytes: &[u8], from: usize, seen: usize) -> Sighting
             }
         }
     }
-    open_at(bytes, bytes.len())
+    open_at(bytes, bytes.len() - last_preambles(&bytes[place..]))
 }
 
 /// Searches from `from` for a frame. If `ended` is true, nothing can follow the bytes, so a place at which a frame might still
@@ -70,18 +77,72 @@ fn open_at(bytes: &[u8], place: usize) -> Sighting
     }
 }
 
-/// Returns the first place from `from` on at which a frame may begin, or `None` if no preamble byte follows. In a row of several
-/// preamble bytes, this place is the last but one.
-fn next_candidate(bytes: &[u8], from: usize) -> Option<usize>
+/// Returns the first place from `from` on at which a pair stands, or `None` if there is none. A pair is two preamble bytes and then
+/// another byte.
+#[inline(always)]
+fn next_pair(bytes: &[u8], from: usize) -> Option<usize>
     requires { from ≤ length bytes.now }
-    ensures { MatchOption result (HasNoPreamble bytes.now from) (IsNextCandidate bytes.now from) }
+    ensures { MatchOption result (HasNoPair bytes.now from (length bytes.now)) (IsNextPair bytes.now from) }
 {
-    let first = next_preamble(bytes, from);
-    if first == bytes.len() {
+    let mut place = from;
+    while place + LOOKED_AT <= bytes.len() {
+        if let Some(start) = first_pair(bytes, place) {
+            return Some(start);
+        }
+        place += LANES;
+    }
+    if from + LOOKED_AT <= bytes.len() {
+        // Some of these places were looked at before.
+        return first_pair(bytes, bytes.len() - LOOKED_AT);
+    }
+    pair_near_end(bytes, from)
+}
+
+/// Returns the first of [`LANES`] places at which a pair stands.
+#[inline(always)]
+fn first_pair(bytes: &[u8], place: usize) -> Option<usize>
+    requires { place + LOOKED_AT ≤ length bytes.now }
+    ensures { MatchOption result (HasNoPair bytes.now place (place + LANES)) (IsNextPair bytes.now place) }
+{
+    let preamble = u8x16::splat(PREAMBLE);
+    let first = u8x16::from_slice(&bytes[place..]).simd_eq(preamble);
+    let second = u8x16::from_slice(&bytes[place + 1..]).simd_eq(preamble);
+    let other = u8x16::from_slice(&bytes[place + 2..]).simd_ne(preamble);
+    let pairs = (first & second & other).to_bitmask();
+    if pairs == 0 {
         return None;
     }
-    let after = preamble_end(bytes, first);
-    Some(first.max(after.saturating_sub(2)))
+    Some(place + pairs.trailing_zeros() as usize)
+}
+
+/// Like [`next_pair`], by one place after another, for fewer bytes than [`first_pair`] looks at.
+fn pair_near_end(bytes: &[u8], from: usize) -> Option<usize>
+    requires { from ≤ length bytes.now }
+    ensures { MatchOption result (HasNoPair bytes.now from (length bytes.now)) (IsNextPair bytes.now from) }
+{
+    for place in from..bytes.len().saturating_sub(2) {
+        if bytes[place] == PREAMBLE
+            && bytes[place + 1] == PREAMBLE
+            && bytes[place + 2] != PREAMBLE
+        {
+            return Some(place);
+        }
+    }
+    None
+}
+
+/// Returns how many preamble bytes stand at the end, at most two.
+fn last_preambles(bytes: &[u8]) -> usize
+    ensures few { result ≤ 2 }
+    ensures within { result ≤ length bytes.now }
+    ensures preambles { drop (length bytes.now - result) bytes.now ≡ replicate result 255 }
+    ensures other { result < 2 → result < length bytes.now → slice_index bytes.now (length bytes.now - result - 1) ≢ 255 }
+{
+    match bytes {
+        [.., PREAMBLE, PREAMBLE] => 2,
+        [.., PREAMBLE] => 1,
+        _ => 0,
+    }
 }
 
 /// Returns the place of the first preamble byte from `from` on, or the place after the last byte if there is none.

@@ -1,17 +1,19 @@
 -- What is known of bytes while they are searched, and what a search then finds.
 use Rattle.std.proofs.Common.{Some, None, ◌≡◌, ◌≢◌, ℕ, zero, suc, ◌+◌, ◌-◌, ◌<◌, ◌≤◌, ◌⊎◌, inl, inr, List, [], ◌∷◌, ◌++◌, length, take}
-use Rattle.std.proofs.Common.{drop, get_or, refl, ap, ◌∙◌, max, arith, append_assoc, length-append, length-drop, add-zero}
+use Rattle.std.proofs.Common.{drop, get_or, refl, ap, ◌∙◌, max, replicate, MatchOption, Option, arith, append_assoc, length-append}
+use Rattle.std.proofs.Common.{length-drop, add-zero}
 use Rattle.std.proofs.Math.Seq.{take-add, take-append-add}
+use Rattle.std.proofs.lemmas.Bool.{cases_eq, cases_lt}
 use Rattle.std.proofs.lemmas.Grind.{common_steps}
-use Rattle.std.proofs.lemmas.List.{drop-append-le, drop-take, drop_more, length-take-le, take_rest}
+use Rattle.std.proofs.lemmas.List.{drop-append-le, drop-drop, drop-take, drop_more, get_or-drop, length-take-le, take_rest}
 use Rattle.std.specs.List.{slice_range}
 use Rattle.hart_frame.specs.declared.scan.candidate.Candidate.TheVariants.{Never, Whole}
 use Rattle.hart_frame.specs.declared.wire.layout.Layout.{Layout}
 use Rattle.hart_frame.specs.declared.wire.prefix.Wrong.TheVariants.{BadDelimiter}
 use Rattle.hart_frame.specs.private.Candidate.{IsCandidate, IsWhole, MayBegin, MayBeginBefore, NeverBegin}
-use Rattle.hart_frame.specs.private.Search.{HasThree, IsNextCandidate, IsOpenBefore, IsSearched, NoneBegin}
+use Rattle.hart_frame.specs.private.Search.{HasNoPair, HasPair, IsNextPair, IsOpenBefore, IsSearched, NoneBegin}
 use Rattle.hart_frame.specs.private.Layout.{layout_length}
-use Rattle.hart_frame.proofs.lemmas.scan.Candidate.{may_begin_before, never_after, never_first, never_more}
+use Rattle.hart_frame.proofs.lemmas.scan.Candidate.{may_begin_before, never_after, never_first, never_more, second_never}
 use Rattle.hart_frame.proofs.lemmas.wire.Truncated.{truncated_check, truncated_count}
 
 -- Dropping `n` of the first `m` elements of a list leaves the first `m - n` elements from place `n` on.
@@ -49,11 +51,25 @@ pub joined : (Of : ℕ → Type 0) (from mid to : ℕ) → ((place : ℕ) → fr
     → ((place : ℕ) → mid ≤ place → place < to → Of place) → (place : ℕ) → from ≤ place → place < to → Of place
 joined Of from mid to before after place since below = grind arith
 
--- No frame begins with a byte other than FF, or with three FF, and 1 to 3 bytes prove this.
-passed_never : (xs : List ℕ) (here : ℕ) → here < length xs → (get_or xs here 0 ≢ 255) ⊎ HasThree xs here
+-- A place is passed if it has a byte other than FF, or if such a byte stands after it, or if three FF stand there.
+abbrev pub IsPassed : List ℕ → ℕ → Type 0
+IsPassed xs here =
+    (get_or xs here 0 ≢ 255) ⊎ ((here + 2 ≤ length xs) × (get_or xs (here + 1) 0 ≢ 255))
+    ⊎ ((here + 3 ≤ length xs) × (get_or xs here 0 ≡ 255) × (get_or xs (here + 1) 0 ≡ 255) × (get_or xs (here + 2) 0 ≡ 255))
+
+-- At a passed place no frame begins, and 1 to 3 bytes prove this.
+passed_never : (xs : List ℕ) (here : ℕ) → here < length xs → IsPassed xs here
     → (count : ℕ) × IsCandidate (drop here xs) (Never count) × (0 < count) × (count ≤ 3)
 passed_never xs here within (inl other) = (1, grind (arith, drop_more xs here 0, never_first), omega arith, omega arith)
-passed_never xs here within (inr (inside, first, second, third)) =
+passed_never xs here within (inr (inl (inside, other))) =
+    elim (cases_eq (get_or xs here 0) 255) [
+      | inl first ↦
+          let at : get_or (drop here xs) 0 0 ≡ 255 = grind (arith, get_or-drop) in
+          let next : get_or (drop here xs) 1 0 ≢ 255 = grind (arith, get_or-drop) in
+          (2, second_never (drop here xs) (omega (arith, length-drop here xs)) at next, omega arith, omega arith)
+      | inr differs ↦ (1, grind (arith, drop_more xs here 0, never_first), omega arith, omega arith)
+    ]
+passed_never xs here within (inr (inr (inside, first, second, third))) =
     let parts : drop here xs ≡ 255 ∷ 255 ∷ 255 ∷ drop (here + 3) xs =
     grind (arith, drop_more xs here 0, drop_more xs (here + 1) 0, drop_more xs (here + 2) 0) in
     let never = never_after 255 255 (255 ∷ []) (BadDelimiter 255) (grind arith) in (
@@ -62,6 +78,70 @@ passed_never xs here within (inr (inside, first, second, third)) =
       omega arith,
       omega arith,
     )
+
+-- A place with three bytes and no pair is passed.
+pub passed_here : (xs : List ℕ) (here : ℕ) → here + 3 ≤ length xs → (HasPair xs here → ⊥) → IsPassed xs here
+passed_here xs here inside none =
+    elim (cases_eq (get_or xs here 0) 255) [
+      | inr other ↦ inl other
+      | inl first ↦ elim (cases_eq (get_or xs (here + 1) 0) 255) [
+        | inr other ↦ inr (inl (omega arith, other))
+        | inl second ↦ elim (cases_eq (get_or xs (here + 2) 0) 255) [
+          | inr other ↦ absurd (none (inside, first, second, other))
+          | inl third ↦ inr (inr (inside, first, second, third))
+        ]
+      ]
+    ]
+
+-- If no pair stands from a place on, the places before the last FF, of which at most two count, are passed.
+pub passed_to_end : (xs : List ℕ) (place count : ℕ) → place ≤ length xs → HasNoPair xs place (length xs)
+    → (count < 2 → count < length (drop place xs) → get_or (drop place xs) (length (drop place xs) - count - 1) 0 ≢ 255)
+    → (here : ℕ) → place ≤ here → here < length xs - count → IsPassed xs here
+passed_to_end xs place count within none other here after before =
+    let long = length-drop place xs in
+    let at : (k : ℕ) → get_or (drop place xs) k 0 ≡ get_or xs (place + k) 0 = λ k. get_or-drop place xs k 0 in
+    elim (cases_lt (length xs) (here + 3)) [
+      | inr inside ↦ passed_here xs here inside (none here after (omega arith))
+      | inl near ↦ elim (cases_eq (here + count + 1) (length xs)) [
+        | inl last ↦ inl (grind (arith, at (length (drop place xs) - count - 1)))
+        | inr early ↦ inr (inl (omega arith, grind (arith, at (length (drop place xs) - count - 1))))
+      ]
+    ]
+
+-- The last elements of a list are the last of what is left from a place on, if so many are left.
+pub last_of : (xs : List ℕ) (place count : ℕ) → place ≤ length xs → count ≤ length (drop place xs)
+    → drop (length xs - count) xs ≡ drop (length (drop place xs) - count) (drop place xs)
+last_of xs place count within few = grind (arith, drop-drop, length-drop)
+
+-- One or two FF and nothing else, or no bytes, may begin a frame.
+pub may_begin_last : (xs : List ℕ) (count : ℕ) → count ≤ 2 → xs ≡ replicate count 255 → MayBegin xs
+may_begin_last xs zero few is = inl is
+may_begin_last xs (suc zero) few is = inr (inl is)
+may_begin_last xs (suc (suc zero)) few is = inr (inr ([], is, inl refl))
+may_begin_last xs (suc (suc (suc count))) few is = absurd (omega arith)
+
+-- The next pair after places without one is the next pair from the first of these places on.
+pub pair_after : (xs : List ℕ) (from place : ℕ) (result : Option ℕ) → from ≤ place → HasNoPair xs from place
+    → MatchOption result (HasNoPair xs place (length xs)) (IsNextPair xs place)
+    → MatchOption result (HasNoPair xs from (length xs)) (IsNextPair xs from)
+pair_after xs from place None order none rest = joined (λ here. HasPair xs here → ⊥) from place (length xs) none rest
+pair_after xs from place (Some start) order none next = record {
+  after = omega (arith, order, next.after);
+  pair = next.pair;
+  passed = joined (λ here. HasPair xs here → ⊥) from place start none next.passed;
+}
+
+-- So is the next pair from the sixteenth last place with three bytes on, even if some places from there on were passed.
+pub pair_at_end : (xs : List ℕ) (from place last : ℕ) (result : Option ℕ) → from ≤ last → last ≤ place → last + 18 ≡ length xs
+    → HasNoPair xs from place → MatchOption result (HasNoPair xs last (last + 16)) (IsNextPair xs last)
+    → MatchOption result (HasNoPair xs from (length xs)) (IsNextPair xs from)
+pair_at_end xs from place last None order seen all none rest =
+    λ here after before pair. elim (cases_lt here last) [
+      | inl early ↦ none here after (omega (arith, early, seen)) pair
+      | inr late ↦ rest here late (omega (arith, all, pair.0)) pair
+    ]
+pair_at_end xs from place last (Some start) order seen all none next =
+    pair_after xs from last (Some start) order (λ here after before. none here after (omega (arith, before, seen))) next
 
 -- If bytes may begin a frame, so may each prefix of them.
 may_take : (xs : List ℕ) (n : ℕ) → n ≤ length xs → MayBegin xs → MayBegin (take n xs)
@@ -108,9 +188,9 @@ module _ (xs : List ℕ) (from seen : ℕ) where
       (λ k late early. let same : k ≡ place = omega arith in rw same here) in
       grind arith
 
-  -- A search moves past places with no FF or with three FF in a row, and looks at no more than 2 bytes after them.
+  -- A search moves past places that are passed, and looks at no more than 2 bytes after them.
   searching_run : (place decided count start : ℕ) → start ≡ place + count → IsSearching xs from seen place decided → start ≤ length xs
-      → ((here : ℕ) → place ≤ here → here < start → (get_or xs here 0 ≢ 255) ⊎ HasThree xs here)
+      → ((here : ℕ) → place ≤ here → here < start → IsPassed xs here)
       → (needed : ℕ) × IsSearching xs from seen start needed × (decided ≤ needed) × (needed ≤ max decided (start + 2))
   searching_run place decided zero start is searching within passed = (decided, grind (arith, add-zero), omega arith, omega arith)
   searching_run place decided (suc count) start is searching within passed =
@@ -122,19 +202,23 @@ module _ (xs : List ℕ) (from seen : ℕ) where
       let next : start ≡ here + 1 = omega arith in
       (more, rw (← next) at (searching_never here needed size more on never some (omega arith) refl), omega arith, omega arith)
 
-  -- A search goes on after the next candidate if no frame begins there.
-  pub searching_on : (place decided start count more : ℕ) → IsSearching xs from seen place decided → IsNextCandidate xs place start
+  pub passed_before : (place start : ℕ) → IsNextPair xs place start → (here : ℕ) → place ≤ here → here < start → IsPassed xs here
+  passed_before place start next here after before =
+      passed_here xs here (omega (arith, next.pair, before)) (next.passed here after before)
+
+  -- A search goes on after the next pair if no frame begins there.
+  pub searching_on : (place decided start count more : ℕ) → IsSearching xs from seen place decided → IsNextPair xs place start
       → IsCandidate (slice_range xs start (length xs)) (Never count) → (2 ≤ count) × (count ≤ 269)
       → more ≡ max decided (start + count) → IsSearching xs from seen (start + 1) more
   searching_on place decided start count more searching next never (some, few) is =
       let (needed, on, least, most) = searching_run place decided (start - place) start (omega (arith, next.after)) searching
-      (omega (arith, next.within)) next.passed in
+      (omega (arith, next.pair)) (passed_before place start next) in
       searching_never start needed count more on (rw (take_rest xs start) at never) (omega (arith, some)) few
       (omega (arith, is, least, most, some))
 
   -- A search ends at a place if the bytes that are left from there on may begin a frame. No bytes need be left.
   pub searched_open : (place decided start : ℕ) → IsSearching xs from seen place decided → place ≤ start → start ≤ length xs
-      → ((here : ℕ) → place ≤ here → here < start → (get_or xs here 0 ≢ 255) ⊎ HasThree xs here)
+      → ((here : ℕ) → place ≤ here → here < start → IsPassed xs here)
       → MayBegin (drop start xs) → length xs < start + 269
       → IsSearched xs from seen (record { place = start; decided = length xs; layout = None })
   searched_open place decided start searching after within passed may few =
@@ -146,15 +230,15 @@ module _ (xs : List ℕ) (from seen : ℕ) where
 
   -- A search ends at a place where a frame stands.
   pub searched_stands : (place decided start more : ℕ) (layout : Layout) → IsSearching xs from seen place decided
-      → IsNextCandidate xs place start → IsCandidate (slice_range xs start (length xs)) (Whole layout) → layout_length layout ≤ 267
+      → IsNextPair xs place start → IsCandidate (slice_range xs start (length xs)) (Whole layout) → layout_length layout ≤ 267
       → more ≡ max decided (start + 2 + layout_length layout)
       → IsSearched xs from seen (record { place = start; decided = more; layout = Some layout })
   searched_stands place decided start more layout searching next candidate short is =
       let n = layout_length layout in
       let (needed, on, least, most) = searching_run place decided (start - place) start (omega (arith, next.after)) searching
-      (omega (arith, next.within)) next.passed in
+      (omega (arith, next.pair)) (passed_before place start next) in
       let (whole, may) = rw (take_rest xs start) at candidate in
       let long : start + (2 + n) ≤ length xs =
-      omega (arith, simp length-append at (ap length whole.parts), whole.whole.exact, length-drop start xs, next.within) in
+      omega (arith, simp length-append at (ap length whole.parts), whole.whole.exact, length-drop start xs, next.pair) in
       let stays = searching_more start needed (2 + n) more on may (omega arith) long (omega (arith, is, least, most)) in
       grind (arith, common_steps, drop_take, whole_take, length-drop)

@@ -1,18 +1,14 @@
-use Rattle.std.proofs.Common.{◌≤◌, length, arith, length-drop}
+use Rattle.std.proofs.Common.{arith, length-drop}
 use Rattle.std.proofs.lemmas.List.{take_rest}
-use Rattle.hart_frame.proofs.lemmas.scan.Candidate.{after_whole, after_wrong, second_never}
+use Rattle.hart_frame.proofs.lemmas.scan.Candidate.{after_whole, after_wrong}
 use Rattle.hart_frame.proofs.lemmas.wire.Parity.{fits_drop}
 use Rattle.hart_frame.proofs.lemmas.wire.Reading.{cut_truncated, wrong_few, wrong_within}
 use Rattle.hart_frame.proofs.lemmas.wire.Truncated.{truncated_few}
 use Rattle.hart_frame.proofs.scan.candidate.candidate_in.Goals as goal
 
-pub returns-then-bytes-clause-candidate : goal.returns-then-bytes-clause-candidate
-returns-then-bytes-clause-candidate c = grind (arith, second_never)
-
 pub returns-in-Whole-clause-candidate : goal.returns-in-Whole-clause-candidate
 returns-in-Whole-clause-candidate c =
-    let long : 2 ≤ length c.args.bytes.now = omega (arith, c.requires.some, c.if-bytes-eq1.false) in
-    after_whole c.args.bytes.now long c.requires.preamble c.if-bytes.false c.in-Whole.layout c.in-Whole.ensures
+    after_whole c.args.bytes.now c.requires.some c.requires.first c.requires.second c.in-Whole.layout c.in-Whole.ensures
 
 pub returns-in-Cut-clause-few : goal.returns-in-Cut-clause-few
 returns-in-Cut-clause-few c =
@@ -22,9 +18,8 @@ returns-in-Cut-clause-few c =
 
 pub returns-in-Wrong-clause-candidate : goal.returns-in-Wrong-clause-candidate
 returns-in-Wrong-clause-candidate c =
-    let long : 2 ≤ length c.args.bytes.now = omega (arith, c.requires.some, c.if-bytes-eq1.false) in
     rw c.shown_by.ensures
-    (after_wrong c.args.bytes.now long c.requires.preamble c.if-bytes.false c.in-Wrong.wrong c.in-Wrong.ensures)
+    (after_wrong c.args.bytes.now c.requires.some c.requires.first c.requires.second c.in-Wrong.wrong c.in-Wrong.ensures)
 
 pub returns-in-Wrong-clause-few : goal.returns-in-Wrong-clause-few
 returns-in-Wrong-clause-few c =

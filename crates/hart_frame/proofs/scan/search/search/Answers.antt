@@ -1,6 +1,7 @@
-use Rattle.std.proofs.Common.{arith, length, length-drop}
-use Rattle.std.proofs.lemmas.List.{drop_all, take_rest}
-use Rattle.hart_frame.proofs.lemmas.scan.Search.{searched_open, searched_stands, searching_on}
+use Rattle.std.proofs.Common.{◌-◌, ◌≤◌, ◌∙◌, arith, drop, length, length-drop}
+use Rattle.std.proofs.lemmas.List.{take_rest}
+use Rattle.hart_frame.proofs.lemmas.scan.Search.{last_of, may_begin_last, passed_before, passed_to_end, searched_open, searched_stands}
+use Rattle.hart_frame.proofs.lemmas.scan.Search.{searching_on}
 use Rattle.hart_frame.proofs.scan.search.search.Goals as goal
 
 pub loop-start-preserved : goal.loop-start-preserved
@@ -16,7 +17,8 @@ returns-in-Open c =
     let is = rw (take_rest bytes start) at c.in-Open.ensures in
     rw c.open_at.ensures
     (searched_open bytes c.args.from c.args.seen c.loop-start.place c.loop-start.decided start c.loop-start.invariant next.after
-    (omega (arith, next.within)) next.passed is.candidate (omega (arith, is.few, length-drop start bytes, next.within)))
+    (omega (arith, next.pair)) (passed_before bytes c.args.from c.args.seen c.loop-start.place start next) is.candidate
+    (omega (arith, is.few, length-drop start bytes, next.pair)))
 
 pub returns-in-Whole : goal.returns-in-Whole
 returns-in-Whole c =
@@ -25,5 +27,15 @@ returns-in-Whole c =
 
 pub returns : goal.returns
 returns c =
-    let end = length c.args.bytes.now in
-    grind (arith, drop_all, searched_open c.args.bytes.now c.args.from c.args.seen c.loop-start.place c.loop-start.decided end)
+    let bytes = c.args.bytes.now in
+    let place = c.loop-start.place in
+    let count = c.last_preambles.result in
+    let last = rw (take_rest bytes place) at c.last_preambles.ensures in
+    let inside : place ≤ length bytes = omega arith in
+    let rest = length-drop place bytes in
+    let passed = passed_to_end bytes place count inside c.in_default.ensures last.other in
+    let ends = last_of bytes place count inside last.within ∙ last.preambles in
+    let may = may_begin_last (drop (length bytes - count) bytes) count last.few ends in
+    rw c.open_at-2.ensures
+    (searched_open bytes c.args.from c.args.seen place c.loop-start.decided (length bytes - count) c.loop-start.invariant
+    (omega (arith, last.within, rest)) (omega arith) passed may (omega (arith, last.few)))

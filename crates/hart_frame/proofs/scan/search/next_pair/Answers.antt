@@ -1,0 +1,24 @@
+use Rattle.std.proofs.Common.{◌+◌, ◌-◌, Some, length, arith}
+use Rattle.hart_frame.specs.private.Search.{HasPair}
+use Rattle.hart_frame.proofs.lemmas.scan.Search.{joined, pair_after, pair_at_end}
+use Rattle.hart_frame.proofs.scan.search.next_pair.Goals as goal
+
+pub loop-place-preserved : goal.loop-place-preserved
+loop-place-preserved c =
+    let bytes = c.args.bytes.now in
+    let place = c.loop-place.place in
+    let was = c.loop-place.invariant in
+    let none = joined (λ here. HasPair bytes here → ⊥) c.args.from place (place + 16) was.2 c.in_default.ensures in
+    (omega arith, omega arith, none)
+
+pub returns-in-Some : goal.returns-in-Some
+returns-in-Some c =
+    let was = c.loop-place.invariant in
+    pair_after c.args.bytes.now c.args.from c.loop-place.place (Some c.in-Some.start) was.0 was.2 c.in-Some.ensures
+
+pub returns-then-from-bytes : goal.returns-then-from-bytes
+returns-then-from-bytes c =
+    let bytes = c.args.bytes.now in
+    let last = length bytes - 18 in
+    pair_at_end bytes c.args.from c.loop-place.place last c.first_pair-then-from-bytes.result (omega arith) (omega arith) (omega arith)
+    c.loop-place.invariant.2 c.first_pair-then-from-bytes.ensures

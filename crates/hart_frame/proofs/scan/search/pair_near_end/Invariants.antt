@@ -1,0 +1,5 @@
+use Rattle.hart_frame.specs.private.Search.{HasNoPair}
+use Rattle.hart_frame.proofs.scan.search.pair_near_end.Given as goal
+
+abbrev pub invariant-loop-place : goal.invariant-loop-place
+invariant-loop-place l = HasNoPair l.bytes l.from l.place
