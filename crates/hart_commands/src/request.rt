@@ -142,14 +142,47 @@ impl Request {
     }
 
     /// Returns a copy of the request.
-    #[tactic(auto, using(crate::proofs::lemmas::Request::written_is_own))]
     pub fn copy(&self) -> Self
         ensures same { result ≡ self.now }
         ensures well_made { IsRequest self.now }
     {
-        let mut data = Payload::new();
-        self.write(&mut data);
-        Request::read(self.command(), data.as_slice()).unwrap()
+        // The contract of `parts` says that the request is well made.
+        self.parts(&mut [0; 2]);
+        match self {
+            Request::Identify => Request::Identify,
+            Request::ReadPrimary => Request::ReadPrimary,
+            Request::ReadCurrent => Request::ReadCurrent,
+            Request::ReadDynamic => Request::ReadDynamic,
+            Request::SetPolling { address, mode } => Request::SetPolling {
+                address: *address,
+                mode: *mode,
+            },
+            Request::ReadPolling => Request::ReadPolling,
+            Request::ReadClasses => Request::ReadClasses,
+            Request::ReadVariables(codes) => Request::ReadVariables(codes.copy()),
+            Request::IdentifyByTag(tag) => Request::IdentifyByTag(*tag),
+            Request::ReadMessage => Request::ReadMessage,
+            Request::ReadTag => Request::ReadTag,
+            Request::ReadSensor => Request::ReadSensor,
+            Request::ReadOutput => Request::ReadOutput,
+            Request::ReadAssembly => Request::ReadAssembly,
+            Request::WriteMessage(message) => Request::WriteMessage(*message),
+            Request::WriteTag {
+                tag,
+                descriptor,
+                date,
+            } => Request::WriteTag {
+                tag: *tag,
+                descriptor: *descriptor,
+                date: *date,
+            },
+            Request::WriteAssembly(assembly) => Request::WriteAssembly(*assembly),
+            Request::ReadLongTag => Request::ReadLongTag,
+            Request::IdentifyByLongTag(long_tag) => Request::IdentifyByLongTag(*long_tag),
+            Request::WriteLongTag(long_tag) => Request::WriteLongTag(*long_tag),
+            Request::ResetChanged(given) => Request::ResetChanged(*given),
+            Request::ReadMore => Request::ReadMore,
+        }
     }
 
     /// Replaces `data` by the data bytes of the request. Command 6 is always written with both of its bytes.
@@ -161,8 +194,11 @@ impl Request {
         let parts = self.parts(&mut counter);
         data.clear();
         data.extend_from_slice(parts.first);
-        data.extend_from_slice(parts.second);
-        data.extend_from_slice(parts.third);
+        // A request without a second part has no third one.
+        if !parts.second.is_empty() {
+            data.extend_from_slice(parts.second);
+            data.extend_from_slice(parts.third);
+        }
     }
 
     /// Returns the number of bytes that [`Request::write`] writes.
@@ -180,6 +216,7 @@ impl Request {
     fn parts<'a>(&'a self, counter: &'a mut [u8; 2]) -> Parts<'a>
         ensures written { result.first.now ++ result.second.now ++ result.third.now ≡ request_data self.now }
         ensures few { length result.first.now + length result.second.now + length result.third.now ≤ 32 }
+        ensures third { result.second.now ≡ [] → result.third.now ≡ [] }
         ensures well_made { IsRequest self.now }
     {
         match self {
