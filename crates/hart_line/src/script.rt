@@ -3,7 +3,7 @@ ghost use Rattle.std.specs.Prelude.{IfOk, IfErr};
 ghost use Rattle.hart_line.specs.script.Rows.{IsScript, IsScriptFault};
 
 use crate::script::digits::Digits;
-use crate::script::lines::without_return;
+use crate::script::lines::first_line;
 use crate::script::rows::read_line;
 use crate::{Filling, LineEvent, LineFault};
 use std::alloc::Global;
@@ -27,13 +27,14 @@ pub fn read_script(alloc: Global, text: &[u8]) -> Result<Vec<LineEvent>, LineFau
     let mut events = Filling::with_room(alloc, 0).unwrap();
     let digits = Digits::new();
     let mut number = 0;
-    for part in text.split(|byte| *byte == b'\n') {
+    let mut rest = text;
+    loop {
         number += 1;
-        let Some(event) = read_line(alloc, &digits, number, without_return(part))? else {
-            continue;
+        let (line, more) = first_line(rest);
+        read_line(alloc, &digits, number, line, &mut events)?;
+        let Some(next) = more else {
+            return Ok(events.finish());
         };
-        events.make_room(1)?;
-        events.push(event);
+        rest = next;
     }
-    Ok(events.finish())
 }

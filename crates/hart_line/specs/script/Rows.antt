@@ -1,6 +1,6 @@
 -- What the lines of a script say (own profile): a row for each kind of event.
-use Rattle.std.specs.Prelude.{◌≡◌, ◌⊎◌, ℕ, ◌+◌, ◌/◌, ◌<◌, Any, Bool, true, false, not, nat_eq, List, [], ◌∷◌, codes, filter, length, map}
-use Rattle.std.specs.Prelude.{slice_get, take, IsTrue, Option, None, Some, Result, Ok, Err}
+use Rattle.std.specs.Prelude.{◌≡◌, ◌⊎◌, ℕ, ◌+◌, ◌++◌, ◌/◌, ◌<◌, Any, Bool, true, false, not, nat_eq, List, [], ◌∷◌, codes, filter, length, map}
+use Rattle.std.specs.Prelude.{slice_get, take, Option, None, Some, Result, Ok, Err}
 use Rattle.std.specs.List.{AllZip, starts_with}
 use Rattle.std.specs.Result.{result_ok}
 use Rattle.hart_commands.specs.RequestData.{request_reading}
@@ -105,16 +105,12 @@ ReadsWords {T} words IsSaid (Ok value) = IsSaid value
 ReadsWords {T} words IsSaid (Err rows.Bad) = HasNoValue IsSaid
 ReadsWords {T} words IsSaid (Err (rows.Memory room)) = IsNeededByWords words room.items
 
--- The fault of a script in which the line with this number could not be read.
-abbrev pub fault_at_line : ℕ → RowFault → LineFault
-fault_at_line number rows.Bad = BadLine number
-fault_at_line number (rows.Memory room) = Memory room
+-- A line adds the event that it says to these events, or none if it is skipped.
+abbrev pub AddsLine : List (List ℕ) → List LineEvent → List LineEvent → Type 0
+AddsLine words old new = (said : List LineEvent) × AreEvents (words ∷ []) said × (new ≡ old ++ said)
 
--- The result of reading the line with this number. If the result has no event, the line is skipped. If the result has an event, the words
--- of the line say this event. A fault says that the line is bad, or that memory for its words was refused.
-abbrev pub SaysLine : ℕ → List (List ℕ) → Result (Option LineEvent) LineFault → Type 0
-SaysLine number words (Ok None) = IsTrue (is_skipped words)
-SaysLine number words (Ok (Some event)) = (is_skipped words ≡ false) × Says words event
-SaysLine number words (Err (BadLine at)) = (at ≡ number) × IsBadLine words
-SaysLine number words (Err (Memory room)) = (is_skipped words ≡ false) × IsNeededByWords words room.items
-SaysLine number words (Err (Undetected event leg)) = ⊥
+-- Reading the line with this number fails if the line is bad, or because room that the line needs is refused.
+abbrev pub IsLineFault : ℕ → List (List ℕ) → LineFault → Type 0
+IsLineFault number words (BadLine at) = (at ≡ number) × IsBadLine words
+IsLineFault number words (Memory room) = IsNeededByLine words room.items
+IsLineFault number words (Undetected event leg) = ⊥

@@ -82,7 +82,10 @@ pub(crate) fn read_items(alloc: Global, digits: &Digits, word: &[u8]) -> Result<
         return Err(RowFault::Bad);
     }
     // An item has two bytes at least.
-    let mut chars = Filling::with_room(alloc, word.len() / 2)?;
+    let mut chars = match Filling::with_room(alloc, word.len() / 2) {
+        Ok(chars) => chars,
+        Err(none) => return Err(RowFault::Memory(none)),
+    };
     let mut rest = word;
     while let Some(lead) = push_item(digits, rest, &mut chars) {
         rest = &rest[lead.len..];

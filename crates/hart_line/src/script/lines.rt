@@ -1,17 +1,28 @@
 //! The lines of a text and the words of a line.
-ghost use Rattle.std.specs.Prelude.{◌≡◌, ◌≢◌, ◌≤◌, ◌↔◌, [], ◌∷◌, length, IsTrue, MatchOption};
+ghost use Rattle.std.specs.Prelude.{◌≡◌, ◌≢◌, ◌<◌, ◌≤◌, ◌↔◌, [], ◌∷◌, length, unwrap_or, IfSome, IsTrue, MatchOption};
 ghost use Rattle.std.specs.List.{position_or_len};
+ghost use Rattle.std.specs.Option.{option_map};
 ghost use Rattle.std.specs.Str.Lines.{strip_carriage_return};
-ghost use Rattle.hart_line.specs.script.Lines.{is_blank, words_of};
+ghost use Rattle.hart_line.specs.script.Lines.{is_blank, lines_of, words_of};
+
+use memchr::memchr;
+
+/// Returns the first line of a text, and the text after its line feed if it has one.
+pub fn first_line(text: &[u8]) -> (&[u8], Option<&[u8]>)
+    ensures cut { lines_of text.now ≡ result.0.now ∷ unwrap_or (option_map (λ rest. lines_of rest.now) result.1) [] }
+    ensures shorter { IfSome result.1 (λ rest. length rest.now < length text.now) }
+{
+    match memchr(b'\n', text) {
+        Some(len) => (without_return(&text[..len]), Some(&text[len + 1..])),
+        None => (without_return(text), None),
+    }
+}
 
 /// Returns the part, without its last byte if that is a carriage return.
-pub fn without_return(part: &[u8]) -> &[u8]
+fn without_return(part: &[u8]) -> &[u8]
     ensures { result.now ≡ strip_carriage_return part.now }
 {
-    match part {
-        [line @ .., b'\r'] => line,
-        _ => part,
-    }
+    part.strip_suffix(b"\r").unwrap_or(part)
 }
 
 /// Returns the first word of a line and the rest after it, or `None` if the line has no word.
@@ -58,5 +69,6 @@ fn len_before_blank(line: &[u8]) -> usize
 fn is_blank(byte: u8) -> bool
     ensures { result ≡ is_blank byte }
 {
-    byte == b' ' || byte == b'\t'
+    // Most bytes are greater than both, and one comparison tells.
+    byte <= b' ' && (byte == b' ' || byte == b'\t')
 }

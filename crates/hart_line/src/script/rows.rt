@@ -1,16 +1,15 @@
 //! The rows of the table of events, and lines that say no event.
-ghost use Rattle.std.specs.Prelude.{◌≡◌, ◌≢◌, [], ◌∷◌, codes, length, MatchOption};
+ghost use Rattle.std.specs.Prelude.{◌≡◌, ◌≢◌, [], ◌∷◌, codes, length, IfErr, MatchOption, OnOk};
 ghost use Rattle.hart_line.specs.script.Lines.{words_of};
-ghost use Rattle.hart_line.specs.script.Rows.{IsLegWord, ReadsWords, Says, SaysLine, fault_at_line, payload_of, request_of};
+ghost use Rattle.hart_line.specs.script.Rows.{AddsLine, IsLegWord, IsLineFault, ReadsWords, Says, request_of};
 ghost use Rattle.hart_line.specs.script.Words.{Finds};
 
 use crate::script::digits::Digits;
 use crate::script::items::read_items;
 use crate::script::lines::{has_no_word, next_word, only_word};
-use crate::script::words::{read_address, read_command, read_data, read_who};
-use crate::{Heard, LineEvent, LineFault, NoRoom};
+use crate::script::words::{decode_data, read_address, read_command, read_who};
+use crate::{Filling, Heard, LineEvent, LineFault, NoRoom};
 use hart_commands::Request;
-use hart_frame::Payload;
 use std::alloc::Global;
 
 /// Why no event was read from a line.
@@ -22,48 +21,32 @@ pub enum RowFault {
     Memory(NoRoom),
 }
 
-impl RowFault {
-    /// Returns the fault of a script in which the line with this number could not be read.
-    pub fn at(self, number: usize) -> LineFault
-        ensures { result ≡ fault_at_line number self }
-    {
-        match self {
-            RowFault::Bad => LineFault::BadLine { number },
-            RowFault::Memory(none) => LineFault::Memory(none),
-        }
-    }
-}
-
-impl From<NoRoom> for RowFault {
-    ghost use Rattle.hart_line.specs.declared.script.rows.RowFault.TheVariants.{Memory};
-
-    ghost from_gives = { λ none fault. fault ≡ Memory none };
-
-    fn from(none: NoRoom) -> RowFault {
-        RowFault::Memory(none)
-    }
-}
-
-/// Returns the event of the line with this number, or `None` if the line is empty or a comment. Any other line that says no event
-/// is bad. Memory may be refused for half as many characters as one of the words has bytes.
+/// Reads the line with this number, and appends its event to `events` unless the line is empty or a comment. Any other line that says
+/// no event is bad. Memory may be refused for the event, or for half as many characters as one of the words has bytes.
 pub fn read_line(
     alloc: Global,
     digits: &Digits,
     number: usize,
     line: &[u8],
-) -> Result<Option<LineEvent>, LineFault>
-    ensures { SaysLine number (words_of line.now) result }
+    events: &mut Filling<LineEvent>,
+) -> Result<(), LineFault>
+    ensures added { OnOk result (AddsLine (words_of line.now) events.old.items events.new.items) }
+    ensures fault { IfErr result (IsLineFault number (words_of line.now)) }
 {
     let Some((first, rest)) = next_word(line) else {
-        return Ok(None);
+        return Ok(());
     };
     if let [b'#', ..] = first {
-        return Ok(None);
+        return Ok(());
     }
-    match read_event(alloc, digits, first, rest) {
-        Ok(event) => Ok(Some(event)),
-        Err(fault) => Err(fault.at(number)),
-    }
+    let event = match read_event(alloc, digits, first, rest) {
+        Ok(event) => event,
+        Err(RowFault::Bad) => return Err(LineFault::BadLine { number }),
+        Err(RowFault::Memory(none)) => return Err(LineFault::Memory(none)),
+    };
+    events.make_room(1)?;
+    events.push(event);
+    Ok(())
 }
 
 /// Reads the event that the first word of a line and the words after it say.
@@ -99,23 +82,20 @@ fn read_submit(rest: &[u8]) -> Option<LineEvent>
     })
 }
 
-/// Reads COMMAND and the words after it as a request, or returns `None` if they are not one.
+/// Reads COMMAND and the words after it as a request: no word means no data, and one word is DATA. Returns `None` for anything else.
 fn read_request(command: &[u8], rest: &[u8]) -> Option<Request>
     ensures { result ≡ request_of command.now (words_of rest.now) }
 {
     let number = read_command(command)?;
-    let payload = read_payload(rest)?;
-    Request::read(number, payload.as_slice()).ok()
-}
-
-/// Reads the words after COMMAND: no word means no bytes, and one word is DATA. Returns `None` for anything else.
-fn read_payload(rest: &[u8]) -> Option<Payload>
-    ensures { result ≡ payload_of (words_of rest.now) }
-{
-    if has_no_word(rest) {
-        return Some(Payload::new());
+    let Some((word, rest)) = next_word(rest) else {
+        return Request::read(number, &[]).ok();
+    };
+    if !has_no_word(rest) {
+        return None;
     }
-    read_data(only_word(rest)?)
+    let mut room = [0; 255];
+    let bytes = decode_data(word, &mut room)?;
+    Request::read(number, bytes).ok()
 }
 
 /// Reads the three words after `turn`: WHO, UP and DOWN.

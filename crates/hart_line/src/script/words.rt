@@ -1,7 +1,7 @@
 //! The words that describe a message to send.
 
-ghost use Rattle.std.specs.Prelude.{◌≡◌};
-ghost use Rattle.hart_line.specs.script.Words.{decimal_of, device_of, polling_of, Finds, IsAddressWord, IsCommandWord, IsDataWord, IsWho};
+ghost use Rattle.std.specs.Prelude.{◌≡◌, MatchOption};
+ghost use Rattle.hart_line.specs.script.Words.{decimal_of, device_of, polling_of, Finds, HasNoValue, IsAddressWord, IsCommandWord, IsDataWord, IsWho};
 
 use hart_frame::Payload;
 use hart_values::{Address, MasterId, PollingAddress, UniqueAddress};
@@ -79,10 +79,17 @@ pub fn read_data(word: &[u8]) -> Option<Payload>
     ensures { Finds (IsDataWord word.now) result }
 {
     let mut room = [0; 255];
+    Payload::from_slice(decode_data(word, &mut room)?)
+}
+
+/// Like [`read_data`], but writes the bytes into `room`, and returns them.
+pub fn decode_data<'a>(word: &[u8], room: &'a mut [u8; 255]) -> Option<&'a [u8]>
+    ensures { MatchOption result (HasNoValue (IsDataWord word.now)) (λ bytes. IsDataWord word.now bytes.now) }
+{
     if word.len() > 2 * room.len() {
         return None;
     }
     let bytes = &mut room[..word.len() / 2];
     hex::decode_to_slice(word, bytes).ok()?;
-    Payload::from_slice(bytes)
+    Some(bytes)
 }

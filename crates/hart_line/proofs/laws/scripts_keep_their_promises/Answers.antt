@@ -3,8 +3,4 @@ use Rattle.hart_line.proofs.lemmas.Laws.{scripts_keep_their_promises-kept}
 use Rattle.hart_line.proofs.laws.scripts_keep_their_promises.Goals as goal
 
 pub returns : goal.returns
-returns c = record {
-  first_world = scripts_keep_their_promises-first_world;
-  kept = scripts_keep_their_promises-kept;
-  detected = scripts_keep_their_promises-detected;
-}
+returns c = assumption (scripts_keep_their_promises-first_world, scripts_keep_their_promises-kept, scripts_keep_their_promises-detected)

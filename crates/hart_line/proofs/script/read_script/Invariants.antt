@@ -1,8 +1,16 @@
-use Rattle.hart_line.proofs.Common.{◌≡◌, length, take, AreEvents, lines_in_words}
+use Rattle.hart_line.proofs.Common.{◌≡◌, ◌+◌, ◌≤◌, ◌++◌, ℕ, List, length, map, AreEvents, LineEvent, lines_in_words, lines_of, words_of}
 use Rattle.hart_line.proofs.script.read_script.Given as goal
 
-abbrev pub invariant-loop-part : goal.invariant-loop-part
-invariant-loop-part l = record {
-  counted : l.number ≡ length l.yielded;
-  said : AreEvents (take (length l.yielded) (lines_in_words l.text)) l.events.items;
+-- these lines of a text are left, and the lines before them, of this number, say these events
+abbrev pub Told : List ℕ → List (List ℕ) → ℕ → List LineEvent → Type 0
+Told text left number events = (seen : List (List (List ℕ))) × (lines_in_words text ≡ seen ++ map words_of left)
+    × (length seen ≡ number) × AreEvents seen events
+
+abbrev pub invariant-loop-events : goal.invariant-loop-events
+invariant-loop-events l = record {
+  counted : l.number + length l.rest ≤ length l.text;
+  told : Told l.text (lines_of l.rest) l.number l.events.items;
 }
+
+abbrev pub decreases-loop-events : goal.decreases-loop-events
+decreases-loop-events l = length l.rest
