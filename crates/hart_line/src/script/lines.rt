@@ -56,13 +56,17 @@ pub fn has_no_word(line: &[u8]) -> bool
 }
 
 /// Returns the number of bytes before the first blank.
+#[tactic(auto, using(std::proofs::lemmas::List::Sums::position_or_len_is))]
 fn len_before_blank(line: &[u8]) -> usize
     ensures place { result ≡ position_or_len is_blank line.now }
     ensures within { result ≤ length line.now }
 {
-    line.iter()
-        .position(|byte| is_blank(*byte))
-        .unwrap_or(line.len())
+    for place in 0..line.len() {
+        if is_blank(line[place]) {
+            return place;
+        }
+    }
+    line.len()
 }
 
 /// Returns true if a byte is a space or a tab.

@@ -1,12 +1,11 @@
 //! The words that describe a message to send.
 
-ghost use Rattle.std.specs.Prelude.{◌≡◌, MatchOption};
+ghost use Rattle.std.specs.Prelude.{◌≡◌, ◌≤◌, [], ◌∷◌, MatchOption};
 ghost use Rattle.hart_line.specs.script.Words.{decimal_of, device_of, polling_of, Finds, HasNoValue, IsAddressWord, IsCommandWord, IsDataWord, IsWho};
 
 use hart_frame::Payload;
 use hart_values::{Address, MasterId, PollingAddress, UniqueAddress};
 use hex::FromHex;
-use std::str;
 
 /// Reads WHO: `P` for the primary master, or `S` for the secondary. Returns `None` for anything else.
 pub fn read_who(word: &[u8]) -> Option<MasterId>
@@ -60,18 +59,28 @@ pub fn read_command(word: &[u8]) -> Option<u8>
     read_decimal(word, 3)
 }
 
-/// Reads a decimal number up to 255 in at most `most_digits` digits.
+/// Reads a decimal number up to 255 in at most `most_digits` digits, which are two or three.
 fn read_decimal(word: &[u8], most_digits: usize) -> Option<u8>
+    requires { (2 ≤ most_digits) × (most_digits ≤ 3) }
     ensures { result ≡ decimal_of most_digits 255 word.now }
 {
-    // `parse` takes a plus sign too, which is no digit.
-    if word.len() > most_digits || word.starts_with(b"+") {
+    match word {
+        [ones] => number_of(b'0', b'0', *ones),
+        [tens, ones] => number_of(b'0', *tens, *ones),
+        [hundreds, tens, ones] if most_digits == 3 => number_of(*hundreds, *tens, *ones),
+        _ => None,
+    }
+}
+
+/// Returns the number that three digits write, or `None` if one of them is no digit or the number is above 255.
+fn number_of(hundreds: u8, tens: u8, ones: u8) -> Option<u8>
+    ensures { result ≡ decimal_of 3 255 (hundreds ∷ tens ∷ ones ∷ []) }
+{
+    if !hundreds.is_ascii_digit() || !tens.is_ascii_digit() || !ones.is_ascii_digit() {
         return None;
     }
-    match str::from_utf8(word) {
-        Ok(text) => text.parse().ok(),
-        Err(_) => None,
-    }
+    let above_ten = 10 * u16::from(hundreds - b'0') + u16::from(tens - b'0');
+    u8::try_from(10 * above_ten + u16::from(ones - b'0')).ok()
 }
 
 /// Reads DATA: at most 255 bytes in plain hex. Returns `None` for anything else.
