@@ -9,3 +9,5 @@ pub mod Words
 pub mod Reading
 pub mod Chunk
 pub mod Pairs
+pub mod DigitLanes
+pub mod ItemRun

@@ -1,11 +1,11 @@
 //! Chunks of items without fault bits.
-ghost use Rattle.std.specs.Prelude.{◌≡◌, ◌≤◌, [], drop, length, MatchOption};
+ghost use Rattle.std.specs.Prelude.{◌≡◌, ◌+◌, ◌++◌, ◌≤◌, [], drop, length, take, MatchOption};
 ghost use Rattle.hart_frame.specs.heard.Character.{faultless};
 ghost use Rattle.hart_cli.specs.text.Items.{ReadsUpTo};
 ghost use Rattle.hart_cli.specs.text.Chunk.{ReadsMore};
 
+use crate::text::item_run::{ItemRun, RUN_LEN, item_run};
 use crate::text::items::next_piece;
-use crate::text::plain_items::{ITEMS_AT_ONCE, dense_items, spaced_items};
 use hart_line::Digits;
 use hart_values::ByteList;
 
@@ -29,21 +29,17 @@ pub fn read_chunk(digits: &Digits, text: &[u8], chunk: &mut Chunk) -> usize
     place
 }
 
-/// Reads the first piece of a text, or four items at once if they are spaced in a usual way. Returns how many bytes were read, or
-/// `None` if no piece without fault bits begins the text, or if the chunk has no room for more.
+/// Reads the first piece of a text, or several items at once if they are spaced in a usual way. Returns how many bytes were read, or
+/// `None` if no piece without fault bits begins the text, or if the chunk may have no room for more.
 fn read_some(digits: &Digits, text: &[u8], chunk: &mut Chunk) -> Option<usize>
     ensures { MatchOption result (chunk.new ≡ chunk.old) (ReadsMore text.now chunk.old chunk.new) }
 {
-    if chunk.len() > CHUNK_LEN - ITEMS_AT_ONCE {
+    if chunk.len() > CHUNK_LEN - RUN_LEN {
         return None;
     }
-    if let Some(bytes) = spaced_items(digits, text) {
-        chunk.extend_from_slice(&bytes);
-        return Some(3 * ITEMS_AT_ONCE);
-    }
-    if let Some(bytes) = dense_items(digits, text) {
-        chunk.extend_from_slice(&bytes);
-        return Some(2 * ITEMS_AT_ONCE);
+    if let Some(run) = item_run(text) {
+        push_run(chunk, &run);
+        return Some(run.len);
     }
     let lead = next_piece(digits, text)?;
     match lead.char {
@@ -52,4 +48,19 @@ fn read_some(digits: &Digits, text: &[u8], chunk: &mut Chunk) -> Option<usize>
         Some(_) => return None,
     }
     Some(lead.len)
+}
+
+/// Adds the bytes of items.
+#[inline(always)]
+fn push_run(chunk: &mut Chunk, run: &ItemRun)
+    requires few { run.now.count ≤ 16 }
+    requires room { length chunk.old + 16 ≤ 8192 }
+    ensures { chunk.new ≡ chunk.old ++ take run.now.count run.now.bytes }
+{
+    if run.count == RUN_LEN {
+        // Their number is known here, so they are copied without a loop.
+        chunk.extend_from_slice(&run.bytes);
+    } else {
+        chunk.extend_from_slice(&run.bytes[..run.count]);
+    }
 }

@@ -1,0 +1,100 @@
+//! Several items without fault bits, read at once.
+ghost use Rattle.std.specs.Prelude.{IfSome};
+ghost use Rattle.hart_cli.specs.text.ItemRun.{ReadsRun};
+
+use crate::text::digit_lanes::{LANES, leading_lanes, pair_lanes, separator_lanes};
+use crate::text::items::is_separator;
+use std::simd::prelude::*;
+
+/// The greatest number of items that are read at once.
+pub const RUN_LEN: usize = LANES;
+
+/// Items without fault bits that begin a text.
+#[derive(Clone, Copy)]
+pub struct ItemRun {
+    /// The bytes of the items, and then others.
+    pub bytes: [u8; RUN_LEN],
+    /// The number of items, at least one.
+    pub count: usize,
+    /// The number of bytes of the text that were read.
+    pub len: usize,
+}
+
+/// Returns the items that begin a text, if they have no fault bits, and either one separator follows each of them or nothing stands
+/// between them. Returns `None` for any other text, and for one that is too short for the lanes.
+#[inline(always)]
+pub fn item_run(text: &[u8]) -> Option<ItemRun>
+    ensures { IfSome result (λ run. ReadsRun text.now run.bytes run.count run.len) }
+{
+    let next = *text.get(2)?;
+    if is_separator(next) {
+        spaced_run(text)
+    } else if next == b'!' {
+        None
+    } else {
+        dense_run(text)
+    }
+}
+
+/// Where the first digits of 16 spaced items stand in the lanes of the first 32 bytes and of the last 32 bytes of 48.
+const SPACED_HIGH: [usize; LANES] = [0, 3, 6, 9, 12, 15, 18, 21, 24, 27, 30, 49, 52, 55, 58, 61];
+
+/// Where their second digits stand.
+const SPACED_LOW: [usize; LANES] = [1, 4, 7, 10, 13, 16, 19, 22, 25, 28, 31, 50, 53, 56, 59, 62];
+
+/// Where the bytes after them stand.
+const SPACED_AFTER: [usize; LANES] = [2, 5, 8, 11, 14, 17, 20, 23, 26, 29, 48, 51, 54, 57, 60, 63];
+
+/// Returns the items that begin a text with a separator after each.
+#[inline(always)]
+fn spaced_run(text: &[u8]) -> Option<ItemRun>
+    ensures { IfSome result (λ run. ReadsRun text.now run.bytes run.count run.len) }
+{
+    if text.len() < 3 * RUN_LEN {
+        return None;
+    }
+    let front = u8x32::from_slice(text);
+    let back = u8x32::from_slice(&text[16..]);
+    let pairs = pair_lanes(
+        front.shuffle(back, SPACED_HIGH),
+        front.shuffle(back, SPACED_LOW),
+    );
+    let are_separators = separator_lanes(front.shuffle(back, SPACED_AFTER));
+    let count = leading_lanes(pairs.are_digits & are_separators);
+    if count == 0 {
+        return None;
+    }
+    Some(ItemRun {
+        bytes: pairs.values.to_array(),
+        count,
+        len: 3 * count,
+    })
+}
+
+/// Where the first digits of 16 items end to end stand.
+const DENSE_HIGH: [usize; LANES] = [0, 2, 4, 6, 8, 10, 12, 14, 16, 18, 20, 22, 24, 26, 28, 30];
+
+/// Where their second digits stand.
+const DENSE_LOW: [usize; LANES] = [1, 3, 5, 7, 9, 11, 13, 15, 17, 19, 21, 23, 25, 27, 29, 31];
+
+/// Returns the items that begin a text with nothing between them. A separator after the last of them is read too.
+#[inline(always)]
+fn dense_run(text: &[u8]) -> Option<ItemRun>
+    ensures { IfSome result (λ run. ReadsRun text.now run.bytes run.count run.len) }
+{
+    if text.len() <= 2 * RUN_LEN {
+        return None;
+    }
+    let bytes = u8x32::from_slice(text);
+    let pairs = pair_lanes(bytes.swizzle(DENSE_HIGH), bytes.swizzle(DENSE_LOW));
+    let count = leading_lanes(pairs.are_digits);
+    let next = text[2 * count];
+    if count == 0 || next == b'!' {
+        return None;
+    }
+    Some(ItemRun {
+        bytes: pairs.values.to_array(),
+        count,
+        len: 2 * count + usize::from(is_separator(next)),
+    })
+}
