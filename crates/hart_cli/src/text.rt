@@ -10,5 +10,4 @@ pub mod item_run;
 pub mod items;
 pub mod message_line;
 pub mod pairs;
-pub mod plain_items;
 pub mod words;

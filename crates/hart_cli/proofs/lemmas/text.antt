@@ -5,6 +5,5 @@ pub mod Heard
 pub mod NoSilence
 pub mod Items
 pub mod MessageLine
-pub mod PlainItems
 pub mod Lanes
 pub mod ItemRun

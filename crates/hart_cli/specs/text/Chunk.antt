@@ -1,7 +1,6 @@
 -- For private calls alone: what is read of items without fault bits (own profile).
-use Rattle.std.specs.Prelude.{◌≡◌, ℕ, List, ◌++◌, get_or}
+use Rattle.std.specs.Prelude.{◌≡◌, ℕ, List, ◌++◌}
 use Rattle.hart_frame.specs.heard.Character.{faultless}
-use Rattle.hart_cli.specs.text.Items.{IsSeparator}
 use Rattle.hart_cli.specs.text.Reading.{ReadsFirst}
 
 -- The first `len` bytes of a text, at least one, are read as faultless characters. The bytes of these characters were added to a
@@ -10,8 +9,3 @@ pub record ReadsMore (text old new : List ℕ) (len : ℕ) : Type 0 where
   pub bytes : List ℕ
   pub items : ReadsFirst text (faultless bytes) len
   pub added : new ≡ old ++ bytes
-
--- Each of four bytes is a separator.
-abbrev pub AreSeparators : List ℕ → Type 0
-AreSeparators bytes = IsSeparator (get_or bytes 0 0) × IsSeparator (get_or bytes 1 0) × IsSeparator (get_or bytes 2 0)
-    × IsSeparator (get_or bytes 3 0)

@@ -1,5 +1,5 @@
 //! The characters of an input.
-ghost use Rattle.std.specs.Prelude.{◌≡◌, ◌<◌, ◌≤◌, ◌+◌, ◌*◌, ◌/◌, [], ◌++◌, ℕ, List, drop, length, Option};
+ghost use Rattle.std.specs.Prelude.{◌≡◌, ◌<◌, ◌≤◌, ◌+◌, ◌*◌, ◌/◌, [], ◌++◌, ℕ, List, drop, length, take, Option};
 ghost use Rattle.std.specs.Prelude.{IfErr, IfOk, MatchOption};
 ghost use Rattle.hart_frame.specs.heard.Character.{Character, faultless};
 ghost use Rattle.hart_cli.specs.input.Input.{Ending};
@@ -9,8 +9,8 @@ ghost use Rattle.hart_cli.specs.text.Reading.{ReadsChars};
 ghost use Rattle.hart_cli.specs.declared.fault.CliFault.{CliFault};
 
 use crate::fault::CliFault;
+use crate::text::item_run::{ItemRun, RUN_LEN, item_run};
 use crate::text::items::next_piece;
-use crate::text::plain_items::{ITEMS_AT_ONCE, dense_items, spaced_items};
 use hart_frame::Char;
 use hart_line::{Digits, Filling};
 use std::alloc::Global;
@@ -60,7 +60,7 @@ pub fn read_pieces(digits: &Digits, text: &[u8], chars: &mut Filling<Char>) -> u
     place
 }
 
-/// Reads the first piece of a text, or four items at once if they are spaced in a usual way. Returns how many bytes were read, or
+/// Reads the first piece of a text, or several items at once if they are spaced in a usual way. Returns how many bytes were read, or
 /// `None` if no piece begins the text.
 fn read_more(digits: &Digits, text: &[u8], chars: &mut Filling<Char>) -> Option<usize>
     requires room { length text.now + 2 * length chars.old.items ≤ 2 * chars.old.room + 2 }
@@ -68,13 +68,9 @@ fn read_more(digits: &Digits, text: &[u8], chars: &mut Filling<Char>) -> Option<
         (NoPieceBegins text.now × (chars.new ≡ chars.old))
         (ReadsChars text.now chars.old chars.new) }
 {
-    if let Some(bytes) = spaced_items(digits, text) {
-        push_faultless(chars, bytes);
-        return Some(3 * ITEMS_AT_ONCE);
-    }
-    if let Some(bytes) = dense_items(digits, text) {
-        push_faultless(chars, bytes);
-        return Some(2 * ITEMS_AT_ONCE);
+    if let Some(run) = item_run(text) {
+        push_run(chars, &run);
+        return Some(run.len);
     }
     let lead = next_piece(digits, text)?;
     if let Some(char) = lead.char {
@@ -83,16 +79,32 @@ fn read_more(digits: &Digits, text: &[u8], chars: &mut Filling<Char>) -> Option<
     Some(lead.len)
 }
 
-/// Adds the characters of bytes that came without faults.
-fn push_faultless(chars: &mut Filling<Char>, bytes: [u8; ITEMS_AT_ONCE])
-    requires { length chars.old.items + 4 ≤ chars.old.room }
-    ensures { chars.new ≡ record chars.old { items = chars.old.items ++ faultless bytes } }
+/// Adds the characters of items.
+#[inline(always)]
+fn push_run(chars: &mut Filling<Char>, run: &ItemRun)
+    requires few { run.now.count ≤ 16 }
+    requires room { length chars.old.items + run.now.count ≤ chars.old.room }
+    ensures { chars.new ≡ record chars.old { items = chars.old.items ++ faultless (take run.now.count run.now.bytes) } }
 {
-    let [first, second, third, fourth] = bytes;
-    chars.push(faultless_char(first));
-    chars.push(faultless_char(second));
-    chars.push(faultless_char(third));
-    chars.push(faultless_char(fourth));
+    let heard = faultless_chars(&run.bytes);
+    if run.count == RUN_LEN {
+        // Their number is known here, so they are copied without a loop.
+        chars.extend(&heard);
+    } else {
+        chars.extend(&heard[..run.count]);
+    }
+}
+
+/// Returns the characters of bytes that came without faults.
+#[inline(always)]
+fn faultless_chars(bytes: &[u8; RUN_LEN]) -> [Char; RUN_LEN]
+    ensures { result ≡ faultless bytes.now }
+{
+    let mut chars = [faultless_char(0); RUN_LEN];
+    for place in 0..RUN_LEN {
+        chars[place] = faultless_char(bytes[place]);
+    }
+    chars
 }
 
 /// Returns the character of a byte that came without faults.

@@ -1,5 +1,5 @@
 -- Texts of items: a text reads in one way, and what follows a text does not change what was read.
-use Rattle.std.proofs.Common.{◌≡◌, ℕ, ◌+◌, ◌<◌, ◌≤◌, List, [], ◌∷◌, ◌++◌, length, drop, Option, refl, ◌*◌, arith, append-nil, append_assoc}
+use Rattle.std.proofs.Common.{◌≡◌, ℕ, ◌+◌, ◌-◌, ◌<◌, ◌≤◌, List, [], ◌∷◌, ◌++◌, length, drop, Option, refl, ◌*◌, arith, append-nil, append_assoc}
 use Rattle.std.proofs.lemmas.Grind.{common_steps}
 use Rattle.std.specs.Option.{option_to_list}
 use Rattle.hart_frame.specs.heard.Character.{Character}
@@ -71,3 +71,9 @@ pub ReadsUpTo-few : (text : List ℕ) (chars : List Character) (rest : List ℕ)
     → 2 * length chars + length rest ≤ length text
 ReadsUpTo-few _ _ _ (nothing rest) = omega arith
 ReadsUpTo-few _ _ _ (piece text p tail chars rest h r) = grind (arith, common_steps, ReadsUpTo-few tail chars rest r)
+
+-- the last byte of a text belongs to no item, and each item has at least two bytes
+pub ReadsUpTo-room : (text : List ℕ) (chars : List Character) (rest : List ℕ) → ReadsUpTo text chars rest
+    → 2 * length chars ≤ length text - 1
+ReadsUpTo-room _ _ _ (nothing rest) = omega arith
+ReadsUpTo-room _ _ _ (piece text p tail chars rest h r) = grind (arith, common_steps, ReadsUpTo-room tail chars rest r)
