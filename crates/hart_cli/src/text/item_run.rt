@@ -26,10 +26,12 @@ pub struct ItemRun {
 pub fn item_run(text: &[u8]) -> Option<ItemRun>
     ensures { IfSome result (λ run. ReadsRun text.now run.bytes run.count run.len) }
 {
-    let next = *text.get(2)?;
-    if is_separator(next) {
+    let [first, _, next, ..] = text else {
+        return None;
+    };
+    if is_separator(*next) {
         spaced_run(text)
-    } else if next == b'!' {
+    } else if is_separator(*first) || *next == b'!' {
         None
     } else {
         dense_run(text)
