@@ -7,3 +7,4 @@ pub mod Items
 pub mod MessageLine
 pub mod Lanes
 pub mod ItemRun
+pub mod HexText

@@ -16,6 +16,35 @@ pub fn push_hex<const N: usize>(line: &mut ByteList<N>, pairs: &Pairs, bytes: &[
     ensures hex { line.new ≡ line.old ++ encode_upper bytes.now }
     ensures len { length line.new ≡ length line.old + 2 * length bytes.now }
 {
+    let (fours, rest) = bytes.as_chunks::<4>();
+    for four in fours {
+        push_four(line, pairs, four);
+    }
+    push_pairs(line, pairs, rest);
+}
+
+/// Adds four bytes in upper case hex. Their digits are copied together.
+#[inline(always)]
+fn push_four<const N: usize>(line: &mut ByteList<N>, pairs: &Pairs, bytes: &[u8; 4])
+    requires { length line.old + 8 ≤ N }
+    ensures hex { line.new ≡ line.old ++ encode_upper bytes.now }
+    ensures len { length line.new ≡ length line.old + 8 }
+{
+    let [first, second, third, fourth] = *bytes;
+    let [a, b] = pairs.of(first);
+    let [c, d] = pairs.of(second);
+    let [e, f] = pairs.of(third);
+    let [g, h] = pairs.of(fourth);
+    line.extend_from_slice(&[a, b, c, d, e, f, g, h]);
+}
+
+/// Adds the bytes in upper case hex, one after another.
+#[inline(always)]
+fn push_pairs<const N: usize>(line: &mut ByteList<N>, pairs: &Pairs, bytes: &[u8])
+    requires { length line.old + 2 * length bytes.now ≤ N }
+    ensures hex { line.new ≡ line.old ++ encode_upper bytes.now }
+    ensures len { length line.new ≡ length line.old + 2 * length bytes.now }
+{
     for byte in bytes {
         line.extend_from_slice(&pairs.of(*byte));
     }

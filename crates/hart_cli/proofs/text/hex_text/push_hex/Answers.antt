@@ -1,18 +1,16 @@
-use Rattle.std.proofs.Common.{◌≡◌, ℕ, List, [], ◌∷◌, ◌++◌, refl, arith}
-use Rattle.std.proofs.lemmas.Grind.{common_steps}
-use Rattle.hex.specs.Hex.{encode_upper, encode_with}
-use Rattle.hex.proofs.HexLemmas.{length-encode_with}
+use Rattle.std.proofs.Common.{append-nil, arith}
+use Rattle.hex.specs.Hex.{encode_with}
+use Rattle.hart_cli.proofs.lemmas.text.HexText.{encode_upper-chunk, encode_upper-rest}
 use Rattle.hart_cli.proofs.text.hex_text.push_hex.Goals as goal
 
--- the digits of joined bytes are those of both parts, joined
-encode_upper-append : (bytes more : List ℕ) → encode_upper (bytes ++ more) ≡ encode_upper bytes ++ encode_upper more
+pub loop-four-init : goal.loop-four-init
 unfolding encode_with
-encode_upper-append [] more = refl
-encode_upper-append (byte ∷ bytes) more = grind (arith, encode_upper-append bytes more)
+loop-four-init g c = grind (arith, append-nil)
 
-pub loop-byte-init : goal.loop-byte-init
-unfolding encode_with
-loop-byte-init g c = grind (arith, common_steps)
+pub loop-four-preserved : goal.loop-four-preserved
+loop-four-preserved g c =
+    grind (arith, encode_upper-chunk 4 c.loop-four.four-index c.args.bytes.now c.args.line.now c.as_chunks.result.0.now)
 
-pub loop-byte-preserved : goal.loop-byte-preserved
-loop-byte-preserved g c = grind (arith, common_steps, encode_upper-append, length-encode_with)
+pub returns-clause-hex : goal.returns-clause-hex
+returns-clause-hex g c =
+    grind (arith, encode_upper-rest 4 c.loop-four.four-index c.args.bytes.now c.args.line.now c.as_chunks.result.1.now)

@@ -2,8 +2,8 @@ use Rattle.std.proofs.Common.{◌≡◌, ◌+◌, ◌*◌, ◌++◌, length, tak
 use Rattle.hex.specs.Hex.{encode_upper}
 use Rattle.hart_cli.proofs.text.hex_text.push_hex.Given as goal
 
-abbrev pub invariant-loop-byte : goal.invariant-loop-byte
-invariant-loop-byte g l = record {
-  written : l.line ≡ l.initial.line ++ encode_upper (take l.byte-index l.bytes);
-  len : length l.line ≡ length l.initial.line + 2 * l.byte-index;
+abbrev pub invariant-loop-four : goal.invariant-loop-four
+invariant-loop-four g l = record {
+  written : l.line ≡ l.initial.line ++ encode_upper (take (4 * l.four-index) l.bytes);
+  len : length l.line ≡ length l.initial.line + 8 * l.four-index;
 }
