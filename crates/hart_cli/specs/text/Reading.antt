@@ -1,7 +1,6 @@
 -- For private calls alone: what reading the first pieces of a text returns (own profile).
-use Rattle.std.specs.Prelude.{◌≡◌, ◌<◌, ◌≤◌, ℕ, List, ◌++◌, drop, length}
+use Rattle.std.specs.Prelude.{◌<◌, ◌≤◌, ℕ, List, drop, length}
 use Rattle.hart_frame.specs.heard.Character.{Character}
-use Rattle.hart_line.specs.Filling.{Filled}
 use Rattle.hart_cli.specs.text.Items.{ReadsUpTo}
 
 -- The first `len` bytes of a text, at least one, are read as these characters.
@@ -9,9 +8,3 @@ pub record ReadsFirst (text : List ℕ) (chars : List Character) (len : ℕ) : T
   pub some : 0 < len
   pub within : len ≤ length text
   pub reads : ReadsUpTo text chars (drop len text)
-
--- The first `len` bytes of a text, at least one, are read as characters. These were added to a list.
-pub record ReadsChars (text : List ℕ) (old new : Filled Character) (len : ℕ) : Type 0 where
-  pub chars : List Character
-  pub pieces : ReadsFirst text chars len
-  pub added : new ≡ record old { items = old.items ++ chars }

@@ -15,8 +15,8 @@ pub const CHUNK_LEN: usize = 8192;
 /// The bytes of faultless characters.
 pub type Chunk = ByteList<CHUNK_LEN>;
 
-/// Reads the leading pieces of a text that have no fault bits into an empty chunk, and returns the place after them.
-pub fn read_chunk(digits: &Digits, text: &[u8], chunk: &mut Chunk) -> usize
+/// Reads the leading pieces of a text that have no fault bits into an empty chunk of any size, and returns the place after them.
+pub fn read_chunk<const N: usize>(digits: &Digits, text: &[u8], chunk: &mut ByteList<N>) -> usize
     requires { chunk.old ≡ [] }
     ensures within { result ≤ length text.now }
     ensures reads { ReadsUpTo text.now (faultless chunk.new) (drop result text.now) }
@@ -31,10 +31,10 @@ pub fn read_chunk(digits: &Digits, text: &[u8], chunk: &mut Chunk) -> usize
 
 /// Reads the first piece of a text, or several items at once if they are spaced in a usual way. Returns how many bytes were read, or
 /// `None` if no piece without fault bits begins the text, or if the chunk may have no room for more.
-fn read_some(digits: &Digits, text: &[u8], chunk: &mut Chunk) -> Option<usize>
+fn read_some<const N: usize>(digits: &Digits, text: &[u8], chunk: &mut ByteList<N>) -> Option<usize>
     ensures { MatchOption result (chunk.new ≡ chunk.old) (ReadsMore text.now chunk.old chunk.new) }
 {
-    if chunk.len() > CHUNK_LEN - RUN_LEN {
+    if N - chunk.len() < RUN_LEN {
         return None;
     }
     if let Some(run) = item_run(text) {
@@ -52,9 +52,9 @@ fn read_some(digits: &Digits, text: &[u8], chunk: &mut Chunk) -> Option<usize>
 
 /// Adds the bytes of items.
 #[inline(always)]
-fn push_run(chunk: &mut Chunk, run: &ItemRun)
+fn push_run<const N: usize>(chunk: &mut ByteList<N>, run: &ItemRun)
     requires few { run.now.count ≤ 16 }
-    requires room { length chunk.old + 16 ≤ 8192 }
+    requires room { length chunk.old + 16 ≤ N }
     ensures { chunk.new ≡ chunk.old ++ take run.now.count run.now.bytes }
 {
     if run.count == RUN_LEN {

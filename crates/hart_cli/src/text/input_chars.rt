@@ -1,19 +1,22 @@
 //! The characters of an input.
-ghost use Rattle.std.specs.Prelude.{◌≡◌, ◌<◌, ◌≤◌, ◌+◌, ◌*◌, ◌/◌, [], ◌++◌, ℕ, List, drop, length, take, Option};
-ghost use Rattle.std.specs.Prelude.{IfErr, IfOk, MatchOption};
+ghost use Rattle.std.specs.Prelude.{◌≡◌, ◌<◌, ◌≤◌, ◌+◌, ◌*◌, ◌/◌, [], ◌++◌, ℕ, List, drop, length, Option};
+ghost use Rattle.std.specs.Prelude.{IfErr, IfOk};
 ghost use Rattle.hart_frame.specs.heard.Character.{Character, faultless};
 ghost use Rattle.hart_cli.specs.input.Input.{Ending};
 ghost use Rattle.hart_cli.specs.text.InputChars.{HasChars, IsWholeTextFault};
 ghost use Rattle.hart_cli.specs.text.Items.{NoPieceBegins, ReadsAs, ReadsUpTo};
-ghost use Rattle.hart_cli.specs.text.Reading.{ReadsChars};
 ghost use Rattle.hart_cli.specs.declared.fault.CliFault.{CliFault};
 
 use crate::fault::CliFault;
-use crate::text::item_run::{ItemRun, RUN_LEN, item_run};
+use crate::text::chunk::read_chunk;
 use crate::text::items::next_piece;
 use hart_frame::Char;
 use hart_line::{Digits, Filling};
+use hart_values::ByteList;
 use std::alloc::Global;
+
+/// The greatest number of bytes that are read before their characters are made.
+const STRETCH_LEN: usize = 256;
 
 /// The bytes read of an input, and how the input ended, determine the characters before its fault, and the fault itself.
 pub fn inputs_are_unambiguous()
@@ -53,58 +56,43 @@ pub fn read_pieces(digits: &Digits, text: &[u8], chars: &mut Filling<Char>) -> u
     ensures stops { NoPieceBegins (drop result text.now) }
     ensures kept { chars.new.room ≡ chars.old.room }
 {
+    let mut bytes: ByteList<STRETCH_LEN> = ByteList::new();
     let mut place = 0;
-    while let Some(len) = read_more(digits, &text[place..], chars) {
-        place += len;
-    }
-    place
-}
-
-/// Reads the first piece of a text, or several items at once if they are spaced in a usual way. Returns how many bytes were read, or
-/// `None` if no piece begins the text.
-fn read_more(digits: &Digits, text: &[u8], chars: &mut Filling<Char>) -> Option<usize>
-    requires room { length text.now + 2 * length chars.old.items ≤ 2 * chars.old.room + 2 }
-    ensures { MatchOption result
-        (NoPieceBegins text.now × (chars.new ≡ chars.old))
-        (ReadsChars text.now chars.old chars.new) }
-{
-    if let Some(run) = item_run(text) {
-        push_run(chars, &run);
-        return Some(run.len);
-    }
-    let lead = next_piece(digits, text)?;
-    if let Some(char) = lead.char {
-        chars.push(char);
-    }
-    Some(lead.len)
-}
-
-/// Adds the characters of items.
-#[inline(always)]
-fn push_run(chars: &mut Filling<Char>, run: &ItemRun)
-    requires few { run.now.count ≤ 16 }
-    requires room { length chars.old.items + run.now.count ≤ chars.old.room }
-    ensures { chars.new ≡ record chars.old { items = chars.old.items ++ faultless (take run.now.count run.now.bytes) } }
-{
-    let heard = faultless_chars(&run.bytes);
-    if run.count == RUN_LEN {
-        // Their number is known here, so they are copied without a loop.
-        chars.extend(&heard);
-    } else {
-        chars.extend(&heard[..run.count]);
+    loop {
+        bytes.clear();
+        place += read_chunk(digits, &text[place..], &mut bytes);
+        push_faultless(chars, bytes.as_slice());
+        let Some(lead) = next_piece(digits, &text[place..]) else {
+            return place;
+        };
+        if let Some(char) = lead.char {
+            chars.push(char);
+        }
+        place += lead.len;
     }
 }
 
-/// Returns the characters of bytes that came without faults.
-#[inline(always)]
-fn faultless_chars(bytes: &[u8; RUN_LEN]) -> [Char; RUN_LEN]
-    ensures { result ≡ faultless bytes.now }
+/// Adds the characters of bytes that came without faults.
+fn push_faultless(chars: &mut Filling<Char>, bytes: &[u8])
+    requires few { length bytes.now ≤ 256 }
+    requires room { length chars.old.items + length bytes.now ≤ chars.old.room }
+    ensures { chars.new ≡ record chars.old { items = chars.old.items ++ faultless bytes.now } }
 {
-    let mut chars = [faultless_char(0); RUN_LEN];
-    for place in 0..RUN_LEN {
+    let mut heard = [faultless_char(0); STRETCH_LEN];
+    let heard = &mut heard[..bytes.len()];
+    write_faultless(heard, bytes);
+    chars.extend(heard);
+}
+
+/// Writes the characters of bytes that came without faults. The compiler writes several at once only in a function of its own.
+#[inline(never)]
+fn write_faultless(chars: &mut [Char], bytes: &[u8])
+    requires { length chars.old ≡ length bytes.now }
+    ensures { chars.new ≡ faultless bytes.now }
+{
+    for place in 0..bytes.len() {
         chars[place] = faultless_char(bytes[place]);
     }
-    chars
 }
 
 /// Returns the character of a byte that came without faults.

@@ -1,6 +1,8 @@
 -- Texts of items: a text reads in one way, and what follows a text does not change what was read.
-use Rattle.std.proofs.Common.{◌≡◌, ℕ, ◌+◌, ◌-◌, ◌<◌, ◌≤◌, List, [], ◌∷◌, ◌++◌, length, drop, Option, refl, ◌*◌, arith, append-nil, append_assoc}
+use Rattle.std.proofs.Common.{◌≡◌, ℕ, ◌+◌, ◌-◌, ◌*◌, ◌<◌, ◌≤◌, Option, refl, arith}
+use Rattle.std.proofs.Common.{List, [], ◌∷◌, ◌++◌, length, drop, append-nil, append_assoc}
 use Rattle.std.proofs.lemmas.Grind.{common_steps}
+use Rattle.std.proofs.lemmas.List.{drop-drop}
 use Rattle.std.specs.Option.{option_to_list}
 use Rattle.hart_frame.specs.heard.Character.{Character}
 use Rattle.hart_cli.specs.text.Items.{BeginsAs, BeginsWith, NoPieceBegins, nothing, Piece, piece, ReadsUpTo, spelling}
@@ -77,3 +79,16 @@ pub ReadsUpTo-room : (text : List ℕ) (chars : List Character) (rest : List ℕ
     → 2 * length chars ≤ length text - 1
 ReadsUpTo-room _ _ _ (nothing rest) = omega arith
 ReadsUpTo-room _ _ _ (piece text p tail chars rest h r) = grind (arith, common_steps, ReadsUpTo-room tail chars rest r)
+
+-- room for a character for each two bytes before the last one is enough
+pub room_for : (text : List ℕ) (chars : List Character) (rest : List ℕ) (room : ℕ) → ReadsUpTo text chars rest
+    → length text ≤ 2 * room + 2 → length chars ≤ room
+room_for text chars rest room reads long = omega (arith, long, ReadsUpTo-room text chars rest reads)
+
+-- what is read of the rest of a text follows what was read before that rest
+pub reads_on : (text : List ℕ) (place len : ℕ) (chars more : List Character) (part : List ℕ) → part ≡ drop place text
+    → ReadsUpTo text chars (drop place text) → ReadsUpTo part more (drop len part)
+    → ReadsUpTo text (chars ++ more) (drop (place + len) text)
+reads_on text place len chars more part is reads later =
+    let rest : drop len part ≡ drop (place + len) text = rw is (drop-drop len place text) in
+    ReadsUpTo-on text chars (drop place text) more (drop (place + len) text) reads (rw (← is, ← rest) later)

@@ -6,10 +6,10 @@ use Rattle.hart_cli.proofs.lemmas.text.Items.{ReadsUpTo-few, ReadsUpTo-on}
 use Rattle.hart_cli.proofs.text.chunk.read_chunk.Goals as goal
 
 pub loop-len-init : goal.loop-len-init
-loop-len-init c = grind (arith, nothing)
+loop-len-init g c = grind (arith, nothing)
 
 pub loop-len-preserved : goal.loop-len-preserved
-loop-len-preserved c = grind (arith, common_steps, ReadsUpTo-on, take_rest)
+loop-len-preserved g c = grind (arith, common_steps, ReadsUpTo-on, take_rest)
 
 pub returns-clause-few : goal.returns-clause-few
-returns-clause-few c = grind (arith, common_steps, ReadsUpTo-few)
+returns-clause-few g c = grind (arith, common_steps, ReadsUpTo-few)

@@ -4,10 +4,10 @@ use Rattle.hart_cli.specs.text.Items.{ReadsUpTo}
 use Rattle.hart_cli.proofs.text.chunk.read_chunk.Given as goal
 
 abbrev pub invariant-loop-len : goal.invariant-loop-len
-invariant-loop-len l = record {
+invariant-loop-len g l = record {
   within : l.place ≤ length l.text;
   reads : ReadsUpTo l.text (faultless l.chunk) (drop l.place l.text);
 }
 
 abbrev pub decreases-loop-len : goal.decreases-loop-len
-decreases-loop-len l = length l.text - l.place
+decreases-loop-len g l = length l.text - l.place

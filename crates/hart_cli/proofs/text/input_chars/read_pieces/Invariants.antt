@@ -2,12 +2,12 @@ use Rattle.std.proofs.Common.{◌≡◌, ◌-◌, ◌≤◌, length, drop}
 use Rattle.hart_cli.specs.text.Items.{ReadsUpTo}
 use Rattle.hart_cli.proofs.text.input_chars.read_pieces.Given as goal
 
-abbrev pub invariant-loop-len : goal.invariant-loop-len
-invariant-loop-len l = record {
+abbrev pub invariant-loop-lead : goal.invariant-loop-lead
+invariant-loop-lead l = record {
   within : l.place ≤ length l.text;
   reads : ReadsUpTo l.text l.chars.items (drop l.place l.text);
   same_room : l.chars.room ≡ l.initial.chars.room;
 }
 
-abbrev pub decreases-loop-len : goal.decreases-loop-len
-decreases-loop-len l = length l.text - l.place
+abbrev pub decreases-loop-lead : goal.decreases-loop-lead
+decreases-loop-lead l = length l.text - l.place
