@@ -1,3 +1,4 @@
 -- `hart dump`.
+pub mod Faults
 pub mod FrameLines
 pub mod ScanInput

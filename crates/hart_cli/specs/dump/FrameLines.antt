@@ -1,8 +1,9 @@
--- For private calls alone: the frames found and the lines kept while characters are scanned (own profile).
-use Rattle.std.specs.Prelude.{◌≡◌, ◌+◌, ◌*◌, ◌≤◌, ℕ, List, [], ◌++◌, false, IsTrue, length, Option, Result, Ok, Err}
-use Rattle.hart_frame.specs.heard.Character.{Character}
-use Rattle.hart_frame.specs.heard.Frames.{IsUndecided}
-use Rattle.hart_frame.specs.scan.Scanner.{GivesNothing, MovesPast, Scan, hearing, new_scan}
+-- For private calls alone: what is heard, and the lines that are kept of it (own profile).
+use Rattle.std.specs.Prelude.{◌≡◌, ◌+◌, ◌*◌, ◌<◌, ◌≤◌, ◌^◌, ℕ, Bool, List, [], ◌++◌, false, IsTrue, drop, length, map}
+use Rattle.std.specs.Prelude.{Option, Result, Ok, Err}
+use Rattle.hart_frame.specs.heard.Character.{Character, faultless}
+use Rattle.hart_frame.specs.heard.Frames.{AreFrames, IsUndecided, moved}
+use Rattle.hart_frame.specs.scan.Next.{AreNext}
 use Rattle.hart_frame.specs.declared.heard.found.Found.{Found}
 use Rattle.hart_cli.specs.declared.calls.dump.frame_lines.FrameLines.{FrameLines}
 use Rattle.hart_cli.specs.declared.fault.CliFault.{CliFault}
@@ -16,55 +17,79 @@ use Rattle.hart_cli.specs.input.LiveInput.{IsDecidedText, StopsWriting, WroteInT
 use Rattle.hart_cli.specs.stream.Stream.{Stream, WritesAll}
 use Rattle.hart_cli.specs.text.Items.{ReadsUpTo}
 
--- A scanner waits for more if it is drained but not finished, and holds at most 269 characters in which no frame is decided.
-pub record IsWaiting (scan : Scan) : Type 0 where
-  pub going : scan.finished ≡ false
-  pub drained : IsTrue scan.drained
-  pub undecided : IsUndecided scan.held
-  pub few : length scan.held ≤ 269
+-- Held bytes wait for more if no frame in them is decided. There are at most 268 of them.
+pub record IsWaiting (held : List ℕ) : Type 0 where
+  pub undecided : IsUndecided (faultless held)
+  pub few : length held ≤ 268
 
 -- There is room for the kept lines, and for the lines of the held characters and of `count` more characters, at twelve bytes for
 -- each character.
 abbrev pub HasRoomFor : ℕ → FrameLines → Type 0
-HasRoomFor count frames = length frames.lines + 12 * (length frames.scanner.held + count) ≤ 101562
+HasRoomFor count frames = length frames.lines + 12 * (length frames.held + count) ≤ 101550
 
--- A scanner moved past some frames, and their lines were added to the kept lines. The added lines take at most twelve bytes for
--- each character that the scanner no longer holds.
-pub record KeepsLines (old new : Scan) (before after : List ℕ) : Type 0 where
+-- The lines of frames whose places are counted from `first` on.
+abbrev pub lines_from : ℕ → List Found → List ℕ
+lines_from first frames = dump_text (map (moved first) frames)
+
+-- The lines of the decided frames in held bytes were added, up to the place `used`. They take at most twelve bytes for each byte
+-- that is used. All bytes are used if nothing comes after them; otherwise at most 268 are left, in which no frame is decided.
+pub record AddsDecided (first : ℕ) (held : List ℕ) (ended : Bool) (used : ℕ) (before after : List ℕ) : Type 0 where
   pub given : List Found
-  pub moves : MovesPast old new given
-  pub lines : after ≡ before ++ dump_text given
-  pub few : length after + 12 * length new.held ≤ length before + 12 * length old.held
+  pub next : AreNext (faultless held) ended 0 given used
+  pub adds : after ≡ before ++ lines_from first given
+  pub room : length after ≤ length before + 12 * used
+  pub within : used ≤ length held
+  pub few : length held ≤ used + 268
+  pub all : IsTrue ended → used ≡ length held
+  pub undecided : ended ≡ false → IsUndecided (faultless (drop used held))
 
--- The lines of all decided frames were added, until the scanner returned no further frame.
-pub record GivesAll (old new : Scan) (before after : List ℕ) : Type 0 where
-  pub last : Scan
-  pub keeps : KeepsLines old last before after
-  pub same_finish : last.finished ≡ old.finished
-  pub nothing : GivesNothing last new
+-- The lines of all frames in held bytes were added.
+pub record AddsRest (first : ℕ) (held before after : List ℕ) : Type 0 where
+  pub given : List Found
+  pub are : AreFrames (faultless held) 0 given
+  pub adds : after ≡ before ++ lines_from first given
 
--- The characters that stand before the rest of a text were scanned.
-pub record ScansText (old new : FrameLines) (text rest : List ℕ) : Type 0 where
+-- Characters were heard after the held ones. Lines were added for the frames in the held and the new characters together, up to the
+-- place `used`, and the characters after this place are held. The lines take at most twelve bytes for each character let go.
+pub record Hears (old new : FrameLines) (chars : List Character) : Type 0 where
+  pub given : List Found
+  pub used : ℕ
+  pub next : AreNext (faultless old.held ++ chars) false 0 given used
+  pub first : new.first ≡ old.first + used
+  pub held : faultless new.held ≡ drop used (faultless old.held ++ chars)
+  pub adds : new.lines ≡ old.lines ++ lines_from old.first given
+  pub room : length new.lines + 12 * length new.held ≤ length old.lines + 12 * (length old.held + length chars)
+
+-- The characters that stand before the rest of a text were heard.
+pub record HearsText (old new : FrameLines) (text rest : List ℕ) : Type 0 where
   pub chars : List Character
   pub reads : ReadsUpTo text chars rest
-  pub scans : KeepsLines (hearing old.scanner chars) new.scanner old.lines new.lines
+  pub hears : Hears old new chars
 
--- An input was read and scanned to its end or up to its first fault. The lines of all frames that its characters decide were
+-- Of all characters heard so far, the first ones have these lines, and the others, from the place `first` on, are held.
+pub record HasLines (chars : List Character) (first : ℕ) (held text : List ℕ) : Type 0 where
+  pub given : List Found
+  pub next : AreNext chars false 0 given first
+  pub left : faultless held ≡ drop first chars
+  pub lines : text ≡ dump_text given
+
+-- An input was read and heard to its end or up to its first fault. The lines of all frames that its characters decide were
 -- written. These include the lines that were due before the last read.
-pub record ScansAll (reader reader_after writer writer_after : Stream) (frames : FrameLines) (fault : Option CliFault) : Type 0 where
+pub record HearsAll (reader reader_after writer writer_after : Stream) (frames : FrameLines) (fault : Option CliFault) : Type 0 where
   pub input : List ℕ
   pub chars : List Character
   pub text : List ℕ
   pub decodes : DecodesAll item_decoding input_limit reader reader_after fault input chars
-  pub scans : KeepsLines (hearing new_scan chars) frames.scanner [] text
-  pub waiting : IsWaiting frames.scanner
+  pub has : HasLines chars frames.first frames.held text
+  pub places : frames.first + length frames.held < 2 ^ 64
+  pub waiting : IsWaiting frames.held
   pub none_kept : frames.lines ≡ []
   pub wrote : WritesAll writer writer_after text
   pub in_time : WroteInTime (IsDecidedText item_decoding AreDecidedLines) input writer writer_after
 
--- An input was scanned up to its first fault or its end, or until a write failed.
-abbrev pub ScansInput : Stream → Stream → Stream → Stream → FrameLines → Result (Option CliFault) Failed → Type 0
-ScansInput reader reader_after writer writer_after frames (Ok fault) =
-    ScansAll reader reader_after writer writer_after frames fault
-ScansInput reader reader_after writer writer_after frames (Err failed) =
+-- An input was heard up to its first fault or its end, or until a write failed.
+abbrev pub HearsInput : Stream → Stream → Stream → Stream → FrameLines → Result (Option CliFault) Failed → Type 0
+HearsInput reader reader_after writer writer_after frames (Ok fault) =
+    HearsAll reader reader_after writer writer_after frames fault
+HearsInput reader reader_after writer writer_after frames (Err failed) =
     StopsWriting item_decoding input_limit AreFrameLines AreDecidedLines reader reader_after writer writer_after

@@ -1,8 +1,7 @@
 //! `hart dump`: the frames in what was heard, a line for each.
 ghost use Rattle.std.specs.Prelude.{◌≡◌, [], ℕ, List, Option};
-ghost use Rattle.hart_frame.specs.scan.Scanner.{new_scan};
 ghost use Rattle.hart_cli.specs.dump.Dump.{DumpOutcome, IsDump};
-ghost use Rattle.hart_cli.specs.dump.FrameLines.{ScansInput};
+ghost use Rattle.hart_cli.specs.dump.FrameLines.{HearsInput};
 ghost use Rattle.hart_cli.specs.input.Input.{Ending};
 ghost use Rattle.hart_cli.specs.declared.fault.CliFault.{CliFault};
 
@@ -12,6 +11,7 @@ use crate::input::ahead::{Ahead, NextStep, Open, next_step, read_ahead};
 use crate::input::{INPUT_LIMIT, PORTION_LEN};
 use crate::output::write_all;
 use crate::stream::{Failed, Sink, Source};
+use crate::text::chunk::Chunk;
 use hart_line::Digits;
 use std::alloc::Global;
 
@@ -65,9 +65,10 @@ fn scan_input<R: Source, W: Sink>(
     writer: &mut W,
     frames: &mut FrameLines,
 ) -> Result<Option<CliFault>, Failed>
-    requires scanner { frames.old.scanner ≡ new_scan }
+    requires held { frames.old.held ≡ [] }
+    requires first { frames.old.first ≡ 0 }
     requires lines { frames.old.lines ≡ [] }
-    ensures { ScansInput
+    ensures { HearsInput
         (R.stream reader.old) (R.stream reader.new)
         (W.stream writer.old) (W.stream writer.new)
         frames.new result }
@@ -75,11 +76,12 @@ fn scan_input<R: Source, W: Sink>(
     let digits = Digits::new();
     let mut buffer = [0; PORTION_LEN];
     let mut ahead = Ahead::new();
+    let mut chunk = Chunk::new();
     let mut read = 0;
     loop {
         let portion = read_ahead(reader, &mut buffer, &mut ahead, INPUT_LIMIT - read);
         read += portion.len;
-        let rest = frames.scan_text(&digits, ahead.as_slice());
+        let rest = frames.hear_text(&digits, &mut chunk, ahead.as_slice());
         write_all(writer, frames.lines.as_slice())?;
         frames.lines.clear();
         match next_step(portion.end, rest, read) {

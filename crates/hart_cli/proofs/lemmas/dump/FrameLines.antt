@@ -1,150 +1,268 @@
--- A scanner that moves past frames, and the lines that are kept of these frames.
-use Rattle.std.proofs.Common.{◌≡◌, ◌≤◌, ◌+◌, ◌*◌, ℕ, Bool, false, List, [], ◌∷◌, ◌++◌, length, map, take, drop, ap, append_assoc, arith}
-use Rattle.std.proofs.Common.{length-append}
-use Rattle.std.proofs.Common.{length-drop, refl, sym}
-use Rattle.std.proofs.lemmas.Grind.{common_steps}
-use Rattle.std.proofs.lemmas.List.{append-nil, drop-drop, length-take-le, take-append-drop}
+-- What is heard, and the lines that are kept of the frames in it.
+use Rattle.std.proofs.Common.{◌≡◌, ◌≢◌, ◌≤◌, ◌+◌, ◌*◌, ℕ, Bool, false, true, IsTrue, List, [], ◌∷◌, ◌++◌, length, map, take, drop, ap, sym}
+use Rattle.std.proofs.Common.{◌∙◌, append_assoc, append-nil, arith, length-append, length-drop, refl}
+use Rattle.std.proofs.lemmas.Grind.{common_steps, flat_map-append}
+use Rattle.std.proofs.lemmas.List.{drop-append-le, drop-drop, drop-map, drop_all, length-map, length-take-le, map-append, take-append-drop}
 use Rattle.hart_frame.specs.declared.heard.found.Found.{Found}
-use Rattle.hart_frame.specs.heard.Character.{Character}
+use Rattle.hart_frame.specs.heard.Character.{Character, faultless}
 use Rattle.hart_frame.specs.heard.Frames.{AreFrames, HasNoFrame, IsUndecided, moved}
 use Rattle.hart_frame.specs.scan.Next.{AreNext}
-use Rattle.hart_frame.specs.scan.Scanner.{Ends, Gives, MovesPast, Scan, finishing, hearing, new_scan, Waits}
-use Rattle.hart_frame.proofs.lemmas.Laws.{every_list_has_frames, scanners_move_past_the_next_frames-frames}
-use Rattle.hart_frame.proofs.lemmas.Laws.{scanners_move_past_the_next_frames-hearing, scanners_move_past_the_next_frames-onward}
-use Rattle.hart_frame.proofs.lemmas.Laws.{the_rest_has_the_later_frames}
+use Rattle.hart_frame.proofs.lemmas.Laws.{every_list_has_frames, next_frames_are_all-all, next_frames_are_all-grown}
+use Rattle.hart_frame.proofs.lemmas.Laws.{next_frames_are_all-moved, next_frames_are_all-nothing, next_frames_are_all-onward}
+use Rattle.hart_frame.proofs.lemmas.Laws.{next_frames_are_all-rest}
 use Rattle.hart_cli.specs.declared.calls.dump.frame_lines.FrameLines.{FrameLines}
 use Rattle.hart_cli.specs.dump.Dump.{AreDecided, AreFrameLines}
-use Rattle.hart_cli.specs.dump.FrameLines.{IsWaiting, GivesAll, KeepsLines, ScansText}
+use Rattle.hart_cli.specs.dump.FrameLines.{AddsDecided, AddsRest, HasLines, Hears, HearsText, IsWaiting, lines_from}
+use Rattle.hart_cli.specs.dump.Text.{dump_line, line_room}
 use Rattle.hart_cli.specs.text.Items.{ReadsUpTo}
+use Rattle.hart_cli.proofs.lemmas.dump.Faults.{next_at_fault}
 use Rattle.hart_cli.proofs.lemmas.text.Items.{ReadsUpTo-on}
 
--- a scanner that moved past frames, and then hears more, moved past the same frames
-moves_hearing : (a b : Scan) (xs ys : List Character) (given : List Found) → a.finished ≡ false
-    → MovesPast (hearing a xs) b given → MovesPast (hearing a (xs ++ ys)) (hearing b ys) given
-moves_hearing a b xs ys given going moves =
-    rw append_assoc at (scanners_move_past_the_next_frames-hearing (hearing a xs) b ys given going moves)
+-- there are as many characters as bytes
+pub long_is : (bytes : List ℕ) → length (faultless bytes) ≡ length bytes
+long_is bytes = length-map bytes _
 
--- a scanner that moves past frames lets characters go, and takes none back
-pub moves_on : (old new : Scan) (given : List Found) → MovesPast old new given
-    → (new.first + length new.held ≡ old.first + length old.held) × (old.first ≤ new.first)
-moves_on old new given moves =
-    (grind (arith, moves.first, moves.held, moves.next.within, length-drop moves.count old.held), omega (arith, moves.first))
+-- LINES
+-- moving a frame by two numbers moves it by their sum
+moved_twice : (a b : ℕ) (found : List Found) → map (moved a) (map (moved b) found) ≡ map (moved (a + b)) found
+moved_twice a b [] = refl
+moved_twice a b (f ∷ found) = grind (arith, common_steps, moved_twice a b found)
 
+-- the lines of frames, and then of later ones, are the lines of all of them in one list
+lines_on : (first used : ℕ) (given later : List Found)
+    → lines_from first given ++ lines_from (first + used) later ≡ lines_from first (given ++ map (moved used) later)
+lines_on first used given later = rw (map-append, flat_map-append, moved_twice first used later) refl
+
+-- the lines with one more frame end with the line of that frame
+one_more : (first : ℕ) (given : List Found) (found : Found)
+    → lines_from first (given ++ found ∷ []) ≡ lines_from first given ++ dump_line (moved first found)
+one_more first given found = grind (arith, common_steps, map-append)
+
+-- FRAMES IN HELD BYTES
 -- the first frame of a list takes up at least 6 characters besides its expansion and payload
 first_long : (chars : List Character) (from : ℕ) (found : Found) (later : List Found) → AreFrames chars from (found ∷ later)
     → from + 6 + length found.frame.expansion + length found.frame.payload ≤ found.stop
 first_long chars from found later are = grind (arith, common_steps)
 
 -- the next frame takes up at least 6 characters besides its expansion and payload
-next_long : (n : ℕ) (found : Found) (chars : List Character) (ended : Bool) (frames : List Found) (to : ℕ)
-    → found ∷ [] ≡ map (moved n) frames → AreNext chars ended 0 frames to
-    → 6 + length found.frame.expansion + length found.frame.payload ≤ to
-next_long n found chars ended [] to same next = absurd cc
-next_long n found chars ended (one ∷ others) to same next =
+pub next_long : (chars : List Character) (ended : Bool) (from to : ℕ) (found : Found) → AreNext chars ended from (found ∷ []) to
+    → from + 6 + length found.frame.expansion + length found.frame.payload ≤ to
+next_long chars ended from to found next =
     let later = every_list_has_frames (chars ++ []) to in
-    let long = first_long (chars ++ []) 0 one (others ++ later.0) (next.leads [] later.0 (λ over. refl) later.1) in
-    let stops = next.stops 0 one (omega arith) in
-    grind (arith, long, stops)
+    let long = first_long (chars ++ []) from found later.0 (next.leads [] later.0 (λ over. refl) later.1) in
+    omega (arith, long, next.stops 0 found (omega arith))
 
--- a scanner that gives a frame lets go at least 6 characters besides its expansion and payload
-pub gives_long : (old new : Scan) (found : Found) → Gives old new found
-    → old.first + 6 + length found.frame.expansion + length found.frame.payload ≤ new.first
-gives_long old new found gives =
-    let moves = gives.moves in
-    omega (arith, moves.first, next_long old.first found old.held old.finished moves.found moves.count moves.given_are moves.next)
+-- the lines added so far for the frames in held bytes
+pub record AddedSoFar (first : ℕ) (held : List ℕ) (ended : Bool) (used : ℕ) (before after : List ℕ) : Type 0 where
+  pub given : List Found
+  pub next : AreNext (faultless held) ended 0 given used
+  pub adds : after ≡ before ++ lines_from first given
+  pub room : length after ≤ length before + 12 * used
+  pub within : used ≤ length held
 
--- a scanner holds the last characters that it heard
-holds_last : (chars : List Character) (scan : Scan) (given : List Found) → MovesPast (hearing new_scan chars) scan given
-    → (scan.first ≤ length chars) × (drop scan.first chars ≡ scan.held)
-holds_last chars scan given moves =
-    let place : scan.first ≡ moves.count = omega (arith, moves.first) in
-    (omega (arith, place, moves.next.within), rw (place, moves.held) refl)
+pub added_none : (first : ℕ) (held : List ℕ) (ended : Bool) (before : List ℕ) → AddedSoFar first held ended 0 before before
+added_none first held ended before = record {
+  given = [];
+  next = next_frames_are_all-nothing (faultless held) ended 0 (omega arith);
+  adds = sym (append-nil before);
+  room = omega arith;
+  within = omega arith;
+}
 
--- the frames that a scanner moved past come first
-pub first_frames : (chars more : List Character) (scan : Scan) (given later : List Found) → MovesPast (hearing new_scan chars) scan given
-    → AreFrames (chars ++ more) scan.first later → AreFrames (chars ++ more) 0 (given ++ later)
-first_frames chars more scan given later moves are =
-    scanners_move_past_the_next_frames-frames (hearing new_scan chars) scan given later [] more moves refl (λ over. absurd cc) are
+-- the line of one more frame was added
+pub added_next : (first : ℕ) (held : List ℕ) (ended : Bool) (used to : ℕ) (a b c : List ℕ) (found : Found)
+    → AddedSoFar first held ended used a b → AreNext (faultless held) ended used (found ∷ []) to → to ≤ length held
+    → c ≡ b ++ dump_line (moved first found) → length c ≤ length b + line_room found → AddedSoFar first held ended to a c
+added_next first held ended used to a b c found h next within added few = record {
+  given = h.given ++ found ∷ [];
+  next = next_frames_are_all-onward (faultless held) ended 0 used to h.given (found ∷ []) h.next next;
+  adds = rw (added, h.adds, one_more first h.given found) (append_assoc a (lines_from first h.given) (dump_line (moved first found)));
+  room = omega (arith, h.room, few, next_long (faultless held) ended used to found next);
+  within = within;
+}
 
--- once nothing is decided in what a scanner holds, the frames that it moved past are the decided ones
-pub are_decided : (chars : List Character) (scan : Scan) (given : List Found) → MovesPast (hearing new_scan chars) scan given
-    → IsUndecided scan.held → AreDecided chars given
-are_decided chars scan given moves undecided =
-    let (within, held) = holds_last chars scan given moves in
-    let long : length (take scan.first chars) ≡ scan.first = length-take-le scan.first chars within in record {
-      passed = take scan.first chars;
-      rest = scan.held;
-      split = rw (← held) (sym (take-append-drop scan.first chars));
-      first = λ more later are. first_frames chars more scan given later moves (rw long at are);
-      undecided = undecided;
+-- no decided frame is left
+pub added_all : (first : ℕ) (held : List ℕ) (ended : Bool) (used to : ℕ) (a b : List ℕ) → AddedSoFar first held ended used a b
+    → AreNext (faultless held) ended used [] to → to ≤ length held → length held ≤ to + 268 → (IsTrue ended → to ≡ length held)
+    → (ended ≡ false → IsUndecided (faultless (drop to held))) → AddsDecided first held ended to a b
+added_all first held ended used to a b h next within few all undecided = record {
+  given = h.given;
+  next = rw append-nil at (next_frames_are_all-onward (faultless held) ended 0 used to h.given [] h.next next);
+  adds = h.adds;
+  room = omega (arith, h.room, next.onward);
+  within = within;
+  few = few;
+  all = all;
+  undecided = undecided;
+}
+
+-- the lines of all frames are added once nothing more comes
+pub adds_rest : (first : ℕ) (held : List ℕ) (used : ℕ) (before after : List ℕ) → AddsDecided first held true used before after
+    → AddsRest first held before after
+adds_rest first held used before after adds =
+    let all : used ≡ length (faultless held) = adds.all refl ∙ sym (long_is held) in
+    record {
+      given = adds.given;
+      are = next_frames_are_all-all (faultless held) true adds.given (rw all at adds.next);
+      adds = adds.adds;
     }
 
--- the frames that a scanner moved past, before its finish and after it until it ended, are all frames
-all_frames : (chars : List Character) (scan last after : Scan) (given more : List Found) → MovesPast (hearing new_scan chars) scan given
-    → MovesPast (finishing scan) last more → Ends last after → AreFrames chars 0 (given ++ more)
-all_frames chars scan last after given more moves on ends =
-    let (within, held) = holds_last chars scan given moves in
-    let gone = take scan.first chars in
-    let whole : gone ++ (scan.held ++ []) ≡ chars = rw (append-nil, ← held) (take-append-drop scan.first chars) in
-    let rest : drop last.first chars ≡ last.held = rw (on.first, on.held, ← held) (sym (drop-drop on.count scan.first chars)) in
-    let none = (the_rest_has_the_later_frames last.first chars []).0 (rw rest (AreFrames.none 0 ends.none)) in
-    let after_it = scanners_move_past_the_next_frames-frames (finishing scan) last more [] gone [] on
-    (length-take-le scan.first chars within) (λ over. refl) (rw whole none) in
-    rw append-nil at (first_frames chars [] scan given more moves (rw append-nil (rw (whole, append-nil) at after_it)))
-
--- a new scanner waits for more
-pub new_waits : IsWaiting new_scan
-new_waits =
+-- WHAT IS HEARD
+-- nothing is decided before anything is heard
+pub waits_nothing : IsWaiting []
+waits_nothing =
     let empty : HasNoFrame [] 0 = λ found stands. grind (arith, ap (λ (cs : List Character). length cs) stands.split, length-append) in
     grind arith
 
--- no line is added if a scanner lets characters go without a frame
-pub keeps_no_frame : (old new : Scan) (lines : List ℕ) → MovesPast old new [] → KeepsLines old new lines lines
-keeps_no_frame old new lines moves = grind (arith, common_steps, moves_on)
+-- nothing more was heard
+pub hears_nothing : (f : FrameLines) → Hears f f []
+hears_nothing f = record {
+  given = [];
+  used = 0;
+  next = next_frames_are_all-nothing (faultless f.held ++ []) false 0 (omega arith);
+  first = omega arith;
+  held = sym (append-nil (faultless f.held));
+  adds = sym (append-nil f.lines);
+  room = omega arith;
+}
 
--- no line is added if a scanner hears nothing
-pub keeps_nothing : (scan : Scan) (lines : List ℕ) → KeepsLines (hearing scan []) scan lines lines
-keeps_nothing scan lines = grind (arith, common_steps)
+-- bytes were heard
+pub heard_bytes : (old new : FrameLines) (bytes : List ℕ) (used : ℕ)
+    → AddsDecided old.first (old.held ++ bytes) false used old.lines new.lines → new.first ≡ old.first + used
+    → new.held ≡ drop used (old.held ++ bytes) → Hears old new (faultless bytes) × IsWaiting new.held
+heard_bytes old new bytes used adds first held =
+    let same : faultless (old.held ++ bytes) ≡ faultless old.held ++ faultless bytes = map-append _ old.held bytes in
+    let all = length-append old.held bytes in
+    let left : length new.held + used ≡ length old.held + length bytes =
+    omega (arith, ap (λ (xs : List ℕ). length xs) held, length-drop used (old.held ++ bytes), all, adds.within) in (
+      record {
+        given = adds.given;
+        used = used;
+        next = rw same at adds.next;
+        first = first;
+        held = rw (held, ← same) (sym (drop-map _ used (old.held ++ bytes)));
+        adds = adds.adds;
+        room = omega (arith, adds.room, left, long_is bytes);
+      },
+      record {
+        undecided = rw held (adds.undecided refl);
+        few = omega (arith, adds.few, left, all);
+      },
+    )
 
--- keeping the lines of some frames and then of later ones keeps the lines of both
-pub keeps_then : (a b c : Scan) (p q r : List ℕ) → KeepsLines a b p q → KeepsLines b c q r → KeepsLines a c p r
-keeps_then a b c p q r one two =
-    let moves = scanners_move_past_the_next_frames-onward a b c one.given two.given one.moves two.moves in grind (arith, common_steps)
+-- a character with faults was heard
+pub heard_fault : (old new : FrameLines) (c : Character) (used : ℕ) → c.faults ≢ 0
+    → AddsDecided old.first old.held true used old.lines new.lines → new.first ≡ old.first + (used + 1) → new.held ≡ []
+    → Hears old new (c ∷ [])
+heard_fault old new c used bad adds first none =
+    let long = long_is old.held in
+    let all : used ≡ length (faultless old.held) = adds.all refl ∙ sym long in
+    let end = length-append (faultless old.held) (c ∷ []) in
+    record {
+      given = adds.given;
+      used = used + 1;
+      next = rw (← all) at (next_at_fault (faultless old.held) c adds.given bad (rw all at adds.next));
+      first = first;
+      held = rw none (sym (drop_all (used + 1) (faultless old.held ++ c ∷ []) (omega (arith, all, end))));
+      adds = adds.adds;
+      room = rw none (omega (arith, adds.room, adds.within));
+    }
 
--- keeping the lines of what is heard first and then of what is heard later keeps the lines of both
-pub keeps_on : (a b c : Scan) (xs ys : List Character) (p q r : List ℕ) → a.finished ≡ false → b.finished ≡ false
-    → KeepsLines (hearing a xs) b p q → KeepsLines (hearing b ys) c q r → KeepsLines (hearing a (xs ++ ys)) c p r
-keeps_on a b c xs ys p q r going on one two =
-    let heard : KeepsLines (hearing a (xs ++ ys)) (hearing b ys) p q = record {
-      given = one.given;
-      moves = moves_hearing a b xs ys one.given going one.moves;
-      lines = one.lines;
-      few = omega (arith, one.few, length-append b.held ys, length-append a.held (xs ++ ys), length-append a.held xs, length-append xs ys);
-    } in
-    keeps_then (hearing a (xs ++ ys)) (hearing b ys) c p q r heard two
+-- what was let go and what is held add up to all that was heard
+pub hears_long : (a b : FrameLines) (xs : List Character) → Hears a b xs
+    → b.first + length b.held ≡ a.first + length a.held + length xs
+hears_long a b xs h =
+    let held : length (faultless b.held) ≡ length (drop h.used (faultless a.held ++ xs)) = ap (λ (cs : List Character). length cs) h.held in
+    let all = length-append (faultless a.held) xs in
+    omega (arith, h.next.within, h.first, held, long_is a.held, long_is b.held, length-drop h.used (faultless a.held ++ xs), all)
 
--- what is heard is let go or held, and the lines grow by at most 12 bytes for each character let go
-pub keeps_within : (a b : Scan) (xs : List Character) (p q : List ℕ) → KeepsLines (hearing a xs) b p q
-    → (b.first + length b.held ≡ a.first + length a.held + length xs)
-    × (length q + 12 * length b.held ≤ length p + 12 * (length a.held + length xs))
-keeps_within a b xs p q keeps = grind (arith, common_steps, moves_on)
+-- the next frames of a list, and then those of its rest, are the next frames of the list
+next_later : (chars : List Character) (first used : ℕ) (given later : List Found) → AreNext chars false 0 given first
+    → AreNext (drop first chars) false 0 later used → AreNext chars false 0 (given ++ map (moved first) later) (first + used)
+next_later chars first used given later next on =
+    next_frames_are_all-onward chars false 0 first (first + used) given (map (moved first) later) next
+    (next_frames_are_all-moved first chars false later used next.within on)
 
--- more of a text is scanned
-pub text_on : {text rest last : List ℕ} (old now new : FrameLines) (more : List Character) → ScansText old now text rest
-    → IsWaiting old.scanner → IsWaiting now.scanner → ReadsUpTo rest more last
-    → KeepsLines (hearing now.scanner more) new.scanner now.lines new.lines → ScansText old new text last
-text_on old now new more scans waiting on reads keeps =
-    record { chars = scans.chars ++ more; reads = grind (arith, ReadsUpTo-on); scans = grind (arith, keeps_on) }
+-- it is the same to drop characters before or after more are heard
+held_on : (chars more : List Character) (held : List ℕ) (place : ℕ) → faultless held ≡ drop place chars → place ≤ length chars
+    → faultless held ++ more ≡ drop place (chars ++ more)
+held_on chars more held place is within =
+    ap (λ (cs : List Character). cs ++ more) is ∙ sym (drop-append-le place chars more within)
 
--- a scanner that is not finished waits for more once it gives no frame
-pub waits_for_more : (old new : Scan) (p q : List ℕ) → old.finished ≡ false → length old.held ≤ 269 → GivesAll old new p q
-    → KeepsLines old new p q × IsWaiting new
-waits_for_more old new p q going few all =
-    let waits : Waits all.last new = grind (arith, all.same_finish, all.nothing) in
-    grind (arith, moves_on, keeps_then old all.last new p q q all.keeps (keeps_no_frame all.last new q waits.moves))
+-- characters were heard, and then more
+pub hears_then : (a b c : FrameLines) (xs ys : List Character) → Hears a b xs → Hears b c ys → Hears a c (xs ++ ys)
+hears_then a b c xs ys h k =
+    let chars = faultless a.held ++ xs in
+    let now = held_on chars ys b.held h.used h.held h.next.within in
+    let text = k.adds ∙ (ap (λ (text : List ℕ). text ++ lines_from b.first k.given) h.adds
+    ∙ append_assoc a.lines (lines_from a.first h.given) (lines_from b.first k.given)) in
+    record {
+      given = h.given ++ map (moved h.used) k.given;
+      used = h.used + k.used;
+      next = rw (← append_assoc)
+          (next_later (chars ++ ys) h.used k.used h.given k.given (next_frames_are_all-grown chars ys false 0 h.used h.given h.next)
+          (rw now at k.next));
+      first = omega (arith, h.first, k.first);
+      held = rw (← append_assoc) (k.held ∙ (ap (drop k.used) now ∙ drop-drop k.used h.used (chars ++ ys)));
+      adds = rw (← lines_on a.first h.used h.given k.given, ← h.first) text;
+      room = omega (arith, h.room, k.room, length-append xs ys);
+    }
 
--- once a scanner has ended, the lines kept since it was new are the lines of all frames
-pub all_lines : (chars : List Character) (scan new : Scan) (text rest : List ℕ) → KeepsLines (hearing new_scan chars) scan [] text
-    → GivesAll (finishing scan) new [] rest → AreFrameLines chars (text ++ rest)
-all_lines chars scan new text rest keeps all =
-    let are = all_frames chars scan all.last new keeps.given all.keeps.given keeps.moves all.keeps.moves in grind (arith, common_steps)
+-- more of a text was heard
+pub text_on : {text rest last : List ℕ} (old now new : FrameLines) (more : List Character) → HearsText old now text rest
+    → ReadsUpTo rest more last → Hears now new more → HearsText old new text last
+text_on old now new more heard reads hears = record {
+  chars = heard.chars ++ more;
+  reads = grind (arith, ReadsUpTo-on);
+  hears = hears_then old now new heard.chars more heard.hears hears;
+}
+
+-- ALL THAT WAS HEARD
+pub has_nothing : HasLines [] 0 [] []
+has_nothing = record { given = []; next = next_frames_are_all-nothing [] false 0 (omega arith); left = refl; lines = refl }
+
+-- what is heard is let go or held
+pub has_long : (chars : List Character) (first : ℕ) (held text : List ℕ) → HasLines chars first held text
+    → first + length held ≡ length chars
+has_long chars first held text has =
+    let same : length (faultless held) ≡ length (drop first chars) = ap (λ (cs : List Character). length cs) has.left in
+    omega (arith, same, long_is held, length-drop first chars, has.next.within)
+
+-- more characters were heard
+pub has_more : (chars more : List Character) (old new : FrameLines) (text : List ℕ) → HasLines chars old.first old.held text
+    → old.lines ≡ [] → Hears old new more → HasLines (chars ++ more) new.first new.held (text ++ new.lines)
+has_more chars more old new text has quiet hears =
+    let now = held_on chars more old.held old.first has.left has.next.within in
+    let added : new.lines ≡ lines_from old.first hears.given = rw quiet at hears.adds in
+    record {
+      given = has.given ++ map (moved old.first) hears.given;
+      next = rw hears.first
+          (next_later (chars ++ more) old.first hears.used has.given hears.given
+          (next_frames_are_all-grown chars more false 0 old.first has.given has.next) (rw now at hears.next));
+      left = rw hears.first (hears.held ∙ (ap (drop hears.used) now ∙ drop-drop hears.used old.first (chars ++ more)));
+      lines = rw (has.lines, added, flat_map-append) refl;
+    }
+
+-- once nothing is decided in what is held, the frames that have lines are the decided ones
+pub are_decided : (chars : List Character) (first : ℕ) (held text : List ℕ) → (has : HasLines chars first held text)
+    → IsUndecided (faultless held) → AreDecided chars has.given
+are_decided chars first held text has undecided =
+    let long : length (take first chars) ≡ first = length-take-le first chars has.next.within in
+    record {
+      passed = take first chars;
+      rest = faultless held;
+      split = rw has.left (sym (take-append-drop first chars));
+      first = λ more later are. has.next.leads more later (λ over. absurd cc) (rw long at are);
+      undecided = undecided;
+    }
+
+-- with the lines of the frames in what is held, all frames have their lines
+pub all_lines : (chars : List Character) (first : ℕ) (held text rest : List ℕ) → HasLines chars first held text
+    → AddsRest first held [] rest → AreFrameLines chars (text ++ rest)
+all_lines chars first held text rest has adds = record {
+  frames = has.given ++ map (moved first) adds.given;
+  are_frames = rw append-nil at
+      (next_frames_are_all-rest chars [] false has.given adds.given first has.next (λ over. refl)
+      (rw append-nil (rw has.left at adds.are)));
+  text = rw (has.lines, adds.adds, flat_map-append) refl;
+}

@@ -1,32 +1,43 @@
-//! Finds the frames in what is heard while an input is read, and keeps the lines of these frames until they are written.
-ghost use Rattle.std.specs.Prelude.{◌≡◌, ◌+◌, ◌-◌, ◌<◌, ◌≤◌, ◌^◌, [], length};
+//! What is heard and still undecided, and lines of the frames that were found in it.
+ghost use Rattle.std.specs.Prelude.{◌≡◌, ◌≢◌, ◌+◌, ◌*◌, ◌<◌, ◌≤◌, ◌^◌, ◌∷◌, [], drop, length, false, true};
 ghost use Rattle.std.specs.Option.{option_to_list};
-ghost use Rattle.hart_frame.specs.heard.Character.{faultless};
-ghost use Rattle.hart_frame.specs.scan.Scanner.{finishing, hearing, new_scan};
-ghost use Rattle.hart_cli.specs.dump.FrameLines.{GivesAll, HasRoomFor, IsWaiting, KeepsLines, ScansText};
+ghost use Rattle.hart_frame.specs.heard.Character.{Character, faultless};
+ghost use Rattle.hart_cli.specs.dump.FrameLines.{AddsDecided, AddsRest, HasRoomFor, Hears, HearsText, IsWaiting};
 ghost use Rattle.hart_cli.specs.input.Decoding.{most_ahead};
 ghost use Rattle.hart_cli.specs.text.Items.{NoPieceBegins};
 
 use crate::calls::dump::text::push_frame_line;
-use crate::text::chunk::{Chunk, read_chunk};
+use crate::text::chunk::{CHUNK_LEN, Chunk, read_chunk};
 use crate::text::items::next_piece;
 use crate::text::pairs::Pairs;
-use hart_frame::{Char, Scanner};
+use hart_frame::{Char, next_in_bytes};
 use hart_line::Digits;
 use hart_values::ByteList;
 
-/// The greatest number of bytes of lines that are kept: 12 for each character that a frame takes up. The scanner holds at most 269
-/// characters. The bytes read ahead are at most 16,389, and have at most one character for every two bytes.
-const TEXT_LINES_LEN: usize = 101_562;
+/// The greatest number of characters that are kept while they decide nothing: two preamble bytes, and the longest body without its
+/// check byte.
+const MOST_OPEN: usize = 268;
+
+/// Characters that decide nothing yet.
+type Open = ByteList<MOST_OPEN>;
+
+/// The greatest number of characters that are searched together: those that decide nothing yet, and a chunk of what is read.
+const HELD_LEN: usize = MOST_OPEN + CHUNK_LEN;
+
+/// The greatest number of bytes of lines that are kept: 12 for each character that a frame takes up. At most 268 characters are
+/// held. The bytes read ahead are at most 16,389, and have at most one character for every two bytes.
+const TEXT_LINES_LEN: usize = 101_550;
 
 /// Lines that are not yet written.
 type TextLines = ByteList<TEXT_LINES_LEN>;
 
-/// A scanner, and lines of the frames that it found.
+/// Faultless characters that were heard and may still begin a frame, and lines of the frames that were found.
 #[derive(Drop)]
 pub struct FrameLines {
-    /// The scanner that finds the frames.
-    pub scanner: Scanner,
+    /// The characters that may still begin a frame.
+    pub held: ByteList<HELD_LEN>,
+    /// The place of the first held character in all that was heard.
+    pub first: u64,
     /// The lines that are not yet written.
     pub lines: TextLines,
     /// The table of hex digits for the lines.
@@ -36,90 +47,139 @@ pub struct FrameLines {
 impl FrameLines {
     /// Returns the state in which nothing was heard and no line is kept.
     pub fn new() -> FrameLines
-        ensures scanner { result.scanner ≡ new_scan }
+        ensures held { result.held ≡ [] }
+        ensures first { result.first ≡ 0 }
         ensures lines { result.lines ≡ [] }
     {
         FrameLines {
-            scanner: Scanner::new(),
+            held: ByteList::new(),
+            first: 0,
             lines: TextLines::new(),
             pairs: Pairs::new(),
         }
     }
 
-    /// Scans the leading items of a text, and keeps a line for each frame that they decide. Returns the rest of the text, which no
-    /// piece begins.
-    pub fn scan_text<'a>(&mut self, digits: &Digits, text: &'a [u8]) -> &'a [u8]
-        requires waiting { IsWaiting self.old.scanner }
+    /// Hears the leading items of a text, and keeps a line for each frame that they decide. Returns the rest of the text, which no
+    /// piece begins. The chunk is room to work in.
+    pub fn hear_text<'a>(&mut self, digits: &Digits, chunk: &mut Chunk, text: &'a [u8]) -> &'a [u8]
+        requires waiting { IsWaiting self.old.held }
         requires none_kept { self.old.lines ≡ [] }
         requires few { length text.now ≤ most_ahead }
-        requires pushed { self.old.scanner.first + length self.old.scanner.held + length text.now < 2 ^ 64 - 1 }
+        requires places { self.old.first + length self.old.held + length text.now < 2 ^ 64 }
         ensures within { length result.now ≤ length text.now }
         ensures stops { NoPieceBegins result.now }
-        ensures scans { ScansText self.old self.new text.now result.now }
-        ensures waiting { IsWaiting self.new.scanner }
+        ensures hears { HearsText self.old self.new text.now result.now }
+        ensures waiting { IsWaiting self.new.held }
     {
         let mut rest = text;
-        let mut chunk = Chunk::new();
         loop {
             chunk.clear();
-            let len = read_chunk(digits, rest, &mut chunk);
-            self.scan_chunk(chunk.as_slice());
+            let len = read_chunk(digits, rest, chunk);
+            self.hear_bytes(chunk.as_slice());
             rest = &rest[len..];
             let Some(lead) = next_piece(digits, rest) else {
                 return rest;
             };
-            self.scan_char(lead.char);
+            self.hear_char(lead.char);
             rest = &rest[lead.len..];
         }
     }
 
-    /// Scans bytes without faults.
-    fn scan_chunk(&mut self, chunk: &[u8])
-        requires waiting { IsWaiting self.old.scanner }
-        requires room { HasRoomFor (length chunk.now) self.old }
-        requires pushed { self.old.scanner.first + length self.old.scanner.held + length chunk.now < 2 ^ 64 }
-        ensures scans { KeepsLines (hearing self.old.scanner (faultless chunk.now)) self.new.scanner self.old.lines self.new.lines }
-        ensures waiting { IsWaiting self.new.scanner }
+    /// Hears bytes without faults.
+    fn hear_bytes(&mut self, bytes: &[u8])
+        requires waiting { IsWaiting self.old.held }
+        requires few { length bytes.now ≤ 8192 }
+        requires room { HasRoomFor (length bytes.now) self.old }
+        requires places { self.old.first + length self.old.held + length bytes.now < 2 ^ 64 }
+        ensures hears { Hears self.old self.new (faultless bytes.now) }
+        ensures waiting { IsWaiting self.new.held }
     {
-        let mut taken = 0;
-        while taken < chunk.len() {
-            taken += self.scanner.push_bytes(&chunk[taken..]);
-            self.take_frames();
-        }
+        self.held.extend_from_slice(bytes);
+        let held = self.held.as_slice();
+        let used = push_decided(&mut self.lines, &self.pairs, self.first, held, false);
+        self.let_go(used);
     }
 
-    /// Scans the character of a piece, if the piece means one.
-    fn scan_char(&mut self, char: Option<Char>)
-        requires waiting { IsWaiting self.old.scanner }
+    /// Hears the character of a piece, if the piece means one.
+    fn hear_char(&mut self, char: Option<Char>)
+        requires waiting { IsWaiting self.old.held }
         requires room { HasRoomFor (length (option_to_list char)) self.old }
-        requires pushed { self.old.scanner.first + length self.old.scanner.held < 2 ^ 64 - 1 }
-        ensures scans { KeepsLines (hearing self.old.scanner (option_to_list char)) self.new.scanner self.old.lines self.new.lines }
-        ensures waiting { IsWaiting self.new.scanner }
+        requires places { self.old.first + length self.old.held + 1 < 2 ^ 64 }
+        ensures hears { Hears self.old self.new (option_to_list char) }
+        ensures waiting { IsWaiting self.new.held }
     {
-        let Some(char) = char else {
-            return;
-        };
-        self.scanner.push(char);
-        self.take_frames();
-    }
-
-    /// Tells the scanner that nothing more is heard, and keeps a line for each frame that this decides.
-    pub fn finish(&mut self)
-        requires waiting { IsWaiting self.old.scanner }
-        requires none_kept { self.old.lines ≡ [] }
-        ensures { GivesAll (finishing self.old.scanner) self.new.scanner [] self.new.lines }
-    {
-        self.scanner.finish();
-        self.take_frames();
-    }
-
-    /// Keeps a line for each frame that the scanner gives now.
-    fn take_frames(&mut self)
-        requires { HasRoomFor 0 self.old }
-        ensures { GivesAll self.old.scanner self.new.scanner self.old.lines self.new.lines }
-    {
-        while let Some(found) = self.scanner.take() {
-            push_frame_line(&mut self.lines, &self.pairs, &found);
+        match char {
+            None => {}
+            Some(char) if char.is_faultless() => self.hear_bytes(&[char.byte()]),
+            Some(_) => self.hear_fault(),
         }
+    }
+
+    /// Hears a character with faults, which ends all that is held.
+    fn hear_fault(&mut self)
+        requires room { HasRoomFor 0 self.old }
+        requires places { self.old.first + length self.old.held + 1 < 2 ^ 64 }
+        ensures hears { (character : Character) → character.faults ≢ 0 → Hears self.old self.new (character ∷ []) }
+        ensures waiting { IsWaiting self.new.held }
+    {
+        let held = self.held.as_slice();
+        let used = push_decided(&mut self.lines, &self.pairs, self.first, held, true);
+        self.held.clear();
+        self.first += used as u64 + 1;
+    }
+
+    /// Keeps a line for each frame in the held characters, after which nothing comes.
+    pub fn finish(&mut self)
+        requires waiting { IsWaiting self.old.held }
+        requires none_kept { self.old.lines ≡ [] }
+        requires places { self.old.first + length self.old.held < 2 ^ 64 }
+        ensures { AddsRest self.old.first self.old.held [] self.new.lines }
+    {
+        let held = self.held.as_slice();
+        push_decided(&mut self.lines, &self.pairs, self.first, held, true);
+    }
+
+    /// Drops the first `used` characters.
+    fn let_go(&mut self, used: usize)
+        requires within { used ≤ length self.old.held }
+        requires few { length (drop used self.old.held) ≤ 268 }
+        requires places { self.old.first + used < 2 ^ 64 }
+        ensures { self.new ≡ record self.old { held = drop used self.old.held; first = self.old.first + used } }
+    {
+        self.first += used as u64;
+        if used == self.held.len() {
+            self.held.clear();
+        } else {
+            self.hold_from(used);
+        }
+    }
+
+    /// Holds only the characters from a place on. This is a separate function, since no characters are left in most cases.
+    fn hold_from(&mut self, place: usize)
+        requires within { place ≤ length self.old.held }
+        requires few { length (drop place self.old.held) ≤ 268 }
+        ensures { self.new ≡ record self.old { held = drop place self.old.held } }
+    {
+        let open = Open::from_slice(&self.held.as_slice()[place..]).unwrap();
+        self.held.clear();
+        self.held.extend_from_slice(open.as_slice());
+    }
+}
+
+/// Adds a line for each decided frame in held bytes. If `ended` is true, nothing comes after the bytes. The first byte has the place
+/// `first` in all that was heard. Returns how many bytes are used by then.
+fn push_decided(lines: &mut TextLines, pairs: &Pairs, first: u64, held: &[u8], ended: bool) -> usize
+    requires room { length lines.old + 12 * length held.now ≤ 101550 }
+    requires places { first + length held.now < 2 ^ 64 }
+    ensures { AddsDecided first held.now ended result lines.old lines.new }
+{
+    let mut used = 0;
+    loop {
+        let next = next_in_bytes(held, used, ended);
+        used = next.used;
+        let Some(found) = next.frame else {
+            return used;
+        };
+        push_frame_line(lines, pairs, first, &found);
     }
 }

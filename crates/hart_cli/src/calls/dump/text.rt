@@ -1,5 +1,6 @@
 //! The line that `hart dump` writes for a frame.
-ghost use Rattle.std.specs.Prelude.{◌≡◌, ◌∷◌, [], ◌++◌, ◌+◌, ◌≤◌, decimal, length};
+ghost use Rattle.std.specs.Prelude.{◌≡◌, ◌∷◌, [], ◌++◌, ◌+◌, ◌<◌, ◌≤◌, ◌^◌, decimal, length};
+ghost use Rattle.hart_frame.specs.heard.Frames.{moved};
 ghost use Rattle.hart_frame.specs.scan.View.{found_of};
 ghost use Rattle.hart_cli.specs.dump.Text.{address_word, burst_word, dump_line, kind_word, line_room, master_word};
 
@@ -10,18 +11,21 @@ use hart_frame::{FoundView, FrameKind};
 use hart_values::{Address, ByteList, MasterId};
 use itoa::Buffer;
 
-/// Adds the line of a frame: its two places and its parts, separated by single spaces, and a line feed.
+/// Adds the line of a frame: its two places, counted from `first` on, and its parts, separated by single spaces, and a line feed.
 pub fn push_frame_line<const N: usize>(
     lines: &mut ByteList<N>,
     pairs: &Pairs,
+    first: u64,
     found: &FoundView<'_>,
 )
-    requires { length lines.old + line_room (found_of found.now) ≤ N }
-    ensures line { lines.new ≡ lines.old ++ dump_line (found_of found.now) }
+    requires room { length lines.old + line_room (found_of found.now) ≤ N }
+    requires start { first + found.now.start < 2 ^ 64 }
+    requires stop { first + found.now.stop < 2 ^ 64 }
+    ensures line { lines.new ≡ lines.old ++ dump_line (moved first (found_of found.now)) }
     ensures few { length lines.new ≤ length lines.old + line_room (found_of found.now) }
 {
     let frame = &found.frame;
-    push_places(lines, found.start, found.stop);
+    push_places(lines, first + found.start, first + found.stop);
     push_head(lines, frame.kind(), frame.master(), frame.burst());
     push_address(lines, pairs, frame.address());
     push_hex_word(lines, pairs, frame.expansion());

@@ -1,10 +1,9 @@
 use Rattle.std.proofs.Common.{arith, ℕ, List, Option, []}
 use Rattle.std.proofs.lemmas.Result.{err_from_is_err_and}
-use Rattle.hart_frame.specs.scan.Scanner.{Scan, finishing}
 use Rattle.hart_cli.specs.declared.calls.dump.frame_lines.FrameLines.{FrameLines}
 use Rattle.hart_cli.specs.declared.fault.CliFault.{CliFault}
 use Rattle.hart_cli.specs.dump.Dump.{AreDecidedLines, AreFrameLines}
-use Rattle.hart_cli.specs.dump.FrameLines.{GivesAll, ScansAll}
+use Rattle.hart_cli.specs.dump.FrameLines.{AddsRest, HearsAll}
 use Rattle.hart_cli.specs.input.Decoding.{item_decoding}
 use Rattle.hart_cli.specs.input.Input.{input_limit}
 use Rattle.hart_cli.specs.input.LiveInput.{ReadsText}
@@ -16,11 +15,11 @@ use Rattle.hart_cli.proofs.lemmas.input.Decoded.{ends_with, stops_in}
 use Rattle.hart_cli.proofs.calls.dump.dump.Goals as goal
 
 -- an input was dumped up to its end or its first fault
-has_dump : {r r' w w1 : Stream} {frames : FrameLines} {fault : Option CliFault} {new : Scan} {lines : List ℕ} (w' : Stream)
-    → ScansAll r r' w w1 frames fault → GivesAll (finishing frames.scanner) new [] lines → WritesAll w1 w' lines
+has_dump : {r r' w w1 : Stream} {frames : FrameLines} {fault : Option CliFault} {lines : List ℕ} (w' : Stream)
+    → HearsAll r r' w w1 frames fault → AddsRest frames.first frames.held [] lines → WritesAll w1 w' lines
     → (all : List ℕ) × ReadsText item_decoding input_limit AreFrameLines r r' fault all × WritesAll w w' all
-has_dump w' all gives wrote =
-    (_, grind (arith, all_lines all.chars _ _ all.text _ all.scans gives), WritesAll-on _ _ w' all.text _ all.wrote wrote)
+has_dump w' all adds wrote =
+    (_, grind (arith, all_lines all.chars _ _ all.text _ all.has adds), WritesAll-on _ _ w' all.text _ all.wrote wrote)
 
 pub returns-in_err-write_all : goal.returns-in_err-write_all
 returns-in_err-write_all g c =
@@ -29,7 +28,7 @@ returns-in_err-write_all g c =
     let stop = err_from_is_err_and c.from_residual-in_err-write_all.result c.from_residual-in_err-write_all.ensures.1 in
     rw (stop.1, stop.2)
     (stops_in item_decoding input_limit AreFrameLines AreDecidedLines _ _ _ _ _ all.input all.decodes.ending all.chars _ _ all.decodes.reads
-    all.decodes.decoded (all_lines all.chars _ _ all.text _ all.scans c.finish.ensures) all.in_time
+    all.decodes.decoded (all_lines all.chars _ _ all.text _ all.has c.finish.ensures) all.in_time
     (FailsToWrite-on _ _ _ all.text _ all.wrote fails) fails)
 
 pub returns-in-Some : goal.returns-in-Some

@@ -3,14 +3,16 @@ use Rattle.hart_cli.specs.declared.input.TheConstants.{PORTION_LEN}
 use Rattle.hart_cli.specs.input.Input.{input_limit}
 use Rattle.hart_cli.specs.stream.Stream.{WritesAll}
 use Rattle.hart_cli.specs.text.Items.{MayBegin}
-use Rattle.hart_cli.proofs.lemmas.dump.ScanInput.{ScannedUpTo}
+use Rattle.hart_cli.proofs.lemmas.dump.ScanInput.{HeardUpTo}
 use Rattle.hart_cli.proofs.calls.dump.scan_input.Given as goal
 
 abbrev pub invariant-loop-frames : goal.invariant-loop-frames
 invariant-loop-frames g l = record {
   buffer_length : length l.buffer ≡ PORTION_LEN;
   text : List ℕ;
-  scanned : ScannedUpTo (g.R.Source.stream l.initial.reader) (g.R.Source.stream l.reader) l.frames.scanner None l.ahead l.read text;
+  heard : HeardUpTo
+      (g.R.Source.stream l.initial.reader) (g.R.Source.stream l.reader)
+      l.frames.first l.frames.held None l.ahead l.read text;
   wrote : WritesAll (g.W.Sink.stream l.initial.writer) (g.W.Sink.stream l.writer) text;
   none_kept : l.frames.lines ≡ [];
   within : l.read ≤ input_limit;

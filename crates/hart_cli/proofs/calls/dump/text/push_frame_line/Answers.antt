@@ -1,4 +1,5 @@
 use Rattle.std.proofs.Common.{◌≡◌, ℕ, List, [], ◌∷◌, ◌++◌, append_assoc, decimal}
+use Rattle.hart_frame.specs.heard.Frames.{moved}
 use Rattle.hart_frame.specs.scan.View.{found_of}
 use Rattle.hart_cli.specs.dump.Text.{address_word, burst_word, kind_word, master_word}
 use Rattle.hart_cli.specs.text.Words.{bytes_word, line_of}
@@ -14,7 +15,7 @@ one_line lines before start stop kind master burst address expansion command pay
 
 pub returns-clause-line : goal.returns-clause-line
 returns-clause-line g c =
-    let found = found_of c.args.found.now in
+    let found = moved c.args.first (found_of c.args.found.now) in
     let frame = found.frame in
     one_line _ _ (decimal found.start) (decimal found.stop) (kind_word frame.kind) (master_word frame.master) (burst_word frame.burst)
     (address_word frame.address) (bytes_word frame.expansion) (decimal frame.command) (bytes_word frame.payload)
