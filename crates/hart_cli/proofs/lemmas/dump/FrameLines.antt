@@ -150,6 +150,23 @@ heard_bytes old new bytes used adds first held =
       },
     )
 
+-- bytes were heard while none were held
+pub heard_in_place : (old new : FrameLines) (bytes : List ℕ) (used : ℕ) → old.held ≡ []
+    → AddsDecided old.first bytes false used old.lines new.lines → new.first ≡ old.first + used
+    → new.held ≡ old.held ++ drop used bytes → Hears old new (faultless bytes)
+heard_in_place old new bytes used none adds first held =
+    let all : old.held ++ bytes ≡ bytes = rw none refl in
+    (heard_bytes old new bytes used (rw all adds) first (rw all (rw none at held))).0
+
+pub waits_in_place : (first : ℕ) (before held bytes lines after : List ℕ) (used : ℕ) → before ≡ []
+    → AddsDecided first bytes false used lines after → held ≡ before ++ drop used bytes → IsWaiting held
+waits_in_place first before held bytes lines after used none adds is =
+    let rest : held ≡ drop used bytes = rw none at is in
+    record {
+      undecided = rw rest (adds.undecided refl);
+      few = rw rest (omega (arith, adds.few, adds.within, length-drop used bytes));
+    }
+
 -- a character with faults was heard
 pub heard_fault : (old new : FrameLines) (c : Character) (used : ℕ) → c.faults ≢ 0
     → AddsDecided old.first old.held true used old.lines new.lines → new.first ≡ old.first + (used + 1) → new.held ≡ []

@@ -85,8 +85,37 @@ impl FrameLines {
         }
     }
 
-    /// Hears bytes without faults.
+    /// Hears bytes without faults. If no others are held, they are searched where they lie.
     fn hear_bytes(&mut self, bytes: &[u8])
+        requires waiting { IsWaiting self.old.held }
+        requires few { length bytes.now ≤ 8192 }
+        requires room { HasRoomFor (length bytes.now) self.old }
+        requires places { self.old.first + length self.old.held + length bytes.now < 2 ^ 64 }
+        ensures hears { Hears self.old self.new (faultless bytes.now) }
+        ensures waiting { IsWaiting self.new.held }
+    {
+        if self.held.is_empty() {
+            self.hear_in_place(bytes);
+        } else {
+            self.hear_after_held(bytes);
+        }
+    }
+
+    /// Hears bytes without faults while none are held, and holds only those that are undecided.
+    fn hear_in_place(&mut self, bytes: &[u8])
+        requires empty { self.old.held ≡ [] }
+        requires room { HasRoomFor (length bytes.now) self.old }
+        requires places { self.old.first + length bytes.now < 2 ^ 64 }
+        ensures hears { Hears self.old self.new (faultless bytes.now) }
+        ensures waiting { IsWaiting self.new.held }
+    {
+        let used = push_decided(&mut self.lines, &self.pairs, self.first, bytes, false);
+        self.held.extend_from_slice(&bytes[used..]);
+        self.first += used as u64;
+    }
+
+    /// Hears bytes without faults together with those that are held.
+    fn hear_after_held(&mut self, bytes: &[u8])
         requires waiting { IsWaiting self.old.held }
         requires few { length bytes.now ≤ 8192 }
         requires room { HasRoomFor (length bytes.now) self.old }

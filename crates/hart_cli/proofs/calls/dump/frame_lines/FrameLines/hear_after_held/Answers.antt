@@ -2,8 +2,8 @@ use Rattle.std.proofs.Common.{refl}
 use Rattle.hart_frame.specs.heard.Character.{faultless}
 use Rattle.hart_cli.specs.dump.FrameLines.{Hears, IsWaiting}
 use Rattle.hart_cli.proofs.lemmas.dump.FrameLines.{heard_bytes}
-use Rattle.hart_cli.proofs.calls.dump.frame_lines.FrameLines.hear_bytes.Goals.{After-let_go}
-use Rattle.hart_cli.proofs.calls.dump.frame_lines.FrameLines.hear_bytes.Goals as goal
+use Rattle.hart_cli.proofs.calls.dump.frame_lines.FrameLines.hear_after_held.Goals.{After-let_go}
+use Rattle.hart_cli.proofs.calls.dump.frame_lines.FrameLines.hear_after_held.Goals as goal
 
 -- the bytes are heard
 heard : (c : After-let_go) → Hears c.args.self.now c.let_go.new.self (faultless c.args.bytes.now) × IsWaiting c.let_go.new.self.held
