@@ -22,16 +22,23 @@ def explain_given(rng):
     if kind == "raw":
         words, text = [b"--raw"], bytes(char.byte for char in chars)
     else:
-        words, text = bad_explain_words(rng) if kind == "bad words" else [], with_silences(rng, inputs.input_text(rng, chars))
+        words, text = bad_explain_words(rng) if kind == "bad words" else [], with_marks(rng, inputs.input_text(rng, chars))
     return Given(words, None if rng.random() < 0.002 else text)
 
 
-def with_silences(rng, text):
-    """Puts up to five `/` into a text, at each of which the line falls silent."""
+def with_marks(rng, text):
+    """Puts up to five marks into a text: a `/`, at which the line falls silent, or a date."""
     for _ in range(weighted(rng, (4, 0), (3, 1), (2, 2), (1, 5))):
         place = rng.randrange(len(text) + 1)
-        text = text[:place] + b"/" + text[place:]
+        text = text[:place] + (b"/" if rng.random() < 0.5 else date(rng)) + text[place:]
     return text
+
+
+def date(rng):
+    """A date with a separator after it. A few have no word, too long a word, another byte in it, or no separator."""
+    word = bytes(rng.randint(0x21, 0x7E) for _ in range(weighted(rng, (40, rng.randint(1, 32)), (1, 0), (1, 32), (1, 33))))
+    other = weighted(rng, (60, b""), (1, b"\x7f"), (1, b"\x80"), (1, b"\x00"))
+    return b"@" + word + other + weighted(rng, (60, b" "), (5, b"\n"), (1, b""))
 
 
 def bad_explain_words(rng):

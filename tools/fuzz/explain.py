@@ -173,14 +173,34 @@ def explained_lines(heard):
 
 
 def explained(heard):
-    """What is said of characters, where None means that the line fell silent. Each stretch is explained by itself, with its places
-    counted on from the stretches before."""
-    text, first = "", 0
-    for is_silent, stretch in itertools.groupby(heard, lambda char: char is None):
+    """What is said of characters, where None means that the line fell silent, and a word dates what follows it. Each stretch is
+    explained by itself, with its places counted on from the stretches before."""
+    text, first, dates = "", 0, dates_of(heard)
+    bare = [one for one in heard if not isinstance(one, bytes)]
+    for is_silent, stretch in itertools.groupby(bare, lambda char: char is None):
         chars = [] if is_silent else list(stretch)
-        text += "".join(moved_line(line, first) + "\n" for line in explained_lines(chars))
+        text += "".join(dated_line(moved_line(line, first), dates) + "\n" for line in explained_lines(chars))
         first += len(chars)
     return text.encode()
+
+
+def dates_of(heard):
+    """The date of each character that was heard, the last word before it; None if it has none."""
+    dates, last = [], None
+    for one in heard:
+        if isinstance(one, bytes):
+            last = one.decode()
+        elif one is not None:
+            dates.append(last)
+    return dates
+
+
+def dated_line(line, dates):
+    """Returns a line after the date of its place, if the line begins a paragraph and its place has a date."""
+    if line.startswith(" "):
+        return line
+    date = dates[int(re.match(r"\d+", line)[0])]
+    return f"{date} {line}" if date else line
 
 
 def moved_line(line, first):

@@ -19,6 +19,11 @@ SEPARATORS = re.compile(rb"[ \t\r\n]*")
 HEX_DIGITS = re.compile(rb"[0-9A-Fa-f]*")
 # The longest run with which an item can begin: two hex digits, then `!`, then fault bits from 02 to 72.
 ITEM_PREFIX = re.compile(rb"(?:[0-9A-Fa-f](?:[0-9A-Fa-f](?:!(?:02?|[1-7][02]?)?)?)?)?")
+# What stands between texts of items: a silence, a date or the end.
+MARK = re.compile(rb"[/@]|\Z")
+# The word of a date may have up to 32 bytes from `!` to `~`.
+WORD = re.compile(rb"[!-~]*")
+LONGEST_WORD = 32
 DECIMAL_DIGITS = re.compile(rb"[0-9]+")
 
 
@@ -93,13 +98,23 @@ def read_items(text, cut_short=False):
 
 
 def read_heard(text, cut_short=False):
-    """What was heard in a text, with None for each `/`, where the line fell silent; raises `BadHex`."""
-    heard, first = [], 0
-    *ended, last = text.split(b"/")
-    for stretch in ended:
-        heard += read_after(heard, first, stretch, False) + [None]
-        first += len(stretch) + 1
-    return heard + read_after(heard, first, last, cut_short)
+    """What was heard in a text, with None for each `/`, where the line fell silent, and the word of each `@`; raises `BadHex`."""
+    heard, place = [], 0
+    while True:
+        stop = MARK.search(text, place).start()
+        heard += read_after(heard, place, text[place:stop], cut_short and stop == len(text))
+        if stop == len(text):
+            return heard
+        if text[stop:stop + 1] == b"/":
+            heard, place = heard + [None], stop + 1
+            continue
+        word = WORD.match(text, stop + 1).group()
+        place = stop + 1 + len(word)
+        if place == len(text) and cut_short and len(word) <= LONGEST_WORD:
+            return heard
+        if not 1 <= len(word) <= LONGEST_WORD or place < len(text) and text[place] not in b" \t\r\n":
+            raise BadHex(stop, heard)
+        heard += [word]
 
 
 def read_after(heard, first, text, cut_short):

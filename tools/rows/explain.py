@@ -210,6 +210,27 @@ ROWS = (
     ),
     ("FF FF 02 80 00/0/", "2: no message: it ends before its byte count\n" + SEEMS_IDENTIFY, "bad hex at 15\n"),
     ("FF FF 02!/", "", "bad hex at 6\n"),
+    # A date stands before each line that begins a paragraph, if it stands before that line's place.
+    ("@a", "", ""),
+    ("@12:00:01.25 FF FF 02 80 00 00 82", f"12:00:01.25 {IDENTIFY}", ""),
+    ("FF FF@a 02 80 00 00 82", f"a {IDENTIFY}", ""),
+    ("FF FF 02@a 80 00 00 82", IDENTIFY, ""),
+    ("@a @b FF FF 02 @c 80 00 00 83", f"b 2: no message: the check byte is 0x83 at 6, and 0x82 would fit\n{SEEMS_IDENTIFY}", ""),
+    (
+        "@a FF FF 82 B7 42 / FF FF 02 80 00 00 82 @b / FF FF 02 80 00 00 83",
+        "a 2: no message: it ends before its byte count\n"
+        "a 7-12: request of the primary master to the device at polling address 0, Command 0, read unique identifier\n"
+        "b 14: no message: the check byte is 0x83 at 18, and 0x82 would fit\n" + SEEMS_IDENTIFY,
+        "",
+    ),
+    # Its word has 1 to 32 printable bytes, and a separator or the end after it.
+    (f"@{'~' * 32} FF FF 02 80 00 00 82", f"{'~' * 32} {IDENTIFY}", ""),
+    (f"FF @{'!' * 33} FF", "", "bad hex at 3\n"),
+    ("FF @ FF", "", "bad hex at 3\n"),
+    ("@", "", "bad hex at 0\n"),
+    ("FF FF 02 80 00 00 82 @a/b@c FF FF 02 80 00 00 82", f"{IDENTIFY}a/b@c 9-14: {IDENTIFY_HEADER}", ""),
+    ("FF @a\u00e9 FF", "", "bad hex at 3\n"),
+    ("@a\x7f FF", "", "bad hex at 0\n"),
     ("FF FF 02 80 00 00 82!08", "2: no message: it lacks 1 character, its check byte\n" + SEEMS_IDENTIFY, "bad hex at 18\n"),
     ("FF FF 0G", "", "bad hex at 6\n"),
     ("02!08", "", "bad hex at 0\n"),

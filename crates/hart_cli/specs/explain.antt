@@ -11,4 +11,5 @@ pub mod Explanation
 pub mod Explain
 pub mod Gaps
 pub mod Dumped
+pub mod Dates
 pub mod Telling

@@ -2,6 +2,7 @@
 pub mod Items
 pub mod InputChars
 pub mod Heard
+pub mod Marks
 pub mod HexText
 pub mod DeviceDigits
 pub mod MessageLine

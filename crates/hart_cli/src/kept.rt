@@ -9,8 +9,8 @@ use hart_values::ByteList;
 /// The greatest number of bytes of text that are kept.
 const KEPT_LEN: usize = 32_768;
 
-/// The greatest number of bytes in a piece of text.
-const PIECE_LEN: usize = 8_192;
+/// The greatest number of bytes in a piece of text: a date, a space and a paragraph.
+const PIECE_LEN: usize = 8_225;
 
 /// Text that is not yet written.
 pub type Kept = ByteList<KEPT_LEN>;
@@ -22,7 +22,7 @@ pub type Kept = ByteList<KEPT_LEN>;
 /// `Failed` if a write fails.
 pub fn make_room<W: Sink>(writer: &mut W, kept: &mut Kept) -> Result<(), Failed>
     ensures tells { Tells (W.stream writer.old) (W.stream writer.new) kept.old kept.new [] result }
-    ensures room { OnOk result (length kept.new + 8192 ≤ 32768) }
+    ensures room { OnOk result (length kept.new + 8225 ≤ 32768) }
 {
     if kept.len() > KEPT_LEN - PIECE_LEN {
         write_all(writer, kept.as_slice())?;

@@ -8,6 +8,7 @@ pub mod hex_text;
 pub mod input_chars;
 pub mod item_run;
 pub mod items;
+pub mod marks;
 pub mod message_line;
 pub mod pairs;
 pub mod words;

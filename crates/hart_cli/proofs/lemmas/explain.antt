@@ -6,8 +6,10 @@ pub mod Header
 pub mod Seems
 pub mod Sightings
 pub mod Decided
+pub mod Dates
 pub mod Telling
 pub mod Stretches
+pub mod HeldDates
 pub mod Told
 pub mod TellInput
 pub mod TellRaw

@@ -2,8 +2,10 @@
 pub mod Reads
 pub mod InputChars
 pub mod Heard
-pub mod NoSilence
+pub mod NoMark
 pub mod Items
+pub mod Marks
+pub mod LeadingMark
 pub mod MessageLine
 pub mod Lanes
 pub mod ItemRun

@@ -5,7 +5,7 @@ use Rattle.hart_frame.specs.heard.Frames.{AreFrames}
 use Rattle.hart_frame.specs.heard.Sighting.{sightings}
 use Rattle.hart_frame.specs.declared.heard.found.Found.{Found}
 use Rattle.hart_cli.specs.dump.Text.{dump_text}
-use Rattle.hart_cli.specs.explain.Explanation.{explanation}
+use Rattle.hart_cli.specs.explain.Explanation.{explanation, undated}
 use Rattle.hart_cli.specs.input.Input.{Ending}
 use Rattle.hart_cli.specs.text.InputChars.{HasChars}
 use Rattle.hart_cli.specs.declared.fault.CliFault.{CliFault}
@@ -19,4 +19,4 @@ pub record AreOfOneHearing (input : List ℕ) (ending : Ending) (fault : Option 
   pub frames : List Found
   pub are_frames : AreFrames chars 0 frames
   pub dumped : lines ≡ dump_text frames
-  pub explained : text ≡ explanation (sightings chars 0 frames)
+  pub explained : text ≡ explanation undated (sightings chars 0 frames)

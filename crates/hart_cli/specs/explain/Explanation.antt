@@ -1,11 +1,12 @@
 -- What `hart explain` says of what was heard (own profile).
-use Rattle.std.specs.Prelude.{◌≡◌, ◌+◌, ℕ, List, [], ◌∷◌, ◌++◌, length, map}
+use Rattle.std.specs.Prelude.{◌≡◌, ◌+◌, ℕ, zero, suc, List, [], ◌∷◌, ◌++◌, length, map}
 use Rattle.std.specs.List.{flat_map}
 use Rattle.hart_frame.specs.heard.Character.{Character}
 use Rattle.hart_frame.specs.heard.Sighting.{AreSightings, Message, Missed, Seen, moved_seen}
+use Rattle.hart_cli.specs.explain.Gaps.{seen_place}
 use Rattle.hart_cli.specs.explain.Message.{paragraph}
 use Rattle.hart_cli.specs.explain.Misses.{miss_line, seems_line}
-use Rattle.hart_cli.specs.text.Heard.{Heard, stretches}
+use Rattle.hart_cli.specs.text.Heard.{Date, Heard, HeardChar, Silence, stretches}
 
 -- The text of a sighting is the paragraph of a message, or the line of a place where a message only seems to start. If a header was
 -- heard there, a second line says what the message seems to be.
@@ -13,9 +14,35 @@ abbrev pub seen_text : Seen → List ℕ
 seen_text (Message found) = paragraph found
 seen_text (Missed place miss header) = miss_line place miss ++ seems_line header
 
--- The text of sightings is the text of each, in their order.
-abbrev pub explanation : List Seen → List ℕ
-explanation seen = flat_map seen_text seen
+-- The date of a place is the word of the last date before the character at that place, counted through all stretches. It is `last` if
+-- no date stands there.
+abbrev pub date_after : List ℕ → List Heard → ℕ → List ℕ
+date_after last [] place = last
+date_after last (HeardChar character ∷ heard) zero = last
+date_after last (HeardChar character ∷ heard) (suc place) = date_after last heard place
+date_after last (Silence ∷ heard) place = date_after last heard place
+date_after last (Date word ∷ heard) place = date_after word heard place
+
+-- The date of a place in what was heard is empty if no date stands before that place.
+abbrev pub date_of : List Heard → ℕ → List ℕ
+date_of heard place = date_after [] heard place
+
+-- A date is written as its word and a space. Nothing is written for no date.
+abbrev pub date_words : List ℕ → List ℕ
+date_words [] = []
+date_words (byte ∷ word) = byte ∷ word ++ 32 ∷ []
+
+-- `date` gives the date of each place. The dated text of a sighting is the date of its place, and then its text.
+abbrev pub dated_text : (ℕ → List ℕ) → Seen → List ℕ
+dated_text date seen = date_words (date (seen_place seen)) ++ seen_text seen
+
+-- The text of sightings is the dated text of each, in their order.
+abbrev pub explanation : (ℕ → List ℕ) → List Seen → List ℕ
+explanation date seen = flat_map (dated_text date) seen
+
+-- Nothing has a date.
+abbrev pub undated : ℕ → List ℕ
+undated place = []
 
 -- The sightings of stretches are the sightings of each stretch by itself. Their places are counted through all stretches, beginning
 -- with `first`.
@@ -29,11 +56,11 @@ AreSightingsFrom first (chars ∷ later) seen =
 abbrev pub AreSightingsOf : List Heard → List Seen → Type 0
 AreSightingsOf heard seen = AreSightingsFrom 0 (stretches heard) seen
 
--- The explanation of what was heard is the text of the sightings in it.
+-- The explanation of what was heard is the text of the sightings in it, with the dates of their places.
 pub record IsExplanationOf (heard : List Heard) (text : List ℕ) : Type 0 where
   pub seen : List Seen
   pub are_sightings : AreSightingsOf heard seen
-  pub text_is : text ≡ explanation seen
+  pub text_is : text ≡ explanation (date_of heard) seen
 
 -- These sightings come first in what was heard, whatever is heard next.
 abbrev pub ComeFirst : List Heard → List Seen → Type 0
@@ -46,4 +73,4 @@ pub record IsDecidedExplanation (heard : List Heard) (text : List ℕ) : Type 0 
   pub seen : List Seen
   pub first : ComeFirst heard seen
   pub no_more : (next : Seen) → ComeFirst heard (seen ++ next ∷ []) → ⊥
-  pub text_is : text ≡ explanation seen
+  pub text_is : text ≡ explanation (date_of heard) seen

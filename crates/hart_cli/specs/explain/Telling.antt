@@ -13,13 +13,14 @@ use Rattle.hart_frame.specs.scan.Sighting.{EndsAt, NamesPlacesBelow, heard_with,
 use Rattle.hart_cli.specs.declared.calls.explain.telling.Telling.{Telling}
 use Rattle.hart_cli.specs.declared.fault.CliFault.{CliFault}
 use Rattle.hart_cli.specs.declared.stream.Failed.{Failed}
+use Rattle.hart_cli.specs.explain.Dates.{date_from}
 use Rattle.hart_cli.specs.explain.Explanation.{IsDecidedExplanation, IsExplanationOf, explanation}
 use Rattle.hart_cli.specs.input.Ahead.{DecodesAll}
 use Rattle.hart_cli.specs.input.Decoding.{Decoding}
 use Rattle.hart_cli.specs.input.LiveInput.{IsDecidedText, StopsWriting, WroteInTime}
 use Rattle.hart_cli.specs.stream.Kept.{AddsText}
 use Rattle.hart_cli.specs.stream.Stream.{FailsToWrite, Stream, WritesAll}
-use Rattle.hart_cli.specs.text.Heard.{Heard, ReadsHeard, Silence, heard_chars}
+use Rattle.hart_cli.specs.text.Heard.{Date, Heard, HeardChar, ReadsHeard, Silence, heard_chars}
 use Rattle.hart_cli.specs.text.Items.{ReadsUpTo}
 
 -- The places of a sighting, and the places that its miss names, fit in 64 bits when they are counted from `first` on.
@@ -45,34 +46,36 @@ chars_after (Damaged character) = character ∷ []
 chars_after End = []
 
 -- The text of sightings whose places are counted from `first` on.
-abbrev pub text_from : ℕ → List Seen → List ℕ
-text_from first seen = explanation (map (moved_seen first) seen)
+abbrev pub text_from : (ℕ → List ℕ) → ℕ → List Seen → List ℕ
+text_from date first seen = explanation date (map (moved_seen first) seen)
 
--- The held characters wait for more if no sighting in them is decided. There are at most 268 of them.
+-- The held characters wait for more if no sighting in them is decided. There are at most 268 of them, each with its date.
 pub record IsWaiting (telling : Telling) : Type 0 where
   pub undecided : IsUndecidedSighting (faultless telling.held)
   pub few : length telling.held ≤ 268
+  pub dated : length telling.dates.held.items ≡ length telling.held
 
 -- All decided sightings in held bytes, and in what comes after them, were told, up to the place `used`.
-pub record TellsDecided (first : ℕ) (held : List ℕ) (after : After) (used : ℕ) (kept kept_after : List ℕ) (writer writer_after : Stream)
-    : Type 0 where
+pub record TellsDecided (date : ℕ → List ℕ) (first : ℕ) (held : List ℕ) (after : After) (used : ℕ) (kept kept_after : List ℕ)
+    (writer writer_after : Stream) : Type 0 where
   pub seen : List Seen
   pub sees : SeesOn (heard_with held after) (is_end after) 0 seen used
   pub within : used ≤ length (heard_with held after)
-  pub adds : AddsText writer writer_after kept kept_after (text_from first seen)
+  pub adds : AddsText writer writer_after kept kept_after (text_from date first seen)
   pub few : length (heard_with held after) < used + 269
   pub all : (after ≡ More → ⊥) → used ≡ length (heard_with held after)
   pub undecided : after ≡ More → IsUndecidedSighting (faultless (drop used held))
 
 -- A write failed within a text: the kept text, followed by the text of the first sightings in these characters.
-pub record FailsToTell (first : ℕ) (chars : List Character) (ended : Bool) (kept : List ℕ) (writer writer_after : Stream) : Type 0 where
+pub record FailsToTell (date : ℕ → List ℕ) (first : ℕ) (chars : List Character) (ended : Bool) (kept : List ℕ)
+    (writer writer_after : Stream) : Type 0 where
   pub seen : List Seen
   pub used : ℕ
   pub sees : SeesOn chars ended 0 seen used
-  pub fails : FailsToWrite writer writer_after (kept ++ text_from first seen)
+  pub fails : FailsToWrite writer writer_after (kept ++ text_from date first seen)
 
 -- Characters were heard after the held ones. The sightings in the held and the new characters together were told up to the place
--- `used`, and the characters after this place are held. If `ended` is true, nothing comes after the new characters.
+-- `used`, and the characters after this place are held, with their dates. If `ended` is true, nothing comes after the new characters.
 pub record Hears (old new : Telling) (chars : List Character) (ended : Bool) (writer writer_after : Stream) : Type 0 where
   pub seen : List Seen
   pub used : ℕ
@@ -80,12 +83,13 @@ pub record Hears (old new : Telling) (chars : List Character) (ended : Bool) (wr
   pub within : used ≤ length (faultless old.held ++ chars)
   pub first : new.first ≡ old.first + used
   pub held : faultless new.held ≡ drop used (faultless old.held ++ chars)
-  pub adds : AddsText writer writer_after old.kept new.kept (text_from old.first seen)
+  pub dates : (place : ℕ) → new.first ≤ place → date_from new place ≡ date_from old place
+  pub adds : AddsText writer writer_after old.kept new.kept (text_from (date_from old) old.first seen)
 
 -- A write failed within the text of the held characters and of the characters heard after them.
 abbrev pub FailsToHear : Telling → List Character → Bool → Stream → Stream → Type 0
 FailsToHear old chars ended writer writer_after =
-    FailsToTell old.first (faultless old.held ++ chars) ended old.kept writer writer_after
+    FailsToTell (date_from old) old.first (faultless old.held ++ chars) ended old.kept writer writer_after
 
 -- Characters were heard, or a write failed.
 abbrev pub HearsOrFails : {T : Type 0} → Telling → Telling → List Character → Bool → Stream → Stream → Result T Failed → Type 0
@@ -120,14 +124,30 @@ pub record IsNew (telling : Telling) : Type 0 where
   pub first : telling.first ≡ 0
   pub held : telling.held ≡ []
   pub quiet : telling.kept ≡ []
+  pub dated : telling.dates.held.items ≡ []
+  pub undated : (place : ℕ) → date_from telling place ≡ []
 
--- What was heard next, part by part: characters, or a silence. At a silence, everything held is told.
+-- A date was heard: it is the date of the characters that come next, and of no held one.
+pub record HearsDate (old new : Telling) (word : List ℕ) : Type 0 where
+  pub first : new.first ≡ old.first
+  pub held : new.held ≡ old.held
+  pub kept : new.kept ≡ old.kept
+  pub earlier : (place : ℕ) → old.first ≤ place → place < old.first + length old.held → date_from new place ≡ date_from old place
+  pub later : (place : ℕ) → old.first + length old.held ≤ place → date_from new place ≡ word
+
+-- A mark was heard. At a silence, everything held is told.
+abbrev pub HearsMark : Telling → Telling → Heard → Stream → Stream → Type 0
+HearsMark old new (HeardChar character) writer writer_after = ⊥
+HearsMark old new Silence writer writer_after = Hears old new [] true writer writer_after × (new.held ≡ [])
+HearsMark old new (Date word) writer writer_after = HearsDate old new word × (writer ≡ writer_after)
+
+-- What was heard next, part by part: characters, or a mark.
 pub data HearsAll (old : Telling) : Telling → List Heard → Stream → Stream → Type 0 where
   nothing : (writer : Stream) → HearsAll old old [] writer writer
   chars : (now new : Telling) (heard : List Heard) (chars : List Character) (w w1 w2 : Stream) → HearsAll old now heard w w1
       → Hears now new chars false w1 w2 → HearsAll old new (heard ++ heard_chars chars) w w2
-  silence : (now new : Telling) (heard : List Heard) (w w1 w2 : Stream) → HearsAll old now heard w w1 → Hears now new [] true w1 w2
-      → new.held ≡ [] → HearsAll old new (heard ++ Silence ∷ []) w w2
+  mark : (now new : Telling) (heard : List Heard) (mark : Heard) (w w1 w2 : Stream) → HearsAll old now heard w w1
+      → HearsMark now new mark w1 w2 → HearsAll old new (heard ++ mark ∷ []) w w2
 
 -- After some parts of what was heard, a write failed in what is said of the next characters, which a silence may have ended.
 pub record FailsInAll (old : Telling) (heard : List Heard) (writer writer_after : Stream) : Type 0 where
@@ -140,7 +160,7 @@ pub record FailsInAll (old : Telling) (heard : List Heard) (writer writer_after 
   pub fails : FailsToHear now chars ended between writer_after
   pub heard_is : heard ≡ passed ++ heard_chars chars
 
--- The characters and silences of a text were heard, up to a place in it.
+-- The characters and marks of a text were heard, up to a place in it.
 pub record HearsStretches (old new : Telling) (text : List ℕ) (place : ℕ) (writer writer_after : Stream) : Type 0 where
   pub within : place ≤ length text
   pub heard : List Heard
@@ -154,7 +174,7 @@ pub record FailsInStretches (old : Telling) (text : List ℕ) (writer writer_aft
   pub reads : ReadsHeard text heard rest
   pub fails : FailsInAll old heard writer writer_after
 
--- The characters and silences of a text were heard up to the returned place, or a write failed.
+-- The characters and marks of a text were heard up to the returned place, or a write failed.
 abbrev pub HearsStretchesOrFails : Telling → Telling → List ℕ → Stream → Stream → Result ℕ Failed → Type 0
 HearsStretchesOrFails old new text writer writer_after result =
     MatchResult result
@@ -185,4 +205,4 @@ TellsInput decoding limit reader reader_after writer writer_after old new (Err f
 pub record TellsRest (old : Telling) (writer writer_after : Stream) : Type 0 where
   pub seen : List Seen
   pub sees : SeesOn (faultless old.held) true 0 seen (length old.held)
-  pub wrote : WritesAll writer writer_after (text_from old.first seen)
+  pub wrote : WritesAll writer writer_after (text_from (date_from old) old.first seen)

@@ -11,7 +11,6 @@ use Rattle.hart_cli.specs.input.Decoding.{Decoding, ended_text}
 use Rattle.hart_cli.specs.input.Input.{Ending, ReadsPortion, ReadsToWithin, ending_of, most_at_once}
 use Rattle.hart_cli.specs.input.LiveInput.{StopsSoon}
 use Rattle.hart_cli.specs.stream.Stream.{Stream}
-use Rattle.hart_cli.specs.text.Items.{MayBegin}
 
 -- One read returned bytes. They were added to the bytes read ahead, with a space after them if the input ended.
 pub record ReadsAhead (old new : Stream) (before after : List ℕ) (room : ℕ) (portion : Portion) : Type 0 where
@@ -26,21 +25,21 @@ abbrev pub ended_length : Option InputEnd → ℕ → ℕ
 ended_length (Some ends.Ended) read = read + 1
 ended_length end read = read
 
--- The next step depends on the rest of an input after its pieces, which are items and separators. If the input ended, an empty rest means
--- no fault, and any other rest is bad hex. If the input may go on, or went past the limit, the rest is bad hex unless a piece may begin
--- with it. If a piece may begin with the rest, the call reads on within the limit, and returns `TooLong` if the input went past the limit.
--- A failed read is the fault whatever the rest is.
-abbrev pub IsNextStep : Option InputEnd → List ℕ → ℕ → NextStep → Type 0
-IsNextStep None rest place ReadOn = MayBegin rest
-IsNextStep None rest place (Stop fault) = (MayBegin rest → ⊥) × (fault ≡ Some (faults.BadHex place))
-IsNextStep (Some ends.Ended) rest place ReadOn = ⊥
-IsNextStep (Some ends.Ended) rest place (Stop None) = rest ≡ []
-IsNextStep (Some ends.Ended) rest place (Stop (Some fault)) = (rest ≢ []) × (fault ≡ faults.BadHex place)
-IsNextStep (Some ends.ReadFailed) rest place ReadOn = ⊥
-IsNextStep (Some ends.ReadFailed) rest place (Stop fault) = fault ≡ Some faults.Read
-IsNextStep (Some ends.TooLong) rest place ReadOn = ⊥
-IsNextStep (Some ends.TooLong) rest place (Stop fault) =
-    (MayBegin rest × (fault ≡ Some faults.TooLong)) ⊎ ((MayBegin rest → ⊥) × (fault ≡ Some (faults.BadHex place)))
+-- The next step depends on the rest of an input after what was decoded, and on whether that rest is open. If the input ended, an
+-- empty rest means no fault, and any other rest is bad hex. If the input may go on, or went past the limit, the rest is bad hex
+-- unless it is open. If it is, the call reads on, or returns `TooLong` past the limit. A failed read is the fault whatever the rest
+-- is.
+abbrev pub IsNextStep : (List ℕ → Type 0) → Option InputEnd → List ℕ → ℕ → NextStep → Type 0
+IsNextStep IsOpen None rest place ReadOn = IsOpen rest
+IsNextStep IsOpen None rest place (Stop fault) = (IsOpen rest → ⊥) × (fault ≡ Some (faults.BadHex place))
+IsNextStep IsOpen (Some ends.Ended) rest place ReadOn = ⊥
+IsNextStep IsOpen (Some ends.Ended) rest place (Stop None) = rest ≡ []
+IsNextStep IsOpen (Some ends.Ended) rest place (Stop (Some fault)) = (rest ≢ []) × (fault ≡ faults.BadHex place)
+IsNextStep IsOpen (Some ends.ReadFailed) rest place ReadOn = ⊥
+IsNextStep IsOpen (Some ends.ReadFailed) rest place (Stop fault) = fault ≡ Some faults.Read
+IsNextStep IsOpen (Some ends.TooLong) rest place ReadOn = ⊥
+IsNextStep IsOpen (Some ends.TooLong) rest place (Stop fault) =
+    (IsOpen rest × (fault ≡ Some faults.TooLong)) ⊎ ((IsOpen rest → ⊥) × (fault ≡ Some (faults.BadHex place)))
 
 -- An input with a limit was read and decoded to its end or up to its first fault.
 pub record DecodesAll {Heard : Type 0} (decoding : Decoding Heard) (limit : ℕ) (reader reader_after : Stream) (fault : Option CliFault)

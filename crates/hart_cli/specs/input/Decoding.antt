@@ -23,35 +23,40 @@ pub record Decoding (Heard : Type 0) : Type 1 where
 abbrev pub most_ahead : ℕ
 most_ahead = 5 + most_at_once
 
+-- The greatest number of bytes of items with marks that are read but not yet decoded: 33 for the beginning of a date, and the bytes
+-- of one read.
+abbrev pub most_heard_ahead : ℕ
+most_heard_ahead = 33 + most_at_once
+
 -- The text of an input that ended has a space after it, which makes its last item whole.
 abbrev pub ended_text : List ℕ → Ending → List ℕ
 ended_text input (CameTo Ended) = closed input
 ended_text input _ = input
 
--- `Reads` is a way to read texts. If a write fails, the input had been decoded in this way by then, except for a rest of at most
--- `most_ahead` bytes at its end.
-pub record AreDecodedBy {Heard : Type 0} (Reads : List ℕ → List Heard → List ℕ → Type 0) (input : List ℕ) (ending : Ending)
+-- `Reads` is a way to read texts. What can have been decoded of an input in this way is what the input reads as up to a rest of at
+-- most `most` bytes.
+pub record AreDecodedBy {Heard : Type 0} (Reads : List ℕ → List Heard → List ℕ → Type 0) (most : ℕ) (input : List ℕ) (ending : Ending)
     (heard : List Heard) : Type 0 where
   pub rest : List ℕ
   pub reads : Reads (ended_text input ending) heard rest
-  pub few : length rest ≤ most_ahead
+  pub few : length rest ≤ most
 
--- The decoding that reads the texts of inputs by `Reads`. `Stops` holds for a rest if nothing that can be decoded stands at its beginning.
-abbrev pub decoding_by : {Heard : Type 0} → (List ℕ → List Heard → List ℕ → Type 0) → (List ℕ → Type 0) → Decoding (List Heard)
-decoding_by Reads Stops = record {
+-- The decoding of an input by a way to read texts, of which at most `most` bytes are read but not yet decoded.
+abbrev pub decoding_by : {Heard : Type 0} → (List ℕ → List Heard → List ℕ → Type 0) → (List ℕ → Type 0) → ℕ → Decoding (List Heard)
+decoding_by Reads Stops most = record {
   Has = HasHeardBy Reads Stops;
-  Decoded = AreDecodedBy Reads;
+  Decoded = AreDecodedBy Reads most;
   SoFar = ReadsSoFarBy Reads Stops;
-  most_ahead = most_ahead;
+  most_ahead = most;
 }
 
 -- An input of hex items is decoded as the characters of the items.
 abbrev pub item_decoding : Decoding (List Character)
-item_decoding = decoding_by ReadsUpTo NoPieceBegins
+item_decoding = decoding_by ReadsUpTo NoPieceBegins most_ahead
 
--- An input of hex items with silences is decoded as what was heard: characters and silences.
+-- An input of hex items with marks is decoded as what was heard.
 abbrev pub heard_decoding : Decoding (List Heard)
-heard_decoding = decoding_by ReadsHeard NothingBegins
+heard_decoding = decoding_by ReadsHeard NothingBegins most_heard_ahead
 
 -- The bytes of a raw input are the characters themselves, without fault bits. A raw input is decoded as one stretch of these characters.
 abbrev pub AreRaw : List ℕ → List Heard → Type 0

@@ -1,15 +1,16 @@
--- Texts of hex items with silences of the line (own profile): a `/` stands for each silence.
-use Rattle.std.specs.Prelude.{◌≡◌, ℕ, List, [], ◌∷◌, ◌++◌, map, Option}
+-- Texts of hex items with marks (own profile): a `/` stands for each silence of the line, and a `@` with a word for each date.
+use Rattle.std.specs.Prelude.{◌≡◌, ◌≤◌, ◌<◌, ℕ, List, [], ◌∷◌, ◌++◌, length, map, All, Option}
 use Rattle.hart_frame.specs.heard.Character.{Character}
 use Rattle.hart_cli.specs.declared.fault.CliFault.{CliFault}
 use Rattle.hart_cli.specs.input.Input.{Ending}
 use Rattle.hart_cli.specs.text.InputChars.{HasHeardBy}
-use Rattle.hart_cli.specs.text.Items.{NoPieceBegins, ReadsUpTo}
+use Rattle.hart_cli.specs.text.Items.{IsSeparator, NoPieceBegins, ReadsUpTo}
 
--- One thing heard on a line: a character or a silence.
+-- One thing heard on a line: a character or a silence; or the date of what was heard next.
 pub data Heard : Type 0 where
   HeardChar : (character : Character) → Heard
   Silence : Heard
+  Date : (word : List ℕ) → Heard
 
 -- Characters that are heard one after another.
 abbrev pub heard_chars : List Character → List Heard
@@ -25,26 +26,57 @@ abbrev pub stretches : List Heard → List (List Character)
 stretches [] = [] ∷ []
 stretches (HeardChar character ∷ heard) = after_chars (character ∷ []) (stretches heard)
 stretches (Silence ∷ heard) = [] ∷ stretches heard
+stretches (Date word ∷ heard) = stretches heard
 
--- A text reads as what was heard, up to a rest, if texts of items stand end to end before that rest, with a `/` (the byte 47)
--- between two of them. A text of items may be empty.
+-- A byte is printable, and no space: it is one from `!` to `~`.
+abbrev pub IsPrintable : ℕ → Type 0
+IsPrintable byte = (33 ≤ byte) × (byte ≤ 126)
+
+-- The word of a date has 1 to 32 printable bytes.
+pub record IsDateWord (word : List ℕ) : Type 0 where
+  pub some : 0 < length word
+  pub few : length word ≤ 32
+  pub printable : All IsPrintable word
+
+-- A separator stands at the beginning of a text.
+pub record BeginsWithSeparator (text : List ℕ) : Type 0 where
+  pub byte : ℕ
+  pub after : List ℕ
+  pub separates : IsSeparator byte
+  pub text_is : text ≡ byte ∷ after
+
+-- A text begins with a mark, before a rest. A silence is a `/` (the byte 47). A date is a `@` (the byte 64) and its word. A separator
+-- follows the word, and belongs to the rest.
+abbrev pub BeginsWithMark : List ℕ → Heard → List ℕ → Type 0
+BeginsWithMark text (HeardChar character) rest = ⊥
+BeginsWithMark text Silence rest = text ≡ 47 ∷ rest
+BeginsWithMark text (Date word) rest = IsDateWord word × (text ≡ 64 ∷ word ++ rest) × BeginsWithSeparator rest
+
+-- A text reads as what was heard, up to a rest, if texts of items stand end to end before that rest, with a mark between two of
+-- them. A text of items may be empty.
 pub data ReadsHeard : List ℕ → List Heard → List ℕ → Type 0 where
   items : (text : List ℕ) (chars : List Character) (rest : List ℕ) → ReadsUpTo text chars rest → ReadsHeard text (heard_chars chars) rest
-  silence : (text : List ℕ) (chars : List Character) (rest : List ℕ) (heard : List Heard) (last : List ℕ)
-      → ReadsUpTo text chars (47 ∷ rest) → ReadsHeard rest heard last → ReadsHeard text (heard_chars chars ++ Silence ∷ heard) last
+  mark : (text : List ℕ) (chars : List Character) (next : List ℕ) (mark : Heard) (rest : List ℕ) (heard : List Heard) (last : List ℕ)
+      → ReadsUpTo text chars next → BeginsWithMark next mark rest → ReadsHeard rest heard last
+      → ReadsHeard text (heard_chars chars ++ mark ∷ heard) last
 
--- A `/` stands at the beginning of a text.
-abbrev pub BeginsWithSilence : List ℕ → Type 0
-BeginsWithSilence text = (rest : List ℕ) × (text ≡ 47 ∷ rest)
+-- No mark stands at the beginning of a text.
+abbrev pub NoMarkBegins : List ℕ → Type 0
+NoMarkBegins text = (mark : Heard) (rest : List ℕ) → BeginsWithMark text mark rest → ⊥
 
--- Neither a piece nor a `/` stands at the beginning of a text.
+-- Neither a piece nor a mark stands at the beginning of a text.
 pub record NothingBegins (text : List ℕ) : Type 0 where
   pub no_piece : NoPieceBegins text
-  pub no_silence : BeginsWithSilence text → ⊥
+  pub no_mark : NoMarkBegins text
 
--- No `/` stands in a text.
-abbrev pub HasNoSilence : List ℕ → Type 0
-HasNoSilence text = (before rest : List ℕ) → text ≡ before ++ 47 ∷ rest → ⊥
+-- A byte does not stand in a text.
+abbrev pub Lacks : ℕ → List ℕ → Type 0
+Lacks byte text = (before rest : List ℕ) → text ≡ before ++ byte ∷ rest → ⊥
+
+-- No mark stands in a text: it has neither a `/` nor a `@`.
+pub record HasNoMark (text : List ℕ) : Type 0 where
+  pub no_silence : Lacks 47 text
+  pub no_date : Lacks 64 text
 
 -- What was heard in an input stands before the fault of the input.
 abbrev pub HasHeard : List ℕ → Ending → List Heard → Option CliFault → Type 0

@@ -57,6 +57,11 @@ pub record MayBegin (text : List ℕ) : Type 0 where
   pub tail : List ℕ
   pub begins : BeginsWith (text ++ more) piece tail
 
+-- `Stops` says at which rests reading stops. A rest is open if reading does not stop there once the right bytes are added.
+pub record Opens (Stops : List ℕ → Type 0) (rest : List ℕ) : Type 0 where
+  pub more : List ℕ
+  pub goes_on : Stops (rest ++ more) → ⊥
+
 -- `Reads` says what a text reads as up to a rest, and `Stops` at which rests reading stops. Read in this way, a text has bad hex at
 -- a place if the text up to there reads as what was heard, and reading stops there, before the end of the text.
 pub record HasBadHexBy {Heard : Type 0} (Reads : List ℕ → List Heard → List ℕ → Type 0) (Stops : List ℕ → Type 0) (text : List ℕ)
@@ -87,14 +92,14 @@ IsBadHexAt text chars place = HasBadHex (closed text) chars place
 abbrev pub IsDecidedBadHexAt : List ℕ → List Character → ℕ → Type 0
 IsDecidedBadHexAt text chars place = (more : List ℕ) → HasBadHex (text ++ more) chars place
 
--- For now, an input that may go on reads as what was heard up to a rest, perhaps empty. No whole piece begins that rest yet, but
--- one would if the right bytes followed.
+-- For now, an input that may go on reads as what was heard up to a rest, perhaps empty. Nothing whole begins that rest yet, but
+-- something would if the right bytes followed.
 pub record ReadsSoFarBy {Heard : Type 0} (Reads : List ℕ → List Heard → List ℕ → Type 0) (Stops : List ℕ → Type 0) (text : List ℕ)
     (heard : List Heard) : Type 0 where
   pub rest : List ℕ
   pub reads : Reads text heard rest
   pub no_piece : Stops rest
-  pub open_end : MayBegin rest
+  pub open_end : Opens Stops rest
 
 -- For now, an input of hex items that may go on reads as these characters.
 abbrev pub ReadsSoFarAs : List ℕ → List Character → Type 0

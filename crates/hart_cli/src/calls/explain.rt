@@ -8,7 +8,7 @@ ghost use Rattle.hart_cli.specs.input.Input.{Ending, stream_limit};
 
 use crate::calls::explain::telling::Telling;
 use crate::fault::CliFault;
-use crate::input::ahead::{Ahead, NextStep, Open, next_step, read_ahead};
+use crate::input::ahead::{HeardAhead, HeardOpen, NextStep, next_heard_step, read_ahead};
 use crate::input::{PORTION_LEN, read_portion};
 use crate::stream::{Failed, Sink, Source};
 use crate::text::chunk::CHUNK_LEN;
@@ -17,10 +17,12 @@ use std::alloc::Global;
 
 mod codes;
 mod data;
+mod dates;
 mod fields;
 pub mod laws;
 mod message;
 mod misses;
+mod sightings;
 mod status;
 mod telling;
 pub(crate) mod values;
@@ -33,10 +35,11 @@ const RAW_LIMIT: usize = usize::MAX - 1;
 /// only seems to start, it writes why no message stands there and, if a header was heard, what the message seems to be. It writes
 /// each part as soon as that part is decided.
 ///
-/// An item `/` says that the line fell silent. What was heard before the silence is explained as ended, and no message crosses it.
+/// An item `/` says that the line fell silent. What was heard before the silence is explained as ended, and no message crosses it. A
+/// `@` and a word date what follows: each message and each such place has the last date before it.
 ///
 /// It reads a portion at a time. Before each read it has written all that is decided by then, so a live line is explained while it
-/// is heard. It keeps only the characters that decide nothing yet, at most 268. It allocates nothing.
+/// is heard. It keeps only the characters that decide nothing yet, at most 268, and their dates. It allocates nothing.
 ///
 /// # Errors
 ///
@@ -118,17 +121,17 @@ fn tell_input<R: Source, W: Sink>(
 {
     let digits = Digits::new();
     let mut buffer = [0; PORTION_LEN];
-    let mut ahead = Ahead::new();
+    let mut ahead = HeardAhead::new();
     let mut read = 0;
     loop {
         let portion = read_ahead(reader, &mut buffer, &mut ahead, usize::MAX - read);
         read += portion.len;
         let place = telling.tell_text(writer, &digits, ahead.as_slice())?;
         let rest = &ahead.as_slice()[place..];
-        match next_step(portion.end, rest, read) {
+        match next_heard_step(portion.end, rest, read) {
             NextStep::Stop(fault) => return Ok(fault),
             NextStep::ReadOn => {
-                let open = Open::from_slice(rest).unwrap();
+                let open = HeardOpen::from_slice(rest).unwrap();
                 ahead.clear();
                 ahead.extend_from_slice(open.as_slice());
             }

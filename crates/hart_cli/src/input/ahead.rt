@@ -1,15 +1,17 @@
 //! The bytes of an input that are read but not yet decoded.
-ghost use Rattle.std.specs.Prelude.{◌≡◌, ◌<◌, ◌≤◌, ◌-◌, Some, length};
+ghost use Rattle.std.specs.Prelude.{◌≡◌, ◌<◌, ◌≤◌, ◌+◌, ◌-◌, IsTrue, Some, length};
 ghost use Rattle.hart_cli.specs.declared.fault.CliFault.TheVariants.{BadHex};
 ghost use Rattle.hart_cli.specs.declared.input.ahead.NextStep.TheVariants.{ReadOn, Stop};
 ghost use Rattle.hart_cli.specs.input.Ahead.{IsNextStep, ReadsAhead, ended_length};
 ghost use Rattle.hart_cli.specs.input.Input.{most_at_once};
-ghost use Rattle.hart_cli.specs.text.Items.{NoPieceBegins};
+ghost use Rattle.hart_cli.specs.text.Heard.{NothingBegins};
+ghost use Rattle.hart_cli.specs.text.Items.{MayBegin, NoPieceBegins, Opens};
 
 use crate::fault::CliFault;
 use crate::input::{InputEnd, PORTION_LEN, Portion, read_portion};
 use crate::stream::Source;
 use crate::text::items::may_begin;
+use crate::text::marks::{DATE_LEN, may_open};
 use hart_values::ByteList;
 
 /// The beginning of an item that is not yet whole: at most five bytes.
@@ -23,6 +25,16 @@ pub type Ahead = ByteList<AHEAD_LEN>;
 
 const AHEAD_LEN: usize = OPEN_LEN + PORTION_LEN;
 
+/// The beginning of an item or of a mark that is not yet whole: at most a `@` and the word of a date.
+pub type HeardOpen = ByteList<HEARD_OPEN_LEN>;
+
+const HEARD_OPEN_LEN: usize = 1 + DATE_LEN;
+
+/// As `Ahead`, for an input with marks.
+pub type HeardAhead = ByteList<HEARD_AHEAD_LEN>;
+
+const HEARD_AHEAD_LEN: usize = HEARD_OPEN_LEN + PORTION_LEN;
+
 /// The next step, once what was read is decoded.
 #[derive(Clone, Copy)]
 pub enum NextStep {
@@ -34,13 +46,13 @@ pub enum NextStep {
 
 /// Reads once, and adds the bytes that are within the `room` left of the input's limit to `ahead`. Returns how many bytes it added, and how
 /// the input ended, if this read ended it.
-pub fn read_ahead<R: Source>(
+pub fn read_ahead<R: Source, const N: usize>(
     reader: &mut R,
     buffer: &mut [u8],
-    ahead: &mut Ahead,
+    ahead: &mut ByteList<N>,
     room: usize,
 ) -> Portion
-    requires short { length ahead.old ≤ 5 }
+    requires free { length ahead.old + most_at_once ≤ N }
     requires some { 0 < length buffer.old }
     requires fits { length buffer.old ≤ most_at_once }
     ensures reads { ReadsAhead
@@ -58,23 +70,42 @@ pub fn read_ahead<R: Source>(
     portion
 }
 
-/// Returns the next step after `read` bytes of an input. `rest` is what follows the last piece (item or separator) in these bytes. `end`
-/// says how the input ended, if it did.
+/// Returns the next step after `read` bytes of an input of items. `rest` is what follows the last piece in these bytes. `end` says
+/// how the input ended, if it did.
 pub fn next_step(end: Option<InputEnd>, rest: &[u8], read: usize) -> NextStep
     requires stops { NoPieceBegins rest.now }
     requires within { length rest.now ≤ ended_length end read }
-    ensures step { IsNextStep end rest.now (ended_length end read - length rest.now) result }
+    ensures step { IsNextStep MayBegin end rest.now (ended_length end read - length rest.now) result }
     ensures short { result ≡ ReadOn → length rest.now ≤ 5 }
 {
+    step_from(end, rest, may_begin(rest), read)
+}
+
+/// As [`next_step`], for an input with marks.
+pub fn next_heard_step(end: Option<InputEnd>, rest: &[u8], read: usize) -> NextStep
+    requires stops { NothingBegins rest.now }
+    requires within { length rest.now ≤ ended_length end read }
+    ensures step { IsNextStep (Opens NothingBegins) end rest.now (ended_length end read - length rest.now) result }
+    ensures short { result ≡ ReadOn → length rest.now ≤ 33 }
+{
+    step_from(end, rest, may_open(rest), read)
+}
+
+/// Returns the next step after `read` bytes of an input. `is_open` says whether `rest`, which is not decoded, may begin an item once
+/// more bytes follow.
+fn step_from(end: Option<InputEnd>, rest: &[u8], is_open: bool, read: usize) -> NextStep
+    requires { length rest.now ≤ ended_length end read }
+    ensures { IsNextStep (λ _. IsTrue is_open) end rest.now (ended_length end read - length rest.now) result }
+{
     match end {
-        None if may_begin(rest) => NextStep::ReadOn,
+        None if is_open => NextStep::ReadOn,
         None => bad_hex(read - rest.len()),
         Some(InputEnd::Ended) if rest.is_empty() => NextStep::Stop(None),
         // The last byte of the rest is the space that stands for the end of the input.
         Some(InputEnd::Ended) => bad_hex(read - (rest.len() - 1)),
-        // This read got no bytes, so the rest is unchanged. A piece may still begin with the rest.
+        // Nothing was read, so an item may still begin with the rest, as it might before.
         Some(InputEnd::ReadFailed) => NextStep::Stop(Some(CliFault::Read)),
-        Some(InputEnd::TooLong) if may_begin(rest) => NextStep::Stop(Some(CliFault::TooLong)),
+        Some(InputEnd::TooLong) if is_open => NextStep::Stop(Some(CliFault::TooLong)),
         Some(InputEnd::TooLong) => bad_hex(read - rest.len()),
     }
 }

@@ -49,6 +49,9 @@ const DUMPED: &[Row] = &[
         (4, "bad hex at 21"),
     ),
     ("02!08", "", (4, "bad hex at 0")),
+    // Neither a silence nor a date is an item.
+    ("FF / FF", "", (4, "bad hex at 3")),
+    ("FF @a FF", "", (4, "bad hex at 3")),
 ];
 
 /// Inputs after which a read fails. An item is whole only if something follows its digits. A failed read does not count as something that
@@ -195,6 +198,14 @@ const EXPLAINED: &[Row] = &[
         to the device at polling address 0, Command 0, read unique identifier\n",
         NONE,
     ),
+    // A date.
+    (
+        "@12:00:01 FF FF 82 B7 / FF FF 02@late 80 00 00 82",
+        "12:00:01 2: no message: it ends before its byte count\n12:00:01 6-11: request of the primary master \
+        to the device at polling address 0, Command 0, read unique identifier\n",
+        NONE,
+    ),
+    ("FF @ FF", "", (4, "bad hex at 3")),
     (
         "FF FF 02 80!40 00 FF FF 02 80 00 00 82",
         "2: no message: the character at 3 has the fault bits 0x40\n7-12: request of the primary master \
@@ -241,6 +252,8 @@ fn raw_bytes_are_said_in_words(rt: HostRuntime) {
 const NOT_ANSWERED: &[Row] = &[
     ("FF FF 0G", "", (4, "bad hex at 6")),
     ("02!08", "", (4, "bad hex at 0")),
+    ("/ FF FF", "", (4, "bad hex at 0")),
+    ("@a FF FF", "", (4, "bad hex at 0")),
 ];
 
 /// Whether `answer` writes `reply` and a line feed for what is heard, or nothing if `reply` is empty.

@@ -16,19 +16,21 @@ use Rattle.hart_cli.specs.input.Decoding.{item_decoding, most_ahead}
 use Rattle.hart_cli.specs.input.Input.{ending_of, input_limit}
 use Rattle.hart_cli.specs.input.LiveInput.{IsDecidedText, StopsWriting, WroteInTime}
 use Rattle.hart_cli.specs.stream.Stream.{FailsToWrite, Stream, WritesAll}
-use Rattle.hart_cli.specs.text.Items.{MayBegin, NoPieceBegins, ReadsUpTo}
+use Rattle.hart_cli.specs.text.Items.{MayBegin, NoPieceBegins, Opens, ReadsUpTo}
 use Rattle.hart_cli.proofs.lemmas.Writes.{FailsToWrite-longer, FailsToWrite-on}
 use Rattle.hart_cli.proofs.lemmas.dump.FrameLines.{are_decided, has_long, has_more, hears_long}
 use Rattle.hart_cli.proofs.lemmas.text.InputChars.{item_laws}
 use Rattle.hart_cli.proofs.lemmas.text.Items.{ReadsUpTo-few}
-use Rattle.hart_cli.proofs.lemmas.input.Decoded.{DecodedUpTo, are_decoded, decoded_step, decodes_all, in_time_before, read_to, stops_in}
+use Rattle.hart_cli.proofs.lemmas.text.Marks.{items_never_open, items_open}
+use Rattle.hart_cli.proofs.lemmas.input.Decoded.{DecodedUpTo, are_decoded, decoded_step, decodes_all, in_time_before, read_to, step_by}
+use Rattle.hart_cli.proofs.lemmas.input.Decoded.{stops_in}
 
 -- an input was read and heard up to a rest where no piece begins yet, with these lines so far
 pub record HeardUpTo (old new : Stream) (first : ℕ) (held : List ℕ) (end : Option InputEnd) (rest : List ℕ) (read : ℕ)
     (lines : List ℕ) : Type 0 where
   pub input : List ℕ
   pub chars : List Character
-  pub decoded : DecodedUpTo ReadsUpTo NoPieceBegins input_limit old new end rest read input chars
+  pub decoded : DecodedUpTo ReadsUpTo NoPieceBegins most_ahead input_limit old new end rest read input chars
   pub has : HasLines chars first held lines
   pub waiting : IsWaiting held
 
@@ -43,14 +45,14 @@ heard_step r r1 r2 w w1 old new read ahead after rest text portion due none wrot
   record {
     input = due.input ++ more.bytes;
     chars = due.chars ++ heard.chars;
-    decoded = decoded_step ReadsUpTo NoPieceBegins item_laws input_limit r r1 r2 ahead after rest read portion due.input
-        due.chars heard.chars due.decoded may more
+    decoded = decoded_step ReadsUpTo NoPieceBegins most_ahead item_laws input_limit r r1 r2 ahead after rest read portion due.input
+        due.chars heard.chars due.decoded (items_open ahead may) more
         few stops heard.reads;
     has = has_more due.chars heard.chars old new text due.has none heard.hears;
     waiting = waiting;
   },
-  in_time_before ReadsUpTo NoPieceBegins item_laws AreDecidedLines input_limit r r1 w w1 ahead read due.input due.chars text
-      more.bytes due.decoded may more.few
+  in_time_before ReadsUpTo NoPieceBegins most_ahead item_laws AreDecidedLines input_limit r r1 w w1 ahead read due.input due.chars text
+      more.bytes due.decoded (items_open ahead may) more.few
       (record {
         frames = due.has.given;
         decided = are_decided due.chars old.first old.held text due.has due.waiting.undecided;
@@ -81,7 +83,7 @@ stopped_writing r r2 w w1 w2 first held end rest read text lines heard wrote in_
     let all = FailsToWrite-longer _ w2 (text ++ lines) (dump_text later.0) (FailsToWrite-on _ _ w2 text lines wrote fails) in
     stops_in item_decoding input_limit AreFrameLines AreDecidedLines r r2 w w1 w2 heard.input (ending_of end) heard.chars
     ((text ++ lines) ++ dump_text later.0) lines (read_to r r2 heard.input input_limit end heard.decoded.came)
-    (are_decoded ReadsUpTo NoPieceBegins item_laws input_limit r r2 end rest read heard.input heard.chars heard.decoded)
+    (are_decoded ReadsUpTo NoPieceBegins most_ahead item_laws input_limit r r2 end rest read heard.input heard.chars heard.decoded)
     (grind (arith, common_steps)) in_time all fails
 
 -- once no more of an input is read, the last step says the fault of the input
@@ -89,13 +91,13 @@ pub hears_all : (r r2 w w1 : Stream) (frames : FrameLines) (end : Option InputEn
     (fault : Option CliFault) (heard : HeardUpTo r r2 frames.first frames.held end rest read text)
     → frames.first + length frames.held < 2 ^ 64 → frames.lines ≡ []
     → WritesAll w w1 text → WroteInTime (IsDecidedText item_decoding AreDecidedLines) heard.input w w1
-    → IsNextStep end rest (ended_length end read - length rest) (Stop fault) → HearsAll r r2 w w1 frames fault
+    → IsNextStep MayBegin end rest (ended_length end read - length rest) (Stop fault) → HearsAll r r2 w w1 frames fault
 hears_all r r2 w w1 frames end rest read text fault heard places none wrote in_time step = record {
   input = heard.input;
   chars = heard.chars;
   text = text;
-  decodes = decodes_all ReadsUpTo NoPieceBegins item_laws input_limit r r2 end rest read heard.input heard.chars fault
-      heard.decoded step;
+  decodes = decodes_all ReadsUpTo NoPieceBegins most_ahead item_laws input_limit r r2 end rest read heard.input heard.chars fault
+      heard.decoded (step_by MayBegin (Opens NoPieceBegins) rest (items_open rest) (items_never_open rest) end _ (Stop fault) step);
   has = heard.has;
   places = places;
   waiting = heard.waiting;

@@ -51,9 +51,9 @@ undecided_nothing first comes =
     let (later, is) = comes [] [] none in absurd cc
 
 -- the text about some sightings, followed by the text about later ones, is the text about all of them in one list
-pub text_on : (first used : ℕ) (seen given : List Seen)
-    → text_from first seen ++ text_from (first + used) given ≡ text_from first (seen ++ map (moved_seen used) given)
-text_on first used seen given = rw (map-append, flat_map-append, moved_twice first used given) refl
+pub text_on : (date : ℕ → List ℕ) (first used : ℕ) (seen given : List Seen)
+    → text_from date first seen ++ text_from date (first + used) given ≡ text_from date first (seen ++ map (moved_seen used) given)
+text_on date first used seen given = rw (map-append, flat_map-append, moved_twice first used given) refl
 
 -- characters with nothing after them have the same sightings
 pub at_end : (chars : List Character) (seen : List Seen) → AreSightings (chars ++ []) 0 seen → AreSightings chars 0 seen

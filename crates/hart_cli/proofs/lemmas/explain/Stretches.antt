@@ -1,16 +1,16 @@
--- What is heard and told with silences, part by part.
-use Rattle.std.proofs.Common.{◌≡◌, ◌≤◌, ◌+◌, ◌∙◌, ℕ, false, true, List, [], ◌∷◌, ◌++◌, length, drop, refl, sym, ap, arith}
+-- What is heard and told with marks, part by part.
+use Rattle.std.proofs.Common.{◌≡◌, ◌≤◌, ◌+◌, ℕ, false, true, List, [], ◌∷◌, ◌++◌, length, drop, refl, sym, ap, arith}
 use Rattle.std.proofs.Common.{append-nil, append_assoc, length-drop}
 use Rattle.std.proofs.KnownBytes.{Appends-nil}
 use Rattle.std.proofs.lemmas.List.{drop-drop}
 use Rattle.hart_frame.specs.heard.Character.{Character}
 use Rattle.hart_cli.specs.declared.calls.explain.telling.Telling.{Telling}
-use Rattle.hart_cli.specs.explain.Telling.{FailsInAll, FailsInStretches, FailsInText, FailsToHear, Hears, HearsAll}
-use Rattle.hart_cli.specs.explain.Telling.{HearsStretches, HearsText}
-use Rattle.hart_cli.specs.explain.Telling.{chars, nothing, silence}
+use Rattle.hart_cli.specs.explain.Telling as part
+use Rattle.hart_cli.specs.explain.Telling.{FailsInAll, FailsInStretches, FailsInText, FailsToHear, Hears, HearsAll, HearsMark}
+use Rattle.hart_cli.specs.explain.Telling.{HearsStretches, HearsText, chars, nothing}
 use Rattle.hart_cli.specs.stream.Stream.{FailsToWrite, Stream, WritesAll}
 use Rattle.hart_cli.specs.text.Heard as reading
-use Rattle.hart_cli.specs.text.Heard.{Heard, ReadsHeard, Silence, heard_chars}
+use Rattle.hart_cli.specs.text.Heard.{BeginsWithMark, Date, Heard, HeardChar, ReadsHeard, Silence, heard_chars}
 use Rattle.hart_cli.specs.text.Items as item
 use Rattle.hart_cli.proofs.lemmas.Writes.{FailsToWrite-on, WritesAll-on}
 use Rattle.hart_cli.proofs.lemmas.explain.Telling.{fails_written, hears_long, hears_nothing, hears_written}
@@ -22,16 +22,29 @@ pub all_on : (a b c : Telling) (xs ys : List Heard) (w w1 w2 : Stream) → Hears
 all_on a b _ xs _ w _ _ h (nothing v) = rw append-nil h
 all_on a b c xs _ w _ _ h (chars now _ ys more w1 u v k one) =
     rw (← append_assoc) (chars now c (xs ++ ys) more w u v (all_on a b now xs ys w w1 u h k) one)
-all_on a b c xs _ w _ _ h (silence now _ ys w1 u v k one none) =
-    rw (← append_assoc) (silence now c (xs ++ ys) w u v (all_on a b now xs ys w w1 u h k) one none)
+all_on a b c xs _ w _ _ h (part.mark now _ ys m w1 u v k one) =
+    rw (← append_assoc) (part.mark now c (xs ++ ys) m w u v (all_on a b now xs ys w w1 u h k) one)
 
 -- characters were heard, without a silence
 pub all_chars : (a b : Telling) (xs : List Character) (w w1 : Stream) → Hears a b xs false w w1 → HearsAll a b (heard_chars xs) w w1
 all_chars a b xs w w1 h = chars a b [] xs w w w1 (nothing w) h
 
--- a silence was heard, without characters
-pub all_silence : (a b : Telling) (w w1 : Stream) → Hears a b [] true w w1 → b.held ≡ [] → HearsAll a b (Silence ∷ []) w w1
-all_silence a b w w1 h none = silence a b [] w w w1 (nothing w) h none
+-- a mark was heard, without characters
+pub all_mark : (a b : Telling) (m : Heard) (w w1 : Stream) → HearsMark a b m w w1 → HearsAll a b (m ∷ []) w w1
+all_mark a b m w w1 h = part.mark a b [] m w w w1 (nothing w) h
+
+-- a mark adds no character
+mark_long : (a b : Telling) (m : Heard) (w w1 : Stream) → HearsMark a b m w w1
+    → b.first + length b.held ≡ a.first + length a.held + count (m ∷ [])
+mark_long a b (HeardChar character) w w1 never = absurd never
+mark_long a b Silence w w1 (hears, none) = omega (arith, hears_long a b [] true w w1 hears)
+mark_long a b (Date word) w w1 (date, still) = omega (arith, date.first, ap length date.held)
+
+-- while a mark was heard, some text was written
+mark_wrote : (a b : Telling) (m : Heard) (w w1 : Stream) → HearsMark a b m w w1 → (written : List ℕ) × WritesAll w w1 written
+mark_wrote a b (HeardChar character) w w1 never = absurd never
+mark_wrote a b Silence w w1 (hears, none) = (hears.adds.written, hears.adds.wrote)
+mark_wrote a b (Date word) w w1 (date, still) = ([], rw still (Appends-nil _, refl))
 
 -- what was let go and what is held add up to all that was heard
 pub all_long : (a b : Telling) (xs : List Heard) (w w1 : Stream) → HearsAll a b xs w w1
@@ -39,14 +52,14 @@ pub all_long : (a b : Telling) (xs : List Heard) (w w1 : Stream) → HearsAll a 
 all_long a _ _ _ _ (nothing v) = omega arith
 all_long a b _ _ _ (chars now _ xs more w u v k one) =
     omega (arith, all_long a now xs w u k, hears_long now b more false u v one, count_on xs (heard_chars more), count_chars more)
-all_long a b _ _ _ (silence now _ xs w u v k one none) =
-    omega (arith, all_long a now xs w u k, hears_long now b [] true u v one, count_on xs (Silence ∷ []))
+all_long a b _ _ _ (part.mark now _ xs m w u v k one) =
+    omega (arith, all_long a now xs w u k, mark_long now b m u v one, count_on xs (m ∷ []))
 
 -- the same was heard once the kept text is written
 pub all_written : (a b c : Telling) (xs : List Heard) (w w1 w2 : Stream) → HearsAll a b xs w w1 → WritesAll w1 w2 b.kept
-    → c.first ≡ b.first → c.held ≡ b.held → c.kept ≡ [] → HearsAll a c xs w w2
-all_written a b c xs w w1 w2 h wrote first held quiet =
-    let one = hears_written b b c [] false w1 w1 w2 (hears_nothing b w1) wrote first held quiet in
+    → c.first ≡ b.first → c.held ≡ b.held → c.dates ≡ b.dates → c.kept ≡ [] → HearsAll a c xs w w2
+all_written a b c xs w w1 w2 h wrote first held dates quiet =
+    let one = hears_written b b c [] false w1 w1 w2 (hears_nothing b w1) wrote first held dates quiet in
     rw append-nil at (chars b c xs [] w w1 w2 h one)
 
 -- while these things were heard, some text was written
@@ -55,9 +68,10 @@ all_wrote a _ _ _ _ (nothing v) = ([], (Appends-nil _, refl))
 all_wrote a b _ _ _ (chars now _ xs more w u v k one) =
     let (before, wrote) = all_wrote a now xs w u k in
     (before ++ one.adds.written, WritesAll-on w u v before one.adds.written wrote one.adds.wrote)
-all_wrote a b _ _ _ (silence now _ xs w u v k one none) =
+all_wrote a b _ _ _ (part.mark now _ xs m w u v k one) =
     let (before, wrote) = all_wrote a now xs w u k in
-    (before ++ one.adds.written, WritesAll-on w u v before one.adds.written wrote one.adds.wrote)
+    let (written, also) = mark_wrote now b m u v one in
+    (before ++ written, WritesAll-on w u v before written wrote also)
 
 -- a write failed in some text
 pub all_failed : (a : Telling) (xs : List Heard) (w w2 : Stream) → FailsInAll a xs w w2 → (last : List ℕ) × FailsToWrite w w2 last
@@ -79,7 +93,7 @@ fails_after a b xs ys w w1 w2 h k = record {
   heard_is = rw (k.heard_is, append_assoc) refl;
 }
 
--- more of a text was heard: items, and perhaps a silence
+-- more of a text was heard: items, or a mark
 pub stretch_on : (start a b : Telling) (text : List ℕ) (place len : ℕ) (w w1 w2 : Stream) → HearsStretches start a text place w w1
     → HearsText a b (drop place text) len w1 w2 → HearsStretches start b text (place + len) w w2
 stretch_on start a b text place len w w1 w2 h k =
@@ -92,17 +106,19 @@ stretch_on start a b text place len w w1 w2 h k =
       hears = all_on start a b h.heard (heard_chars k.chars) w w1 w2 h.hears (all_chars a b k.chars w1 w2 k.hears);
     }
 
-pub silence_on : (start a b : Telling) (text rest : List ℕ) (place : ℕ) (w w1 w2 : Stream) → HearsStretches start a text place w w1
-    → drop place text ≡ 47 ∷ rest → Hears a b [] true w1 w2 → b.held ≡ [] → HearsStretches start b text (place + 1) w w2
-silence_on start a b text rest place w w1 w2 h is k none =
-    let after : rest ≡ drop (place + 1) text = sym (ap (drop 1) is) ∙ drop-drop 1 place text in
-    let one : ReadsHeard (47 ∷ rest) (Silence ∷ []) rest =
-    reading.silence (47 ∷ rest) [] rest [] rest (item.nothing (47 ∷ rest)) (reading.items rest [] rest (item.nothing rest)) in
+pub mark_on : (start a b : Telling) (text : List ℕ) (m : Heard) (place len : ℕ) (w w1 w2 : Stream)
+    → HearsStretches start a text place w w1 → BeginsWithMark (drop place text) m (drop len (drop place text))
+    → len ≤ length (drop place text) → HearsMark a b m w1 w2 → HearsStretches start b text (place + len) w w2
+mark_on start a b text m place len w w1 w2 h begins within k =
+    let next = drop place text in
+    let rest = drop len next in
+    let one : ReadsHeard next (m ∷ []) rest =
+    reading.mark next [] next m rest [] rest (item.nothing next) begins (reading.items rest [] rest (item.nothing rest)) in
     record {
-      within = omega (arith, ap length is, h.within, length-drop place text);
-      heard = h.heard ++ Silence ∷ [];
-      reads = rw after at (heard_laws.on text h.heard (47 ∷ rest) (Silence ∷ []) rest (rw is at h.reads) one);
-      hears = all_on start a b h.heard (Silence ∷ []) w w1 w2 h.hears (all_silence a b w1 w2 k none);
+      within = omega (arith, within, h.within, length-drop place text);
+      heard = h.heard ++ m ∷ [];
+      reads = rw (drop-drop len place text) at (heard_laws.on text h.heard next (m ∷ []) rest h.reads one);
+      hears = all_on start a b h.heard (m ∷ []) w w1 w2 h.hears (all_mark a b m w1 w2 k);
     }
 
 -- nothing of a text was heard yet
@@ -173,12 +189,13 @@ fails_kept start a text place w w1 w2 h fails = record {
 
 -- what is said of a text was written
 pub stretch_written : (start a b : Telling) (text : List ℕ) (place : ℕ) (w w1 w2 : Stream) → HearsStretches start a text place w w1
-    → WritesAll w1 w2 a.kept → b.first ≡ a.first → b.held ≡ a.held → b.kept ≡ [] → HearsStretches start b text place w w2
-stretch_written start a b text place w w1 w2 h wrote first held quiet = record {
+    → WritesAll w1 w2 a.kept → b.first ≡ a.first → b.held ≡ a.held → b.dates ≡ a.dates → b.kept ≡ []
+    → HearsStretches start b text place w w2
+stretch_written start a b text place w w1 w2 h wrote first held dates quiet = record {
   within = h.within;
   heard = h.heard;
   reads = h.reads;
-  hears = all_written start a b h.heard w w1 w2 h.hears wrote first held quiet;
+  hears = all_written start a b h.heard w w1 w2 h.hears wrote first held dates quiet;
 }
 
 -- the characters let go, the held ones and the rest of a text are together no more than they were at the start of the text

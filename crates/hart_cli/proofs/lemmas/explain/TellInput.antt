@@ -16,20 +16,20 @@ use Rattle.hart_cli.specs.explain.Telling.{FailsInStretches, FailsInText, FailsT
 use Rattle.hart_cli.specs.explain.Telling.{IsNew, IsWaiting, TellsAll, TellsRest, nothing as nothing_heard}
 use Rattle.hart_cli.specs.input.Ahead.{IsNextStep, ReadsAhead, ended_length}
 use Rattle.hart_cli.specs.declared.input.InputEnd.TheVariants.{Ended, ReadFailed, TooLong}
-use Rattle.hart_cli.specs.input.Decoding.{Decoding, ended_text, heard_decoding, most_ahead}
+use Rattle.hart_cli.specs.input.Decoding.{Decoding, ended_text, heard_decoding, most_heard_ahead}
 use Rattle.hart_cli.specs.input.Input.{CameTo, Ending, Left, ReadsToWithin, most_at_once, stream_limit}
 use Rattle.hart_cli.specs.input.LiveInput.{IsDecidedText, ReadsText, StopsWriting, WroteInTime}
 use Rattle.hart_cli.specs.stream.Stream.{FailsToWrite, Stream, WritesAll}
 use Rattle.hart_cli.specs.text.Heard as reading
 use Rattle.hart_cli.specs.text.Heard.{Heard, NothingBegins, ReadsHeard, heard_chars}
-use Rattle.hart_cli.specs.text.Items.{MayBegin, ReadsUpTo, nothing}
+use Rattle.hart_cli.specs.text.Items.{Opens, ReadsUpTo, nothing}
 use Rattle.hart_cli.proofs.lemmas.Writes.{in_time_on}
 use Rattle.hart_cli.proofs.lemmas.explain.Sightings.{undecided_nothing}
-use Rattle.hart_cli.proofs.lemmas.explain.Stretches.{all_failed, all_long, all_on, fails_after}
+use Rattle.hart_cli.proofs.lemmas.explain.Stretches.{all_failed, all_on, fails_after}
 use Rattle.hart_cli.proofs.lemmas.explain.Telling.{fails_later, hears_long, hears_then}
-use Rattle.hart_cli.proofs.lemmas.explain.Told.{fails_in_text, rest_text, tell_all, told_is_decided}
+use Rattle.hart_cli.proofs.lemmas.explain.Told.{fails_in_text, held_within, rest_text, tell_all, told_is_decided}
 use Rattle.hart_cli.proofs.lemmas.input.Decoded.{DecodedUpTo, decoded_part, decoded_step, decodes_all, in_time_before, stops_in}
-use Rattle.hart_cli.proofs.lemmas.text.Heard.{count, heard_few, heard_laws}
+use Rattle.hart_cli.proofs.lemmas.text.Heard.{heard_few, heard_laws}
 use Rattle.hart_cli.proofs.lemmas.text.Items.{ReadsUpTo-few, ReadsUpTo-on}
 
 -- more of a text was heard
@@ -65,7 +65,7 @@ pub record ToldUpTo (old new : Stream) (start telling : Telling) (end : Option I
     (writer writer_after : Stream) : Type 0 where
   pub input : List ℕ
   pub heard : List Heard
-  pub decoded : DecodedUpTo ReadsHeard NothingBegins stream_limit old new end rest read input heard
+  pub decoded : DecodedUpTo ReadsHeard NothingBegins most_heard_ahead stream_limit old new end rest read input heard
   pub hears : HearsAll start telling heard writer writer_after
   pub waiting : IsWaiting telling
   pub quiet : telling.kept ≡ []
@@ -99,13 +99,11 @@ input_within input (CameTo TooLong) r r2 reads = omega (arith, reads.1)
 
 -- a new telling waits for more
 pub new_waits : (start : Telling) → IsNew start → IsWaiting start
-new_waits start new = record { undecided = rw new.held undecided_nothing; few = rw new.held (omega arith) }
-
--- what was let go and what is held add up to the characters that were heard
-pub held_within : (start telling : Telling) (heard : List Heard) (w w1 : Stream) → IsNew start → HearsAll start telling heard w w1
-    → telling.first + length telling.held ≡ count heard
-held_within start telling heard w w1 new h =
-    let none : length start.held ≡ 0 = rw new.held refl in omega (arith, all_long start telling heard w w1 h, new.first, none)
+new_waits start new = record {
+  undecided = rw new.held undecided_nothing;
+  few = rw new.held (omega arith);
+  dated = rw (new.held, new.dated) refl;
+}
 
 -- twice the number of characters heard, and the length of the rest, add up to at most 2^64
 pub places_fit : (r r1 : Stream) (start telling : Telling) (end : Option InputEnd) (rest : List ℕ) (read : ℕ) (w w1 : Stream)
@@ -118,18 +116,18 @@ places_fit r r1 start telling end rest read w w1 new due within =
 
 -- what was told before a read is decided, and was written in time
 told_in_time : (r r1 w w1 : Stream) (start old : Telling) (ahead : List ℕ) (read : ℕ) (bytes : List ℕ) → IsNew start
-    → (due : ToldUpTo r r1 start old None ahead read w w1) → MayBegin ahead → length bytes ≤ most_at_once
+    → (due : ToldUpTo r r1 start old None ahead read w w1) → Opens NothingBegins ahead → length bytes ≤ most_at_once
     → WroteInTime (IsDecidedText heard_decoding IsDecidedExplanation) (due.input ++ bytes) w w1
 told_in_time r r1 w w1 start old ahead read bytes new due may few =
     let decided = told_is_decided start old due.heard w w1 new (tell_all start old due.heard w w1 new due.hears) due.waiting due.quiet in
-    in_time_before ReadsHeard NothingBegins heard_laws IsDecidedExplanation stream_limit r r1 w w1 ahead read due.input due.heard _ bytes
-    due.decoded may few decided.0 decided.1.0
+    in_time_before ReadsHeard NothingBegins most_heard_ahead heard_laws IsDecidedExplanation stream_limit r r1 w w1 ahead read due.input
+    due.heard _ bytes due.decoded may few decided.0 decided.1.0
 
 -- what one read gave is told, and what was decided before that read was written in time
 pub told_step : (r r1 r2 w w1 w2 : Stream) (start old new : Telling) (ahead after : List ℕ) (read place : ℕ) (portion : Portion)
-    → IsNew start → ToldUpTo r r1 start old None ahead read w w1 → MayBegin ahead
+    → IsNew start → ToldUpTo r r1 start old None ahead read w w1 → Opens NothingBegins ahead
     → ReadsAhead r1 r2 ahead after (stream_limit - read) portion
-    → length after ≤ most_ahead → NothingBegins (drop place after) → HearsStretches old new after place w1 w2 → IsWaiting new
+    → length after ≤ most_heard_ahead → NothingBegins (drop place after) → HearsStretches old new after place w1 w2 → IsWaiting new
     → new.kept ≡ []
     → (now : ToldUpTo r r2 start new portion.end (drop place after) (read + portion.len) w w2)
     × WroteInTime (IsDecidedText heard_decoding IsDecidedExplanation) now.input w w1
@@ -137,8 +135,8 @@ told_step r r1 r2 w w1 w2 start old new ahead after read place portion begun due
   record {
     input = due.input ++ one.bytes;
     heard = due.heard ++ text.heard;
-    decoded = decoded_step ReadsHeard NothingBegins heard_laws stream_limit r r1 r2 ahead after (drop place after) read portion due.input
-        due.heard text.heard due.decoded may one few stops text.reads;
+    decoded = decoded_step ReadsHeard NothingBegins most_heard_ahead heard_laws stream_limit r r1 r2 ahead after (drop place after) read
+        portion due.input due.heard text.heard due.decoded may one few stops text.reads;
     hears = all_on start old new due.heard text.heard w w1 w2 due.hears text.hears;
     waiting = waiting;
     quiet = quiet;
@@ -162,13 +160,13 @@ stops_explaining decoding limit r r2 w w1 w2 start now input ending passed chars
 
 -- a write failed in the explanation of a part of what one read gave
 pub stopped_telling : (r r1 r2 w w1 w2 : Stream) (start old : Telling) (ahead after : List ℕ) (read : ℕ) (portion : Portion) → IsNew start
-    → ToldUpTo r r1 start old None ahead read w w1 → MayBegin ahead → ReadsAhead r1 r2 ahead after (stream_limit - read) portion
-    → length after ≤ most_ahead → FailsInStretches old after w1 w2
+    → ToldUpTo r r1 start old None ahead read w w1 → Opens NothingBegins ahead → ReadsAhead r1 r2 ahead after (stream_limit - read) portion
+    → length after ≤ most_heard_ahead → FailsInStretches old after w1 w2
     → StopsWriting heard_decoding stream_limit IsExplanationOf IsDecidedExplanation r r2 w w2
 stopped_telling r r1 r2 w w1 w2 start old ahead after read portion new due may one few k =
     let in_time = told_in_time r r1 w w1 start old ahead read one.bytes new due may one.few in
-    let part = decoded_part ReadsHeard NothingBegins heard_laws stream_limit r r1 r2 ahead after k.rest read portion due.input due.heard
-    k.heard due.decoded one few k.reads in
+    let part = decoded_part ReadsHeard NothingBegins most_heard_ahead heard_laws stream_limit r r1 r2 ahead after k.rest read portion
+    due.input due.heard k.heard due.decoded one few k.reads in
     let (last, last_fails) = all_failed old k.heard w1 w2 k.fails in
     let all = fails_after start old due.heard k.heard w w1 w2 due.hears k.fails in
     stops_explaining heard_decoding stream_limit r r2 w w1 w2 start all.now (due.input ++ one.bytes) _ all.passed all.chars all.ended
@@ -178,11 +176,11 @@ stopped_telling r r1 r2 w w1 w2 start old ahead after read portion new due may o
 pub tells_all : (r r2 w w1 w2 : Stream) (start telling : Telling) (end : Option InputEnd) (rest : List ℕ) (read : ℕ)
     (fault : Option CliFault) → IsNew start → (told : ToldUpTo r r2 start telling end rest read w w2)
     → WroteInTime (IsDecidedText heard_decoding IsDecidedExplanation) told.input w w1 → (text : List ℕ) → WritesAll w1 w2 text
-    → IsNextStep end rest (ended_length end read - length rest) (Stop fault)
+    → IsNextStep (Opens NothingBegins) end rest (ended_length end read - length rest) (Stop fault)
     → TellsAll heard_decoding stream_limit r r2 w w2 start telling fault
 tells_all r r2 w w1 w2 start telling end rest read fault new told in_time text wrote step =
-    let all = decodes_all ReadsHeard NothingBegins heard_laws stream_limit r r2 end rest read told.input told.heard fault told.decoded
-    step in
+    let all = decodes_all ReadsHeard NothingBegins most_heard_ahead heard_laws stream_limit r r2 end rest read told.input told.heard fault
+    told.decoded step in
     let few = heard_few _ told.heard all.decoded.rest all.decoded.reads in
     let within = input_within told.input all.ending r r2 all.reads in
     record {

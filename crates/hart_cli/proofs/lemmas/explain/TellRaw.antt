@@ -15,8 +15,8 @@ use Rattle.hart_cli.specs.input.Input.{CameTo, ReadsPortion, ReadsWell, ReadsWit
 use Rattle.hart_cli.specs.input.LiveInput.{IsDecidedText, StopsSoon, StopsWriting, WroteInTime}
 use Rattle.hart_cli.specs.stream.Stream.{Stream, WritesAll}
 use Rattle.hart_cli.proofs.lemmas.Writes.{in_time_on}
-use Rattle.hart_cli.proofs.lemmas.explain.TellInput.{held_within, new_waits, stops_explaining}
-use Rattle.hart_cli.proofs.lemmas.explain.Told.{tell_all, told_is_decided}
+use Rattle.hart_cli.proofs.lemmas.explain.TellInput.{new_waits, stops_explaining}
+use Rattle.hart_cli.proofs.lemmas.explain.Told.{held_within, tell_all, told_is_decided}
 use Rattle.hart_cli.proofs.lemmas.text.Heard.{chars_on, count_chars}
 use Rattle.hart_cli.proofs.lemmas.explain.Telling.{long_is}
 use Rattle.hart_cli.proofs.lemmas.input.Decoded.{read_more, read_to, some_long}

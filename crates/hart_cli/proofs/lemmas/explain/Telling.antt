@@ -2,7 +2,7 @@
 use Rattle.std.proofs.Common.{◌≡◌, ◌≤◌, ◌<◌, ◌+◌, ◌-◌, ◌^◌, ℕ, Bool, false, true, List, [], ◌∷◌, ◌++◌, length, map, drop, zero, suc, refl}
 use Rattle.std.proofs.Common.{sym, ap, ◌∙◌, arith}
 use Rattle.std.proofs.Common.{Err, MatchResult, Ok, Result, append_assoc, append-nil, length-append, length-drop}
-use Rattle.std.proofs.lemmas.Grind.{common_steps}
+use Rattle.std.proofs.lemmas.Grind.{common_steps, flat_map-append}
 use Rattle.std.proofs.lemmas.List.{drop-append-le, drop-drop, drop_all, length-map, map-append}
 use Rattle.hart_frame.specs.declared.heard.miss.Miss.{Miss}
 use Rattle.hart_frame.specs.declared.scan.sighting.After.{After}
@@ -15,13 +15,15 @@ use Rattle.hart_frame.specs.scan.Sighting.{EndsAt, NamesPlacesBelow, heard_with,
 use Rattle.hart_frame.proofs.lemmas.scan.SightingLaws.{grown, onward}
 use Rattle.hart_cli.specs.declared.calls.explain.telling.Telling.{Telling}
 use Rattle.hart_cli.specs.declared.stream.Failed.{Failed}
-use Rattle.hart_cli.specs.explain.Explanation.{seen_text}
+use Rattle.hart_cli.specs.explain.Dates.{date_at, date_from}
+use Rattle.hart_cli.specs.explain.Explanation.{dated_text, explanation}
 use Rattle.hart_cli.specs.explain.Telling.{FailsToHear, FailsToTell, FitsFrom, Hears, IsWaiting, TellsDecided, TellsRest, chars_after}
 use Rattle.hart_cli.specs.explain.Telling.{text_from}
 use Rattle.hart_cli.specs.stream.Kept.{AddsText}
 use Rattle.hart_cli.specs.stream.Stream.{FailsToWrite, Stream, Writes, WritesAll}
 use Rattle.hart_cli.proofs.lemmas.Kept.{adds_kept, adds_then, fails_then}
 use Rattle.hart_cli.proofs.lemmas.Writes.{FailsToWrite-on, WritesAll-on}
+use Rattle.hart_cli.proofs.lemmas.explain.Dates.{same_from}
 use Rattle.hart_cli.proofs.lemmas.explain.Sightings.{sees_later, text_on, undecided_nothing}
 
 -- there are as many characters as bytes
@@ -37,6 +39,7 @@ hears_nothing t w = record {
   within = omega arith;
   first = omega arith;
   held = sym (append-nil (faultless t.held));
+  dates = λ place from. refl;
   adds = adds_kept w t.kept t.kept [] (sym (append-nil t.kept));
 }
 
@@ -54,8 +57,9 @@ same_held : (old mid : Telling) (bytes : List ℕ) → mid.held ≡ old.held ++ 
 same_held old mid bytes held = rw (held, append-nil, map-append) refl
 
 pub hears_more : (old mid new : Telling) (bytes : List ℕ) (ended : Bool) (w w1 : Stream) → mid.held ≡ old.held ++ bytes
-    → mid.first ≡ old.first → mid.kept ≡ old.kept → Hears mid new [] ended w w1 → Hears old new (faultless bytes) ended w w1
-hears_more old mid new bytes ended w w1 held first kept h =
+    → mid.first ≡ old.first → mid.kept ≡ old.kept → mid.dates ≡ old.dates → Hears mid new [] ended w w1
+    → Hears old new (faultless bytes) ended w w1
+hears_more old mid new bytes ended w w1 held first kept dates h =
     let same = same_held old mid bytes held in
     record {
       seen = h.seen;
@@ -64,28 +68,32 @@ hears_more old mid new bytes ended w w1 held first kept h =
       within = rw same at h.within;
       first = rw first at h.first;
       held = rw same at h.held;
-      adds = rw (first, kept) at h.adds;
+      dates = rw (first, dates) at h.dates;
+      adds = rw (first, kept, dates) at h.adds;
     }
 
 pub fails_more : (old mid : Telling) (bytes : List ℕ) (ended : Bool) (w w1 : Stream) → mid.held ≡ old.held ++ bytes
-    → mid.first ≡ old.first → mid.kept ≡ old.kept → FailsToHear mid [] ended w w1 → FailsToHear old (faultless bytes) ended w w1
-fails_more old mid bytes ended w w1 held first kept k = record {
+    → mid.first ≡ old.first → mid.kept ≡ old.kept → mid.dates ≡ old.dates → FailsToHear mid [] ended w w1
+    → FailsToHear old (faultless bytes) ended w w1
+fails_more old mid bytes ended w w1 held first kept dates k = record {
   seen = k.seen;
   used = k.used;
   sees = rw (same_held old mid bytes held) at k.sees;
-  fails = rw (first, kept) at k.fails;
+  fails = rw (first, kept, dates) at k.fails;
 }
 
 -- the same was heard once the kept text is written
 pub hears_written : (old mid new : Telling) (xs : List Character) (ended : Bool) (w w1 w2 : Stream) → Hears old mid xs ended w w1
-    → WritesAll w1 w2 mid.kept → new.first ≡ mid.first → new.held ≡ mid.held → new.kept ≡ [] → Hears old new xs ended w w2
-hears_written old mid new xs ended w w1 w2 h wrote first held quiet = record {
+    → WritesAll w1 w2 mid.kept → new.first ≡ mid.first → new.held ≡ mid.held → new.dates ≡ mid.dates → new.kept ≡ []
+    → Hears old new xs ended w w2
+hears_written old mid new xs ended w w1 w2 h wrote first held dates quiet = record {
   seen = h.seen;
   used = h.used;
   sees = h.sees;
   within = h.within;
   first = first ∙ h.first;
   held = rw held h.held;
+  dates = rw (first, dates) h.dates;
   adds = record {
     written = h.adds.written ++ mid.kept;
     wrote = WritesAll-on w w1 w2 h.adds.written mid.kept h.adds.wrote wrote;
@@ -145,8 +153,12 @@ sees_on a b xs ys ended given used w w1 h on =
 
 -- what is said of sightings and then of later ones is what is said of both in one list
 said_on : (a b : Telling) (xs : List Character) (given : List Seen) (w w1 : Stream) → (h : Hears a b xs false w w1)
-    → text_from a.first h.seen ++ text_from b.first given ≡ text_from a.first (h.seen ++ map (moved_seen h.used) given)
-said_on a b xs given w w1 h = rw h.first (text_on a.first h.used h.seen given)
+    → text_from (date_from a) a.first h.seen ++ text_from (date_from b) b.first given
+    ≡ text_from (date_from a) a.first (h.seen ++ map (moved_seen h.used) given)
+said_on a b xs given w w1 h =
+    let same = same_from (date_from b) (date_from a) b.first h.dates given in
+    let both = text_on (date_from a) a.first h.used h.seen given in
+    ap (λ text. text_from (date_from a) a.first h.seen ++ text) same ∙ rw (← h.first) at both
 
 -- characters were heard, and then more
 pub hears_then : (a b c : Telling) (xs ys : List Character) (ended : Bool) (w w1 w2 : Stream) → Hears a b xs false w w1
@@ -162,6 +174,7 @@ hears_then a b c xs ys ended w w1 w2 h k =
       within = rw (← append_assoc) (omega (arith, h.within, rw now at k.within, length-drop h.used whole, long));
       first = omega (arith, h.first, k.first);
       held = rw (← append_assoc) (k.held ∙ (ap (drop k.used) now ∙ drop-drop k.used h.used whole));
+      dates = λ place from. k.dates place from ∙ h.dates place (omega (arith, k.first, from));
       adds = rw (said_on a b xs k.seen w w1 h) at (adds_then w w1 w2 a.kept b.kept c.kept _ _ h.adds k.adds);
     }
 
@@ -219,11 +232,23 @@ few_stay held after used few =
     let same = long_is held in
     omega (arith, rw (heard_is held after) at few, long, same, length-drop used held)
 
+-- the dates of what stays are those of before
+same_place : (first used now place : ℕ) → now ≡ first + used → now ≤ place → used + (place - now) ≡ place - first
+same_place first used now place is from = omega (arith, is, from)
+
+stays_dated : (old new : Telling) (used : ℕ) → new.first ≡ old.first + used
+    → ((place : ℕ) → date_at new.dates place ≡ date_at old.dates (used + place)) → (place : ℕ) → new.first ≤ place
+    → date_from new place ≡ date_from old place
+stays_dated old new used first dates place from =
+    dates (place - new.first) ∙ ap (λ at. date_at old.dates at) (same_place old.first used new.first place first from)
+
 -- the decided sightings of what was held were told, and the rest is held
 pub told_held : (old new : Telling) (after : After) (used : ℕ) (w w1 : Stream)
-    → TellsDecided old.first old.held after used old.kept new.kept w w1 → new.first ≡ old.first + used → new.held ≡ drop used old.held
+    → TellsDecided (date_from old) old.first old.held after used old.kept new.kept w w1 → new.first ≡ old.first + used
+    → new.held ≡ drop used old.held → length new.dates.held.items ≡ length new.held
+    → ((place : ℕ) → date_at new.dates place ≡ date_at old.dates (used + place))
     → Hears old new (chars_after after) (is_end after) w w1 × IsWaiting new
-told_held old new after used w w1 told first held = (
+told_held old new after used w w1 told first held dated dates = (
   record {
     seen = told.seen;
     used = used;
@@ -231,55 +256,61 @@ told_held old new after used w w1 told first held = (
     within = rw (heard_is old.held after) at told.within;
     first = first;
     held = rw held (stays_held old.held after used told.all);
+    dates = stays_dated old new used first dates;
     adds = told.adds;
   },
   record {
     undecided = rw held (waits_held old.held after used told.all told.undecided);
     few = rw held (few_stay old.held after used told.few);
+    dated = dated;
   },
 )
 
 -- a write failed in what is said of the decided sightings
 pub fails_held : (old : Telling) (after : After) (w w1 : Stream)
-    → FailsToTell old.first (heard_with old.held after) (is_end after) old.kept w w1
+    → FailsToTell (date_from old) old.first (heard_with old.held after) (is_end after) old.kept w w1
     → FailsToHear old (chars_after after) (is_end after) w w1
 fails_held old after w w1 fails = rw (heard_is old.held after) at fails
 
 -- the sightings told so far of the held bytes and of what comes after them
-pub record ToldSoFar (first : ℕ) (held : List ℕ) (after : After) (used : ℕ) (kept kept_after : List ℕ) (writer writer_after : Stream)
-    : Type 0 where
+pub record ToldSoFar (date : ℕ → List ℕ) (first : ℕ) (held : List ℕ) (after : After) (used : ℕ) (kept kept_after : List ℕ)
+    (writer writer_after : Stream) : Type 0 where
   pub seen : List Seen
   pub sees : SeesOn (heard_with held after) (is_end after) 0 seen used
   pub within : used ≤ length (heard_with held after)
-  pub adds : AddsText writer writer_after kept kept_after (text_from first seen)
+  pub adds : AddsText writer writer_after kept kept_after (text_from date first seen)
 
 -- the text with one more sighting ends with what is said of that sighting
-one_more : (first : ℕ) (seen : List Seen) (next : Seen)
-    → text_from first (seen ++ next ∷ []) ≡ text_from first seen ++ seen_text (moved_seen first next)
-one_more first seen next = grind (arith, common_steps, map-append)
+one_more : (date : ℕ → List ℕ) (first : ℕ) (seen : List Seen) (next : Seen)
+    → text_from date first (seen ++ next ∷ []) ≡ text_from date first seen ++ dated_text date (moved_seen first next)
+one_more date first seen next =
+    let one : text_from date first (next ∷ []) ≡ dated_text date (moved_seen first next) = append-nil _ in
+    ap (explanation date) (map-append (moved_seen first) seen (next ∷ []))
+    ∙ (flat_map-append (dated_text date) (map (moved_seen first) seen) (moved_seen first next ∷ [])
+    ∙ ap (λ text. text_from date first seen ++ text) one)
 
 -- one more sighting was told
-pub told_next : (first : ℕ) (held : List ℕ) (after : After) (used to : ℕ) (a b c d : List ℕ) (next : Seen) (w w1 w2 : Stream)
-    → ToldSoFar first held after used a b w w1 → SeesOn (heard_with held after) (is_end after) used (next ∷ []) to
-    → to ≤ length (heard_with held after) → AddsText w1 w2 b c [] → d ≡ c ++ seen_text (moved_seen first next)
-    → ToldSoFar first held after to a d w w2
-told_next first held after used to a b c d next w w1 w2 h sees within room added =
-    let text = seen_text (moved_seen first next) in
+pub told_next : (date : ℕ → List ℕ) (first : ℕ) (held : List ℕ) (after : After) (used to : ℕ) (a b c d : List ℕ) (next : Seen)
+    (w w1 w2 : Stream) → ToldSoFar date first held after used a b w w1 → SeesOn (heard_with held after) (is_end after) used (next ∷ []) to
+    → to ≤ length (heard_with held after) → AddsText w1 w2 b c [] → d ≡ c ++ dated_text date (moved_seen first next)
+    → ToldSoFar date first held after to a d w w2
+told_next date first held after used to a b c d next w w1 w2 h sees within room added =
+    let text = dated_text date (moved_seen first next) in
     let one : AddsText w1 w2 b d ([] ++ text) = adds_then w1 w2 w2 b c d [] text room (adds_kept w2 c d text added) in
     record {
       seen = h.seen ++ next ∷ [];
       sees = onward (heard_with held after) (is_end after) 0 used to h.seen (next ∷ []) h.sees sees;
       within = within;
-      adds = rw (one_more first h.seen next) (adds_then w w1 w2 a b d (text_from first h.seen) text h.adds one);
+      adds = rw (one_more date first h.seen next) (adds_then w w1 w2 a b d (text_from date first h.seen) text h.adds one);
     }
 
 -- no decided sighting is left to tell
-pub told_decided : (first : ℕ) (held : List ℕ) (after : After) (used to : ℕ) (a b : List ℕ) (w w1 : Stream)
-    → ToldSoFar first held after used a b w w1 → SeesOn (heard_with held after) (is_end after) used [] to
+pub told_decided : (date : ℕ → List ℕ) (first : ℕ) (held : List ℕ) (after : After) (used to : ℕ) (a b : List ℕ) (w w1 : Stream)
+    → ToldSoFar date first held after used a b w w1 → SeesOn (heard_with held after) (is_end after) used [] to
     → to ≤ length (heard_with held after) → length (heard_with held after) < to + 269
     → ((after ≡ More → ⊥) → to ≡ length (heard_with held after))
-    → (after ≡ More → IsUndecidedSighting (heard_with (drop to held) More)) → TellsDecided first held after to a b w w1
-told_decided first held after used to a b w w1 h sees within few all undecided = record {
+    → (after ≡ More → IsUndecidedSighting (heard_with (drop to held) More)) → TellsDecided date first held after to a b w w1
+told_decided date first held after used to a b w w1 h sees within few all undecided = record {
   seen = h.seen;
   sees = rw append-nil at (onward (heard_with held after) (is_end after) 0 used to h.seen [] h.sees sees);
   within = within;
@@ -290,14 +321,14 @@ told_decided first held after used to a b w w1 h sees within few all undecided =
 }
 
 -- a write failed before one more sighting was told
-pub fails_next : (first : ℕ) (held : List ℕ) (after : After) (used : ℕ) (a b : List ℕ) (w w1 w2 : Stream)
-    → ToldSoFar first held after used a b w w1 → FailsToWrite w1 w2 (b ++ [])
-    → FailsToTell first (heard_with held after) (is_end after) a w w2
-fails_next first held after used a b w w1 w2 h fails = record {
+pub fails_next : (date : ℕ → List ℕ) (first : ℕ) (held : List ℕ) (after : After) (used : ℕ) (a b : List ℕ) (w w1 w2 : Stream)
+    → ToldSoFar date first held after used a b w w1 → FailsToWrite w1 w2 (b ++ [])
+    → FailsToTell date first (heard_with held after) (is_end after) a w w2
+fails_next date first held after used a b w w1 w2 h fails = record {
   seen = h.seen;
   used = used;
   sees = h.sees;
-  fails = rw append-nil at (fails_then w w1 w2 a b (text_from first h.seen) [] h.adds fails);
+  fails = rw append-nil at (fails_then w w1 w2 a b (text_from date first h.seen) [] h.adds fails);
 }
 
 -- a miss whose places are below a bound has them below each greater bound

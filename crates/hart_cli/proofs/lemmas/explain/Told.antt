@@ -1,5 +1,6 @@
 -- What was told is decided by what was heard.
-use Rattle.std.proofs.Common.{◌≡◌, ◌≤◌, ◌+◌, ◌∙◌, ℕ, Bool, false, true, List, [], ◌∷◌, ◌++◌, length, map, drop, refl, sym, ap, arith}
+use Rattle.std.proofs.Common.{◌≡◌, ◌≤◌, ◌<◌, ◌+◌, ◌∙◌, ◌⊎◌, ℕ, All, Bool, false, true, List, [], ◌∷◌, ◌++◌, length, map, drop, refl, sym}
+use Rattle.std.proofs.Common.{ap, arith, inl, inr}
 use Rattle.std.proofs.Common.{append-nil, append_assoc, length-append, length-drop}
 use Rattle.std.proofs.lemmas.Grind.{flat_map-append}
 use Rattle.std.proofs.lemmas.List.{drop-append-le, drop-drop, map-append}
@@ -8,16 +9,22 @@ use Rattle.hart_frame.specs.heard.Sighting.{AreSightings, Seen, SeesOn, moved_se
 use Rattle.hart_frame.proofs.lemmas.scan.SightingLaws.{all as seen_to_the_end, grown, one as one_list, rest as rest_is_seen}
 use Rattle.hart_frame.proofs.lemmas.scan.SightingLaws.{some as some_list}
 use Rattle.hart_cli.specs.declared.calls.explain.telling.Telling.{Telling}
-use Rattle.hart_cli.specs.explain.Explanation.{AreSightingsFrom, ComeFirst, IsDecidedExplanation, IsExplanationOf, explanation}
-use Rattle.hart_cli.specs.explain.Explanation.{seen_text}
-use Rattle.hart_cli.specs.explain.Telling.{FailsToHear, Hears, HearsAll, IsNew, IsWaiting, TellsRest, text_from}
+use Rattle.hart_cli.specs.explain.Dates.{date_from}
+use Rattle.hart_cli.specs.explain.Explanation.{AreSightingsFrom, ComeFirst, IsDecidedExplanation, IsExplanationOf, date_of, dated_text}
+use Rattle.hart_cli.specs.explain.Explanation.{explanation}
+use Rattle.hart_cli.specs.explain.Gaps.{seen_place}
+use Rattle.hart_cli.specs.explain.Telling.{FailsToHear, Hears, HearsAll, HearsDate, HearsMark, IsNew, IsWaiting, TellsRest, text_from}
 use Rattle.hart_cli.specs.explain.Telling as part
 use Rattle.hart_cli.specs.stream.Kept.{AddsText}
 use Rattle.hart_cli.specs.stream.Stream.{FailsToWrite, Stream, WritesAll}
-use Rattle.hart_cli.specs.text.Heard.{Heard, HeardChar, Silence, after_chars, heard_chars, stretches}
+use Rattle.hart_cli.specs.text.Heard.{Date, Heard, HeardChar, Silence, after_chars, heard_chars, stretches}
 use Rattle.hart_cli.proofs.lemmas.Kept.{adds_kept, adds_then, fails_then}
 use Rattle.hart_cli.proofs.lemmas.Writes.{FailsToWrite-longer, WritesAll-on}
+use Rattle.hart_cli.proofs.lemmas.explain.Dates.{all_first, date_before, date_chars, date_later, date_silence, same_dates, same_from}
+use Rattle.hart_cli.proofs.lemmas.explain.Dates.{same_within, stretches_within, total, total_count}
 use Rattle.hart_cli.proofs.lemmas.explain.Telling.{long_is}
+use Rattle.hart_cli.proofs.lemmas.text.Heard.{count}
+use Rattle.hart_cli.proofs.lemmas.explain.Stretches.{all_long}
 use Rattle.hart_cli.proofs.lemmas.explain.Decided.{back, cancel, first_moved}
 use Rattle.hart_cli.proofs.lemmas.explain.Sightings.{at_end, moved_twice, sees_later, text_on}
 
@@ -25,6 +32,7 @@ use Rattle.hart_cli.proofs.lemmas.explain.Sightings.{at_end, moved_twice, sees_l
 one_stretch : (heard : List Heard) → (first : List Character) × (later : List (List Character)) × (stretches heard ≡ first ∷ later)
 one_stretch [] = ([], [], refl)
 one_stretch (Silence ∷ heard) = ([], stretches heard, refl)
+one_stretch (Date word ∷ heard) = one_stretch heard
 one_stretch (HeardChar character ∷ heard) =
     let (first, later, is) = one_stretch heard in (character ∷ first, later, rw is refl)
 
@@ -43,11 +51,6 @@ pub stretches_chars : (xs : List Character) (heard : List Heard) → stretches (
 stretches_chars [] heard = sym (after_nothing heard)
 stretches_chars (x ∷ xs) heard =
     ap (after_chars (x ∷ [])) (stretches_chars xs heard) ∙ after_twice (x ∷ []) xs (stretches heard)
-
--- the number of characters of stretches
-abbrev pub total : List (List Character) → ℕ
-total [] = 0
-total (chars ∷ later) = length chars + total later
 
 total_on : (xs ys : List (List Character)) → total (xs ++ ys) ≡ total xs + total ys
 total_on [] ys = omega arith
@@ -90,21 +93,23 @@ pub record Told (start telling : Telling) (heard : List Heard) (writer writer_af
   pub within : used ≤ length chars
   pub first : telling.first ≡ total earlier + used
   pub held : faultless telling.held ≡ drop used chars
-  pub adds : AddsText writer writer_after start.kept telling.kept (explanation (told ++ map (moved_seen (total earlier)) seen))
+  pub dates : (place : ℕ) → telling.first ≤ place → date_from telling place ≡ date_of heard place
+  pub adds : AddsText writer writer_after start.kept telling.kept
+      (explanation (date_of heard) (told ++ map (moved_seen (total earlier)) seen))
 
 -- counting from place 0 changes no place
 zero_plus : (n : ℕ) → 0 + n ≡ n
 zero_plus n = omega arith
 
 -- what was told and what is said of more sightings is the explanation of all of them
-text_more : (told seen given : List Seen) (first used : ℕ)
-    → explanation (told ++ map (moved_seen first) seen) ++ text_from (first + used) given
-    ≡ explanation (told ++ map (moved_seen first) (seen ++ map (moved_seen used) given))
-text_more told seen given first used =
-    ap (λ xs. xs ++ text_from (first + used) given) (flat_map-append seen_text told (map (moved_seen first) seen))
-    ∙ (append_assoc (explanation told) (text_from first seen) (text_from (first + used) given)
-    ∙ (ap (λ xs. explanation told ++ xs) (text_on first used seen given)
-    ∙ sym (flat_map-append seen_text told (map (moved_seen first) (seen ++ map (moved_seen used) given)))))
+text_more : (date : ℕ → List ℕ) (told seen given : List Seen) (first used : ℕ)
+    → explanation date (told ++ map (moved_seen first) seen) ++ text_from date (first + used) given
+    ≡ explanation date (told ++ map (moved_seen first) (seen ++ map (moved_seen used) given))
+text_more date told seen given first used =
+    ap (λ xs. xs ++ text_from date (first + used) given) (flat_map-append (dated_text date) told (map (moved_seen first) seen))
+    ∙ (append_assoc (explanation date told) (text_from date first seen) (text_from date (first + used) given)
+    ∙ (ap (λ xs. explanation date told ++ xs) (text_on date first used seen given)
+    ∙ sym (flat_map-append (dated_text date) told (map (moved_seen first) (seen ++ map (moved_seen used) given)))))
 
 -- nothing was told yet
 told_none : (start : Telling) (w : Stream) → IsNew start → Told start start [] w w
@@ -120,6 +125,7 @@ told_none start w new = record {
   within = omega arith;
   first = omega (arith, new.first);
   held = rw new.held refl;
+  dates = λ place from. new.undated place;
   adds = adds_kept w start.kept start.kept [] (sym (append-nil start.kept));
 }
 
@@ -133,14 +139,31 @@ part_sees start a heard w w1 t xs ended given used on =
     sees_later (t.chars ++ xs) ended t.used used t.seen given (omega (arith, t.within, length-append t.chars xs))
     (grown t.chars xs ended 0 t.used t.seen t.sees) (rw rest at on)
 
+-- the dates of what is held are those of what was heard
+part_dated : (start a : Telling) (heard : List Heard) (w w1 : Stream) (t : Told start a heard w w1) (given : List Seen)
+    → text_from (date_from a) a.first given ≡ text_from (date_of heard) (total t.earlier + t.used) given
+part_dated start a heard w w1 t given =
+    same_from (date_from a) (date_of heard) a.first t.dates given ∙ ap (λ first. text_from (date_of heard) first given) t.first
+
 -- what is said of more of the last stretch comes after what was said before
 part_adds : (start a b : Telling) (heard : List Heard) (w w1 w2 : Stream) (t : Told start a heard w w1) (given : List Seen)
-    → AddsText w1 w2 a.kept b.kept (text_from a.first given)
+    → AddsText w1 w2 a.kept b.kept (text_from (date_from a) a.first given)
     → AddsText w w2 start.kept b.kept
-    (explanation (t.told ++ map (moved_seen (total t.earlier)) (t.seen ++ map (moved_seen t.used) given)))
+    (explanation (date_of heard) (t.told ++ map (moved_seen (total t.earlier)) (t.seen ++ map (moved_seen t.used) given)))
 part_adds start a b heard w w1 w2 t given adds =
-    rw (text_more t.told t.seen given (total t.earlier) t.used) at
-    (adds_then w w1 w2 start.kept a.kept b.kept _ _ t.adds (rw t.first at adds))
+    rw (text_more (date_of heard) t.told t.seen given (total t.earlier) t.used) at
+    (adds_then w w1 w2 start.kept a.kept b.kept _ _ t.adds (rw (part_dated start a heard w w1 t given) at adds))
+
+-- what is heard next changes no date that matters
+chars_dated : (heard : List Heard) (xs : List Character) (seen : List Seen)
+    → explanation (date_of heard) seen ≡ explanation (date_of (heard ++ heard_chars xs)) seen
+chars_dated heard xs seen =
+    same_dates (date_of heard) (date_of (heard ++ heard_chars xs)) (λ place. sym (date_chars [] heard xs place)) seen
+
+silence_dated : (heard : List Heard) (seen : List Seen)
+    → explanation (date_of heard) seen ≡ explanation (date_of (heard ++ Silence ∷ [])) seen
+silence_dated heard seen =
+    same_dates (date_of heard) (date_of (heard ++ Silence ∷ [])) (λ place. sym (date_silence [] heard place)) seen
 
 -- what is held is the rest of the last stretch
 part_held : (start a : Telling) (heard : List Heard) (w w1 : Stream) (t : Told start a heard w w1) (xs : List Character) (used : ℕ)
@@ -173,7 +196,9 @@ told_chars start a b heard xs w w1 w2 t k = record {
   within = part_within start a b heard w w1 w2 t xs false k;
   first = omega (arith, t.first, k.first);
   held = k.held ∙ part_held start a heard w w1 t xs k.used;
-  adds = part_adds start a b heard w w1 w2 t k.seen k.adds;
+  dates = λ place from.
+      k.dates place from ∙ (t.dates place (omega (arith, k.first, from)) ∙ sym (date_chars [] heard xs place));
+  adds = rw (chars_dated heard xs _) at (part_adds start a b heard w w1 w2 t k.seen k.adds);
 }
 
 -- the sightings of an ended last stretch come after those of the earlier stretches
@@ -210,17 +235,10 @@ told_silence start a b heard w w1 w2 t k none =
       within = omega arith;
       first = omega (arith, t.first, k.first, end, total_on t.earlier (t.chars ∷ []));
       held = rw none refl;
-      adds = rw (append-nil _) (part_adds start a b heard w w1 w2 t k.seen k.adds);
+      dates = λ place from.
+          k.dates place from ∙ (t.dates place (omega (arith, k.first, from)) ∙ sym (date_silence [] heard place));
+      adds = rw (append-nil _) (rw (silence_dated heard _) at (part_adds start a b heard w w1 w2 t k.seen k.adds));
     }
-
--- all that was heard was told, as far as it is decided
-pub tell_all : (start a : Telling) (heard : List Heard) (w w1 : Stream) → IsNew start → HearsAll start a heard w w1
-    → Told start a heard w w1
-tell_all start _ _ _ _ new (part.nothing w) = told_none start w new
-tell_all start b _ _ _ new (part.chars now _ heard xs w u v k one) =
-    told_chars start now b heard xs w u v (tell_all start now heard w u new k) one
-tell_all start b _ _ _ new (part.silence now _ heard w u v k one none) =
-    told_silence start now b heard w u v (tell_all start now heard w u new k) one none
 
 -- what was told comes first, whatever is heard next
 told_first : (start a : Telling) (heard : List Heard) (w w1 : Stream) (t : Told start a heard w w1)
@@ -244,6 +262,78 @@ told_first start a heard w w1 t = λ more all are.
       same ∙ (ap (λ x. t.told ++ (x ++ rest)) (map-append _ t.seen later) ∙ (ap (λ x. t.told ++ x) order
           ∙ sym (append_assoc t.told begun (added ++ rest)))),
     )
+
+-- sightings that come first stand at places of what was heard
+pub first_within : (heard : List Heard) (seen : List Seen) → ComeFirst heard seen → All (λ s. seen_place s < count heard) seen
+first_within heard seen first =
+    let (all, are) = some_seen 0 (stretches (heard ++ [])) in
+    let (later, is) = first [] all are in
+    let same : heard ++ [] ≡ heard = append-nil heard in
+    let few : 0 + total (stretches (heard ++ [])) ≤ count heard = rw same (omega (arith, total_count heard)) in
+    let within = stretches_within 0 (count heard) (stretches (heard ++ [])) all few are in
+    all_first (count heard) seen later (rw is at within)
+
+-- each place is that of something heard, or comes later
+heard_or_later : (place n : ℕ) → (place < n) ⊎ (n ≤ place)
+heard_or_later place n = grind arith
+
+-- a date that is heard does not change the dates of what was heard
+date_dated : (start a b : Telling) (heard : List Heard) (word : List ℕ) (w w1 : Stream) (t : Told start a heard w w1)
+    → a.first + length a.held ≡ count heard → HearsDate a b word → (place : ℕ) → b.first ≤ place
+    → date_from b place ≡ date_of (heard ++ Date word ∷ []) place
+date_dated start a b heard word w w1 t long h place from = elim (heard_or_later place (count heard)) [
+  | inl within ↦
+      let at : a.first ≤ place = omega (arith, from, h.first) in
+      h.earlier place at (omega (arith, within, long))
+      ∙ (t.dates place at ∙ sym (date_before [] heard (Date word ∷ []) place within))
+  | inr after ↦ h.later place (omega (arith, after, long)) ∙ sym (date_later [] heard word place after)
+]
+
+-- a date was heard
+told_date : (start a b : Telling) (heard : List Heard) (word : List ℕ) (w w1 : Stream) → Told start a heard w w1
+    → a.first + length a.held ≡ count heard → HearsDate a b word → Told start b (heard ++ Date word ∷ []) w w1
+told_date start a b heard word w w1 t long h =
+    let seen = t.told ++ map (moved_seen (total t.earlier)) t.seen in
+    let within = first_within heard seen (told_first start a heard w w1 t) in
+    let same = same_within (date_of heard) (date_of (heard ++ Date word ∷ [])) (count heard)
+    (λ place below. sym (date_before [] heard (Date word ∷ []) place below)) seen within in
+    record {
+      earlier = t.earlier;
+      chars = t.chars;
+      splits = λ more. ap stretches (append_assoc heard (Date word ∷ []) more) ∙ t.splits (Date word ∷ more);
+      told = t.told;
+      are_told = t.are_told;
+      seen = t.seen;
+      used = t.used;
+      sees = t.sees;
+      within = t.within;
+      first = h.first ∙ t.first;
+      held = rw h.held t.held;
+      dates = date_dated start a b heard word w w1 t long h;
+      adds = rw h.kept (rw same at t.adds);
+    }
+
+-- a mark was heard and told
+told_mark : (start a b : Telling) (heard : List Heard) (m : Heard) (w w1 w2 : Stream) → Told start a heard w w1
+    → a.first + length a.held ≡ count heard → HearsMark a b m w1 w2 → Told start b (heard ++ m ∷ []) w w2
+told_mark start a b heard (HeardChar character) w w1 w2 t long never = absurd never
+told_mark start a b heard Silence w w1 w2 t long (hears, none) = told_silence start a b heard w w1 w2 t hears none
+told_mark start a b heard (Date word) w w1 w2 t long (date, still) = rw (← still) (told_date start a b heard word w w1 t long date)
+
+-- what was let go and what is held add up to the characters that were heard
+pub held_within : (start telling : Telling) (heard : List Heard) (w w1 : Stream) → IsNew start → HearsAll start telling heard w w1
+    → telling.first + length telling.held ≡ count heard
+held_within start telling heard w w1 new h =
+    let none : length start.held ≡ 0 = rw new.held refl in omega (arith, all_long start telling heard w w1 h, new.first, none)
+
+-- all that was heard was told, as far as it is decided
+pub tell_all : (start a : Telling) (heard : List Heard) (w w1 : Stream) → IsNew start → HearsAll start a heard w w1
+    → Told start a heard w w1
+tell_all start _ _ _ _ new (part.nothing w) = told_none start w new
+tell_all start b _ _ _ new (part.chars now _ heard xs w u v k one) =
+    told_chars start now b heard xs w u v (tell_all start now heard w u new k) one
+tell_all start b _ _ _ new (part.mark now _ heard m w u v k one) =
+    told_mark start now b heard m w u v (tell_all start now heard w u new k) (held_within start now heard w u new k) one
 
 -- no sighting after those told is decided
 told_no_more : (start a : Telling) (heard : List Heard) (w w1 : Stream) (t : Told start a heard w w1) → IsWaiting a → (next : Seen)
@@ -274,11 +364,12 @@ told_no_more start a heard w w1 t waiting next claim =
 -- what was told is the decided explanation, and it was written
 pub told_is_decided : (start a : Telling) (heard : List Heard) (w w1 : Stream) → IsNew start → (t : Told start a heard w w1)
     → IsWaiting a → a.kept ≡ []
-    → IsDecidedExplanation heard (explanation (t.told ++ map (moved_seen (total t.earlier)) t.seen))
-    × WritesAll w w1 (explanation (t.told ++ map (moved_seen (total t.earlier)) t.seen))
+    → IsDecidedExplanation heard (explanation (date_of heard) (t.told ++ map (moved_seen (total t.earlier)) t.seen))
+    × WritesAll w w1 (explanation (date_of heard) (t.told ++ map (moved_seen (total t.earlier)) t.seen))
 told_is_decided start a heard w w1 new t waiting quiet =
     let seen = t.told ++ map (moved_seen (total t.earlier)) t.seen in
-    let all : t.adds.written ≡ explanation seen = sym (append-nil t.adds.written) ∙ rw (quiet, new.quiet) at t.adds.whole in (
+    let all : t.adds.written ≡ explanation (date_of heard) seen =
+    sym (append-nil t.adds.written) ∙ rw (quiet, new.quiet) at t.adds.whole in (
       record {
         seen = seen;
         first = told_first start a heard w w1 t;
@@ -291,7 +382,7 @@ told_is_decided start a heard w w1 new t waiting quiet =
 -- the explanation of what was heard, with these sightings of its last stretch
 pub whole_text : (start a : Telling) (heard : List Heard) (w w1 : Stream) (t : Told start a heard w w1) (xs : List Character)
     (seen : List Seen) → AreSightings (t.chars ++ xs) 0 seen
-    → IsExplanationOf (heard ++ heard_chars xs) (explanation (t.told ++ map (moved_seen (total t.earlier)) seen))
+    → IsExplanationOf (heard ++ heard_chars xs) (explanation (date_of heard) (t.told ++ map (moved_seen (total t.earlier)) seen))
 whole_text start a heard w w1 t xs seen are =
     let last : stretches (heard_chars xs) ≡ xs ∷ [] = rw (append-nil (heard_chars xs), append-nil xs) at (stretches_chars xs []) in
     let parts : stretches (heard ++ heard_chars xs) ≡ t.earlier ++ (t.chars ++ xs) ∷ [] =
@@ -299,7 +390,7 @@ whole_text start a heard w w1 t xs seen are =
     record {
       seen = t.told ++ map (moved_seen (total t.earlier)) seen;
       are_sightings = rw parts (ended_seen start a heard w w1 t (t.chars ++ xs) seen are);
-      text_is = refl;
+      text_is = chars_dated heard xs (t.told ++ map (moved_seen (total t.earlier)) seen);
     }
 
 -- a write failed in what is said of more characters
@@ -312,18 +403,20 @@ fails_in_text start a heard w w1 w2 new t xs ended k =
     let (later, stands) = some_list ((t.chars ++ xs) ++ []) (t.used + k.used) in
     let are = at_end (t.chars ++ xs) (seen ++ later) (sees [] later (λ over. refl) stands) in
     let first = total t.earlier in
-    let fails = rw (t.first) at k.fails in
-    let both = fails_then w w1 w2 start.kept a.kept _ (text_from (first + t.used) k.seen) t.adds fails in
-    let begun : FailsToWrite w w2 (explanation (t.told ++ map (moved_seen first) seen)) =
-    rw (new.quiet, text_more t.told t.seen k.seen first t.used) at both in
-    let more : explanation (t.told ++ map (moved_seen first) (seen ++ later))
-    ≡ explanation (t.told ++ map (moved_seen first) seen) ++ text_from first later =
-    ap (λ x. explanation (t.told ++ x)) (map-append _ seen later)
-    ∙ (ap explanation (sym (append_assoc t.told (map (moved_seen first) seen) (map (moved_seen first) later)))
-    ∙ flat_map-append seen_text (t.told ++ map (moved_seen first) seen) (map (moved_seen first) later)) in (
-      explanation (t.told ++ map (moved_seen first) (seen ++ later)),
+    let date = date_of heard in
+    let fails = rw (part_dated start a heard w w1 t k.seen) at k.fails in
+    let both = fails_then w w1 w2 start.kept a.kept _ (text_from date (first + t.used) k.seen) t.adds fails in
+    let begun : FailsToWrite w w2 (explanation date (t.told ++ map (moved_seen first) seen)) =
+    rw (new.quiet, text_more date t.told t.seen k.seen first t.used) at both in
+    let more : explanation date (t.told ++ map (moved_seen first) (seen ++ later))
+    ≡ explanation date (t.told ++ map (moved_seen first) seen) ++ text_from date first later =
+    ap (λ x. explanation date (t.told ++ x)) (map-append _ seen later)
+    ∙ (ap (explanation date) (sym (append_assoc t.told (map (moved_seen first) seen) (map (moved_seen first) later)))
+    ∙ flat_map-append (dated_text date) (t.told ++ map (moved_seen first) seen) (map (moved_seen first) later)) in (
+      explanation date (t.told ++ map (moved_seen first) (seen ++ later)),
       whole_text start a heard w w1 t xs (seen ++ later) are,
-      rw more (FailsToWrite-longer w w2 (explanation (t.told ++ map (moved_seen first) seen)) (text_from first later) begun),
+      rw more
+          (FailsToWrite-longer w w2 (explanation date (t.told ++ map (moved_seen first) seen)) (text_from date first later) begun),
     )
 
 -- once the rest is told, the explanation of all that was heard is written
@@ -339,9 +432,10 @@ rest_text start a heard w w1 w2 new t waiting quiet k =
     omega (arith, long, t.within, length-drop t.used t.chars, length-append t.chars []) in
     let are = seen_to_the_end (t.chars ++ []) true seen (rw end at sees) in
     let decided = told_is_decided start a heard w w1 new t waiting quiet in
-    let wrote = WritesAll-on w w1 w2 _ (text_from a.first k.seen) decided.1 k.wrote in
-    let placed = rw t.first at wrote in (
-      explanation (t.told ++ map (moved_seen first) seen),
+    let date = date_of heard in
+    let wrote = WritesAll-on w w1 w2 _ (text_from (date_from a) a.first k.seen) decided.1 k.wrote in
+    let placed = rw (part_dated start a heard w w1 t k.seen) at wrote in (
+      explanation date (t.told ++ map (moved_seen first) seen),
       rw (append-nil heard) at (whole_text start a heard w w1 t [] seen are),
-      rw (text_more t.told t.seen k.seen first t.used) at placed,
+      rw (text_more date t.told t.seen k.seen first t.used) at placed,
     )

@@ -8,14 +8,15 @@ use Rattle.hart_cli.specs.declared.fault.CliFault.{CliFault}
 use Rattle.hart_cli.specs.declared.input.InputEnd.{InputEnd}
 use Rattle.hart_cli.specs.declared.input.InputEnd.TheVariants.{Ended, ReadFailed, TooLong}
 use Rattle.hart_cli.specs.declared.input.Portion.{Portion}
+use Rattle.hart_cli.specs.declared.input.ahead.NextStep.{NextStep}
 use Rattle.hart_cli.specs.declared.input.ahead.NextStep.TheVariants.{ReadOn, Stop}
 use Rattle.hart_cli.specs.input.Ahead.{DecodesAll, IsNextStep, ReadsAhead, ended_length}
 use Rattle.hart_cli.specs.input.Input.{CameTo, Ending, Left, ReadsPortion, ReadsToWithin, ReadsWell, ReadsWithin, ending_of, most_at_once}
-use Rattle.hart_cli.specs.input.Decoding.{AreDecodedBy, Decoding, decoding_by, ended_text, most_ahead}
+use Rattle.hart_cli.specs.input.Decoding.{AreDecodedBy, Decoding, decoding_by, ended_text}
 use Rattle.hart_cli.specs.input.LiveInput.{IsDecidedText, LiveOutcome, ReadsText, StopsSoon, StopsWriting, TextRelation, WroteInTime}
 use Rattle.hart_cli.specs.stream.Stream.{FailsToWrite, Stream, WritesAll}
 use Rattle.hart_cli.specs.text.InputChars.{HasHeardBy, all, bad_hex, decided_bad_hex, failure}
-use Rattle.hart_cli.specs.text.Items.{MayBegin}
+use Rattle.hart_cli.specs.text.Items.{Opens}
 use Rattle.hart_cli.proofs.lemmas.Writes.{in_time_on}
 use Rattle.hart_cli.proofs.lemmas.text.Reads.{Laws, decided_rest}
 
@@ -35,14 +36,14 @@ read_to old new input limit (Some end) h = h
 
 -- an input was read and decoded up to a rest that begins with no piece
 pub record DecodedUpTo {Heard : Type 0} (Reads : List ℕ → List Heard → List ℕ → Type 0) (Stops : List ℕ → Type 0)
-    (limit : ℕ) (old new : Stream) (end : Option InputEnd) (rest : List ℕ) (read : ℕ)
+    (most limit : ℕ) (old new : Stream) (end : Option InputEnd) (rest : List ℕ) (read : ℕ)
     (input : List ℕ) (heard : List Heard) : Type 0 where
   pub came : MatchOption end (ReadsWell old new input × (length input ≤ limit)) (λ came. ReadsWithin limit old new input came)
   pub count : read ≡ length input
   pub reads : Reads (ended_text input (ending_of end)) heard rest
   pub no_piece : Stops rest
-  pub few : length rest ≤ most_ahead
-  pub still_open : end ≡ Some ReadFailed → MayBegin rest
+  pub few : length rest ≤ most
+  pub still_open : end ≡ Some ReadFailed → Opens Stops rest
 
 -- the length of an input with the space that is added for its end
 ended_long : (input : List ℕ) (end : Option InputEnd) → length (ended_text input (ending_of end)) ≡ ended_length end (length input)
@@ -56,12 +57,27 @@ ended_on : (input bytes : List ℕ) (end : Option InputEnd)
     → ended_text (input ++ bytes) (ending_of end) ≡ input ++ ended_text bytes (ending_of end)
 ended_on input bytes end = grind (arith, common_steps, append_assoc)
 
--- reading goes on only if the input did not come to its end and a piece may begin in the rest
-pub read_on : (end : Option InputEnd) (rest : List ℕ) (place : ℕ) → IsNextStep end rest place ReadOn → (end ≡ None) × MayBegin rest
-read_on None rest place step = (refl, step)
-read_on (Some Ended) rest place step = absurd step
-read_on (Some ReadFailed) rest place step = absurd step
-read_on (Some TooLong) rest place step = absurd step
+-- an input is read on only if it did not come to its end, and the rest is open
+pub read_on : (IsOpen : List ℕ → Type 0) (end : Option InputEnd) (rest : List ℕ) (place : ℕ) → IsNextStep IsOpen end rest place ReadOn
+    → (end ≡ None) × IsOpen rest
+read_on IsOpen None rest place step = (refl, step)
+read_on IsOpen (Some Ended) rest place step = absurd step
+read_on IsOpen (Some ReadFailed) rest place step = absurd step
+read_on IsOpen (Some TooLong) rest place step = absurd step
+
+-- a next step is one for each equivalent sense of open
+pub step_by : (A B : List ℕ → Type 0) (rest : List ℕ) → (A rest → B rest) → ((A rest → ⊥) → B rest → ⊥) → (end : Option InputEnd)
+    (place : ℕ) (step : NextStep) → IsNextStep A end rest place step → IsNextStep B end rest place step
+step_by A B rest to never None place ReadOn is = to is
+step_by A B rest to never None place (Stop fault) is = (never is.0, is.1)
+step_by A B rest to never (Some Ended) place ReadOn is = is
+step_by A B rest to never (Some Ended) place (Stop None) is = is
+step_by A B rest to never (Some Ended) place (Stop (Some fault)) is = is
+step_by A B rest to never (Some ReadFailed) place ReadOn is = is
+step_by A B rest to never (Some ReadFailed) place (Stop fault) is = is
+step_by A B rest to never (Some TooLong) place ReadOn is = is
+step_by A B rest to never (Some TooLong) place (Stop fault) (inl ajar) = inl (to ajar.0, ajar.1)
+step_by A B rest to never (Some TooLong) place (Stop fault) (inr none) = inr (never none.0, none.1)
 
 -- a read that did not end the input gave at least one byte, and no more than there is room for
 pub some_long : (bytes : List ℕ) → bytes ≢ [] → 0 < length bytes
@@ -91,10 +107,11 @@ stops_in decoding limit IsText IsDecided r r2 w w1 w2 input ending heard text la
   in_time = in_time_on (IsDecidedText decoding IsDecided) input w w1 w2 last_fails.0.prefix in_time last_fails.0.written;
 }
 
-module _ {Heard : Type 0} (Reads : List ℕ → List Heard → List ℕ → Type 0) (Stops : List ℕ → Type 0) (laws : Laws Reads Stops) where
+module _ {Heard : Type 0} (Reads : List ℕ → List Heard → List ℕ → Type 0) (Stops : List ℕ → Type 0) (most : ℕ)
+    (laws : Laws Reads Stops) where
   -- the rest is at most as long as what was read
   pub rest_within : (limit : ℕ) (old new : Stream) (end : Option InputEnd) (rest : List ℕ) (read : ℕ) (input : List ℕ)
-      (chars : List Heard) → DecodedUpTo Reads Stops limit old new end rest read input chars → length rest ≤ ended_length end read
+      (chars : List Heard) → DecodedUpTo Reads Stops most limit old new end rest read input chars → length rest ≤ ended_length end read
   rest_within limit old new end rest read input chars h =
       rw h.count (omega (arith, ended_long input end, laws.shorter _ chars rest h.reads))
 
@@ -109,7 +126,7 @@ module _ {Heard : Type 0} (Reads : List ℕ → List Heard → List ℕ → Type
 
   -- the bytes of one read were within the limit
   came_on : (limit : ℕ) (r r1 r2 : Stream) (ahead after : List ℕ) (read : ℕ) (portion : Portion) (input : List ℕ) (chars : List Heard)
-      → DecodedUpTo Reads Stops limit r r1 None ahead read input chars → (one : ReadsAhead r1 r2 ahead after (limit - read) portion)
+      → DecodedUpTo Reads Stops most limit r r1 None ahead read input chars → (one : ReadsAhead r1 r2 ahead after (limit - read) portion)
       → MatchOption portion.end (ReadsWell r r2 (input ++ one.bytes) × (length (input ++ one.bytes) ≤ limit))
       (λ came. ReadsWithin limit r r2 (input ++ one.bytes) came)
   came_on limit r r1 r2 ahead after read portion input chars due one =
@@ -117,8 +134,8 @@ module _ {Heard : Type 0} (Reads : List ℕ → List Heard → List ℕ → Type
 
   -- after a failed read a piece may still begin in the rest
   failed_open : (limit : ℕ) (r r1 r2 : Stream) (ahead after rest : List ℕ) (read : ℕ) (portion : Portion) (input : List ℕ)
-      (chars more : List Heard) → DecodedUpTo Reads Stops limit r r1 None ahead read input chars → MayBegin ahead
-      → ReadsAhead r1 r2 ahead after (limit - read) portion → Reads after more rest → portion.end ≡ Some ReadFailed → MayBegin rest
+      (chars more : List Heard) → DecodedUpTo Reads Stops most limit r r1 None ahead read input chars → Opens Stops ahead
+      → ReadsAhead r1 r2 ahead after (limit - read) portion → Reads after more rest → portion.end ≡ Some ReadFailed → Opens Stops rest
   failed_open limit r r1 r2 ahead after rest read portion input chars more due may one reads is =
       let none : one.bytes ≡ [] = (rw is at one.reads).1 in
       let same : after ≡ ahead = rw (is, none, append-nil) at one.added in
@@ -127,10 +144,10 @@ module _ {Heard : Type 0} (Reads : List ℕ → List Heard → List ℕ → Type
 
   -- the bytes of one read are decoded
   pub decoded_step : (limit : ℕ) (r r1 r2 : Stream) (ahead after rest : List ℕ) (read : ℕ) (portion : Portion) (input : List ℕ)
-      (chars more : List Heard) → DecodedUpTo Reads Stops limit r r1 None ahead read input chars → MayBegin ahead
-      → (one : ReadsAhead r1 r2 ahead after (limit - read) portion) → length after ≤ most_ahead → Stops rest
+      (chars more : List Heard) → DecodedUpTo Reads Stops most limit r r1 None ahead read input chars → Opens Stops ahead
+      → (one : ReadsAhead r1 r2 ahead after (limit - read) portion) → length after ≤ most → Stops rest
       → Reads after more rest
-      → DecodedUpTo Reads Stops limit r r2 portion.end rest (read + portion.len) (input ++ one.bytes) (chars ++ more)
+      → DecodedUpTo Reads Stops most limit r r2 portion.end rest (read + portion.len) (input ++ one.bytes) (chars ++ more)
   decoded_step limit r r1 r2 ahead after rest read portion input chars more due may one few stops reads = record {
     came = came_on limit r r1 r2 ahead after read portion input chars due one;
     count = omega (arith, due.count, one.count, length-append input one.bytes);
@@ -142,10 +159,10 @@ module _ {Heard : Type 0} (Reads : List ℕ → List Heard → List ℕ → Type
 
   -- a part of the bytes of one read is decoded
   pub decoded_part : (limit : ℕ) (r r1 r2 : Stream) (ahead after rest : List ℕ) (read : ℕ) (portion : Portion) (input : List ℕ)
-      (chars more : List Heard) → DecodedUpTo Reads Stops limit r r1 None ahead read input chars
-      → (one : ReadsAhead r1 r2 ahead after (limit - read) portion) → length after ≤ most_ahead → Reads after more rest
+      (chars more : List Heard) → DecodedUpTo Reads Stops most limit r r1 None ahead read input chars
+      → (one : ReadsAhead r1 r2 ahead after (limit - read) portion) → length after ≤ most → Reads after more rest
       → ReadsToWithin limit r r2 (input ++ one.bytes) (ending_of portion.end)
-      × AreDecodedBy Reads (input ++ one.bytes) (ending_of portion.end) (chars ++ more)
+      × AreDecodedBy Reads most (input ++ one.bytes) (ending_of portion.end) (chars ++ more)
   decoded_part limit r r1 r2 ahead after rest read portion input chars more due one few reads = (
     read_to r r2 (input ++ one.bytes) limit portion.end (came_on limit r r1 r2 ahead after read portion input chars due one),
     record {
@@ -157,9 +174,9 @@ module _ {Heard : Type 0} (Reads : List ℕ → List Heard → List ℕ → Type
 
   -- a text is written in time if it was decided, and also written, before the last read
   pub in_time_before : (IsDecided : TextRelation (List Heard)) (limit : ℕ) (r r1 w w1 : Stream) (ahead : List ℕ) (read : ℕ) (input : List ℕ)
-      (chars : List Heard) (text bytes : List ℕ) → DecodedUpTo Reads Stops limit r r1 None ahead read input chars → MayBegin ahead
+      (chars : List Heard) (text bytes : List ℕ) → DecodedUpTo Reads Stops most limit r r1 None ahead read input chars → Opens Stops ahead
       → length bytes ≤ most_at_once → IsDecided chars text → Appends w.bytes w1.bytes text
-      → WroteInTime (IsDecidedText (decoding_by Reads Stops) IsDecided) (input ++ bytes) w w1
+      → WroteInTime (IsDecidedText (decoding_by Reads Stops most) IsDecided) (input ++ bytes) w w1
   in_time_before IsDecided limit r r1 w w1 ahead read input chars text bytes due may few decided written = record {
     before = input;
     last = bytes;
@@ -177,15 +194,15 @@ module _ {Heard : Type 0} (Reads : List ℕ → List Heard → List ℕ → Type
 
   -- the characters of what was read are decoded
   pub are_decoded : (limit : ℕ) (old new : Stream) (end : Option InputEnd) (rest : List ℕ) (read : ℕ) (input : List ℕ)
-      (chars : List Heard) → DecodedUpTo Reads Stops limit old new end rest read input chars
-      → AreDecodedBy Reads input (ending_of end) chars
+      (chars : List Heard) → DecodedUpTo Reads Stops most limit old new end rest read input chars
+      → AreDecodedBy Reads most input (ending_of end) chars
   are_decoded limit old new end rest read input chars h = record { rest = rest; reads = h.reads; few = h.few }
 
   -- an input that is read no further was decoded, with its fault if it has one
   decodes_to : (limit : ℕ) (r r2 : Stream) (rest input : List ℕ) (chars : List Heard) (fault : Option CliFault) (ending : Ending)
-      → ReadsToWithin limit r r2 input ending → Reads (ended_text input ending) chars rest → length rest ≤ most_ahead
-      → HasHeardBy Reads Stops input ending chars fault × StopsSoon most_ahead input fault
-      → DecodesAll (decoding_by Reads Stops) limit r r2 fault input chars
+      → ReadsToWithin limit r r2 input ending → Reads (ended_text input ending) chars rest → length rest ≤ most
+      → HasHeardBy Reads Stops input ending chars fault × StopsSoon most input fault
+      → DecodesAll (decoding_by Reads Stops most) limit r r2 fault input chars
   decodes_to limit r r2 rest input chars fault ending came reads few is = record {
     ending = ending;
     reads = came;
@@ -196,9 +213,9 @@ module _ {Heard : Type 0} (Reads : List ℕ → List Heard → List ℕ → Type
 
   -- the fault of an input that is read no further is the fault of the last step
   decodes_at : (limit : ℕ) (r r2 : Stream) (end : Option InputEnd) (rest : List ℕ) (place read : ℕ) (input : List ℕ)
-      (chars : List Heard) (fault : Option CliFault) → DecodedUpTo Reads Stops limit r r2 end rest read input chars
-      → place + length rest ≡ length (ended_text input (ending_of end)) → IsNextStep end rest place (Stop fault)
-      → DecodesAll (decoding_by Reads Stops) limit r r2 fault input chars
+      (chars : List Heard) (fault : Option CliFault) → DecodedUpTo Reads Stops most limit r r2 end rest read input chars
+      → place + length rest ≡ length (ended_text input (ending_of end)) → IsNextStep (Opens Stops) end rest place (Stop fault)
+      → DecodesAll (decoding_by Reads Stops most) limit r r2 fault input chars
   decodes_at limit r r2 None rest place read input chars fault h placed step =
       decodes_to limit r r2 rest input chars fault Left (inl h.came) h.reads h.few
       (rw step.1 (
@@ -228,28 +245,28 @@ module _ {Heard : Type 0} (Reads : List ℕ → List Heard → List ℕ → Type
       ))
 
   pub decodes_all : (limit : ℕ) (r r2 : Stream) (end : Option InputEnd) (rest : List ℕ) (read : ℕ) (input : List ℕ)
-      (chars : List Heard) (fault : Option CliFault) → DecodedUpTo Reads Stops limit r r2 end rest read input chars
-      → IsNextStep end rest (ended_length end read - length rest) (Stop fault)
-      → DecodesAll (decoding_by Reads Stops) limit r r2 fault input chars
+      (chars : List Heard) (fault : Option CliFault) → DecodedUpTo Reads Stops most limit r r2 end rest read input chars
+      → IsNextStep (Opens Stops) end rest (ended_length end read - length rest) (Stop fault)
+      → DecodesAll (decoding_by Reads Stops most) limit r r2 fault input chars
   decodes_all limit r r2 end rest read input chars fault h step =
       let within = rest_within limit r r2 end rest read input chars h in
       let same : ended_length end read ≡ length (ended_text input (ending_of end)) = rw h.count (sym (ended_long input end)) in
       decodes_at limit r r2 end rest (ended_length end read - length rest) read input chars fault h (omega (arith, same, within)) step
 
 -- if the text of an input was written, each fault that the input can have is an outcome of the call
-fault_ends : {Heard : Type 0} (Reads : List ℕ → List Heard → List ℕ → Type 0) (Stops : List ℕ → Type 0) (limit : ℕ)
+fault_ends : {Heard : Type 0} (Reads : List ℕ → List Heard → List ℕ → Type 0) (Stops : List ℕ → Type 0) (most limit : ℕ)
     (IsText IsDecided : TextRelation (List Heard)) (r r' w w' : Stream) (input : List ℕ) (ending : Ending)
     (heard : List Heard) (fault : CliFault) → HasHeardBy Reads Stops input ending heard (Some fault)
-    → (text : List ℕ) × ReadsText (decoding_by Reads Stops) limit IsText r r' (Some fault) text × WritesAll w w' text
-    → LiveOutcome (decoding_by Reads Stops) limit IsText IsDecided r r' w w' (Err fault)
-fault_ends Reads Stops limit IsText IsDecided r r' w w' input _ _ _ (HasHeardBy.bad_hex _ place bad) wrote = wrote
-fault_ends Reads Stops limit IsText IsDecided r r' w w' input _ _ _ _ wrote = wrote
+    → (text : List ℕ) × ReadsText (decoding_by Reads Stops most) limit IsText r r' (Some fault) text × WritesAll w w' text
+    → LiveOutcome (decoding_by Reads Stops most) limit IsText IsDecided r r' w w' (Err fault)
+fault_ends Reads Stops most limit IsText IsDecided r r' w w' input _ _ _ (HasHeardBy.bad_hex _ place bad) wrote = wrote
+fault_ends Reads Stops most limit IsText IsDecided r r' w w' input _ _ _ _ wrote = wrote
 
 -- if the text of an input with a fault was written, the outcome of the call is that fault
-pub ends_with : {Heard : Type 0} (Reads : List ℕ → List Heard → List ℕ → Type 0) (Stops : List ℕ → Type 0) (limit : ℕ)
+pub ends_with : {Heard : Type 0} (Reads : List ℕ → List Heard → List ℕ → Type 0) (Stops : List ℕ → Type 0) (most limit : ℕ)
     (IsText IsDecided : TextRelation (List Heard)) (r r' w w' : Stream) (fault : CliFault) (text : List ℕ)
-    → ReadsText (decoding_by Reads Stops) limit IsText r r' (Some fault) text → WritesAll w w' text
-    → LiveOutcome (decoding_by Reads Stops) limit IsText IsDecided r r' w w' (Err fault)
-ends_with Reads Stops limit IsText IsDecided r r' w w' fault text reads wrote =
-    fault_ends Reads Stops limit IsText IsDecided r r' w w' reads.input reads.ending reads.has_text.heard fault reads.has_text.has
+    → ReadsText (decoding_by Reads Stops most) limit IsText r r' (Some fault) text → WritesAll w w' text
+    → LiveOutcome (decoding_by Reads Stops most) limit IsText IsDecided r r' w w' (Err fault)
+ends_with Reads Stops most limit IsText IsDecided r r' w w' fault text reads wrote =
+    fault_ends Reads Stops most limit IsText IsDecided r r' w w' reads.input reads.ending reads.has_text.heard fault reads.has_text.has
     (text, reads, wrote)

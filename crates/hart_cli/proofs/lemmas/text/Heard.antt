@@ -1,18 +1,15 @@
--- Texts with silences: a text reads in one way, and what follows a text does not change what was read.
+-- Texts with marks: a text reads in one way, and what follows a text does not change what was read.
 use Rattle.std.proofs.Common.{◌≡◌, ◌+◌, ◌*◌, ◌≤◌, ◌∙◌, ℕ, List, [], ◌∷◌, ◌++◌, length, refl, sym, ap, arith}
 use Rattle.std.proofs.Common.{append_assoc}
-use Rattle.std.proofs.lemmas.Grind.{common_steps}
 use Rattle.std.proofs.lemmas.List.{map-append}
 use Rattle.hart_frame.specs.heard.Character.{Character}
-use Rattle.hart_cli.specs.text.Heard.{Heard, HeardChar, NothingBegins, ReadsHeard, Silence, heard_chars, items, silence}
-use Rattle.hart_cli.specs.text.Items.{MayBegin, NoPieceBegins, ReadsUpTo}
+use Rattle.hart_cli.specs.text.Heard as reading
+use Rattle.hart_cli.specs.text.Heard.{BeginsWithMark, Date, Heard, HeardChar, NothingBegins, ReadsHeard, Silence, heard_chars, items}
+use Rattle.hart_cli.specs.text.Items.{Opens, ReadsUpTo}
 use Rattle.hart_cli.proofs.lemmas.text.InputChars.{item_laws}
 use Rattle.hart_cli.proofs.lemmas.text.Items.{NoPieceBegins-nil, ReadsUpTo-few, ReadsUpTo-more, ReadsUpTo-on, goes_on, one_reading, stays}
-use Rattle.hart_cli.proofs.lemmas.text.Reads.{Laws, may_begin-nil}
-
--- no piece begins with a `/`
-pub no_piece_is_silence : (rest : List ℕ) → NoPieceBegins (47 ∷ rest)
-no_piece_is_silence rest p tail h = grind (arith, common_steps)
+use Rattle.hart_cli.proofs.lemmas.text.Marks.{mark_long, mark_more, no_piece_is_mark, one_mark}
+use Rattle.hart_cli.proofs.lemmas.text.Reads.{Laws, may_begin-nil, may_open}
 
 -- joined characters are heard as the first ones and then the second ones
 pub chars_on : (xs ys : List Character) → heard_chars (xs ++ ys) ≡ heard_chars xs ++ heard_chars ys
@@ -22,25 +19,25 @@ chars_on xs ys = map-append _ xs ys
 heard_more : (text : List ℕ) (heard : List Heard) (rest more : List ℕ) → ReadsHeard text heard rest
     → ReadsHeard (text ++ more) heard (rest ++ more)
 heard_more _ _ _ more (items text chars rest r) = items (text ++ more) chars (rest ++ more) (ReadsUpTo-more text chars rest more r)
-heard_more _ _ _ more (silence text chars rest heard last r h) =
-    silence (text ++ more) chars (rest ++ more) heard (last ++ more) (ReadsUpTo-more text chars (47 ∷ rest) more r)
-    (heard_more rest heard last more h)
+heard_more _ _ _ more (reading.mark text chars next m rest heard last r b h) =
+    reading.mark (text ++ more) chars (next ++ more) m (rest ++ more) heard (last ++ more) (ReadsUpTo-more text chars next more r)
+    (mark_more next m rest more b) (heard_more rest heard last more h)
 
 -- a text reads as its items, and then as its rest reads
 items_on : (text : List ℕ) (xs : List Character) (rest : List ℕ) (ys : List Heard) (last : List ℕ) → ReadsUpTo text xs rest
     → ReadsHeard rest ys last → ReadsHeard text (heard_chars xs ++ ys) last
 items_on text xs _ _ _ r (items rest chars last k) =
     rw (← chars_on xs chars) (items text (xs ++ chars) last (ReadsUpTo-on text xs rest chars last r k))
-items_on text xs _ _ _ r (silence rest chars next heard last k h) =
+items_on text xs _ _ _ r (reading.mark rest chars next m after heard last k b h) =
     rw (← append_assoc, ← chars_on xs chars)
-    (silence text (xs ++ chars) next heard last (ReadsUpTo-on text xs rest chars (47 ∷ next) r k) h)
+    (reading.mark text (xs ++ chars) next m after heard last (ReadsUpTo-on text xs rest chars next r k) b h)
 
 -- a text reads up to its rest, and then as the rest reads
 pub heard_on : (text : List ℕ) (xs : List Heard) (rest : List ℕ) (ys : List Heard) (last : List ℕ) → ReadsHeard text xs rest
     → ReadsHeard rest ys last → ReadsHeard text (xs ++ ys) last
 heard_on _ _ _ ys last (items text chars rest r) k = items_on text chars rest ys last r k
-heard_on _ _ _ ys last (silence text chars next heard rest r h) k =
-    rw append_assoc (silence text chars next (heard ++ ys) last r (heard_on next heard rest ys last h k))
+heard_on _ _ _ ys last (reading.mark text chars next m after heard rest r b h) k =
+    rw append_assoc (reading.mark text chars next m after (heard ++ ys) last r b (heard_on after heard rest ys last h k))
 
 -- a reading that stops where nothing begins continues every other reading of the text
 heard_goes_on : (text : List ℕ) (xs : List Heard) (rest : List ℕ) (ys : List Heard) (last : List ℕ) → ReadsHeard text xs rest
@@ -48,39 +45,41 @@ heard_goes_on : (text : List ℕ) (xs : List Heard) (rest : List ℕ) (ys : List
 heard_goes_on _ _ _ _ _ (items text xs rest r) (items _ ys last k) n =
     let on = goes_on text xs rest ys last r k n.no_piece in
     (heard_chars on.between, items rest on.between last on.reads, ap heard_chars on.chars ∙ chars_on xs on.between)
-heard_goes_on _ _ _ _ _ (items text xs rest r) (silence _ ys next heard last k h) n =
-    let on = goes_on text xs rest ys (47 ∷ next) r k (no_piece_is_silence next) in
+heard_goes_on _ _ _ _ _ (items text xs rest r) (reading.mark _ ys next m after heard last k b h) n =
+    let on = goes_on text xs rest ys next r k (no_piece_is_mark next m after b) in
     let is : heard_chars ys ≡ heard_chars xs ++ heard_chars on.between = ap heard_chars on.chars ∙ chars_on xs on.between in (
-      heard_chars on.between ++ Silence ∷ heard,
-      silence rest on.between next heard last on.reads h,
+      heard_chars on.between ++ m ∷ heard,
+      reading.mark rest on.between next m after heard last on.reads b h,
       rw (is, append_assoc) refl,
     )
-heard_goes_on _ _ _ _ _ (silence text xs next heard rest r h) (items _ ys last k) n =
-    let on = goes_on text xs (47 ∷ next) ys last r k n.no_piece in
-    let stay = stays (47 ∷ next) on.between last on.reads (no_piece_is_silence next) in
-    absurd (n.no_silence (next, sym stay.1))
-heard_goes_on _ _ _ _ _ (silence text xs next heard rest r h) (silence _ ys after other last k g) n =
-    let same = one_reading text xs (47 ∷ next) ys (47 ∷ after) r k (no_piece_is_silence next) (no_piece_is_silence after) in
-    let place : after ≡ next = cc in
-    let on = heard_goes_on next heard rest other last h (rw place at g) n in (
+heard_goes_on _ _ _ _ _ (reading.mark text xs next m after heard rest r b h) (items _ ys last k) n =
+    let on = goes_on text xs next ys last r k n.no_piece in
+    let stay = stays next on.between last on.reads (no_piece_is_mark next m after b) in
+    absurd (n.no_mark m after (rw stay.1 at b))
+heard_goes_on _ _ _ _ _ (reading.mark text xs next m after heard rest r b h) (reading.mark _ ys place o behind other last k c g) n =
+    let same = one_reading text xs next ys place r k (no_piece_is_mark next m after b) (no_piece_is_mark place o behind c) in
+    let one = one_mark next m o after behind b (rw (← same.1) at c) in
+    let on = heard_goes_on after heard rest other last h (rw (← one.1) at g) n in (
       on.0,
       on.1,
-      ap (λ zs. heard_chars zs ++ Silence ∷ other) (sym same.0)
-          ∙ (ap (λ zs. heard_chars xs ++ Silence ∷ zs) on.2 ∙ sym (append_assoc (heard_chars xs) (Silence ∷ heard) on.0)),
+      ap (λ zs. heard_chars zs ++ o ∷ other) (sym same.0)
+          ∙ (ap (λ z. heard_chars xs ++ z ∷ other) (sym one.0)
+          ∙ (ap (λ zs. heard_chars xs ++ m ∷ zs) on.2 ∙ sym (append_assoc (heard_chars xs) (m ∷ heard) on.0))),
     )
 
 -- nothing is read where nothing begins
 heard_stays : (rest : List ℕ) (heard : List Heard) (last : List ℕ) → ReadsHeard rest heard last → NothingBegins rest
     → (heard ≡ []) × (rest ≡ last)
 heard_stays _ _ _ (items rest chars last r) n = let stay = stays rest chars last r n.no_piece in (ap heard_chars stay.0, stay.1)
-heard_stays _ _ _ (silence text chars next heard last r h) n =
-    let stay = stays text chars (47 ∷ next) r n.no_piece in absurd (n.no_silence (next, stay.1))
+heard_stays _ _ _ (reading.mark text chars next m after heard last r b h) n =
+    let stay = stays text chars next r n.no_piece in absurd (n.no_mark m after (rw (← stay.1) at b))
 
 -- the number of characters in what was heard
 abbrev pub count : List Heard → ℕ
 count [] = 0
 count (HeardChar character ∷ heard) = 1 + count heard
 count (Silence ∷ heard) = count heard
+count (Date word ∷ heard) = count heard
 
 pub count_chars : (chars : List Character) → count (heard_chars chars) ≡ length chars
 count_chars [] = refl
@@ -90,42 +89,54 @@ pub count_on : (xs ys : List Heard) → count (xs ++ ys) ≡ count xs + count ys
 count_on [] ys = omega arith
 count_on (HeardChar character ∷ xs) ys = omega (arith, count_on xs ys)
 count_on (Silence ∷ xs) ys = count_on xs ys
+count_on (Date word ∷ xs) ys = count_on xs ys
+
+-- a mark is no character
+count_mark : (text : List ℕ) (m : Heard) (rest : List ℕ) (heard : List Heard) → BeginsWithMark text m rest
+    → count (m ∷ heard) ≡ count heard
+count_mark text (HeardChar character) rest heard never = absurd never
+count_mark text Silence rest heard begins = refl
+count_mark text (Date word) rest heard begins = refl
 
 -- a text has at least two bytes before its rest for each character
 pub heard_few : (text : List ℕ) (heard : List Heard) (rest : List ℕ) → ReadsHeard text heard rest
     → 2 * count heard + length rest ≤ length text
 heard_few _ _ _ (items text chars rest r) = omega (arith, ReadsUpTo-few text chars rest r, count_chars chars)
-heard_few _ _ _ (silence text chars next heard last r h) =
+heard_few _ _ _ (reading.mark text chars next m after heard last r b h) =
     omega (
       arith,
-      ReadsUpTo-few text chars (47 ∷ next) r,
-      heard_few next heard last h,
-      count_on (heard_chars chars) (Silence ∷ heard),
+      ReadsUpTo-few text chars next r,
+      mark_long next m after b,
+      heard_few after heard last h,
+      count_on (heard_chars chars) (m ∷ heard),
+      count_mark next m after heard b,
       count_chars chars,
     )
 
 -- a reading whose rest is as long as the text has read nothing
 heard_still : (text : List ℕ) (heard : List Heard) (rest : List ℕ) → ReadsHeard text heard rest → length rest ≡ length text → rest ≡ text
 heard_still _ _ _ (items text chars rest r) long = item_laws.still text chars rest r long
-heard_still _ _ _ (silence text chars next heard last r h) long =
-    absurd (omega (arith, long, ReadsUpTo-few text chars (47 ∷ next) r, heard_few next heard last h))
+heard_still _ _ _ (reading.mark text chars next m after heard last r b h) long =
+    absurd (omega (arith, long, ReadsUpTo-few text chars next r, mark_long next m after b, heard_few after heard last h))
+
+-- no mark begins at the end of a text
+no_mark_at_end : (m : Heard) (rest : List ℕ) → BeginsWithMark [] m rest → ⊥
+no_mark_at_end (HeardChar character) rest never = never
+no_mark_at_end Silence rest is = absurd cc
+no_mark_at_end (Date word) rest (valid, is, next) = absurd cc
 
 -- nothing begins at the end of a text
 heard_none : NothingBegins []
-heard_none = record { no_piece = NoPieceBegins-nil; no_silence = λ begins. let is = begins.1 in absurd cc }
+heard_none = record { no_piece = NoPieceBegins-nil; no_mark = no_mark_at_end }
 
--- where nothing can begin, nothing begins whatever follows
-heard_decided : (rest more : List ℕ) → NothingBegins rest → (MayBegin rest → ⊥) → NothingBegins (rest ++ more)
-heard_decided [] more stops none = absurd (none may_begin-nil)
-heard_decided (byte ∷ rest) more stops none = record {
-  no_piece = item_laws.decided (byte ∷ rest) more stops.no_piece none;
-  no_silence = λ begins.
-      let is = begins.1 in
-      let same : byte ≡ 47 = cc in
-      stops.no_silence (rest, ap (λ n. n ∷ rest) same);
+-- where nothing is open, nothing begins whatever follows
+heard_decided : (rest more : List ℕ) → NothingBegins rest → (Opens NothingBegins rest → ⊥) → NothingBegins (rest ++ more)
+heard_decided rest more stops none = record {
+  no_piece = λ p tail begins. none (record { more = more; goes_on = λ other. other.no_piece p tail begins });
+  no_mark = λ m after begins. none (record { more = more; goes_on = λ other. other.no_mark m after begins });
 }
 
--- reading texts with silences has the laws of a way to read texts
+-- reading texts with marks has the laws of a way to read texts
 pub heard_laws : Laws ReadsHeard NothingBegins
 heard_laws = record {
   more = heard_more;
@@ -138,3 +149,7 @@ heard_laws = record {
   pieces = λ text stops. stops.no_piece;
   decided = heard_decided;
 }
+
+-- at the end of a text, more may begin
+pub nothing_open : Opens NothingBegins []
+nothing_open = may_open ReadsHeard NothingBegins heard_laws [] may_begin-nil

@@ -26,7 +26,7 @@ item_laws = record {
   still = still;
   none = NoPieceBegins-nil;
   pieces = λ text stops. stops;
-  decided = λ rest more stops none p tail begins. none (record { more = more; piece = p; tail = tail; begins = begins });
+  decided = λ rest more stops none p tail begins. none (record { more = more; goes_on = λ other. other p tail begins });
 }
 
 -- the bad hex of a text is at one place, after one list of characters

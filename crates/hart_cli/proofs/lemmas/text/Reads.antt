@@ -7,7 +7,7 @@ use Rattle.hart_cli.specs.declared.fault.CliFault.TheVariants.{BadHex}
 use Rattle.hart_cli.specs.declared.input.InputEnd.{InputEnd}
 use Rattle.hart_cli.specs.input.Input.{CameTo, Ending, Left}
 use Rattle.hart_cli.specs.text.InputChars.{HasHeardBy, all, bad_hex, decided_bad_hex, failure, limit}
-use Rattle.hart_cli.specs.text.Items.{HasBadHexBy, MayBegin, NoPieceBegins, ReadsSoFarBy, Separator, closed}
+use Rattle.hart_cli.specs.text.Items.{HasBadHexBy, MayBegin, NoPieceBegins, Opens, ReadsSoFarBy, Separator, closed}
 
 -- the laws of a way to read texts: more text does not change what was read; a reading goes on from its rest, and in one way; a
 -- reading stops only where no piece begins, and reads nothing there
@@ -22,18 +22,25 @@ pub record Laws {Heard : Type 0} (Reads : List ℕ → List Heard → List ℕ �
   pub still : (text : List ℕ) (heard : List Heard) (rest : List ℕ) → Reads text heard rest → length rest ≡ length text → rest ≡ text
   pub none : Stops []
   pub pieces : (text : List ℕ) → Stops text → NoPieceBegins text
-  pub decided : (rest more : List ℕ) → Stops rest → (MayBegin rest → ⊥) → Stops (rest ++ more)
+  pub decided : (rest more : List ℕ) → Stops rest → (Opens Stops rest → ⊥) → Stops (rest ++ more)
 
 -- a piece may begin at the end of a text
 pub may_begin-nil : MayBegin []
 may_begin-nil = record { more = 32 ∷ []; piece = Separator 32; tail = []; begins = grind (arith, common_steps) }
 
--- a rest in which no piece may begin is not empty, whatever follows it
-some_rest : (rest more : List ℕ) → (MayBegin rest → ⊥) → rest ++ more ≢ []
-some_rest [] more none = absurd (none may_begin-nil)
-some_rest (byte ∷ rest) more none = λ is. absurd cc
-
 module _ {Heard : Type 0} (Reads : List ℕ → List Heard → List ℕ → Type 0) (Stops : List ℕ → Type 0) (laws : Laws Reads Stops) where
+  -- where a piece may begin, a text is open
+  pub may_open : (text : List ℕ) → MayBegin text → Opens Stops text
+  may_open text may = record {
+    more = may.more;
+    goes_on = λ stops. laws.pieces (text ++ may.more) stops may.piece may.tail may.begins;
+  }
+
+  -- a rest that is not open is not empty, whatever follows it
+  some_rest : (rest more : List ℕ) → (Opens Stops rest → ⊥) → rest ++ more ≢ []
+  some_rest [] more none = absurd (none (may_open [] may_begin-nil))
+  some_rest (byte ∷ rest) more none = λ is. absurd cc
+
   -- a text reads in one way up to where it stops
   pub one_way : (text : List ℕ) (xs : List Heard) (rest : List ℕ) (ys : List Heard) (last : List ℕ) → Reads text xs rest
       → Reads text ys last → Stops rest → Stops last → (xs ≡ ys) × (rest ≡ last)
@@ -61,7 +68,7 @@ module _ {Heard : Type 0} (Reads : List ℕ → List Heard → List ℕ → Type
       → HasBadHexBy Reads Stops text heard place
   now_bad text heard place h = rw append-nil at (h [])
 
-  -- a text in whose rest a piece may begin has no decided bad hex
+  -- a text whose rest is open has no decided bad hex
   not_decided : (text : List ℕ) (xs ys : List Heard) (place : ℕ) → ReadsSoFarBy Reads Stops text xs
       → ((more : List ℕ) → HasBadHexBy Reads Stops (text ++ more) ys place) → ⊥
   not_decided text xs ys place h k =
@@ -74,7 +81,7 @@ module _ {Heard : Type 0} (Reads : List ℕ → List Heard → List ℕ → Type
       let long : length later.rest ≡ length (h.rest ++ more) =
       omega (arith, now.begins, later.begins, length-append text more, length-append h.rest more, ap length same.1) in
       let still = laws.still (h.rest ++ more) between later.rest reads long in
-      laws.pieces (h.rest ++ more) (rw still at later.no_piece) h.open_end.piece h.open_end.tail h.open_end.begins
+      h.open_end.goes_on (rw still at later.no_piece)
 
   -- an input was heard in one way, with one fault
   pub one_hearing : (text : List ℕ) (ending : Ending) (xs ys : List Heard) (f g : Option CliFault)
@@ -129,9 +136,9 @@ module _ {Heard : Type 0} (Reads : List ℕ → List Heard → List ℕ → Type
   grows input more _ xs _ _ rest reads (limit ys h) =
       let on = laws.goes_on (input ++ more) xs _ ys h.rest (laws.more input xs rest more reads) h.reads h.no_piece in (on.0, on.2)
 
-  -- bad hex is decided if no piece may begin in the rest
+  -- bad hex is decided if the rest is not open
   pub decided_rest : (text : List ℕ) (heard : List Heard) (rest : List ℕ) (place : ℕ) → Reads text heard rest
-      → place + length rest ≡ length text → Stops rest → (MayBegin rest → ⊥)
+      → place + length rest ≡ length text → Stops rest → (Opens Stops rest → ⊥)
       → (more : List ℕ) → HasBadHexBy Reads Stops (text ++ more) heard place
   decided_rest text heard rest place reads placed stops none more = record {
     rest = rest ++ more;

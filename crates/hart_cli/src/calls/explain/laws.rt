@@ -18,14 +18,14 @@ ghost use Rattle.hart_cli.specs.declared.fault.CliFault.{CliFault};
 ghost use Rattle.hart_cli.specs.dump.Dump.{IsDump};
 ghost use Rattle.hart_cli.specs.explain.Dumped.{AreOfOneHearing};
 ghost use Rattle.hart_cli.specs.explain.Explain.{IsExplanation, IsRawExplanation};
-ghost use Rattle.hart_cli.specs.explain.Explanation.{IsDecidedExplanation, IsExplanationOf, explanation};
+ghost use Rattle.hart_cli.specs.explain.Explanation.{IsDecidedExplanation, IsExplanationOf, date_words, dated_text, explanation};
 ghost use Rattle.hart_cli.specs.explain.Gaps.{IsGap, IsOneLine, seen_place};
 ghost use Rattle.hart_cli.specs.explain.Message.{paragraph};
 ghost use Rattle.hart_cli.specs.explain.Misses.{miss_line, seems_line};
 ghost use Rattle.hart_cli.specs.input.Input.{Ending, Left};
 ghost use Rattle.hart_cli.specs.input.Decoding.{heard_decoding, raw_decoding};
 ghost use Rattle.hart_cli.specs.input.LiveInput.{IsDecidedText};
-ghost use Rattle.hart_cli.specs.text.Heard.{HasNoSilence, Heard};
+ghost use Rattle.hart_cli.specs.text.Heard.{HasNoMark, Heard, IsDateWord};
 
 use hart_frame::laws::{
     every_start_has_a_frame_or_a_miss, misses_are_in_the_way, misses_say_what_is_wrong,
@@ -45,34 +45,36 @@ pub fn explanations_grow()
         → (rest : List ℕ) × (whole ≡ told ++ rest) }
 {}
 
-/// For an input without a silence, read equally far, `hart dump` and `hart explain` return the same fault, if any, and write about
+/// For an input without silences and dates, read equally far, `hart dump` and `hart explain` return the same fault, if any, and write about
 /// the same messages at the same places. This also holds if one of the two left the input at bad hex, before its end, and the other
 /// read on.
 pub fn explanations_name_the_messages_of_dump()
-    ensures whole { (input : List ℕ) (ending : Ending) (f g : Option CliFault) (lines text : List ℕ) → HasNoSilence input
+    ensures whole { (input : List ℕ) (ending : Ending) (f g : Option CliFault) (lines text : List ℕ) → HasNoMark input
         → IsDump input ending f lines → IsExplanation input ending g text
         → (f ≡ g) × AreOfOneHearing input ending g lines text }
     ensures dump_left { (input more : List ℕ) (ending : Ending) (f g : Option CliFault) (lines text : List ℕ)
-        → HasNoSilence (input ++ more) → IsDump input Left f lines → IsExplanation (input ++ more) ending g text
+        → HasNoMark (input ++ more) → IsDump input Left f lines → IsExplanation (input ++ more) ending g text
         → (f ≡ g) × AreOfOneHearing (input ++ more) ending g lines text }
-    ensures explain_left { (input more : List ℕ) (ending : Ending) (f g : Option CliFault) (lines text : List ℕ) → HasNoSilence input
+    ensures explain_left { (input more : List ℕ) (ending : Ending) (f g : Option CliFault) (lines text : List ℕ) → HasNoMark input
         → IsDump (input ++ more) ending f lines → IsExplanation input Left g text
         → (f ≡ g) × AreOfOneHearing (input ++ more) ending f lines text }
 {}
 
-/// An explanation consists of what is said of the places before the first message, that message's paragraph, and the explanation of
-/// what follows. After the last message, the explanation is what is said of the places up to the end.
+/// An explanation consists of what is said of the places before the first message, that message's paragraph after the date of its
+/// place, and the explanation of what follows. After the last message, the explanation is what is said of the places up to the end.
 ///
 /// A gap between messages has one line for each place where the definition has a miss, in the order of the places. A second line
 /// follows that line exactly if a header is heard at the place. Let the tail be the characters from the end of the last message on. Each
 /// place of the gap where a body may start in the tail has a line. Any other place has a line only if just one preamble byte stands
 /// before it.
 pub fn every_start_outside_messages_has_one_line()
-    ensures by_message { (chars : List Character) (from : ℕ) (found : Found) (later : List Found)
-        → explanation (sightings chars from (found ∷ later))
-        ≡ explanation (missed chars from found.start) ++ paragraph found ++ explanation (sightings chars found.stop later) }
-    ensures last_gap { (chars : List Character) (from : ℕ)
-        → explanation (sightings chars from []) ≡ explanation (missed chars from (length chars)) }
+    ensures by_message { (date : ℕ → List ℕ) (chars : List Character) (from : ℕ) (found : Found) (later : List Found)
+        → explanation date (sightings chars from (found ∷ later))
+        ≡ explanation date (missed chars from found.start) ++ (date_words (date found.start) ++ paragraph found)
+        ++ explanation date (sightings chars found.stop later) }
+    ensures last_gap { (date : ℕ → List ℕ) (chars : List Character) (from : ℕ)
+        → explanation date (sightings chars from []) ≡ explanation date (missed chars from (length chars)) }
+    ensures dated_line { (word : List ℕ) (place : ℕ) (miss : Miss) → IsDateWord word → IsOneLine (word ++ 32 ∷ miss_line place miss) }
     ensures one_line { (place : ℕ) (miss : Miss) → IsOneLine (miss_line place miss) }
     ensures second_line { (header : HeaderParts) → IsOneLine (seems_line (Some header)) }
     ensures in_order { (chars : List Character) (from stop : ℕ)

@@ -1,32 +1,33 @@
 //! What is heard and not yet told, and text that is not yet written.
-ghost use Rattle.std.specs.Prelude.{◌≡◌, ◌↔◌, ◌++◌, ◌+◌, ◌-◌, ◌<◌, ◌≤◌, ◌^◌, [], false, true, IfOk, IsTrue, OnOk, MatchResult, drop, length};
+ghost use Rattle.std.specs.Prelude.{◌≡◌, ◌++◌, ◌+◌, ◌-◌, ◌<◌, ◌≤◌, ◌^◌, ℕ, [], false, true, IfOk, OnOk, MatchResult, drop, length};
 ghost use Rattle.std.specs.Option.{option_to_list};
 ghost use Rattle.hart_frame.specs.declared.scan.sighting.After.TheVariants.{End};
 ghost use Rattle.hart_frame.specs.heard.Character.{faultless};
-ghost use Rattle.hart_frame.specs.heard.Sighting.{moved_seen};
-ghost use Rattle.hart_frame.specs.scan.Sighting.{AfterIsValid, heard_with, is_end, seen_of};
-ghost use Rattle.hart_cli.specs.explain.Explanation.{seen_text};
-ghost use Rattle.hart_cli.specs.explain.Telling.{FailsToHear, FailsToTell, FitsFrom, HearsOrFails, HearsStretchesOrFails, HearsTextOrFails, IsNextSighting};
-ghost use Rattle.hart_cli.specs.explain.Telling.{IsNew, IsWaiting, TellsDecided, TellsRest, chars_after};
-ghost use Rattle.hart_cli.specs.input.Decoding.{most_ahead};
-ghost use Rattle.hart_cli.specs.text.Heard.{BeginsWithSilence, NothingBegins};
+ghost use Rattle.hart_frame.specs.scan.Sighting.{AfterIsValid, heard_with, is_end};
+ghost use Rattle.hart_cli.specs.explain.Dates.{date_at, date_from};
+ghost use Rattle.hart_cli.specs.explain.Telling.{FailsToHear, FailsToTell, HearsMark, HearsOrFails, HearsStretchesOrFails, HearsTextOrFails};
+ghost use Rattle.hart_cli.specs.explain.Telling.{IsNew, IsNextSighting, IsWaiting, TellsDecided, TellsRest, chars_after};
+ghost use Rattle.hart_cli.specs.input.Decoding.{most_heard_ahead};
+ghost use Rattle.hart_cli.specs.text.Heard.{NothingBegins};
 ghost use Rattle.hart_cli.specs.text.Items.{NoPieceBegins};
+ghost use Rattle.hart_cli.specs.text.Marks.{HasMark, heard_mark, mark_length};
 
-use crate::calls::explain::message::push_paragraph;
-use crate::calls::explain::misses::{push_miss_line, push_seems_line};
+use crate::calls::explain::dates::Dates;
+use crate::calls::explain::sightings::push_sighting;
 use crate::kept::{Kept, make_room};
 use crate::output::write_all;
 use crate::stream::{Failed, Sink};
 use crate::text::chunk::{CHUNK_LEN, Chunk, read_chunk};
 use crate::text::items::next_piece;
+use crate::text::marks::{Mark, leading_mark};
 use crate::text::pairs::Pairs;
-use hart_frame::{After, Char, NextSighting, Sighting, next_sighting};
+use hart_frame::{After, Char, NextSighting, next_sighting};
 use hart_line::Digits;
 use hart_values::ByteList;
 
 /// The greatest number of characters that are kept while they decide nothing: two preamble bytes, and the longest body without its
 /// check byte.
-const MOST_OPEN: usize = 268;
+pub const MOST_OPEN: usize = 268;
 
 /// Characters that decide nothing yet.
 type Open = ByteList<MOST_OPEN>;
@@ -41,6 +42,8 @@ pub struct Telling {
     pub held: ByteList<HELD_LEN>,
     /// The place of the first held character in all that was heard.
     pub first: u64,
+    /// The dates of the held characters, and of those that come next.
+    pub dates: Dates,
     /// The text that is not yet written.
     pub kept: Kept,
     /// The table of hex digits for the text.
@@ -55,13 +58,14 @@ impl Telling {
         Telling {
             held: ByteList::new(),
             first: 0,
+            dates: Dates::new(),
             kept: Kept::new(),
             pairs: Pairs::new(),
         }
     }
 
-    /// Hears the leading characters and silences of a text, and writes what they decide. Returns the place of the rest of the text,
-    /// which begins with neither a piece nor a `/`.
+    /// Hears the leading characters and marks of a text, and writes what they decide. Returns the place of the rest of the text, which
+    /// begins with neither a piece nor a mark.
     ///
     /// # Errors
     ///
@@ -74,7 +78,7 @@ impl Telling {
     ) -> Result<usize, Failed>
         requires waiting { IsWaiting self.old }
         requires quiet { self.old.kept ≡ [] }
-        requires few { length text.now ≤ most_ahead }
+        requires few { length text.now ≤ most_heard_ahead }
         requires places { self.old.first + length self.old.held + length text.now < 2 ^ 64 - 1 }
         ensures hears { HearsStretchesOrFails self.old self.new text.now (W.stream writer.old) (W.stream writer.new) result }
         ensures stops { IfOk result (λ place. NothingBegins (drop place text.now)) }
@@ -107,8 +111,8 @@ impl Telling {
         Ok(())
     }
 
-    /// Hears the leading characters and silences of a text. Returns the place of the rest of the text, which begins with neither a
-    /// piece nor a `/`.
+    /// Hears the leading characters and marks of a text. Returns the place of the rest of the text, which begins with neither a piece
+    /// nor a mark.
     ///
     /// # Errors
     ///
@@ -120,7 +124,7 @@ impl Telling {
         text: &[u8],
     ) -> Result<usize, Failed>
         requires waiting { IsWaiting self.old }
-        requires few { length text.now ≤ most_ahead }
+        requires few { length text.now ≤ most_heard_ahead }
         requires places { self.old.first + length self.old.held + length text.now < 2 ^ 64 - 1 }
         ensures hears { HearsStretchesOrFails self.old self.new text.now (W.stream writer.old) (W.stream writer.new) result }
         ensures stops { IfOk result (λ place. NothingBegins (drop place text.now)) }
@@ -129,11 +133,12 @@ impl Telling {
         let mut place = 0;
         loop {
             place += self.hear_text(writer, digits, &text[place..])?;
-            if !begins_with_silence(&text[place..]) {
+            let rest = &text[place..];
+            let Some(mark) = leading_mark(rest) else {
                 return Ok(place);
-            }
-            self.hear_silence(writer)?;
-            place += 1;
+            };
+            let len = self.hear_mark(writer, mark, rest)?;
+            place += len;
         }
     }
 
@@ -149,7 +154,7 @@ impl Telling {
         text: &[u8],
     ) -> Result<usize, Failed>
         requires waiting { IsWaiting self.old }
-        requires few { length text.now ≤ most_ahead }
+        requires few { length text.now ≤ most_heard_ahead }
         requires places { self.old.first + length self.old.held + length text.now < 2 ^ 64 - 1 }
         ensures hears { HearsTextOrFails self.old self.new text.now (W.stream writer.old) (W.stream writer.new) result }
         ensures stops { IfOk result (λ place. NoPieceBegins (drop place text.now)) }
@@ -169,13 +174,47 @@ impl Telling {
         }
     }
 
+    /// Hears the mark that begins a text, and returns the number of its bytes.
+    ///
+    /// # Errors
+    ///
+    /// `Failed` at the first write that fails.
+    fn hear_mark<W: Sink>(
+        &mut self,
+        writer: &mut W,
+        mark: Mark,
+        text: &[u8],
+    ) -> Result<usize, Failed>
+        requires waiting { IsWaiting self.old }
+        requires mark { HasMark text.now mark }
+        requires within { mark_length mark ≤ length text.now }
+        requires places { self.old.first + length self.old.held < 2 ^ 64 - 1 }
+        ensures hears { MatchResult result
+            (λ len. HearsMark self.old self.new (heard_mark text.now mark) (W.stream writer.old) (W.stream writer.new))
+            (λ _. FailsToHear self.old [] true (W.stream writer.old) (W.stream writer.new)) }
+        ensures len { IfOk result (λ len. len ≡ mark_length mark) }
+        ensures waiting { OnOk result (IsWaiting self.new) }
+    {
+        match mark {
+            Mark::Silence => {
+                self.hear_silence(writer)?;
+                Ok(1)
+            }
+            Mark::Date { len } => {
+                self.dates.hear(&text[1..=len]);
+                Ok(1 + len)
+            }
+        }
+    }
+
     /// Hears that the line fell silent, and tells the rest of what was heard before.
     ///
     /// # Errors
     ///
     /// `Failed` at the first write that fails.
     fn hear_silence<W: Sink>(&mut self, writer: &mut W) -> Result<(), Failed>
-        requires { self.old.first + length self.old.held < 2 ^ 64 - 1 }
+        requires dated { length self.old.dates.held.items ≡ length self.old.held }
+        requires places { self.old.first + length self.old.held < 2 ^ 64 - 1 }
         ensures hears { HearsOrFails self.old self.new [] true (W.stream writer.old) (W.stream writer.new) result }
         ensures waiting { OnOk result (IsWaiting self.new) }
         ensures ended { OnOk result (self.new.held ≡ []) }
@@ -226,6 +265,7 @@ impl Telling {
     fn tell_held<W: Sink>(&mut self, writer: &mut W, after: After) -> Result<(), Failed>
         requires valid { AfterIsValid after }
         requires places { self.old.first + length self.old.held < 2 ^ 64 - 1 }
+        requires dated { length self.old.dates.held.items ≤ length self.old.held }
         ensures hears { HearsOrFails
             self.old self.new
             (chars_after after) (is_end after)
@@ -238,6 +278,7 @@ impl Telling {
             writer,
             &mut self.kept,
             &self.pairs,
+            &self.dates,
             self.first,
             held,
             &after,
@@ -251,13 +292,19 @@ impl Telling {
     fn let_go(&mut self, used: usize)
         requires places { self.old.first + used < 2 ^ 64 }
         requires few { length (drop used self.old.held) ≤ 268 }
-        ensures { self.new ≡ record self.old { held = drop used self.old.held; first = self.old.first + used } }
+        requires dated { length self.old.dates.held.items ≤ length self.old.held }
+        ensures held { self.new.held ≡ drop used self.old.held }
+        ensures first { self.new.first ≡ self.old.first + used }
+        ensures kept { self.new.kept ≡ self.old.kept }
+        ensures dated { length self.new.dates.held.items ≡ length self.new.held }
+        ensures dates { (place : ℕ) → date_at self.new.dates place ≡ date_at self.old.dates (used + place) }
     {
         let held = self.held.as_slice();
         let open = Open::from_slice(&held[used.min(held.len())..]).unwrap();
         self.held.clear();
         self.held.extend_from_slice(open.as_slice());
         self.first += used as u64;
+        self.dates.let_go(used, self.held.len());
     }
 
     /// Tells the rest of what was heard, since nothing comes after it, and writes the text.
@@ -268,6 +315,7 @@ impl Telling {
     pub fn finish<W: Sink>(&mut self, writer: &mut W) -> Result<(), Failed>
         requires quiet { self.old.kept ≡ [] }
         requires places { self.old.first + length self.old.held < 2 ^ 64 - 1 }
+        requires dated { length self.old.dates.held.items ≤ length self.old.held }
         ensures { MatchResult result
             (λ _. TellsRest self.old (W.stream writer.old) (W.stream writer.new))
             (λ _. FailsToHear self.old [] true (W.stream writer.old) (W.stream writer.new)) }
@@ -275,13 +323,6 @@ impl Telling {
         self.tell_held(writer, After::End)?;
         write_all(writer, self.kept.as_slice())
     }
-}
-
-/// Returns true if a `/` stands at the beginning of a text.
-fn begins_with_silence(text: &[u8]) -> bool
-    ensures { IsTrue result ↔ BeginsWithSilence text.now }
-{
-    text.first() == Some(&b'/')
 }
 
 /// Tells all decided sightings in bytes and in what comes after them. The first byte has the place `first` in all that was heard.
@@ -294,6 +335,7 @@ fn tell_decided<W: Sink>(
     writer: &mut W,
     kept: &mut Kept,
     pairs: &Pairs,
+    dates: &Dates,
     first: u64,
     held: &[u8],
     after: &After,
@@ -301,8 +343,13 @@ fn tell_decided<W: Sink>(
     requires valid { AfterIsValid after.now }
     requires places { first + length held.now < 2 ^ 64 - 1 }
     ensures { MatchResult result
-        (λ used. TellsDecided first held.now after.now used kept.old kept.new (W.stream writer.old) (W.stream writer.new))
+        (λ used. TellsDecided
+        (λ place. date_at dates.now (place - first))
+        first held.now after.now used
+        kept.old kept.new
+        (W.stream writer.old) (W.stream writer.new))
         (λ _. FailsToTell
+        (λ place. date_at dates.now (place - first))
         first (heard_with held.now after.now) (is_end after.now)
         kept.old
         (W.stream writer.old) (W.stream writer.new)) }
@@ -315,7 +362,7 @@ fn tell_decided<W: Sink>(
             return Ok(used);
         };
         make_room(writer, kept)?;
-        push_sighting(kept, pairs, first, &sighting);
+        push_sighting(kept, pairs, dates, first, &sighting);
     }
 }
 
@@ -331,24 +378,5 @@ fn next_after<'a>(held: &'a [u8], after: &After, from: usize) -> NextSighting<'a
         After::More => next_sighting(held, After::More, from),
         After::Damaged(char) => next_sighting(held, After::Damaged(*char), from),
         After::End => next_sighting(held, After::End, from),
-    }
-}
-
-/// Appends what is said of a sighting. Its places are counted from `first` on.
-fn push_sighting(text: &mut Kept, pairs: &Pairs, first: u64, sighting: &Sighting<'_>)
-    requires room { length text.old + 8192 ≤ 32768 }
-    requires places { FitsFrom first sighting.now }
-    ensures { text.new ≡ text.old ++ seen_text (moved_seen first (seen_of sighting.now)) }
-{
-    match sighting {
-        Sighting::Message(found) => push_paragraph(text, pairs, first, found),
-        Sighting::Missed {
-            place,
-            miss,
-            header,
-        } => {
-            push_miss_line(text, pairs, first, *place, *miss);
-            push_seems_line(text, pairs, header);
-        }
     }
 }

@@ -132,7 +132,9 @@ Input (stdin): the bytes that were heard, noise among them, as hart dump reads
 them (see hart dump --help), but of any length. What is decided is written
 before more is read, also while a line is being heard. An item / says that the
 line fell silent: what was heard before it is explained as ended, and places go
-on counting after it. With --raw the input is the bytes themselves, and not hex.
+on counting after it. An @ and a word, as @12:00:01, date what follows: lines
+with places then begin with the last date before their place. With --raw the
+input is the bytes themselves, and not hex.
 
 Output (stdout): for each message that hart dump lists, a line with its two
 places, who speaks to whom, and the command; and under it, after four spaces, a

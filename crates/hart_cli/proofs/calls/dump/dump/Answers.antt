@@ -4,7 +4,7 @@ use Rattle.hart_cli.specs.declared.calls.dump.frame_lines.FrameLines.{FrameLines
 use Rattle.hart_cli.specs.declared.fault.CliFault.{CliFault}
 use Rattle.hart_cli.specs.dump.Dump.{AreDecidedLines, AreFrameLines}
 use Rattle.hart_cli.specs.dump.FrameLines.{AddsRest, HearsAll}
-use Rattle.hart_cli.specs.input.Decoding.{item_decoding}
+use Rattle.hart_cli.specs.input.Decoding.{item_decoding, most_ahead}
 use Rattle.hart_cli.specs.input.Input.{input_limit}
 use Rattle.hart_cli.specs.input.LiveInput.{ReadsText}
 use Rattle.hart_cli.specs.stream.Stream.{Stream, WritesAll}
@@ -35,7 +35,7 @@ pub returns-in-Some : goal.returns-in-Some
 returns-in-Some g c =
     let all = rw c.in-Some.is at c.in_ok-fault.ensures in
     let (lines, dump, wrote) = has_dump _ all c.finish.ensures (rw c.as_slice.ensures.value at c.in_ok-write_all.ensures) in
-    ends_with ReadsUpTo NoPieceBegins input_limit AreFrameLines AreDecidedLines _ _ _ _ c.in-Some.fault lines dump wrote
+    ends_with ReadsUpTo NoPieceBegins most_ahead input_limit AreFrameLines AreDecidedLines _ _ _ _ c.in-Some.fault lines dump wrote
 
 pub returns-in-None : goal.returns-in-None
 returns-in-None g c =

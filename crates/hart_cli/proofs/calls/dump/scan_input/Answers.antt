@@ -4,7 +4,7 @@ use Rattle.std.proofs.lemmas.Grind.{common_steps}
 use Rattle.std.proofs.lemmas.Result.{err_from_is_err_and}
 use Rattle.hart_cli.specs.dump.Dump.{AreDecidedLines}
 use Rattle.hart_cli.specs.input.Input.{input_limit}
-use Rattle.hart_cli.specs.input.Decoding.{item_decoding}
+use Rattle.hart_cli.specs.input.Decoding.{item_decoding, most_ahead}
 use Rattle.hart_cli.specs.input.LiveInput.{IsDecidedText, WroteInTime}
 use Rattle.hart_cli.specs.text.Items.{nothing}
 use Rattle.hart_cli.proofs.calls.dump.scan_input.Given.{Over}
@@ -13,7 +13,7 @@ use Rattle.hart_cli.proofs.lemmas.Writes.{WritesAll-on, in_time_on}
 use Rattle.hart_cli.proofs.lemmas.dump.FrameLines.{has_long, has_nothing, waits_nothing}
 use Rattle.hart_cli.proofs.lemmas.dump.ScanInput.{HeardUpTo, heard_places, heard_step, hears_all, stopped_writing}
 use Rattle.hart_cli.proofs.lemmas.input.Decoded.{more_read, read_on, rest_within}
-use Rattle.hart_cli.specs.text.Items.{NoPieceBegins, ReadsUpTo}
+use Rattle.hart_cli.specs.text.Items.{MayBegin, NoPieceBegins, ReadsUpTo}
 use Rattle.hart_cli.proofs.lemmas.text.InputChars.{item_laws}
 use Rattle.hart_cli.proofs.lemmas.text.Reads.{may_begin-nil}
 use Rattle.hart_cli.proofs.lemmas.text.Items.{NoPieceBegins-nil, ReadsUpTo-few}
@@ -69,7 +69,7 @@ heard g c =
 pub next_step-requires-clause-within : goal.next_step-requires-clause-within
 next_step-requires-clause-within g c =
     let now = heard g (goal.at.next_step-requires-clause-within g c).After-hear_text-rest in
-    rest_within ReadsUpTo NoPieceBegins item_laws input_limit _ _ _ _ _ now.0.input now.0.chars now.0.decoded
+    rest_within ReadsUpTo NoPieceBegins most_ahead item_laws input_limit _ _ _ _ _ now.0.input now.0.chars now.0.decoded
 
 pub returns-in_err-write_all : goal.returns-in_err-write_all
 returns-in_err-write_all g c =
@@ -92,7 +92,7 @@ pub loop-frames-preserved : goal.loop-frames-preserved
 loop-frames-preserved g c =
     let kept : c.extend_from_slice.new.self ≡ c.hear_text-rest.result.now =
     grind (arith, common_steps, c.unwrap-open.ensures, c.from_slice.ensures.kept) in
-    let on = read_on c.read_ahead-portion.result.end _ _ c.in-ReadOn.ensures.step in
+    let on = read_on MayBegin c.read_ahead-portion.result.end _ _ c.in-ReadOn.ensures.step in
     let more = more_read _ _ _ _ _ c.read_ahead-portion.result c.read_ahead-portion.ensures.reads on.0 in
     let now = heard g (goal.at.loop-frames-preserved g c).After-hear_text-rest in
     let wrote = rw c.as_slice-in-loop-frames.ensures.value at c.in_ok-write_all.ensures in

@@ -1,6 +1,7 @@
+use Rattle.std.proofs.Common.{arith}
 use Rattle.std.proofs.lemmas.Result.{err_from_is_err_and}
 use Rattle.hart_cli.specs.explain.Explanation.{IsDecidedExplanation, IsExplanationOf}
-use Rattle.hart_cli.specs.input.Decoding.{heard_decoding}
+use Rattle.hart_cli.specs.input.Decoding.{heard_decoding, most_heard_ahead}
 use Rattle.hart_cli.specs.input.Input.{stream_limit}
 use Rattle.hart_cli.specs.text.Heard.{NothingBegins, ReadsHeard}
 use Rattle.hart_cli.proofs.lemmas.explain.TellInput.{explains_all, stops_at_rest}
@@ -9,6 +10,9 @@ use Rattle.hart_cli.proofs.calls.explain.explain.Goals as goal
 
 pub finish-requires-clause-places : goal.finish-requires-clause-places
 finish-requires-clause-places g c = c.in_ok-fault.ensures.places
+
+pub finish-requires-clause-dated : goal.finish-requires-clause-dated
+finish-requires-clause-dated g c = omega (arith, c.in_ok-fault.ensures.waiting.dated)
 
 pub returns-in_err-finish : goal.returns-in_err-finish
 returns-in_err-finish g c =
@@ -22,7 +26,8 @@ returns-in-Some g c =
     let all = rw c.in-Some.is at c.in_ok-fault.ensures in
     let (text, reads, wrote) =
     explains_all heard_decoding stream_limit _ _ _ _ _ c.new-telling.result _ _ c.new-telling.ensures all c.in_ok-finish.ensures in
-    ends_with ReadsHeard NothingBegins stream_limit IsExplanationOf IsDecidedExplanation _ _ _ _ c.in-Some.fault text reads wrote
+    ends_with ReadsHeard NothingBegins most_heard_ahead stream_limit IsExplanationOf IsDecidedExplanation _ _ _ _ c.in-Some.fault
+    text reads wrote
 
 pub returns-in-None : goal.returns-in-None
 returns-in-None g c =

@@ -1,3 +1,4 @@
+use Rattle.std.proofs.Common.{arith}
 use Rattle.std.proofs.lemmas.Result.{err_from_is_err_and}
 use Rattle.hart_cli.specs.explain.Explanation.{IsDecidedExplanation, IsExplanationOf}
 use Rattle.hart_cli.specs.input.Decoding.{raw_decoding, raw_limit}
@@ -7,6 +8,9 @@ use Rattle.hart_cli.proofs.calls.explain.explain_raw.Goals as goal
 
 pub finish-requires-clause-places : goal.finish-requires-clause-places
 finish-requires-clause-places g c = c.in_ok-fault.ensures.places
+
+pub finish-requires-clause-dated : goal.finish-requires-clause-dated
+finish-requires-clause-dated g c = omega (arith, c.in_ok-fault.ensures.waiting.dated)
 
 pub returns-in_err-finish : goal.returns-in_err-finish
 returns-in_err-finish g c =

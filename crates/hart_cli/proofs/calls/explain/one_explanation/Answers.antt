@@ -1,5 +1,5 @@
 use Rattle.std.proofs.Common.{◌≡◌, ◌∙◌, ℕ, List, ap, sym}
-use Rattle.hart_cli.specs.explain.Explanation.{IsExplanationOf, explanation}
+use Rattle.hart_cli.specs.explain.Explanation.{IsExplanationOf, date_of, explanation}
 use Rattle.hart_cli.proofs.lemmas.input.Raw.{one_raw_input}
 use Rattle.hart_cli.specs.text.Heard.{Heard, NothingBegins, ReadsHeard, stretches}
 use Rattle.hart_cli.proofs.lemmas.explain.Told.{one_seen}
@@ -11,7 +11,8 @@ use Rattle.hart_cli.proofs.calls.explain.one_explanation.Goals as goal
 one_text : (xs ys : List Heard) (a b : List ℕ) → xs ≡ ys → IsExplanationOf xs a → IsExplanationOf ys b → a ≡ b
 one_text xs ys a b same p q =
     let seen = one_seen 0 (stretches ys) p.seen q.seen (rw same at p.are_sightings) q.are_sightings in
-    p.text_is ∙ (ap explanation seen ∙ sym q.text_is)
+    let dates = ap (λ heard. explanation (date_of heard) p.seen) same in
+    p.text_is ∙ (dates ∙ (ap (explanation (date_of ys)) seen ∙ sym q.text_is))
 
 pub returns-clause-raw : goal.returns-clause-raw
 returns-clause-raw c input ending f g xs ys p q =

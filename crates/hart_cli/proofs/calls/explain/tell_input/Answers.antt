@@ -3,7 +3,7 @@ use Rattle.std.proofs.lemmas.Grind.{common_steps}
 use Rattle.std.proofs.lemmas.List.{take_rest}
 use Rattle.std.proofs.lemmas.Result.{err_from_is_err_and}
 use Rattle.hart_cli.specs.explain.Explanation.{IsDecidedExplanation}
-use Rattle.hart_cli.specs.input.Decoding.{heard_decoding}
+use Rattle.hart_cli.specs.input.Decoding.{heard_decoding, most_heard_ahead}
 use Rattle.hart_cli.specs.input.Input.{stream_limit}
 use Rattle.hart_cli.specs.input.LiveInput.{IsDecidedText, WroteInTime}
 use Rattle.hart_cli.proofs.calls.explain.tell_input.Given.{Over}
@@ -13,7 +13,8 @@ use Rattle.hart_cli.specs.text.Heard.{NothingBegins, ReadsHeard}
 use Rattle.hart_cli.proofs.lemmas.explain.Stretches.{all_wrote}
 use Rattle.hart_cli.proofs.lemmas.text.Heard.{heard_laws}
 use Rattle.hart_cli.proofs.lemmas.input.Decoded.{more_read, read_on, rest_within}
-use Rattle.hart_cli.proofs.lemmas.text.Reads.{may_begin-nil}
+use Rattle.hart_cli.proofs.lemmas.text.Heard.{nothing_open}
+use Rattle.hart_cli.specs.text.Items.{Opens}
 use Rattle.hart_cli.proofs.calls.explain.tell_input.Goals as goal
 
 pub loop-place-init : goal.loop-place-init
@@ -23,7 +24,7 @@ loop-place-init g c =
       told = told_nothing _ _ c.args.telling.now c.requires (new_waits c.args.telling.now c.requires);
       within = omega arith;
       short = omega arith;
-      may_begin = may_begin-nil;
+      is_open = nothing_open;
     })
 
 pub tell_text-requires-clause-places : goal.tell_text-requires-clause-places
@@ -45,7 +46,7 @@ told g c =
     let text = rw c.as_slice.ensures.value at c.in_ok-place.ensures in
     let few = rw c.as_slice.ensures.value at c.as_slice.ensures.fits in
     told_step _ _ _ _ _ _ c.args.telling.now c.loop-place.telling c.tell_text.new.self _ _ c.loop-place.read c.in_ok-place.place
-    c.read_ahead-portion.result c.requires loop.told loop.may_begin c.read_ahead-portion.ensures.reads few text.stops text.hears
+    c.read_ahead-portion.result c.requires loop.told loop.is_open c.read_ahead-portion.ensures.reads few text.stops text.hears
     text.waiting text.quiet
 
 pub returns-in_err-place : goal.returns-in_err-place
@@ -54,13 +55,13 @@ returns-in_err-place g c =
     let few = rw c.as_slice.ensures.value at c.as_slice.ensures.fits in
     rw (err_from_is_err_and c.from_residual.result c.from_residual.ensures.1).1
     (stopped_telling _ _ _ _ _ _ c.args.telling.now c.loop-place.telling _ _ c.loop-place.read c.read_ahead-portion.result c.requires
-    loop.told loop.may_begin c.read_ahead-portion.ensures.reads few (rw c.as_slice.ensures.value at c.in_err-place.ensures.hears))
+    loop.told loop.is_open c.read_ahead-portion.ensures.reads few (rw c.as_slice.ensures.value at c.in_err-place.ensures.hears))
 
-pub next_step-requires-clause-within : goal.next_step-requires-clause-within
-next_step-requires-clause-within g c =
-    let now = told g (goal.at.next_step-requires-clause-within g c).In_ok-place in
+pub next_heard_step-requires-clause-within : goal.next_heard_step-requires-clause-within
+next_heard_step-requires-clause-within g c =
+    let now = told g (goal.at.next_heard_step-requires-clause-within g c).In_ok-place in
     rw (take_rest, c.as_slice-in-loop-place.ensures.value)
-    (rest_within ReadsHeard NothingBegins heard_laws stream_limit _ _ _ _ _ now.0.input now.0.heard now.0.decoded)
+    (rest_within ReadsHeard NothingBegins most_heard_ahead heard_laws stream_limit _ _ _ _ _ now.0.input now.0.heard now.0.decoded)
 
 pub returns-in-Stop : goal.returns-in-Stop
 returns-in-Stop g c =
@@ -71,7 +72,7 @@ returns-in-Stop g c =
 
 pub loop-place-smaller : goal.loop-place-smaller
 loop-place-smaller g c =
-    let on = read_on c.read_ahead-portion.result.end _ _ c.in-ReadOn.ensures.step in
+    let on = read_on (Opens NothingBegins) c.read_ahead-portion.result.end _ _ c.in-ReadOn.ensures.step in
     let more = more_read _ _ _ _ _ c.read_ahead-portion.result c.read_ahead-portion.ensures.reads on.0 in
     omega (arith, more.0, more.1)
 
@@ -79,7 +80,7 @@ pub loop-place-preserved : goal.loop-place-preserved
 loop-place-preserved g c =
     let now = told g (goal.at.loop-place-preserved g c).In_ok-place in
     let step = rw (take_rest, c.as_slice-in-loop-place.ensures.value) at c.in-ReadOn.ensures.step in
-    let on = read_on c.read_ahead-portion.result.end _ _ step in
+    let on = read_on (Opens NothingBegins) c.read_ahead-portion.result.end _ _ step in
     let more = more_read _ _ _ _ _ c.read_ahead-portion.result c.read_ahead-portion.ensures.reads on.0 in
     let kept : c.extend_from_slice.new.self ≡ drop c.in_ok-place.place c.read_ahead-portion.new.ahead =
     grind (arith, common_steps, take_rest, c.unwrap-open.ensures, c.from_slice.ensures.kept) in
@@ -87,6 +88,6 @@ loop-place-preserved g c =
       buffer_length = c.read_ahead-portion.ensures.kept ∙ c.loop-place.invariant.buffer_length;
       told = rw on.0 at now.0;
       within = omega (arith, more.1, c.loop-place.invariant.within);
-      short = rw (take_rest, c.as_slice-in-loop-place.ensures.value) at (c.next_step.ensures.short c.in-ReadOn.is);
-      may_begin = on.1;
+      short = rw (take_rest, c.as_slice-in-loop-place.ensures.value) at (c.next_heard_step.ensures.short c.in-ReadOn.is);
+      is_open = on.1;
     })

@@ -1,10 +1,11 @@
-use Rattle.std.proofs.Common.{◌-◌, ◌++◌, ◌∷◌, ◌<◌, ◌∙◌, append_assoc, drop, inl, inr, refl, sym, codes, decimal, arith}
+use Rattle.std.proofs.Common.{◌-◌, ◌++◌, ◌∷◌, ◌<◌, ◌∙◌, ◌≢◌, [], ℕ, append_assoc, drop, inl, inr, refl, sym, codes, decimal, arith}
 use Rattle.std.proofs.lemmas.Grind.{flat_map-append}
-use Rattle.std.proofs.lemmas.List.Elements.{All-drop}
+use Rattle.std.proofs.lemmas.List.Elements.{All-append, All-drop, All-weaker}
 use Rattle.std.proofs.lemmas.List.Folds.{list_all-append}
 use Rattle.hart_frame.specs.heard.Character.{Character}
 use Rattle.hart_frame.specs.heard.Sighting.{Message, header_at, miss_in_whole, missed, seen_miss, sightings}
-use Rattle.hart_cli.specs.explain.Explanation.{explanation, seen_text}
+use Rattle.hart_cli.specs.explain.Explanation.{date_words, dated_text, explanation}
+use Rattle.hart_cli.specs.text.Heard.{IsPrintable}
 use Rattle.hart_cli.specs.explain.Message.{paragraph}
 use Rattle.hart_cli.specs.explain.Misses.{miss_words}
 use Rattle.hart_cli.specs.explain.Words.{header_words}
@@ -14,13 +15,14 @@ use Rattle.hart_cli.proofs.lemmas.explain.Header.{unbroken-header_words}
 use Rattle.hart_cli.proofs.calls.explain.laws.every_start_outside_messages_has_one_line.Goals as goal
 
 pub returns-clause-by_message : goal.returns-clause-by_message
-returns-clause-by_message c chars from found later =
+returns-clause-by_message c date chars from found later =
     let after = sightings chars found.stop later in
-    flat_map-append seen_text (missed chars from found.start) (Message found ∷ after)
-    ∙ sym (append_assoc (explanation (missed chars from found.start)) (paragraph found) (explanation after))
+    flat_map-append (dated_text date) (missed chars from found.start) (Message found ∷ after)
+    ∙ sym (append_assoc (explanation date (missed chars from found.start)) (date_words (date found.start) ++ paragraph found)
+    (explanation date after))
 
 pub returns-clause-last_gap : goal.returns-clause-last_gap
-returns-clause-last_gap c chars from = refl
+returns-clause-last_gap c date chars from = refl
 
 pub returns-clause-one_line : goal.returns-clause-one_line
 returns-clause-one_line c place miss = record {
@@ -28,6 +30,20 @@ returns-clause-one_line c place miss = record {
   ended = refl;
   unbroken = unbroken-all _ (simp (list_all-append, unbroken-decimal, unbroken-miss_words));
 }
+
+-- a printable byte is no line feed
+printable_stays : (byte : ℕ) → IsPrintable byte → byte ≢ 10
+printable_stays byte printable = λ same. omega (arith, printable.0, same)
+
+pub returns-clause-dated_line : goal.returns-clause-dated_line
+returns-clause-dated_line c word place miss valid =
+    let told = 32 ∷ (decimal place ++ codes ": no message: " ++ miss_words miss) in
+    let unbroken = unbroken-all told (simp (list_all-append, unbroken-decimal, unbroken-miss_words) refl) in record {
+      words = word ++ told;
+      ended = sym (append_assoc word told (10 ∷ []));
+      unbroken = All-append (λ code. code ≢ 10) word told
+          (All-weaker IsPrintable (λ code. code ≢ 10) printable_stays word valid.printable) unbroken;
+    }
 
 pub returns-clause-second_line : goal.returns-clause-second_line
 returns-clause-second_line c header = record {

@@ -2,12 +2,13 @@ use Rattle.std.proofs.Common.{◌≡◌, ◌++◌, ◌∷◌, ◌∙◌, [], Lis
 use Rattle.std.proofs.lemmas.Grind.{flat_map-append}
 use Rattle.hart_frame.specs.heard.Character.{faultless}
 use Rattle.hart_frame.specs.heard.Sighting.{Seen}
-use Rattle.hart_cli.specs.explain.Explanation.{ComeFirst, explanation, seen_text}
+use Rattle.hart_cli.specs.explain.Explanation.{ComeFirst, date_of, dated_text, explanation}
 use Rattle.hart_cli.specs.text.Heard.{Heard, NothingBegins, ReadsHeard, heard_chars, stretches}
 use Rattle.hart_cli.proofs.lemmas.explain.Decided.{compare}
-use Rattle.hart_cli.proofs.lemmas.explain.Told.{some_seen}
+use Rattle.hart_cli.proofs.lemmas.explain.Dates.{date_before, same_within}
+use Rattle.hart_cli.proofs.lemmas.explain.Told.{first_within, some_seen}
 use Rattle.hart_cli.proofs.lemmas.input.Raw.{faultless_on, raw_chars}
-use Rattle.hart_cli.proofs.lemmas.text.Heard.{chars_on, heard_laws}
+use Rattle.hart_cli.proofs.lemmas.text.Heard.{chars_on, count, heard_laws}
 use Rattle.hart_cli.proofs.lemmas.text.Reads.{grows}
 use Rattle.hart_cli.proofs.calls.explain.laws.explanations_grow.Goals as goal
 
@@ -26,7 +27,7 @@ returns-clause-one c heard xs ys a b =
     let (later, is) = a.first [] all are in
     let (after, also) = b.first [] all are in
     elim (compare a.seen b.seen later after (sym is ∙ also)) [
-      | inl same ↦ a.text_is ∙ (ap explanation same ∙ sym b.text_is)
+      | inl same ↦ a.text_is ∙ (ap (explanation (date_of heard)) same ∙ sym b.text_is)
       | inr (inl (next, rest, longer)) ↦ absurd (a.no_more next (part heard a.seen b.seen rest next b.first longer))
       | inr (inr (next, rest, longer)) ↦ absurd (b.no_more next (part heard b.seen a.seen rest next a.first longer))
     ]
@@ -34,9 +35,12 @@ returns-clause-one c heard xs ys a b =
 pub returns-clause-heard : goal.returns-clause-heard
 returns-clause-heard c heard more told whole decided is =
     let (later, same) = decided.first more is.seen is.are_sightings in
-    let begins : explanation (decided.seen ++ later) ≡ told ++ explanation later =
-    flat_map-append seen_text decided.seen later ∙ ap (λ xs. xs ++ explanation later) (sym decided.text_is) in
-    (explanation later, is.text_is ∙ (ap explanation same ∙ begins))
+    let date = date_of (heard ++ more) in
+    let within = first_within heard decided.seen decided.first in
+    let dated = same_within date (date_of heard) (count heard) (date_before [] heard more) decided.seen within in
+    let begins : explanation date (decided.seen ++ later) ≡ told ++ explanation date later =
+    flat_map-append (dated_text date) decided.seen later ∙ ap (λ xs. xs ++ explanation date later) (dated ∙ sym decided.text_is) in
+    (explanation date later, is.text_is ∙ (ap (explanation date) same ∙ begins))
 
 pub returns-clause-read : goal.returns-clause-read
 returns-clause-read c input more ending fault told whole decided is =

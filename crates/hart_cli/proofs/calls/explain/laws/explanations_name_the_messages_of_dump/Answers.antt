@@ -6,19 +6,20 @@ use Rattle.hart_cli.specs.declared.fault.CliFault.{CliFault}
 use Rattle.hart_cli.specs.dump.Dump.{AreFrameLines}
 use Rattle.hart_cli.specs.dump.Text.{dump_text}
 use Rattle.hart_cli.specs.explain.Dumped.{AreOfOneHearing}
-use Rattle.hart_cli.specs.explain.Explanation.{AreSightingsFrom, IsExplanationOf, explanation}
+use Rattle.hart_cli.specs.explain.Explanation.{AreSightingsFrom, IsExplanationOf, date_of, explanation, undated}
 use Rattle.hart_cli.specs.input.Input.{Ending}
 use Rattle.hart_cli.specs.text.Heard.{Heard, heard_chars, stretches}
 use Rattle.hart_cli.specs.text.InputChars.{HasChars}
 use Rattle.hart_cli.specs.text.Items.{NoPieceBegins, ReadsUpTo}
+use Rattle.hart_cli.proofs.lemmas.explain.Dates.{no_date, same_dates}
 use Rattle.hart_cli.proofs.lemmas.explain.Sightings.{moved_none}
 use Rattle.hart_cli.proofs.lemmas.explain.Told.{stretches_chars}
 use Rattle.hart_cli.proofs.lemmas.text.InputChars.{item_laws, one_input}
-use Rattle.hart_cli.proofs.lemmas.text.NoSilence.{plain_input}
+use Rattle.hart_cli.proofs.lemmas.text.NoMark.{plain_input}
 use Rattle.hart_cli.proofs.lemmas.text.Reads.{left_more, one_left}
 use Rattle.hart_cli.proofs.calls.explain.laws.explanations_name_the_messages_of_dump.Goals as goal
 
--- characters without a silence are one stretch
+-- characters without marks are one stretch
 alone : (chars : List Character) → stretches (heard_chars chars) ≡ chars ∷ []
 alone chars = rw (append-nil (heard_chars chars), append-nil chars) at (stretches_chars chars [])
 
@@ -32,13 +33,14 @@ of_one_hearing input ending xs ys heard fault lines text same is dump said has =
     let frames : dump.frames ≡ seen.frames =
     frames_are_unambiguous-one_list ys 0 dump.frames seen.frames (rw same at dump.are_frames) seen.are_frames in
     let all : said.seen ≡ parts.0 = parts.4 ∙ (ap (λ zs. map (moved_seen 0) parts.0 ++ zs) parts.3 ∙ (append-nil _ ∙ moved_none parts.0)) in
+    let bare = same_dates (date_of heard) undated (rw is (no_date ys)) said.seen in
     record {
       chars = ys;
       has_chars = has;
       frames = seen.frames;
       are_frames = seen.are_frames;
       dumped = dump.text ∙ ap dump_text frames;
-      explained = said.text_is ∙ (ap explanation all ∙ ap explanation seen.seen_is);
+      explained = said.text_is ∙ (bare ∙ (ap (explanation undated) all ∙ ap (explanation undated) seen.seen_is));
     }
 
 pub returns-clause-whole : goal.returns-clause-whole

@@ -18,13 +18,13 @@ next_after-next-requires-clause-within g c = c.loop-sighting.invariant.within
 pub returns-in_default : goal.returns-in_default
 returns-in_default g c =
     let next = c.next_after-next.ensures in
-    told_decided _ _ _ c.loop-sighting.used _ _ _ _ _ c.loop-sighting.invariant (rw c.in_default.is at next.sees) next.within
+    told_decided _ _ _ _ c.loop-sighting.used _ _ _ _ _ c.loop-sighting.invariant (rw c.in_default.is at next.sees) next.within
     (next.few c.in_default.is) (next.all c.in_default.is) (next.undecided c.in_default.is)
 
 pub returns-in_err-make_room : goal.returns-in_err-make_room
 returns-in_err-make_room g c =
     rw (err_from_is_err_and c.from_residual.result c.from_residual.ensures.1).1
-    (fails_next _ _ _ c.loop-sighting.used _ c.loop-sighting.kept _ _ _ c.loop-sighting.invariant c.in_err-make_room.ensures.tells)
+    (fails_next _ _ _ _ c.loop-sighting.used _ c.loop-sighting.kept _ _ _ c.loop-sighting.invariant c.in_err-make_room.ensures.tells)
 
 pub loop-sighting-smaller : goal.loop-sighting-smaller
 loop-sighting-smaller g c =
@@ -33,5 +33,5 @@ loop-sighting-smaller g c =
 pub loop-sighting-preserved : goal.loop-sighting-preserved
 loop-sighting-preserved g c =
     let next = c.next_after-next.ensures in
-    told_next _ _ _ c.loop-sighting.used _ _ c.loop-sighting.kept _ _ _ _ _ _ c.loop-sighting.invariant (rw c.in-Some.is at next.sees)
+    told_next _ _ _ _ c.loop-sighting.used _ _ c.loop-sighting.kept _ _ _ _ _ _ c.loop-sighting.invariant (rw c.in-Some.is at next.sees)
     next.within c.in_ok-make_room.ensures.tells c.push_sighting.ensures

@@ -1,4 +1,3 @@
-use Rattle.std.proofs.Common.{refl}
 use Rattle.hart_cli.specs.explain.Telling.{Hears, IsWaiting, chars_after}
 use Rattle.hart_frame.specs.scan.Sighting.{is_end}
 use Rattle.hart_cli.proofs.calls.explain.telling.Telling.tell_held.Given.{Over}
@@ -12,8 +11,9 @@ told : (g : Over) (c : After-let_go g)
     (g.W.Sink.stream c.tell_decided.new.writer)
     × IsWaiting c.let_go.new.self
 told g c =
-    rw c.let_go.ensures (told_held c.args.self.now _ c.args.after c.in_ok-used.used _ _
-    (rw c.as_slice-held.ensures.value at c.in_ok-used.ensures) refl refl)
+    let go = c.let_go.ensures in
+    told_held c.args.self.now c.let_go.new.self c.args.after c.in_ok-used.used _ _
+    (rw (c.as_slice-held.ensures.value, ← go.kept) at c.in_ok-used.ensures) go.first go.held go.dated go.dates
 
 pub returns-clause-hears : goal.returns-clause-hears
 returns-clause-hears g c = (told g c).0

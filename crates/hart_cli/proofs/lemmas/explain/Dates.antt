@@ -1,0 +1,164 @@
+-- The dates of places, and the texts of sightings with them.
+use Rattle.std.proofs.Common.{◌≡◌, ◌≤◌, ◌<◌, ◌+◌, ◌-◌, ℕ, zero, suc, All, List, [], ◌∷◌, ◌++◌, length, map, drop, refl}
+use Rattle.std.proofs.Common.{Option, None, Some, arith, length-append}
+use Rattle.std.proofs.lemmas.List.Elements.{All-append, All-cons, All-head, All-nil, All-tail}
+use Rattle.hart_frame.specs.declared.heard.miss.Miss.{Miss}
+use Rattle.hart_frame.specs.heard.Character.{Character}
+use Rattle.hart_frame.specs.heard.Frames.{AreFrames}
+use Rattle.hart_frame.specs.heard.Sighting.{Message, Missed, Seen, header_at, miss_in_whole, missed, moved_seen, seen_miss}
+use Rattle.hart_frame.specs.heard.Sighting.{sightings}
+use Rattle.hart_frame.specs.wire.Header.{HeaderParts}
+use Rattle.hart_frame.specs.declared.heard.found.Found.{Found}
+use Rattle.hart_frame.proofs.lemmas.heard.Place.{StandsIn-within}
+use Rattle.hart_cli.specs.explain.Explanation.{AreSightingsFrom, date_after, date_of, explanation, undated}
+use Rattle.hart_cli.specs.explain.Gaps.{seen_place}
+use Rattle.hart_cli.specs.explain.Telling.{text_from}
+use Rattle.hart_cli.specs.text.Heard.{Date, Heard, HeardChar, Silence, after_chars, heard_chars, stretches}
+use Rattle.hart_cli.proofs.lemmas.explain.Gaps.{told_from}
+use Rattle.hart_cli.proofs.lemmas.text.Heard.{count}
+use Rattle.std.specs.Option.{option_map_or}
+
+-- a sighting is moved with its place
+pub moved_place : (n : ℕ) (s : Seen) → seen_place (moved_seen n s) ≡ n + seen_place s
+moved_place n (Message found) = refl
+moved_place n (Missed place miss header) = refl
+
+-- texts with the same dates from a place on are the same, if they are of sightings from that place on
+pub same_from : (f g : ℕ → List ℕ) (n : ℕ) → ((place : ℕ) → n ≤ place → f place ≡ g place) → (seen : List Seen)
+    → text_from f n seen ≡ text_from g n seen
+same_from f g n same [] = refl
+same_from f g n same (s ∷ seen) =
+    let here = same (seen_place (moved_seen n s)) (omega (arith, moved_place n s)) in
+    rw (here, same_from f g n same seen) refl
+
+-- texts with the same dates before a place are the same, if they are of sightings before that place
+pub same_within : (f g : ℕ → List ℕ) (n : ℕ) → ((place : ℕ) → place < n → f place ≡ g place) → (seen : List Seen)
+    → All (λ s. seen_place s < n) seen → explanation f seen ≡ explanation g seen
+same_within f g n same [] within = refl
+same_within f g n same (s ∷ seen) within =
+    let here = same (seen_place s) (All-head (λ (x : Seen). seen_place x < n) s seen within) in
+    rw (here, same_within f g n same seen (All-tail (λ (x : Seen). seen_place x < n) s seen within)) refl
+
+-- texts with the same dates are the same
+pub same_dates : (f g : ℕ → List ℕ) → ((place : ℕ) → f place ≡ g place) → (seen : List Seen) → explanation f seen ≡ explanation g seen
+same_dates f g same [] = refl
+same_dates f g same (s ∷ seen) = rw (same (seen_place s), same_dates f g same seen) refl
+
+-- characters alone change no date
+date_none : (last : List ℕ) (xs : List Character) (place : ℕ) → date_after last (heard_chars xs) place ≡ last
+date_none last [] place = refl
+date_none last (x ∷ xs) zero = refl
+date_none last (x ∷ xs) (suc place) = date_none last xs place
+
+pub date_chars : (last : List ℕ) (heard : List Heard) (xs : List Character) (place : ℕ)
+    → date_after last (heard ++ heard_chars xs) place ≡ date_after last heard place
+date_chars last [] xs place = date_none last xs place
+date_chars last (HeardChar c ∷ heard) xs zero = refl
+date_chars last (HeardChar c ∷ heard) xs (suc place) = date_chars last heard xs place
+date_chars last (Silence ∷ heard) xs place = date_chars last heard xs place
+date_chars last (Date word ∷ heard) xs place = date_chars word heard xs place
+
+-- a silence changes no date
+pub date_silence : (last : List ℕ) (heard : List Heard) (place : ℕ)
+    → date_after last (heard ++ Silence ∷ []) place ≡ date_after last heard place
+date_silence last [] place = refl
+date_silence last (HeardChar c ∷ heard) zero = refl
+date_silence last (HeardChar c ∷ heard) (suc place) = date_silence last heard place
+date_silence last (Silence ∷ heard) place = date_silence last heard place
+date_silence last (Date word ∷ heard) place = date_silence word heard place
+
+-- what is heard later changes no date of what was heard
+pub date_before : (last : List ℕ) (heard more : List Heard) (place : ℕ) → place < count heard
+    → date_after last (heard ++ more) place ≡ date_after last heard place
+date_before last [] more place within = absurd (omega (arith, within))
+date_before last (HeardChar c ∷ heard) more zero within = refl
+date_before last (HeardChar c ∷ heard) more (suc place) within = date_before last heard more place (omega (arith, within))
+date_before last (Silence ∷ heard) more place within = date_before last heard more place within
+date_before last (Date word ∷ heard) more place within = date_before word heard more place within
+
+-- a date is that of all that is heard next
+pub date_later : (last : List ℕ) (heard : List Heard) (word : List ℕ) (place : ℕ) → count heard ≤ place
+    → date_after last (heard ++ Date word ∷ []) place ≡ word
+date_later last [] word place after = refl
+date_later last (HeardChar c ∷ heard) word zero after = absurd (omega (arith, after))
+date_later last (HeardChar c ∷ heard) word (suc place) after = date_later last heard word place (omega (arith, after))
+date_later last (Silence ∷ heard) word place after = date_later last heard word place after
+date_later last (Date other ∷ heard) word place after = date_later other heard word place after
+
+-- characters alone have no date
+pub no_date : (chars : List Character) (place : ℕ) → date_of (heard_chars chars) place ≡ undated place
+no_date chars place = date_none [] chars place
+
+-- the misses told of some places stand at these places
+told_within : (told : Miss → Miss) (f : ℕ → Option Miss) (h : ℕ → Option HeaderParts) (a n limit : ℕ)
+    → ((place : ℕ) → a ≤ place → place < a + n → place < limit) → All (λ s. seen_place s < limit) (told_from told f h a n)
+told_within told f h a zero limit within = All-nil (λ (s : Seen). seen_place s < limit)
+told_within told f h a (suc n) limit within =
+    let later = told_within told f h (a + 1) n limit (λ place from below. within place (omega (arith, from)) (omega (arith, below))) in
+    elim (f a) as (λ miss. All (λ (s : Seen). seen_place s < limit)
+    (option_map_or (λ m. Missed a (told m) (h a) ∷ []) miss [] ++ told_from told f h (a + 1) n)) [
+      | None ↦ later
+      | Some m ↦
+          All-cons (λ (s : Seen). seen_place s < limit) (Missed a (told m) (h a)) (told_from told f h (a + 1) n)
+          (within a (omega arith) (omega arith)) later
+    ]
+
+missed_within : (chars : List Character) (from stop : ℕ) → stop ≤ length chars
+    → All (λ s. seen_place s < length chars) (missed chars from stop)
+missed_within chars from stop within =
+    told_within (miss_in_whole from) (λ place. seen_miss (drop from chars) (place - from)) (header_at chars) from (stop - from)
+    (length chars) (λ place after below. omega (arith, within, after, below))
+
+-- the sightings of characters stand at places of these characters
+sightings_within : (chars : List Character) (from : ℕ) (frames : List Found) → AreFrames chars from frames
+    → All (λ s. seen_place s < length chars) (sightings chars from frames)
+sightings_within chars _ _ (AreFrames.none from without) = missed_within chars from (length chars) (omega arith)
+sightings_within chars _ _ (AreFrames.first from found later is are) =
+    let lies = StandsIn-within found chars from is.stands in
+    All-append (λ (s : Seen). seen_place s < length chars) (missed chars from found.start) _
+    (missed_within chars from found.start (omega (arith, lies.some, lies.within)))
+    (All-cons (λ (s : Seen). seen_place s < length chars) (Message found) (sightings chars found.stop later)
+    (omega (arith, lies.some, lies.within))
+    (sightings_within chars found.stop later are))
+
+-- the number of characters of stretches
+abbrev pub total : List (List Character) → ℕ
+total [] = 0
+total (chars ∷ later) = length chars + total later
+
+-- moved sightings stand at moved places
+moved_within : (n limit most : ℕ) → n + limit ≤ most → (seen : List Seen) → All (λ s. seen_place s < limit) seen
+    → All (λ s. seen_place s < most) (map (moved_seen n) seen)
+moved_within n limit most few [] within = All-nil (λ (s : Seen). seen_place s < most)
+moved_within n limit most few (s ∷ seen) within =
+    All-cons (λ (x : Seen). seen_place x < most) (moved_seen n s) (map (moved_seen n) seen)
+    (omega (arith, few, moved_place n s, All-head (λ (x : Seen). seen_place x < limit) s seen within))
+    (moved_within n limit most few seen (All-tail (λ (x : Seen). seen_place x < limit) s seen within))
+
+-- the sightings of stretches stand at places of these stretches
+pub stretches_within : (place most : ℕ) (parts : List (List Character)) (seen : List Seen) → place + total parts ≤ most
+    → AreSightingsFrom place parts seen → All (λ s. seen_place s < most) seen
+stretches_within place most [] seen few none = rw none (All-nil (λ (s : Seen). seen_place s < most))
+stretches_within place most (chars ∷ later) seen few (own, are, rest, more, is) =
+    let within = sightings_within chars 0 are.frames are.are_frames in
+    rw is (All-append (λ (s : Seen). seen_place s < most) (map (moved_seen place) own) rest
+    (moved_within place (length chars) most (omega (arith, few)) own (rw (← are.seen_is) at within))
+    (stretches_within (place + length chars) most later rest (omega (arith, few)) more))
+
+-- characters before stretches add to their number
+total_after : (xs : List Character) (parts : List (List Character)) → total (after_chars xs parts) ≡ length xs + total parts
+total_after xs [] = omega arith
+total_after xs (first ∷ later) = omega (arith, length-append xs first)
+
+pub total_count : (heard : List Heard) → total (stretches heard) ≡ count heard
+total_count [] = refl
+total_count (HeardChar c ∷ heard) = omega (arith, total_after (c ∷ []) (stretches heard), total_count heard)
+total_count (Silence ∷ heard) = omega (arith, total_count heard)
+total_count (Date word ∷ heard) = total_count heard
+
+-- what is true of all of a list is true of its first part
+pub all_first : (n : ℕ) (xs ys : List Seen) → All (λ s. seen_place s < n) (xs ++ ys) → All (λ s. seen_place s < n) xs
+all_first n [] ys all = All-nil (λ (s : Seen). seen_place s < n)
+all_first n (x ∷ xs) ys all =
+    All-cons (λ (s : Seen). seen_place s < n) x xs (All-head (λ (s : Seen). seen_place s < n) x (xs ++ ys) all)
+    (all_first n xs ys (All-tail (λ (s : Seen). seen_place s < n) x (xs ++ ys) all))

@@ -1,0 +1,207 @@
+-- The mark that begins a text: there is one at most, and no piece begins there.
+use Rattle.std.proofs.Common.{◌≡◌, ◌≤◌, ◌+◌, ◌∙◌, ◌⊎◌, ◌↔◌, ℕ, All, Bool, false, true, List, [], ◌∷◌, ◌++◌, length, drop, get_or, refl, sym}
+use Rattle.std.proofs.Common.{IsTrue, ap, arith, inl, inr, append-nil, append_assoc, length-append}
+use Rattle.std.proofs.lemmas.Grind.{common_steps}
+use Rattle.std.proofs.lemmas.List.Elements.{All-cons, All-head, All-nil, All-tail}
+use Rattle.hart_cli.specs.text.Heard.{BeginsWithMark, BeginsWithSeparator, Date, Heard, HeardChar, IsDateWord, IsPrintable, NothingBegins}
+use Rattle.hart_cli.specs.text.Heard.{Silence}
+use Rattle.hart_cli.specs.text.Items.{IsSeparator, MayBegin, NoPieceBegins, Opens}
+use Rattle.hart_cli.specs.text.Marks.{MayBeginDate}
+use Rattle.hart_cli.proofs.lemmas.text.Reads.{may_begin-nil}
+
+-- no piece begins with a `/` or a `@`
+no_piece_is_silence : (rest : List ℕ) → NoPieceBegins (47 ∷ rest)
+no_piece_is_silence rest p tail h = grind (arith, common_steps)
+
+no_piece_is_date : (rest : List ℕ) → NoPieceBegins (64 ∷ rest)
+no_piece_is_date rest p tail h = grind (arith, common_steps)
+
+pub no_piece_is_mark : (text : List ℕ) (mark : Heard) (rest : List ℕ) → BeginsWithMark text mark rest → NoPieceBegins text
+no_piece_is_mark text (HeardChar character) rest never = absurd never
+no_piece_is_mark text Silence rest is = rw is (no_piece_is_silence rest)
+no_piece_is_mark text (Date word) rest (valid, is, next) = rw is (no_piece_is_date (word ++ rest))
+
+-- a text begins with its mark, whatever follows
+separator_more : (text more : List ℕ) → BeginsWithSeparator text → BeginsWithSeparator (text ++ more)
+separator_more text more begins = record {
+  byte = begins.byte;
+  after = begins.after ++ more;
+  separates = begins.separates;
+  text_is = ap (λ xs. xs ++ more) begins.text_is;
+}
+
+pub mark_more : (text : List ℕ) (mark : Heard) (rest more : List ℕ) → BeginsWithMark text mark rest
+    → BeginsWithMark (text ++ more) mark (rest ++ more)
+mark_more text (HeardChar character) rest more never = absurd never
+mark_more text Silence rest more is = ap (λ xs. xs ++ more) is
+mark_more text (Date word) rest more (valid, is, next) = (
+  valid,
+  ap (λ xs. xs ++ more) is ∙ ap (λ xs. 64 ∷ xs) (append_assoc word rest more),
+  separator_more rest more next,
+)
+
+-- a printable byte is no separator
+pub not_both : (byte : ℕ) → IsPrintable byte → IsSeparator byte → ⊥
+not_both byte printable separates = grind (arith, common_steps)
+
+-- a text begins with one word before a separator
+one_word : (word other rest last : List ℕ) → All IsPrintable word → All IsPrintable other → BeginsWithSeparator rest
+    → BeginsWithSeparator last → word ++ rest ≡ other ++ last → (word ≡ other) × (rest ≡ last)
+one_word [] [] rest last p q s t is = (refl, is)
+one_word [] (b ∷ other) rest last p q s t is =
+    let text = s.text_is in
+    let same : b ≡ s.byte = cc in
+    absurd (not_both b (All-head IsPrintable b other q) (rw same s.separates))
+one_word (a ∷ word) [] rest last p q s t is =
+    let text = t.text_is in
+    let same : a ≡ t.byte = cc in
+    absurd (not_both a (All-head IsPrintable a word p) (rw same t.separates))
+one_word (a ∷ word) (b ∷ other) rest last p q s t is =
+    let first : a ≡ b = cc in
+    let later : word ++ rest ≡ other ++ last = cc in
+    let same = one_word word other rest last (All-tail IsPrintable a word p) (All-tail IsPrintable b other q) s t later in
+    (rw (first, same.0) refl, same.1)
+
+-- a text that begins with a `/` does not begin with a `@`
+pub not_date : (text rest other : List ℕ) → text ≡ 47 ∷ rest → text ≡ 64 ∷ other → ⊥
+not_date text rest other is also =
+    let first : 47 ≡ 64 = ap (λ xs. get_or xs 0 0) (sym is ∙ also) in omega (arith, first)
+
+one_silence : (text : List ℕ) (n : Heard) (r s : List ℕ) → text ≡ 47 ∷ r → BeginsWithMark text n s → (Silence ≡ n) × (r ≡ s)
+one_silence text (HeardChar character) r s is never = absurd never
+one_silence text Silence r s is also = (refl, ap (drop 1) (sym is ∙ also))
+one_silence text (Date word) r s is (valid, also, next) = absurd (not_date text r (word ++ s) is also)
+
+one_date : (text word : List ℕ) (n : Heard) (r s : List ℕ) → BeginsWithMark text (Date word) r → BeginsWithMark text n s
+    → (Date word ≡ n) × (r ≡ s)
+one_date text word (HeardChar character) r s begins never = absurd never
+one_date text word Silence r s (valid, is, next) also = absurd (not_date text s (word ++ r) also is)
+one_date text word (Date other) r s (valid, is, next) (fine, also, later) =
+    let same : word ++ r ≡ other ++ s = ap (drop 1) (sym is ∙ also) in
+    let one = one_word word other r s valid.printable fine.printable next later same in (ap Date one.0, one.1)
+
+-- a text begins with one mark
+pub one_mark : (text : List ℕ) (m n : Heard) (r s : List ℕ) → BeginsWithMark text m r → BeginsWithMark text n s → (m ≡ n) × (r ≡ s)
+one_mark text (HeardChar character) n r s never also = absurd never
+one_mark text Silence n r s is also = one_silence text n r s is also
+one_mark text (Date word) n r s begins also = one_date text word n r s begins also
+
+-- a mark has at least one byte
+pub mark_long : (text : List ℕ) (mark : Heard) (rest : List ℕ) → BeginsWithMark text mark rest → length rest + 1 ≤ length text
+mark_long text (HeardChar character) rest never = absurd never
+mark_long text Silence rest is = omega (arith, ap length is)
+mark_long text (Date word) rest (valid, is, next) = omega (arith, ap length is, length-append word rest)
+
+-- two splits of one list: one of the first parts continues the other
+split : (a b c d : List ℕ) → a ++ b ≡ c ++ d
+    → ((x : List ℕ) × (a ≡ c ++ x) × (d ≡ x ++ b)) ⊎ ((x : List ℕ) × (c ≡ a ++ x))
+split a b [] d is = inl (a, refl, sym is)
+split [] b (y ∷ c) d is = inr (y ∷ c, refl)
+split (x ∷ a) b (y ∷ c) d is =
+    let first : x ≡ y = cc in
+    let later : a ++ b ≡ c ++ d = cc in
+    elim (split a b c d later) [
+      | inl (z, longer, rest) ↦ inl (z, cc, rest)
+      | inr (z, longer) ↦ inr (z, cc)
+    ]
+
+-- the first part of printable bytes is printable
+first_printable : (xs ys : List ℕ) → All IsPrintable (xs ++ ys) → All IsPrintable xs
+first_printable [] ys all = All-nil IsPrintable
+first_printable (x ∷ xs) ys all =
+    All-cons IsPrintable x xs (All-head IsPrintable x (xs ++ ys) all) (first_printable xs ys (All-tail IsPrintable x (xs ++ ys) all))
+
+-- a space separates
+space : BeginsWithSeparator (32 ∷ [])
+space = record { byte = 32; after = []; separates = inl refl; text_is = refl }
+
+-- the beginning of a date is open: more bytes complete it
+date_opens : (text word : List ℕ) → text ≡ 64 ∷ word → length word ≤ 32 → All IsPrintable word → Opens NothingBegins text
+date_opens text [] is few printable =
+    let one : IsDateWord (48 ∷ []) = record {
+      some = omega arith;
+      few = omega arith;
+      printable = All-cons IsPrintable 48 [] (omega arith, omega arith) (All-nil IsPrintable);
+    } in
+    record {
+      more = 48 ∷ 32 ∷ [];
+      goes_on = λ stops. stops.no_mark (Date (48 ∷ [])) (32 ∷ []) (one, ap (λ xs. xs ++ 48 ∷ 32 ∷ []) is, space);
+    }
+date_opens text (byte ∷ word) is few printable =
+    let valid : IsDateWord (byte ∷ word) = record { some = omega arith; few = few; printable = printable } in
+    record {
+      more = 32 ∷ [];
+      goes_on = λ stops. stops.no_mark (Date (byte ∷ word)) (32 ∷ []) (valid, ap (λ xs. xs ++ 32 ∷ []) is, space);
+    }
+
+-- what may begin a piece or a date is open
+pub opens : (text : List ℕ) → MayBegin text ⊎ MayBeginDate text → Opens NothingBegins text
+opens text (inl may) = record { more = may.more; goes_on = λ stops. stops.no_piece may.piece may.tail may.begins }
+opens text (inr begins) = date_opens text begins.word begins.text_is begins.few begins.printable
+
+-- no date is completed by more bytes if no date begins, or may begin
+never_date : (text more word rest : List ℕ) → NothingBegins (64 ∷ text) → (MayBeginDate (64 ∷ text) → ⊥) → IsDateWord word
+    → text ++ more ≡ word ++ rest → BeginsWithSeparator rest → ⊥
+never_date text more word rest stops never valid is next = elim (split text more word rest is) [
+  | inl ([], same, after) ↦
+      let whole : text ≡ word = same ∙ append-nil word in
+      never (record { word = text; text_is = refl; few = rw whole valid.few; printable = rw whole valid.printable })
+  | inl (byte ∷ xs, same, after) ↦
+      let begins = next.text_is in
+      let own : byte ≡ next.byte = cc in
+      stops.no_mark (Date word) (byte ∷ xs) (
+        valid,
+        ap (λ ys. 64 ∷ ys) same,
+        record { byte = byte; after = xs; separates = rw own next.separates; text_is = refl },
+      )
+  | inr (xs, same) ↦
+      let printable = first_printable text xs (rw same at valid.printable) in
+      let long = ap length same in
+      never (record {
+        word = text;
+        text_is = refl;
+        few = omega (arith, long, length-append text xs, valid.few);
+        printable = printable;
+      })
+]
+
+-- no mark is completed by more bytes if none begins, or may begin
+never_mark : (text more : List ℕ) (mark : Heard) (rest : List ℕ) → NothingBegins text → (MayBegin text → ⊥)
+    → (MayBeginDate text → ⊥) → BeginsWithMark (text ++ more) mark rest → ⊥
+never_mark [] more mark rest stops none never begins = none may_begin-nil
+never_mark (byte ∷ text) more (HeardChar character) rest stops none never begins = begins
+never_mark (byte ∷ text) more Silence rest stops none never is =
+    let same : byte ≡ 47 = cc in stops.no_mark Silence text (ap (λ n. n ∷ text) same)
+never_mark (byte ∷ text) more (Date word) rest stops none never (valid, is, next) =
+    let same : byte ≡ 64 = cc in
+    let later : text ++ more ≡ word ++ rest = cc in
+    never_date text more word rest (rw same at stops) (rw same at never) valid later next
+
+-- where neither a piece nor a date may begin, nothing is open
+pub never_opens : (text : List ℕ) → NothingBegins text → (MayBegin text → ⊥) → (MayBeginDate text → ⊥) → Opens NothingBegins text → ⊥
+never_opens text stops none never ajar = ajar.goes_on (record {
+  no_piece = λ p tail begins. none (record { more = ajar.more; piece = p; tail = tail; begins = begins });
+  no_mark = λ mark rest begins. never_mark text ajar.more mark rest stops none never begins;
+})
+
+-- where no piece may begin, a text is open if a date may begin
+pub opens_if : (text : List ℕ) (is_date : Bool) → NothingBegins text → (MayBegin text → ⊥) → (IsTrue is_date ↔ MayBeginDate text)
+    → IsTrue is_date ↔ Opens NothingBegins text
+opens_if text true stops none is = (λ yes. opens text (inr (is.0 yes)), λ ajar. refl)
+opens_if text false stops none is = (
+  λ never. absurd cc,
+  λ ajar. absurd (never_opens text stops none (λ begins. let yes = is.1 begins in absurd cc) ajar),
+)
+
+-- where no piece may begin, nothing is open in a text of items
+pub items_never_open : (text : List ℕ) → (MayBegin text → ⊥) → Opens NoPieceBegins text → ⊥
+items_never_open text none ajar = ajar.goes_on (λ p tail begins. none (record {
+  more = ajar.more;
+  piece = p;
+  tail = tail;
+  begins = begins;
+}))
+
+-- where a piece may begin, a text of items is open
+pub items_open : (text : List ℕ) → MayBegin text → Opens NoPieceBegins text
+items_open text may = record { more = may.more; goes_on = λ stops. stops may.piece may.tail may.begins }

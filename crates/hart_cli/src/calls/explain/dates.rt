@@ -1,0 +1,89 @@
+//! The dates of what is held.
+ghost use Rattle.std.specs.Prelude.{◌≡◌, ◌+◌, ◌≤◌, ◌++◌, ◌<◌, ◌^◌, [], ℕ, get_or, length};
+ghost use Rattle.hart_cli.specs.explain.Dates.{date_at, kept_word};
+ghost use Rattle.hart_cli.specs.explain.Explanation.{date_words};
+
+use crate::calls::explain::telling::MOST_OPEN;
+use crate::kept::Kept;
+use crate::text::marks::DATE_LEN;
+use arrayvec::ArrayVec;
+
+/// A date: the length of its word, and then the word. The length is 0 if there is no date.
+type Date = [u8; DATE_LEN + 1];
+
+/// The dates of the held characters, and of those that come next.
+#[derive(Drop)]
+pub struct Dates {
+    /// The dates of the first held characters.
+    pub held: ArrayVec<Date, MOST_OPEN>,
+    /// The date of the later characters, and of those that come next.
+    pub last: Date,
+}
+
+impl Dates {
+    /// Returns the state in which nothing has a date.
+    pub fn new() -> Dates
+        ensures held { result.held.items ≡ [] }
+        ensures none { (place : ℕ) → date_at result place ≡ [] }
+    {
+        Dates {
+            held: ArrayVec::new(),
+            last: [0; DATE_LEN + 1],
+        }
+    }
+
+    /// Hears a date: it is that of the characters that come next.
+    pub fn hear(&mut self, word: &[u8])
+        requires { length word.now ≤ 32 }
+        ensures held { self.new.held ≡ self.old.held }
+        ensures last { kept_word self.new.last ≡ word.now }
+    {
+        let mut date = [0; DATE_LEN + 1];
+        date[0] = word.len() as u8;
+        date[1..=word.len()].copy_from_slice(word);
+        self.last = date;
+    }
+
+    /// Appends the date of the held character at a place, and a space, if it has a date.
+    pub fn push_date(&self, text: &mut Kept, place: usize)
+        requires room { length text.old + 33 ≤ 32768 }
+        ensures date { text.new ≡ text.old ++ date_words (date_at self.now place) }
+        ensures few { length text.new ≤ length text.old + 33 }
+    {
+        let date = self.date_at(place);
+        let len = usize::from(date[0]).min(DATE_LEN);
+        if len > 0 {
+            text.extend_from_slice(&date[1..=len]);
+            text.push(b' ');
+        }
+    }
+
+    /// Drops the dates of the first `used` characters. The dates of `count` held characters are kept.
+    pub fn let_go(&mut self, used: usize, count: usize)
+        requires few { count ≤ 268 }
+        requires enough { length self.old.held.items ≤ used + count }
+        requires places { used + count < 2 ^ 64 }
+        ensures count { length self.new.held.items ≡ count }
+        ensures dates { (place : ℕ) → date_at self.new place ≡ date_at self.old (used + place) }
+    {
+        if count == 0 {
+            self.held.clear();
+            return;
+        }
+        let mut held = ArrayVec::new();
+        for place in 0..count {
+            held.push(self.date_at(used + place));
+        }
+        self.held = held;
+    }
+
+    /// Returns the date of the held character at a place.
+    fn date_at(&self, place: usize) -> Date
+        ensures { result ≡ get_or self.now.held.items place self.now.last }
+    {
+        match self.held.as_slice().get(place) {
+            Some(date) => *date,
+            None => self.last,
+        }
+    }
+}

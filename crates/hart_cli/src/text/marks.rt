@@ -1,0 +1,84 @@
+//! Marks between what was heard: silences of the line, and dates.
+ghost use Rattle.std.specs.Prelude.{◌≡◌, ◌∷◌, ◌↔◌, ◌<◌, ◌≤◌, IfSome, IsTrue, MatchOption, All, drop, get_or, length, take};
+ghost use Rattle.hart_cli.specs.text.Heard.{IsPrintable, NoMarkBegins, NothingBegins};
+ghost use Rattle.hart_cli.specs.text.Items.{NoPieceBegins, Opens};
+ghost use Rattle.hart_cli.specs.text.Marks.{HasMark, MayBeginDate, mark_length};
+
+use crate::text::items::{is_separator, may_begin};
+
+/// The greatest number of bytes in the word of a date.
+pub const DATE_LEN: usize = 32;
+
+/// A mark between what was heard.
+#[derive(Clone, Copy)]
+pub enum Mark {
+    /// A `/`: the line fell silent.
+    Silence,
+    /// A `@` and a word of `len` bytes: the date of what was heard next.
+    Date { len: usize },
+}
+
+/// Returns the mark that begins a text, or `None` if none does.
+pub fn leading_mark(text: &[u8]) -> Option<Mark>
+    ensures mark { MatchOption result (NoMarkBegins text.now) (HasMark text.now) }
+    ensures within { IfSome result (λ mark. mark_length mark ≤ length text.now) }
+{
+    match text {
+        [b'/', ..] => Some(Mark::Silence),
+        [b'@', ..] => leading_date(text),
+        _ => None,
+    }
+}
+
+/// Returns the date that begins a text with a `@`. A separator has to follow its word.
+fn leading_date(text: &[u8]) -> Option<Mark>
+    requires at { text.now ≡ 64 ∷ drop 1 text.now }
+    ensures mark { MatchOption result (NoMarkBegins text.now) (HasMark text.now) }
+    ensures within { IfSome result (λ mark. mark_length mark ≤ length text.now) }
+{
+    let len = printable_len(&text[1..]);
+    let next = text.get(1 + len)?;
+    if len == 0 || len > DATE_LEN || !is_separator(*next) {
+        return None;
+    }
+    Some(Mark::Date { len })
+}
+
+/// Returns how many printable bytes begin a text.
+fn printable_len(text: &[u8]) -> usize
+    ensures within { result ≤ length text.now }
+    ensures printable { All IsPrintable (take result text.now) }
+    ensures stops { result < length text.now → IsPrintable (get_or text.now result 0) → ⊥ }
+{
+    let mut len = 0;
+    while len < text.len() && is_printable(text[len]) {
+        len += 1;
+    }
+    len
+}
+
+/// Returns true if a byte is printable, and no space.
+fn is_printable(byte: u8) -> bool
+    ensures { IsTrue result ↔ IsPrintable byte }
+{
+    (b'!'..=b'~').contains(&byte)
+}
+
+/// Returns true if `text` may become the beginning of a piece or a mark once more bytes follow. None begins it yet. Such a text is
+/// short.
+pub fn may_open(text: &[u8]) -> bool
+    requires { NothingBegins text.now }
+    ensures may { IsTrue result ↔ Opens NothingBegins text.now }
+    ensures short { IsTrue result → length text.now ≤ 33 }
+{
+    may_begin(text) || may_begin_date(text)
+}
+
+/// Returns true if a text is the beginning of a date whose word is not yet ended.
+fn may_begin_date(text: &[u8]) -> bool
+    ensures { IsTrue result ↔ MayBeginDate text.now }
+{
+    text.first() == Some(&b'@')
+        && text.len() <= 1 + DATE_LEN
+        && printable_len(&text[1..]) == text.len() - 1
+}
