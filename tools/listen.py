@@ -2,7 +2,7 @@
 """Tries `tools/hart-listen` on a pseudo-terminal: what it hears at the pace of a line has to be explained in time.
 
 Characters go to the pseudo-terminal at 1200 baud. `hart explain` has to say each message at most 0.2 s after its last character, and
-each cut message at most 0.2 s after the silence behind it. Then the port goes away.
+each cut message at most 0.2 s after the silence behind it, each with a time of day. Then the port goes away.
 
 Usage: tools/listen.py PROGRAM
 """
@@ -26,11 +26,13 @@ SILENCE = 0.050
 LATE = 0.2
 REQUEST = bytes.fromhex("FFFFFFFFFF82B7420A1B2C1303012345 3D")
 CUT = REQUEST[:-3]
+# The time of day before each line.
+TIME = r"\d\d:[0-5]\d:[0-5]\d\.\d\d "
 # What is heard, what the first line then says, and how long it may take after the last character.
 ROWS = (
-    (REQUEST, r"5-17: request of the primary master", LATE),
-    (CUT, r"22: no message: it lacks 3 characters", SILENCE + LATE),
-    (REQUEST, r"36-48: request of the primary master", LATE),
+    (REQUEST, TIME + r"5-17: request of the primary master", LATE),
+    (CUT, TIME + r"22: no message: it lacks 3 characters", SILENCE + LATE),
+    (REQUEST, TIME + r"36-48: request of the primary master", LATE),
 )
 # What a port with marks delivers, in the pieces in which it comes, and the items of each piece.
 READINGS = (
