@@ -23,7 +23,7 @@ abbrev pub taken_lines : List Row → ℕ → List ℕ → List ℕ
 taken_lines rows count bytes =
     field_lines (fields_of rows (take count bytes)) ++ bytes_line (codes "ignored") (drop count bytes)
 
--- For private calls alone:
+-- Only private calls use the definitions from here on.
 
 -- A field can be shown as its kind if every number of bytes that its size allows suits the kind.
 abbrev pub suits_size : FieldKind → FieldSize → Bool

@@ -63,7 +63,7 @@ status_lines command first second =
     ++ said_line (codes "device status") (names_words (set_names second device_states))
     else said_line (codes "communication faults") (names_words (set_names first comm_faults))
 
--- For private calls alone:
+-- Only private calls use the definitions from here on.
 
 -- A named bit of the code, as a `NamedBit` of these definitions.
 abbrev pub seen : code.NamedBit → NamedBit

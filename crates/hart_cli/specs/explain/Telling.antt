@@ -1,4 +1,4 @@
--- For private calls alone: what is heard, and what is told of it (own profile).
+-- What is heard, and what is told of it. Only private calls use these definitions (own profile).
 use Rattle.std.specs.Prelude.{◌≡◌, ◌≤◌, ◌<◌, ◌+◌, ◌-◌, ◌^◌, ℕ, Bool, false, true, List, [], ◌∷◌, ◌++◌, Option, None, Result, Ok, Err}
 use Rattle.std.specs.Prelude.{MatchResult}
 use Rattle.std.specs.Prelude.{IfSome, drop, length, map}

@@ -93,7 +93,7 @@ value_words LatinText bytes = latin_words bytes
 value_words Date bytes = date_words bytes
 value_words Variables bytes = variables_words bytes
 
--- For private calls alone:
+-- Only private calls use the definitions from here on.
 
 -- This number of bytes suits a kind: 1 or 2 suit a number, 1 the code of a unit, 6, 12 or 24 a packed text, and 3 a date. Any
 -- number suits every other kind.

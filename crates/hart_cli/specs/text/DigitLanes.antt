@@ -1,4 +1,4 @@
--- For private calls alone: what sixteen lanes say of a text (own profile).
+-- What sixteen lanes say of a text. Only private calls use these definitions (own profile).
 use Rattle.std.specs.Prelude.{◌≡◌, ◌<◌, ◌≤◌, ◌↔◌, ℕ, List, get_or, length, IsTrue}
 use Rattle.std.specs.Int.{bit_at}
 use Rattle.hex.specs.Hex.{is_hex_digit}

@@ -105,7 +105,7 @@ pub record ReadsSoFarBy {Heard : Type 0} (Reads : List ℕ → List Heard → Li
 abbrev pub ReadsSoFarAs : List ℕ → List Character → Type 0
 ReadsSoFarAs = ReadsSoFarBy ReadsUpTo NoPieceBegins
 
--- For private calls alone: what reading one piece returns.
+-- Only private calls use the definitions from here on: what reading one piece returns.
 
 -- A text begins with a piece of this length, which means this character or none.
 pub record BeginsAs (text : List ℕ) (char : Option Character) (len : ℕ) : Type 0 where

@@ -123,7 +123,7 @@ abbrev pub answer_of : DeviceState → Process → FrameParts → Option FramePa
 answer_of state process frame =
     if is_answered state frame then Some (reply_parts frame (reply_payload (reply_of state process frame))) else None
 
--- For private calls only: the request of a frame and its response code, joined in one value, the judgement.
+-- Only private calls use the definitions from here on: the request of a frame and its response code, joined in one value, the judgement.
 
 -- The judgement of an answered frame: its request if the code is 0, and otherwise the code that refuses it.
 abbrev pub judged_of : DeviceState → FrameParts → Reading
