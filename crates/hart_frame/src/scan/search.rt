@@ -89,7 +89,7 @@ fn next_pair(bytes: &[u8], from: usize) -> Option<usize>
         if let Some(start) = first_pair(bytes, place) {
             return Some(start);
         }
-        place += LANES;
+        place = next_preamble(bytes, place + LANES);
     }
     if from + LOOKED_AT <= bytes.len() {
         // Some of these places were looked at before.

@@ -1,6 +1,7 @@
 -- The next pair among sixteen places, by lanes.
 use Rattle.std.proofs.Common.{◌≡◌, ℕ, zero, suc, ◌+◌, ◌-◌, ◌*◌, ◌%◌, ◌^◌, ◌<◌, ◌≤◌, Bool, true, false, not, ◌&&◌, eqb, cond, List, []}
-use Rattle.std.proofs.Common.{◌∷◌, map, length, take, drop, get_or, replicate, bit_and, refl, sym, ap, ◌∙◌, subst, arith, add-zero, length-drop}
+use Rattle.std.proofs.Common.{◌∷◌, map, length, take, drop, get_or, replicate, bit_and, refl, sym, ap, ◌∙◌, subst}
+use Rattle.std.proofs.Common.{arith, add-zero, length-drop}
 use Rattle.std.proofs.lemmas.Bool.{not-true, not-false}
 use Rattle.std.proofs.lemmas.Bool.Decides.{nat_tests}
 use Rattle.std.proofs.lemmas.List.{drop_more, length-map, length-take-le}

@@ -1,5 +1,5 @@
 use Rattle.std.proofs.Common.{◌+◌, ◌-◌, Some, length, arith}
-use Rattle.hart_frame.specs.private.Search.{HasPair}
+use Rattle.hart_frame.specs.private.Search.{HasNoPair, HasPair}
 use Rattle.hart_frame.proofs.lemmas.scan.Search.{joined, pair_after, pair_at_end}
 use Rattle.hart_frame.proofs.scan.search.next_pair.Goals as goal
 
@@ -8,8 +8,11 @@ loop-place-preserved c =
     let bytes = c.args.bytes.now in
     let place = c.loop-place.place in
     let was = c.loop-place.invariant in
-    let none = joined (λ here. HasPair bytes here → ⊥) c.args.from place (place + 16) was.2 c.in_default.ensures in
-    (omega arith, omega arith, none)
+    let next = c.next_preamble-place.ensures in
+    let here = joined (λ here. HasPair bytes here → ⊥) c.args.from place (place + 16) was.2 c.in_default.ensures in
+    let skipped : HasNoPair bytes (place + 16) c.next_preamble-place.result = λ k after before pair. next.others k after before pair.1 in
+    let none = joined (λ here. HasPair bytes here → ⊥) c.args.from (place + 16) c.next_preamble-place.result here skipped in
+    (omega (arith, next.after), omega (arith, next.within), none)
 
 pub returns-in-Some : goal.returns-in-Some
 returns-in-Some c =
