@@ -1,6 +1,6 @@
 -- What the lines of a script say (own profile): a row for each kind of event.
-use Rattle.std.specs.Prelude.{◌≡◌, ◌⊎◌, ℕ, ◌+◌, ◌++◌, ◌/◌, ◌<◌, Any, Bool, true, false, not, nat_eq, List, [], ◌∷◌, codes, filter, length, map}
-use Rattle.std.specs.Prelude.{slice_get, take, Option, None, Some, Result, Ok, Err}
+use Rattle.std.specs.Prelude.{◌≡◌, ◌⊎◌, ℕ, ◌+◌, ◌++◌, ◌/◌, ◌<◌, Any, Bool, true, false, not, nat_eq, List, [], ◌∷◌, codes, filter}
+use Rattle.std.specs.Prelude.{length, map, slice_get, take, Option, None, Some, Result, Ok, Err}
 use Rattle.std.specs.List.{AllZip, starts_with}
 use Rattle.std.specs.Result.{result_ok}
 use Rattle.hart_commands.specs.RequestData.{request_reading}

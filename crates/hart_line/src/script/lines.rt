@@ -74,5 +74,5 @@ fn is_blank(byte: u8) -> bool
     ensures { result ≡ is_blank byte }
 {
     // Most bytes are greater than both, and one comparison tells.
-    byte <= b' ' && (byte == b' ' || byte == b'\t')
+    byte == b' ' || byte == b'\t'
 }

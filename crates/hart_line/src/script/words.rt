@@ -1,7 +1,8 @@
 //! The words that describe a message to send.
 
 ghost use Rattle.std.specs.Prelude.{◌≡◌, ◌≤◌, [], ◌∷◌, MatchOption};
-ghost use Rattle.hart_line.specs.script.Words.{decimal_of, device_of, polling_of, Finds, HasNoValue, IsAddressWord, IsCommandWord, IsDataWord, IsWho};
+ghost use Rattle.hart_line.specs.script.Words.{decimal_of, device_of, polling_of, Finds, HasNoValue};
+ghost use Rattle.hart_line.specs.script.Words.{IsAddressWord, IsCommandWord, IsDataWord, IsWho};
 
 use hart_frame::Payload;
 use hart_values::{Address, MasterId, PollingAddress, UniqueAddress};

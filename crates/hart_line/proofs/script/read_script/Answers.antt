@@ -42,7 +42,8 @@ line_fault text line left number events (BadLine at) (seen, split, long, are) is
       good = rw here.2 are;
     }
 line_fault text line left number events (Memory none) (seen, split, long, are) is =
-    let here = stands (lines_in_words text) seen (map words_of left) (words_of line) split in (length seen, words_of line, here.0, here.1, is)
+    let here = stands (lines_in_words text) seen (map words_of left) (words_of line) split in
+    (length seen, words_of line, here.0, here.1, is)
 line_fault text line left number events (Undetected event leg) told is = absurd is
 
 pub loop-events-init : goal.loop-events-init
