@@ -15,7 +15,7 @@ class BadEdit(Exception):
 
 
 class Change(NamedTuple):
-    """One place of an edit: the text `old`, which stands once in a file, becomes `new`."""
+    """One place of an edit: the text `old`, which stands once in a file, or once as a whole line, becomes `new`."""
 
     file: str
     old: str
@@ -68,6 +68,16 @@ def edits_of(crate):
     return found
 
 
+def place_of(text, change):
+    """The place of the only `old` text, or of the only line that is this text."""
+    exact = re.escape(change.old)
+    for form in (exact, f"^{exact}$") if change.old else ():
+        places = [it.start() for it in re.finditer(form, text, re.M)]
+        if len(places) == 1:
+            return places[0]
+    raise BadEdit(f"an `old` text stands {text.count(change.old) if change.old else 0} times in {change.file}, and not once")
+
+
 class Texts:
     """The texts of a crate's files, with the edits that were applied to them."""
 
@@ -89,10 +99,9 @@ class Texts:
         try:
             for change in edit.changes:
                 text = self.text(change.file)
-                if not change.old or text.count(change.old) != 1:
-                    raise BadEdit(f"an `old` text stands {text.count(change.old) if change.old else 0} times in {change.file}, and not once")
-                places.append((change.file, text.count("\n", 0, text.index(change.old)), text))
-                self.changed[change.file] = text.replace(change.old, change.new)
+                place = place_of(text, change)
+                places.append((change.file, text.count("\n", 0, place), text))
+                self.changed[change.file] = text[:place] + change.new + text[place + len(change.old) :]
             if not edit.changes or all(it.old == it.new for it in edit.changes):
                 raise BadEdit("it changes nothing")
         except BadEdit:
