@@ -95,12 +95,13 @@ pub fn every_start_outside_messages_has_one_line()
 
 /// Each line of a gap names what really stands in the way, at its real place.
 ///
-/// Let the tail be the characters from the end of the last message on. Where a body may start in the tail, the line's reason is in
-/// the way in the whole input. If the byte that would fit replaces the check byte, a frame stands at the line's place and ends with
-/// that byte. A character that a line names as damaged has exactly the fault bits that the line says. If the missing characters
-/// follow, which are any bytes and then their check byte, a frame stands at the line's place and ends with the check byte. If a line says that only one `FF` stands before its place, just one stands right before that place in the tail. A
-/// whole body stands at that place, and ends before two `FF` in a row begin. If the characters from the place up to the
-/// command stay and any others follow them, a body that stands at the place has the header that the second line says.
+/// Let the tail be the characters from the end of the last message on. Where a body may start in the tail, the line's reason is in the
+/// way in the whole input. If the byte that would fit replaces the check byte, a frame stands at the line's place and ends with that
+/// byte. A character that a line names as damaged has exactly the fault bits that the line says. If the missing characters follow,
+/// which are any bytes and then their check byte, a frame stands at the line's place and ends with the check byte. If a line says that
+/// only one `FF` stands before its place, just one stands right before that place in the tail. A whole body stands at that place, and
+/// ends before two `FF` in a row begin. If the characters from the place up to the command stay and any others follow them, a body that
+/// stands at the place has the header that the second line says.
 pub fn hints_of_explanations_are_right()
     ensures in_the_way { (chars : List Character) (from stop place : ℕ) (miss : Miss) (header : Option HeaderParts)
         → All (λ character. character.byte < 256) chars

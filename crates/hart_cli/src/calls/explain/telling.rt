@@ -5,7 +5,8 @@ ghost use Rattle.hart_frame.specs.declared.scan.sighting.After.TheVariants.{End}
 ghost use Rattle.hart_frame.specs.heard.Character.{faultless};
 ghost use Rattle.hart_frame.specs.scan.Sighting.{AfterIsValid, heard_with, is_end};
 ghost use Rattle.hart_cli.specs.explain.Dates.{date_at, date_from};
-ghost use Rattle.hart_cli.specs.explain.Telling.{FailsToHear, FailsToTell, HearsMark, HearsOrFails, HearsStretchesOrFails, HearsTextOrFails};
+ghost use Rattle.hart_cli.specs.explain.Telling.{FailsToHear, FailsToTell, HearsMark, HearsOrFails};
+ghost use Rattle.hart_cli.specs.explain.Telling.{HearsStretchesOrFails, HearsTextOrFails};
 ghost use Rattle.hart_cli.specs.explain.Telling.{IsNew, IsNextSighting, IsWaiting, TellsDecided, TellsRest, chars_after};
 ghost use Rattle.hart_cli.specs.input.Decoding.{most_heard_ahead};
 ghost use Rattle.hart_cli.specs.text.Heard.{NothingBegins};

@@ -3,7 +3,8 @@ ghost use Rattle.std.specs.Prelude.{◌≡◌, ◌++◌, ◌+◌, ◌*◌, ◌�
 ghost use Rattle.std.specs.List.{list_all};
 ghost use Rattle.std.specs.Option.{option_map};
 ghost use Rattle.hart_values.specs.packed_text.Packing.{IsPackedSize};
-ghost use Rattle.hart_cli.specs.explain.Values.{day_words, in_parentheses, is_printable, latin_words, no_date_words, suits, two_digits, unpacked};
+ghost use Rattle.hart_cli.specs.explain.Values.{day_words, in_parentheses, is_printable, latin_words, no_date_words, suits};
+ghost use Rattle.hart_cli.specs.explain.Values.{two_digits, unpacked};
 ghost use Rattle.hart_cli.specs.explain.Values.{unit_words, value_words, variable_words, variables_words};
 
 use crate::calls::explain::words::push_hex_value;

@@ -1,4 +1,5 @@
-use Rattle.std.proofs.Common.{◌≡◌, ◌≤◌, ◌<◌, ◌/◌, ◌%◌, ◌+◌, ℕ, false, true, List, [], ◌∷◌, Ok, Some, inl, inr, arith, bytes_eq, codes, decimal, get_or, length, pos, refl}
+use Rattle.std.proofs.Common.{◌≡◌, ◌≤◌, ◌<◌, ◌/◌, ◌%◌, ◌+◌, ℕ, false, true, List, [], ◌∷◌, Ok, Some, inl, inr, arith, bytes_eq}
+use Rattle.std.proofs.Common.{codes, decimal, get_or, length, pos, refl}
 use Rattle.std.proofs.lemmas.Bool.Decides.{nat_tests}
 use Rattle.std.proofs.lemmas.Fmt.{decimal_digit, decimal_is_IsNumeral, decimal_step}
 use Rattle.std.proofs.lemmas.Grind.{common_steps}
