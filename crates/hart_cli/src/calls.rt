@@ -1,4 +1,4 @@
-//! The calls: one for each subcommand, over any reader and writer. The program makes the call that its words name.
+//! The calls: one for each subcommand, over any reader and writer. The program makes the call of the subcommand on its command line.
 
 pub mod answer;
 pub mod dump;

@@ -13,8 +13,8 @@ use Rattle.hart_frame.specs.declared.wire.prefix.Prefix.TheVariants as prefix
 use Rattle.hart_frame.specs.declared.wire.prefix.Wrong.{Wrong}
 use Rattle.hart_frame.specs.declared.wire.prefix.Wrong.TheVariants.{BadCheck, BadDelimiter, ShortReply}
 
--- Bytes are a whole body of a layout if the layout describes them and has their length. Nothing may be wrong up to their check byte, their
--- parity must be even, and each byte must be below 256.
+-- Bytes are a whole body of a layout if the layout describes them and has their length. Nothing may be wrong before the check byte, the
+-- exclusive or of all bytes must be 0, and each byte must be below 256.
 pub record IsWholeBody (layout : Layout) (bytes : List ℕ) : Type 0 where
   pub described : Describes layout bytes
   pub checked : HasCheckByte bytes

@@ -83,7 +83,7 @@ module _ {Heard : Type 0} (Reads : List ℕ → List Heard → List ℕ → Type
       let still = laws.still (h.rest ++ more) between later.rest reads long in
       h.open_end.goes_on (rw still at later.no_piece)
 
-  -- an input was heard in one way, with one fault
+  -- two hearings of the same input agree: they heard the same, and have the same fault or none
   pub one_hearing : (text : List ℕ) (ending : Ending) (xs ys : List Heard) (f g : Option CliFault)
       → HasHeardBy Reads Stops text ending xs f → HasHeardBy Reads Stops text ending ys g → (xs ≡ ys) × (f ≡ g)
   one_hearing text _ _ _ _ _ (all xs h) (bad_hex ys q k) = absurd (not_read (closed text) xs ys q h k)

@@ -51,7 +51,7 @@ pub Front-all : (heard : List Character) (count most : ℕ) (bytes : List ℕ) �
     → bytes ≡ take most (faultless_bytes heard)
 Front-all heard count most bytes all front = grind (arith, drop_all, append-nil, take_all, take_at)
 
--- What is heard consists of the characters of its faultless bytes and then the characters after these.
+-- What is heard is the run of faultless bytes at its front, as characters, and then the other characters.
 pub heard_parts : (heard : List Character)
     → heard ≡ faultless (faultless_bytes heard) ++ drop (length (faultless_bytes heard)) heard
 heard_parts [] = refl
