@@ -81,8 +81,7 @@ impl<T> Filling<T> {
         }
     }
 
-    /// Makes room for `more` further items of at most 512 bytes each, unless there is room for them already. Room for 0 items is never
-    /// refused.
+    /// Makes room for `more` further items of at most 512 bytes each, unless there is room already. Room for 0 items is never refused.
     ///
     /// # Errors
     ///

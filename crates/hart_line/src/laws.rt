@@ -30,8 +30,7 @@ pub fn words_have_one_value()
     ensures items { (word : List ℕ) (xs ys : List Character) → AreItems word xs → AreItems word ys → xs ≡ ys }
 {}
 
-/// Every text is a script or has a first bad line. No script has a first bad line, and no text has two scripts or two first bad lines: see
-/// [`texts_have_one_script`].
+/// Every text is a script or has a first bad line. No text has both, two scripts or two first bad lines: see [`texts_have_one_script`].
 pub fn every_text_is_a_script_or_has_a_first_bad_line()
     ensures { (text : List ℕ)
         → ((events : List LineEvent) × IsScript text events) ⊎ ((number : ℕ) × HasFirstBadLine text number) }
@@ -69,8 +68,7 @@ pub fn empty_scripts_need_no_room<L: Log>()
         → IsScriptFault text (Memory none) → ⊥ }
 {}
 
-/// A master can take a unique address from the identity in a reply with code 0. This address is the own unique address of the device that
-/// replied.
+/// A master can take a unique address from the identity in a reply with code 0. It is the unique address of the device that replied.
 #[tactic(auto, using(std::proofs::lemmas::Grind::common_steps, std::proofs::lemmas::Bool::Decides::nat_tests))]
 pub fn identities_give_their_address()
     ensures { (parts : IdentityParts) (counter extended_device_status : ℕ) (reply : Reply) → AreIdentityParts parts

@@ -2,8 +2,7 @@
 //!
 //! Each line of a script, unless empty or a comment, is one event: a request for a master, a turn with what is heard in its two legs, a
 //! switch of the write protection, noise, or a restart. [`read_script`] reads the events, or names the first bad line. [`run`] carries them
-//! out. It reports what was spoken, the outcome of each submission, and the device. If damage is undetected, it reports the first such
-//! damage instead.
+//! out. It reports what was spoken, the outcome of each submission, and the device. If damage is undetected, it reports the first instead.
 //!
 //! ```rust
 //! let events = read_script(rt.alloc(), b"submit P @0 0\nturn P ok lost\n")?;

@@ -18,8 +18,7 @@ pub record LineState : Type 0 where
   pub outcomes_room : ℕ
   pub response_preambles : ℕ
 
--- A line stands for a world if its device, its masters and its outcomes are those of the world. Its `response_preambles` must also be the
--- number in the device's identity.
+-- A line stands for a world if its device, masters and outcomes are the world's, and its `response_preambles` are the identity's.
 pub record Stands (start : Start) (world : World) (line : LineState) : Type 0 where
   pub device_is : line.device ≡ state_of start.device world
   pub masters_are : AreHeld start.retries world.hands line.masters

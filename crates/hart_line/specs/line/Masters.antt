@@ -10,14 +10,13 @@ use Rattle.hart_line.specs.world.World.{InHand}
 use Rattle.hart_line.specs.declared.line.masters.Masters.{Masters}
 use Rattle.hart_line.specs.declared.line.masters.Submitter.{Submitter}
 
--- The hand of a master between turns, made from what a world says about it. The hand has a request to be sent, with the number of its
--- sendings so far, or is empty.
+-- The hand of a master between turns, made from what a world says about it. It is empty, or has a request to be sent and its number of
+-- sendings.
 abbrev pub hand_of : Option InHand → Hand
 hand_of None = Empty
 hand_of (Some held) = ToSend (record { address = held.address; request = held.request; sendings = held.sendings })
 
--- A submitter's master has this id, this retry limit and this hand. If a request is held, the submitter's place is the number of its
--- submission.
+-- A submitter's master has this id, this retry limit and this hand. If a request is held, the submitter's place is its number.
 pub record IsSubmitter (id : MasterId) (retries : ℕ) (hand : Hand) (held : Option InHand) (submitter : Submitter) : Type 0 where
   pub reply_limit : ℕ
   pub master_is : submitter.master ≡ record { id = id; retries = retries; reply_limit = reply_limit; hand = hand }
@@ -43,8 +42,7 @@ AreInTurn Primary retries hands masters =
 AreInTurn Secondary retries hands masters =
     Awaits Secondary retries.secondary hands.secondary masters.secondary × Holds Primary retries.primary hands.primary masters.primary
 
--- If a submission is not refused, its request is in the master's hand, has not been sent, and is unfinished. A refused submission does not
--- change the hand.
+-- If a submission is not refused, its request is in the master's hand, not yet sent, and unfinished. A refused one changes no hand.
 abbrev pub Submits : Option InHand → ℕ → Address → Request → Option MasterFault → Outcome → (Option InHand → Type 0) → Type 0
 Submits held place address request None outcome Left = (outcome ≡ Unfinished 0)
     × Left (Some (record { submission = place; address = address; request = request; sendings = 0 }))
@@ -64,8 +62,7 @@ outcomes_after_turn retries None accepted outcomes = outcomes
 outcomes_after_turn retries (Some held) accepted outcomes =
     slice_set outcomes held.submission (outcome_of retries (held.sendings + 1) accepted)
 
--- A master's turn ends. The master accepts what came back as the reply, or accepts nothing. The request in its hand, if any, gets its
--- outcome.
+-- A master's turn ends. The master accepts what came back as the reply, or nothing. The request in its hand, if any, gets its outcome.
 pub record Concludes (who : MasterId) (retries : ℕ) (hand : Option InHand) (returned : Option FrameParts)
     (outcomes outcomes' : List Outcome) (Left : Option InHand → Type 0) : Type 0 where
   pub accepted : Option Reply

@@ -25,8 +25,8 @@ request_of command payload = do
   bytes ← payload_of payload
   result_ok (request_reading number bytes)
 
--- The word of a leg is `ok` if the leg is clean, and `lost` if it is lost. Otherwise the word consists of items, end to end, and the items
--- mean the characters heard.
+-- The word of a leg is `ok` if the leg is clean, and `lost` if it is lost. Otherwise the word consists of items, end to end, of the
+-- characters heard.
 abbrev pub IsLegWord : List ℕ → Heard → Type 0
 IsLegWord word Clean = word ≡ codes "ok"
 IsLegWord word Lost = word ≡ codes "lost"
@@ -98,8 +98,7 @@ IsScriptFault text (Undetected number leg) = ⊥
 
 -- Only private calls use the definitions from here on. They describe the result of reading one line.
 
--- The result of reading words: a value that the words say; `Bad`, if the words say no value; or `Memory`, if memory for the words was
--- refused.
+-- The result of reading words: a value that the words say; `Bad`, if they say no value; or `Memory`, if memory was refused.
 abbrev pub ReadsWords : {T : Type 0} → List (List ℕ) → (T → Type 0) → Result T RowFault → Type 0
 ReadsWords {T} words IsSaid (Ok value) = IsSaid value
 ReadsWords {T} words IsSaid (Err rows.Bad) = HasNoValue IsSaid

@@ -50,8 +50,7 @@ abbrev pub LegsAreDetected : Start → World → LineEvent → Type 0
 LegsAreDetected start world event = (leg : Leg) (heard : Heard) (sent : Option SpokenFrame)
     → HeardIn start world event leg heard sent → (arrived : Option FrameParts) × Arrives heard sent arrived
 
--- The damage of each leg of each of these events is detected. This is true in every world to which the earlier events lead from the world
--- `from`.
+-- The damage of each leg of each of these events is detected, in every world to which the earlier events lead from the world `from`.
 abbrev pub AreAllDetected : Start → World → List LineEvent → Type 0
 AreAllDetected start from events = (prefix suffix : List LineEvent) (event : LineEvent) (world : World)
     → events ≡ prefix ++ event ∷ suffix → LeadsTo start from prefix world → LegsAreDetected start world event

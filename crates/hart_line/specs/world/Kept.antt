@@ -1,5 +1,4 @@
--- The promises about a script that `Led` does not make: about its worlds, and about the device and the outcomes that are returned (own
--- profile).
+-- The promises about a script that `Led` does not make: about its worlds, and the returned device and outcomes (own profile).
 use Rattle.std.specs.Prelude.{◌≡◌, ◌≤◌, ◌+◌, ◌%◌, ◌^◌, List, [], ℕ, Option, Some, IfSome, IsTrue, false, length, slice_get}
 use Rattle.hart_values.specs.EachMaster.{of_master}
 use Rattle.hart_line.specs.Types.{MasterId, Reply, Request, DeviceState, Heard, LineEvent, Turn, Outcome, Answered}
@@ -49,8 +48,7 @@ pub record KeepsPromises (start : Start) (events : List LineEvent) (device : Dev
   pub at_most_once_a_sending : (world : World) → IsLast start events world → (number : ℕ)
       → times_executed number world.executions ≤ sendings_in (slice_get outcomes number)
   -- If a master's configuration-changed bit is clear after the script, nothing was written since this master's last Command 38 with code 0.
-  -- The counter and the registers are still as they were in the turn of that command. If the command named a counter, the counter still has
-  -- this value.
+  -- The counter and the registers are still as they were in the turn of that command. A counter that it named is still the counter.
   pub no_change_unseen : (who : MasterId) (before : World) (given : Option ℕ) → IsLastReset start events who before given
       → of_master who device.changed ≡ false → IfSome given (λ counter. device.counter ≡ counter)
       × (device.counter ≡ (state_of start.device before).counter) × (device.contents ≡ (state_of start.device before).contents)

@@ -19,16 +19,14 @@ pub record IsNeededByNoting (Needs : Spoken → ℕ → Type 0) (start : Start) 
   pub some : 0 < items
 
 -- Events that are carried out with a log have one of two faults. One is undetected damage, which is also a fault without a log. Everything
--- spoken before the event with this damage has then been noted. The other is refused memory that is needed to note one of the spoken
--- frames.
+-- spoken before the event with this damage has then been noted. The other is refused memory for noting one of the spoken frames.
 abbrev pub IsNotingFault : (Needs : Spoken → ℕ → Type 0) → (AreNoted : List Spoken → Type 0) → Start → List LineEvent → LineFault → Type 0
 IsNotingFault Needs AreNoted start events (Undetected number leg) = (undetected : IsFault start events (Undetected number leg))
     × (spoken : List Spoken) × AreSpoken undetected.0.spoken spoken × AreNoted spoken
 IsNotingFault Needs AreNoted start events (Memory room) = IsNeededByNoting Needs start events room.items
 IsNotingFault Needs AreNoted start events (BadLine line) = ⊥
 
--- A script with a log has one of the faults of `IsNotingFault`, or memory for its outcomes is refused. If that memory is refused, nothing
--- has been noted.
+-- A script with a log has one of the faults of `IsNotingFault`, or memory for its outcomes is refused before anything is noted.
 abbrev pub IsLoggedFault : (Needs : Spoken → ℕ → Type 0) → (AreNoted : List Spoken → Type 0) → Start → List LineEvent → LineFault → Type 0
 IsLoggedFault Needs AreNoted start events (Memory room) =
     IsNeededForOutcomes events room.items × AreNoted [] ⊎ IsNotingFault Needs AreNoted start events (Memory room)

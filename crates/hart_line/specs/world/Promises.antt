@@ -89,8 +89,7 @@ requests_of events = map (λ submission. submission.request) (submissions_of eve
 abbrev pub AreWellMade : List LineEvent → Type 0
 AreWellMade events = All IsRequest (requests_of events)
 
--- The number of times that a submission was sent, as its outcome says. The number is 0 for a refused submission, and for a submission that
--- does not exist.
+-- The number of times that a submission was sent, as its outcome says. It is 0 for a refused submission, and for one that does not exist.
 abbrev pub sendings_in : Option Outcome → ℕ
 sendings_in (Some (Answered reply sendings)) = sendings
 sendings_in (Some (NoReply sendings)) = sendings

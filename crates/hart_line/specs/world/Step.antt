@@ -19,8 +19,8 @@ use Rattle.hart_line.specs.world.Spoken.{SpokenFrame, master_preambles, spoken_b
 use Rattle.hart_line.specs.world.World.{Execution, InHand, Start, World, first_world, state_of}
 use Rattle.hart_line.specs.declared.line.report.Party.TheVariants.{Device}
 
--- A submission is refused as pending if a request is in the master's hand already. Otherwise it is refused as wrongly addressed if
--- the request may not be sent to the address.
+-- A submission is refused as pending if a request is in the master's hand already. Otherwise it is refused as wrongly addressed if it may
+-- not be sent to its address.
 abbrev pub submission_fault : Option InHand → Address → Request → Option MasterFault
 submission_fault (Some held) address request = Some Pending
 submission_fault None address request = if may_ask address request then None else Some WrongAddress
@@ -82,8 +82,7 @@ Accepts who (Some held) None accepted = accepted ≡ None
 Accepts who (Some held) (Some frame) None = (reply : Reply) → IsReplyTo who held.address held.request frame reply → ⊥
 Accepts who (Some held) (Some frame) (Some reply) = IsReplyTo who held.address held.request frame reply
 
--- A request is answered by the reply that is accepted. Without an accepted reply, it is unfinished if it was sent at most `retries`
--- times, and otherwise is given up.
+-- A request is answered by the accepted reply. Otherwise it is given up if sent more than `retries` times, and unfinished if not.
 abbrev pub outcome_of : (retries sendings : ℕ) → Option Reply → Outcome
 outcome_of retries sendings (Some reply) = Answered reply sendings
 outcome_of retries sendings None = if nat_le sendings retries then Unfinished sendings else NoReply sendings
@@ -116,8 +115,7 @@ turned start world who (Some held) brought accepted =
       spoken = world.spoken ++ spoken_request who held ∷ option_to_list (sent_back start world brought);
     }
 
--- The next world after a turn depends on what the turn brings the device, what comes back of the device's answer, and which reply the
--- master then accepts.
+-- The next world after a turn depends on what the turn brings the device, what comes back of its answer, and which reply is accepted.
 pub record IsTurn (start : Start) (world : World) (who : MasterId) (up down : Heard) (next : World) : Type 0 where
   pub brought : Brought
   pub arrives : Reaches start.device.identity up (sent_by who (of_master who world.hands)) brought

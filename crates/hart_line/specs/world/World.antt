@@ -1,5 +1,5 @@
--- The world of a script (own profile): what has happened on the line. The device and its masters do not know the executions and the numbers
--- of submissions that a world has.
+-- The world of a script (own profile): what has happened on the line. Device and masters do not know its executions and numbers of
+-- submissions.
 use Rattle.std.specs.Prelude.{◌≡◌, ℕ, ◌≤◌, ◌+◌, ◌%◌, ◌^◌, ◌||◌, nat_lt, Bool, List, [], length, map, Option, None, Some}
 use Rattle.hart_line.specs.Types.{Address, EachMaster, MasterId, Overwrite, Request, DeviceState, Process, Outcome}
 use Rattle.hart_values.specs.EachMaster.{of_master}

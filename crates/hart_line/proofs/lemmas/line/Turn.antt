@@ -12,8 +12,7 @@ use Rattle.hart_line.proofs.lemmas.world.Basics.{with_master-same}
 use Rattle.hart_line.proofs.lemmas.world.Steps.{frame_in, none_reaches, reaches_sent, state-after}
 use Rattle.hart_line.specs.declared.line.report.Party.TheVariants as parties
 
--- The device answered what this leg brought it. In this event the frame sent in the leg, if any, was spoken, and then the answer, if any.
--- Nothing else was spoken.
+-- The device answered what this leg brought it. In this event only the sent frame and then the answer, if any, were spoken.
 pub record IsAnswered (start : Start) (world : World) (heard : Heard) (said : Option SpokenFrame) (answer : Option FrameParts)
     (after : DeviceState) (spoken : List Spoken) : Type 0 where
   pub brought : Brought
@@ -88,8 +87,7 @@ replied_steps start world event heard answer line a step held same preambles_are
   spoken_are = a.spoken_are;
 }
 
--- If the device answers, its state is the state after the command, with the master's cold start bit cleared. Without an answer the state
--- does not change.
+-- If the device answers, its state is that after the command, with the master's cold start bit cleared. Otherwise it does not change.
 answer_leaves : (answered zero : Bool) (asked : Effect) (id : MasterId) (state : DeviceState)
     → (if answered then after_reply id (after id (if answered && zero then asked else Nothing) state) else state)
     ≡ record (after id (if answered && zero then asked else Nothing) state) {

@@ -48,8 +48,7 @@ pub reads_all : (text : List ℕ) (chars : List Character) → ReadsTo text char
 reads_all text chars reads =
     rw append-nil at (reads.on [] (record { items = []; valid = tt; spelled = refl; means = refl }))
 
--- If a text of items begins with an item, its characters are the character of this item, followed by the characters of the text after the
--- item.
+-- If a text of items begins with an item, its characters are that of this item, followed by those of the text after the item.
 pub after_item : (rest : List ℕ) (item : Item) (tail : List ℕ) (all : List Character) → BeginsWithItem rest item tail → AreItems rest all
     → (more : List Character) × AreItems tail more × (all ≡ item_meaning item ∷ more)
 after_item rest item tail all begins are = after are.items are.valid are.spelled are.means

@@ -94,8 +94,7 @@ pub fault_of_word : {A B : Type 0} (words : List (List ℕ)) (k : ℕ) (word : L
 fault_of_word words k word Bad IsPart IsWhole short here none reads = none reads
 fault_of_word words k word (Memory room) IsPart IsWhole short here none reads = grind arith
 
--- So take a word after the first word of a row. If the row says nothing when this word says nothing, a fault of this word is a fault of the
--- row.
+-- Take a word after the first word of a row. If the row says nothing when this word says nothing, the word's fault is the row's fault.
 pub fault_in_row : {A : Type 0} (row : List ℕ) (words given : List (List ℕ)) (k : ℕ) (word : List ℕ) (fault : RowFault)
     (IsPart : A → Type 0) → words ≡ given → k < length given → get_or given k word ≡ word
     → (HasNoValue IsPart → HasNoValue (Says (row ∷ given))) → ReadsWords (word ∷ []) IsPart (Err fault)

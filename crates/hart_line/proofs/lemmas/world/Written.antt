@@ -1,5 +1,4 @@
--- Unrefused writes are executed in their turn, and nothing else is executed. All executions together lead to the same registers as only the
--- last execution of each submission does.
+-- Only unrefused writes are executed, in their turn. The last execution of each submission alone leads to the same registers.
 use Rattle.hart_line.proofs.Common.{same_Some, ◌≡◌, ℕ, ◌∙◌, sym, refl, Some, IsTrue, List, inl, inr, arith, suc, Ok, Bool, true, false, []}
 use Rattle.hart_line.proofs.Common.{◌∷◌, None, Option, ◌⊎◌, ◌+◌, common_steps, elements, nat_tests, get_or-map, length-map, All-push}
 use Rattle.hart_line.proofs.Common.{slice_get, All, Contains, option_and_then, MasterId, command_of, Reply, Request, Contents, Overwrite}
