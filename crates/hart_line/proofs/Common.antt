@@ -17,7 +17,6 @@ pub use Rattle.hart_line.specs.line.Line.{LineState, Stands, Stepped}
 pub use Rattle.hart_line.specs.line.Masters.{AreHeld, Concludes, Submits, hand_of}
 pub use Rattle.hart_line.specs.script.Items.{AreDigits, AreItems, BeginsAsItem, BeginsWithItem, EndsBefore, Faulty, IsItemsWord}
 pub use Rattle.hart_line.specs.script.Items.{IsValidItem, Item, NoItemBegins, Plain, byte_of, item_meaning, item_spelling}
-pub use Rattle.hart_line.specs.script.Lines.{has_bytes, is_blank, lines_of, words_of}
 pub use Rattle.hart_line.specs.script.Rows.{AreEvents, HasFirstBadLine, IsBadLine, IsLegWord, IsScript, IsScriptFault}
 pub use Rattle.hart_line.specs.script.Rows.{AddsLine, IsLineFault, ReadsWords, Says, is_skipped, lines_in_words, request_of}
 pub use Rattle.hart_line.specs.script.Words.{Finds, HasNoValue, address_of, who_of}
@@ -52,7 +51,6 @@ pub use Rattle.std.proofs.lemmas.Option.{same_Some, slice_get-get_or}
 pub use Rattle.std.proofs.lemmas.Result.{err_from_is_err_and}
 pub use Rattle.std.proofs.lemmas.Slice.Eq.{bytes_eq-Decides, text_from_reads}
 pub use Rattle.std.proofs.lemmas.Slice.Zip.{AllZip-long, all_zipped_more}
-pub use Rattle.std.specs.List.{All, AllByRecursion, AllZip, Any, Contains, filter, flat_map, onto_first, position_or_len, slice_get}
-pub use Rattle.std.specs.List.{slice_split}
+pub use Rattle.std.specs.List.{All, AllByRecursion, AllZip, Any, Contains, filter, flat_map, slice_get}
 pub use Rattle.std.specs.Option.{MatchOption, ok_or, option_and_then, option_map, option_or, option_to_list}
 pub use Rattle.std.specs.Str.{all_ascii_digits, bytes_eq}

@@ -3,14 +3,13 @@ ghost use Rattle.std.specs.Prelude.{IfOk, IfErr};
 ghost use Rattle.hart_line.specs.script.Rows.{IsScript, IsScriptFault};
 
 use crate::script::digits::Digits;
-use crate::script::lines::first_line;
 use crate::script::rows::read_line;
 use crate::{Filling, LineEvent, LineFault};
+use hart_text::first_line;
 use std::alloc::Global;
 
 pub mod digits;
 pub mod items;
-pub mod lines;
 pub mod rows;
 pub mod words;
 

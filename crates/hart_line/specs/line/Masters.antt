@@ -26,7 +26,7 @@ pub record IsSubmitter (id : MasterId) (retries : ℕ) (hand : Hand) (held : Opt
 abbrev pub Holds : MasterId → ℕ → Option InHand → Submitter → Type 0
 Holds id retries held submitter = IsSubmitter id retries (hand_of held) held submitter
 
--- If a master has a request in its hand, it has sent the request once more and awaits the reply.
+-- A master has just sent the request in its hand, if there is one: its count of sendings is one higher, and it awaits the reply.
 abbrev pub Awaits : MasterId → ℕ → Option InHand → Submitter → Type 0
 Awaits id retries held submitter = IsSubmitter id retries (hand_sent (hand_of held)) held submitter
 

@@ -1,13 +1,13 @@
 -- What the lines of a script say (own profile): a row for each kind of event.
 use Rattle.std.specs.Prelude.{◌≡◌, ◌⊎◌, ℕ, ◌+◌, ◌++◌, ◌/◌, ◌<◌, Any, Bool, true, false, not, nat_eq, List, [], ◌∷◌, codes, filter}
-use Rattle.std.specs.Prelude.{length, map, slice_get, take, Option, None, Some, Result, Ok, Err}
+use Rattle.std.specs.Prelude.{length, slice_get, take, Option, None, Some, Result, Ok, Err}
 use Rattle.std.specs.List.{AllZip, starts_with}
 use Rattle.std.specs.Result.{result_ok}
 use Rattle.hart_commands.specs.RequestData.{request_reading}
 use Rattle.hart_line.specs.Types.{Request, Heard, Clean, Lost, Chars, LineEvent, Submit, Turn, Protect, Noise, Restart, LineFault, BadLine}
 use Rattle.hart_line.specs.Types.{Memory, Undetected}
 use Rattle.hart_line.specs.script.Items.{IsItemsWord}
-use Rattle.hart_line.specs.script.Lines.{lines_of, words_of}
+pub use Rattle.hart_text.specs.Lines.{lines_in_words}
 use Rattle.hart_line.specs.script.Words.{◌>>=◌, HasNoValue, IsAddressWord, IsWho, command_of, data_of}
 use Rattle.hart_line.specs.declared.script.rows.RowFault.{RowFault}
 use Rattle.hart_line.specs.declared.script.rows.RowFault.TheVariants as rows
@@ -54,10 +54,6 @@ is_skipped (word ∷ words) = starts_with nat_eq word (codes "#")
 -- A line is bad if it is not skipped and says no event.
 abbrev pub IsBadLine : List (List ℕ) → Type 0
 IsBadLine words = (is_skipped words ≡ false) × HasNoValue (Says words)
-
--- The lines of a text, each as the list of its words.
-abbrev pub lines_in_words : List ℕ → List (List (List ℕ))
-lines_in_words text = map words_of (lines_of text)
 
 -- Each line that is not skipped says one event, and these are the events in order.
 abbrev pub AreEvents : List (List (List ℕ)) → List LineEvent → Type 0

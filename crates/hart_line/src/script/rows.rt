@@ -1,15 +1,14 @@
 //! The rows of the table of events, and lines that say no event.
 ghost use Rattle.std.specs.Prelude.{◌≡◌, ◌≢◌, [], ◌∷◌, codes, length, IfErr, MatchOption, OnOk};
-ghost use Rattle.hart_line.specs.script.Lines.{words_of};
 ghost use Rattle.hart_line.specs.script.Rows.{AddsLine, IsLegWord, IsLineFault, ReadsWords, Says, request_of};
 ghost use Rattle.hart_line.specs.script.Words.{Finds};
 
 use crate::script::digits::Digits;
 use crate::script::items::read_items;
-use crate::script::lines::{has_no_word, next_word, only_word};
 use crate::script::words::{decode_data, read_address, read_command, read_who};
 use crate::{Filling, Heard, LineEvent, LineFault, NoRoom};
 use hart_commands::Request;
+use hart_text::Words;
 use std::alloc::Global;
 
 /// Why no event was read from a line.
@@ -27,13 +26,13 @@ pub fn read_line(
     alloc: Global,
     digits: &Digits,
     number: usize,
-    line: &[u8],
+    line: Words<'_>,
     events: &mut Filling<LineEvent>,
 ) -> Result<(), LineFault>
-    ensures added { OnOk result (AddsLine (words_of line.now) events.old.items events.new.items) }
-    ensures fault { IfErr result (IsLineFault number (words_of line.now)) }
+    ensures added { OnOk result (AddsLine line.entry events.old.items events.new.items) }
+    ensures fault { IfErr result (IsLineFault number line.entry) }
 {
-    let Some((first, rest)) = next_word(line) else {
+    let Some((first, rest)) = line.next() else {
         return Ok(());
     };
     if let [b'#', ..] = first {
@@ -54,9 +53,9 @@ fn read_event(
     alloc: Global,
     digits: &Digits,
     first: &[u8],
-    rest: &[u8],
+    rest: Words<'_>,
 ) -> Result<LineEvent, RowFault>
-    ensures { ReadsWords (first.now ∷ words_of rest.now) (Says (first.now ∷ words_of rest.now)) result }
+    ensures { ReadsWords (first.now ∷ rest.entry) (Says (first.now ∷ rest.entry)) result }
 {
     match first {
         b"submit" => read_submit(rest).ok_or(RowFault::Bad),
@@ -69,12 +68,12 @@ fn read_event(
 }
 
 /// Reads the words after `submit`: WHO, ADDRESS, COMMAND and perhaps DATA. Returns `None` for anything else.
-fn read_submit(rest: &[u8]) -> Option<LineEvent>
-    ensures { Finds (Says (codes "submit" ∷ words_of rest.now)) result }
+fn read_submit(rest: Words<'_>) -> Option<LineEvent>
+    ensures { Finds (Says (codes "submit" ∷ rest.entry)) result }
 {
-    let (who, rest) = next_word(rest)?;
-    let (address, rest) = next_word(rest)?;
-    let (command, rest) = next_word(rest)?;
+    let (who, rest) = rest.next()?;
+    let (address, rest) = rest.next()?;
+    let (command, rest) = rest.next()?;
     Some(LineEvent::Submit {
         who: read_who(who)?,
         address: read_address(address)?,
@@ -83,14 +82,14 @@ fn read_submit(rest: &[u8]) -> Option<LineEvent>
 }
 
 /// Reads COMMAND and the words after it as a request: no word means no data, and one word is DATA. Returns `None` for anything else.
-fn read_request(command: &[u8], rest: &[u8]) -> Option<Request>
-    ensures { result ≡ request_of command.now (words_of rest.now) }
+fn read_request(command: &[u8], rest: Words<'_>) -> Option<Request>
+    ensures { result ≡ request_of command.now rest.entry }
 {
     let number = read_command(command)?;
-    let Some((word, rest)) = next_word(rest) else {
+    let Some((word, rest)) = rest.next() else {
         return Request::read(number, &[]).ok();
     };
-    if !has_no_word(rest) {
+    if !rest.is_empty() {
         return None;
     }
     let mut room = [0; 255];
@@ -99,8 +98,8 @@ fn read_request(command: &[u8], rest: &[u8]) -> Option<Request>
 }
 
 /// Reads the three words after `turn`: WHO, UP and DOWN.
-fn read_turn(alloc: Global, digits: &Digits, rest: &[u8]) -> Result<LineEvent, RowFault>
-    ensures { ReadsWords (codes "turn" ∷ words_of rest.now) (Says (codes "turn" ∷ words_of rest.now)) result }
+fn read_turn(alloc: Global, digits: &Digits, rest: Words<'_>) -> Result<LineEvent, RowFault>
+    ensures { ReadsWords (codes "turn" ∷ rest.entry) (Says (codes "turn" ∷ rest.entry)) result }
 {
     let Some((who, up, down)) = three_words(rest) else {
         return Err(RowFault::Bad);
@@ -113,13 +112,13 @@ fn read_turn(alloc: Global, digits: &Digits, rest: &[u8]) -> Result<LineEvent, R
 }
 
 /// Returns the three words of a line, or `None` if the line has fewer or more.
-fn three_words(line: &[u8]) -> Option<(&[u8], &[u8], &[u8])>
-    ensures { MatchOption result (length (words_of line.now) ≢ 3)
-        (λ words. words_of line.now ≡ (words.0).now ∷ (words.1).now ∷ (words.2).now ∷ []) }
+fn three_words<'a>(line: Words<'a>) -> Option<(&'a [u8], &'a [u8], &'a [u8])>
+    ensures { MatchOption result (length line.entry ≢ 3)
+        (λ words. line.entry ≡ (words.0).now ∷ (words.1).now ∷ (words.2).now ∷ []) }
 {
-    let (first, rest) = next_word(line)?;
-    let (second, rest) = next_word(rest)?;
-    Some((first, second, only_word(rest)?))
+    let (first, rest) = line.next()?;
+    let (second, rest) = rest.next()?;
+    Some((first, second, rest.only()?))
 }
 
 /// Reads the word of a leg: `ok`, `lost`, or the items of the characters that are heard.
@@ -134,10 +133,10 @@ fn read_leg(alloc: Global, digits: &Digits, word: &[u8]) -> Result<Heard, RowFau
 }
 
 /// Reads the one word after `protect`, `on` or `off`, or returns `None` for anything else.
-fn read_protect(rest: &[u8]) -> Option<LineEvent>
-    ensures { Finds (Says (codes "protect" ∷ words_of rest.now)) result }
+fn read_protect(rest: Words<'_>) -> Option<LineEvent>
+    ensures { Finds (Says (codes "protect" ∷ rest.entry)) result }
 {
-    match only_word(rest)? {
+    match rest.only()? {
         b"on" => Some(LineEvent::Protect(true)),
         b"off" => Some(LineEvent::Protect(false)),
         _ => None,
@@ -145,18 +144,18 @@ fn read_protect(rest: &[u8]) -> Option<LineEvent>
 }
 
 /// Reads the one word after `noise`: the items of the characters that are heard.
-fn read_noise(alloc: Global, digits: &Digits, rest: &[u8]) -> Result<LineEvent, RowFault>
-    ensures { ReadsWords (codes "noise" ∷ words_of rest.now) (Says (codes "noise" ∷ words_of rest.now)) result }
+fn read_noise(alloc: Global, digits: &Digits, rest: Words<'_>) -> Result<LineEvent, RowFault>
+    ensures { ReadsWords (codes "noise" ∷ rest.entry) (Says (codes "noise" ∷ rest.entry)) result }
 {
-    let Some(items) = only_word(rest) else {
+    let Some(items) = rest.only() else {
         return Err(RowFault::Bad);
     };
     Ok(LineEvent::Noise(read_items(alloc, digits, items)?))
 }
 
 /// Returns a restart, or `None` if a word follows `restart`.
-fn read_restart(rest: &[u8]) -> Option<LineEvent>
-    ensures { Finds (Says (codes "restart" ∷ words_of rest.now)) result }
+fn read_restart(rest: Words<'_>) -> Option<LineEvent>
+    ensures { Finds (Says (codes "restart" ∷ rest.entry)) result }
 {
-    has_no_word(rest).then_some(LineEvent::Restart)
+    rest.is_empty().then_some(LineEvent::Restart)
 }

@@ -1,5 +1,6 @@
-use Rattle.hart_line.proofs.Common.{◌≡◌, length, words_of}
-use Rattle.hart_line.proofs.script.lines.next_word.Given as goal
+use Rattle.hart_text.specs.Lines.{words_of}
+use Rattle.std.proofs.Common.{length, ◌≡◌}
+use Rattle.hart_text.proofs.lines.next_unmarked.Given as goal
 
 abbrev pub invariant-loop-rest : goal.invariant-loop-rest
 invariant-loop-rest l = words_of l.rest ≡ words_of l.line
