@@ -9,8 +9,7 @@ use Rattle.hart_frame.specs.declared.scan.search.Sighting.{Sighting}
 abbrev pub NoneBegin : List ℕ → ℕ → ℕ → Type 0
 NoneBegin bytes from to = (place : ℕ) → from ≤ place → place < to → NeverBegin (drop place bytes)
 
--- A list decides nothing from `from` on in this case: a frame may begin at some place at or after `from`, and no frame begins at a place
--- between `from` and this place.
+-- A list is open from `from` on if a frame may begin at some place from there on, and none begins between `from` and that place.
 pub record IsOpenFrom (bytes : List ℕ) (from : ℕ) : Type 0 where
   pub place : ℕ
   pub after : from ≤ place

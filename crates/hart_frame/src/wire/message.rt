@@ -85,8 +85,21 @@ fn push_checked_part<const N: usize>(frame: &Frame, output: &mut ByteList<N>)
     let address = frame.address().bytes(frame.master(), frame.burst());
     output.push(delimiter_byte(frame));
     output.extend_from_slice(address.as_slice());
-    output.extend_from_slice(frame.expansion());
+    push_expansion(frame, output);
     output.push(frame.command());
     output.push(frame.payload().len() as u8);
     output.extend_from_slice(frame.payload());
+}
+
+/// Appends the frame's expansion bytes. Most frames have none, and then nothing is copied.
+#[inline(always)]
+fn push_expansion<const N: usize>(frame: &Frame, output: &mut ByteList<N>)
+    requires { length output.old + 3 ≤ N }
+    ensures appended { output.new ≡ output.old ++ frame.now.expansion }
+    ensures few { length frame.now.expansion ≤ 3 }
+{
+    let expansion = frame.expansion();
+    if !expansion.is_empty() {
+        output.extend_from_slice(expansion);
+    }
 }

@@ -34,7 +34,7 @@ use Rattle.hart_frame.proofs.lemmas.scan.Sighted.{SilentBefore, bool_cases, foll
 use Rattle.hart_frame.proofs.lemmas.scan.Sighted.{preamble_no, preamble_yes, two_in, two_out}
 use Rattle.hart_frame.proofs.lemmas.wire.Truncated.{truncated_few}
 
--- All that is heard is the bytes and then characters that may follow them.
+-- Whatever is heard consists of these bytes, followed by characters that may come after them.
 heard_is : (bytes : List ℕ) (after : After) (more : List Character) → AfterIsValid after → (IsTrue (is_end after) → more ≡ [])
     → (next : List Character) × MayFollow after next × (heard_with bytes after ++ more ≡ faultless bytes ++ next)
 heard_is bytes More more valid closed = (more, tt, refl)

@@ -46,7 +46,7 @@ held_address (a ∷ b ∷ c ∷ d ∷ e ∷ []) _ fit _ _ =
     (master, burst, address, grind (arith, fit 1, fit 2, fit 3, fit 4))
 held_address bytes form fit either long = absurd (omega (arith, either, long))
 
--- A payload with a good byte count is long enough.
+-- A payload is long enough for its kind of frame if its byte count says its length, which for a reply is at least 2.
 pub long_enough : (kind : FrameKind) (payload : List ℕ) (byte count : ℕ) → kind_code kind ≡ byte % 8 → length payload ≡ count
     → (byte % 8 ≡ 2) ⊎ (2 ≤ count) → IsLongEnough kind payload
 long_enough kind payload byte count is long good = grind arith

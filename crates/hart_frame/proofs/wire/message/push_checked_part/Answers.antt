@@ -5,8 +5,8 @@ use Rattle.hart_frame.proofs.wire.message.push_checked_part.Goals as goal
 pub extend_from_slice-requires : goal.extend_from_slice-requires
 extend_from_slice-requires g c = grind (arith, length-append)
 
-pub extend_from_slice-requires-2 : goal.extend_from_slice-requires-2
-extend_from_slice-requires-2 g c = grind (arith, length-append)
+pub push_expansion-requires : goal.push_expansion-requires
+push_expansion-requires g c = grind (arith, length-append)
 
 pub push-requires-2 : goal.push-requires-2
 push-requires-2 g c = grind (arith, length-append)
@@ -14,12 +14,12 @@ push-requires-2 g c = grind (arith, length-append)
 pub push-requires-3 : goal.push-requires-3
 push-requires-3 g c = grind (arith, length-append)
 
-pub extend_from_slice-requires-3 : goal.extend_from_slice-requires-3
-extend_from_slice-requires-3 g c = grind (arith, length-append)
+pub extend_from_slice-requires-2 : goal.extend_from_slice-requires-2
+extend_from_slice-requires-2 g c = grind (arith, length-append)
 
 pub returns-clause-room : goal.returns-clause-room
 returns-clause-room g c =
-    let long = simp length-append at (ap length c.extend_from_slice-3.ensures) in
+    let long = simp length-append at (ap length c.extend_from_slice-2.ensures) in
     grind (arith, long, length-append)
 
 pub returns-clause-parts : goal.returns-clause-parts
