@@ -1,7 +1,6 @@
 -- Where each register stands in the array of all registers (own profile).
 use Rattle.std.specs.Prelude.{◌≢◌, ℕ, ◌+◌, List, slice_range}
-use Rattle.std.specs.List.{sum_by}
-use Rattle.hart_commands.specs.Registers.{Contents, IsValidIn, contents_by, registers, size_of}
+use Rattle.hart_commands.specs.Registers.{Contents, IsValidIn, contents_by, size_of}
 use Rattle.hart_commands.specs.declared.register.Register.{Register}
 use Rattle.hart_commands.specs.declared.register.Register.TheVariants.{Polling, Mode, Message, Tag, Descriptor, Date, Assembly, LongTag}
 
@@ -31,7 +30,3 @@ contents_in array = contents_by (λ register. standing_for register array)
 -- An array has invalid bytes for some register other than the long tag. Any bytes are valid for the long tag.
 abbrev pub HoldsInvalid : List ℕ → Type 0
 HoldsInvalid array = (register : Register) × (register ≢ LongTag) × ¬ IsValidIn register (standing_for register array)
-
--- The length of the array: the sizes of all registers together.
-abbrev pub array_length : ℕ
-array_length = sum_by size_of registers
