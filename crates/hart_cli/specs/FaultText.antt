@@ -34,8 +34,7 @@ fault_text fault = text_before_reason fault ++ reason_of fault
 abbrev pub fault_line : CliFault → List ℕ
 fault_line fault = fault_text fault ++ 10 ∷ []
 
--- The fault of a call whose script has a fault. Refused memory stays refused memory. Undetected damage and a bad line become `Line` with
--- that fault.
+-- The fault of a call whose script has a fault. Refused memory stays refused memory. Undetected damage and a bad line stand in a `Line`.
 abbrev pub call_fault : LineFault → CliFault
 call_fault (line_faults.Memory none) = Memory none
 call_fault (line_faults.Undetected event leg) = Line (line_faults.Undetected event leg)

@@ -33,8 +33,7 @@ abbrev pub ended_text : List ℕ → Ending → List ℕ
 ended_text input (CameTo Ended) = closed input
 ended_text input _ = input
 
--- `Reads` is a way to read texts. What can have been decoded of an input in this way is what the input reads as up to a rest of at
--- most `most` bytes.
+-- `Reads` is a way to read texts. In this way the input reads as `heard`, and at most `most` bytes at its end are left over.
 pub record AreDecodedBy {Heard : Type 0} (Reads : List ℕ → List Heard → List ℕ → Type 0) (most : ℕ) (input : List ℕ) (ending : Ending)
     (heard : List Heard) : Type 0 where
   pub rest : List ℕ

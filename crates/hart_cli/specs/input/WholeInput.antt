@@ -12,8 +12,8 @@ pub record WholeInput (reader reader_after : Stream) (Holds : List ℕ → Type 
   pub whole : Reads reader reader_after input Ended
   pub holds : Holds input
 
--- A call has this fault before it writes. Either a read failed, the input was too long, or room for it was refused; or the input
--- was read to its end and itself has the fault.
+-- A call has this fault before it writes: a read failed, the input was too long, room for it was refused, or it was read to its end and
+-- the fault lies in the input.
 abbrev pub HasWholeFault : (List ℕ → CliFault → Type 0) → Stream → Stream → CliFault → Type 0
 HasWholeFault HasFault reader reader_after fault =
     IsReadingFault reader reader_after fault ⊎ WholeInput reader reader_after (λ input. HasFault input fault)

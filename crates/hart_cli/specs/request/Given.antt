@@ -11,7 +11,7 @@ pub record IsGiven (words : List (List ℕ)) (row : Row) (field : Field) : Type 
   pub given : place_for words row < length words
   pub value : value_of row.kind row.size (value_in (get_or words (place_for words row) [])) ≡ Ok field.bytes
 
--- Each row has a field, in the order of the rows, and words give each of these fields.
+-- There is one field for each row, in the order of the rows, and one of the words gives it.
 abbrev pub AreGiven : List (List ℕ) → List Row → List Field → Type 0
 AreGiven words [] [] = Unit {0}
 AreGiven words (row ∷ rows) (field ∷ fields) = IsGiven words row field × AreGiven words rows fields

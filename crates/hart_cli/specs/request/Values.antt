@@ -113,7 +113,8 @@ abbrev pub year_byte : ℤ → Option ℕ
 year_byte (pos year) = if nat_le 1900 year && nat_le year 2155 then Some (year - 1900) else None
 year_byte _ = None
 
--- The bytes of a date with this year. The year must have a byte, and the word must be exactly what `explain` shows for these bytes.
+-- The bytes of a date with this year. A byte must be able to hold the year, and the word must be exactly what
+-- `explain` shows for these bytes.
 abbrev pub dated : List ℕ → (day month : ℕ) → Option ℕ → Result (List ℕ) FieldFault
 dated word day month None = Err NoDate
 dated word day month (Some year) =

@@ -72,8 +72,8 @@ IsNeededForSimulation device input items =
     ⊎ IsNeededByNoting IsNeededByFrame (start_with device) events items
     ⊎ IsNeededByLastLines (start_with device) events items))
 
--- An input is not carried out for one of two reasons: its lines or its events have this fault, or memory was refused for a number of items
--- that the input needs room for. Refused memory is no fault of the input.
+-- An input is not carried out for one of two reasons: its lines or its events have this fault, or memory was refused. The second is no
+-- fault of the input, which then needs room for as many items as were refused.
 abbrev pub IsSimulationFault : DeviceState → List ℕ → CliFault → Type 0
 IsSimulationFault device input (Line fault) = HasLineFault device input fault
 IsSimulationFault device input (Memory none) = IsNeededForSimulation device input none.items

@@ -88,10 +88,6 @@ ReadsAs text chars = ReadsUpTo (closed text) chars []
 abbrev pub IsBadHexAt : List ℕ → List Character → ℕ → Type 0
 IsBadHexAt text chars place = HasBadHex (closed text) chars place
 
--- While an input may go on, bad hex in it is decided if the input has this bad hex whatever bytes follow.
-abbrev pub IsDecidedBadHexAt : List ℕ → List Character → ℕ → Type 0
-IsDecidedBadHexAt text chars place = (more : List ℕ) → HasBadHex (text ++ more) chars place
-
 -- For now, an input that may go on reads as what was heard up to a rest, perhaps empty. Nothing whole begins that rest yet, but
 -- something would if the right bytes followed.
 pub record ReadsSoFarBy {Heard : Type 0} (Reads : List ℕ → List Heard → List ℕ → Type 0) (Stops : List ℕ → Type 0) (text : List ℕ)
@@ -100,10 +96,6 @@ pub record ReadsSoFarBy {Heard : Type 0} (Reads : List ℕ → List Heard → Li
   pub reads : Reads text heard rest
   pub no_piece : Stops rest
   pub open_end : Opens Stops rest
-
--- For now, an input of hex items that may go on reads as these characters.
-abbrev pub ReadsSoFarAs : List ℕ → List Character → Type 0
-ReadsSoFarAs = ReadsSoFarBy ReadsUpTo NoPieceBegins
 
 -- Only private calls use the definitions from here on: what reading one piece returns.
 

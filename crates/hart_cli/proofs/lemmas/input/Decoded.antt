@@ -34,7 +34,7 @@ pub read_to : (old new : Stream) (input : List ℕ) (limit : ℕ) (end : Option 
 read_to old new input limit None h = inl h
 read_to old new input limit (Some end) h = h
 
--- an input was read and decoded up to a rest that begins with no piece
+-- an input was read, and decoded up to a rest from which nothing more can be decoded yet
 pub record DecodedUpTo {Heard : Type 0} (Reads : List ℕ → List Heard → List ℕ → Type 0) (Stops : List ℕ → Type 0)
     (most limit : ℕ) (old new : Stream) (end : Option InputEnd) (rest : List ℕ) (read : ℕ)
     (input : List ℕ) (heard : List Heard) : Type 0 where

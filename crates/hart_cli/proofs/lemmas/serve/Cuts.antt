@@ -52,7 +52,7 @@ cut_rest rest free = record { all = refl; whole = tt; open_end = free }
 pub cut_part : (part : List ℕ) → HasNoFeed part → IsCut (part ++ 10 ∷ []) (part ∷ []) []
 cut_part part free = record { all = grind (arith, common_steps); whole = (free, tt); open_end = All-nil _ }
 
--- a text followed by more bytes is cut into the parts of the text, and the parts of its rest followed by these bytes
+-- more bytes after a text leave its parts as they are: the later parts are cut from its rest and these bytes
 pub cut_on : (text more : List ℕ) (parts : List (List ℕ)) (rest : List ℕ) (later : List (List ℕ)) (last : List ℕ)
     → IsCut text parts rest → IsCut (rest ++ more) later last → IsCut (text ++ more) (parts ++ later) last
 cut_on text more parts rest later last h k =

@@ -23,7 +23,7 @@ const MOST_KEPT: usize = INPUT_LIMIT + 2;
 /// The room for a part, and for the space after its line.
 const LINE_ROOM: usize = MOST_KEPT + 1;
 
-/// The room for the characters of a line, each of which takes at least two bytes.
+/// The most characters that a line can have: each is written with two bytes of the line or more.
 const CHARS_ROOM: usize = INPUT_LIMIT / 2;
 
 /// A device that serves lines.
