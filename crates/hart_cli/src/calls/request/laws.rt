@@ -42,11 +42,13 @@ pub fn values_are_shown_as_given()
 {}
 
 /// `hart request` accepts the dates, numbers and bytes that `hart explain` shows, and makes the same bytes of them again. A date is a day
-/// from 1900 to 2155, or `not set`.
+/// from 1900 to 2155, or `not set`. The device variable codes of Command 9 are one to eight bytes.
 pub fn shown_values_are_accepted()
     ensures dates { (size : ℕ) (bytes : List ℕ) → IsDateBytes bytes → value_of Date (Exactly size) (date_words bytes) ≡ Ok bytes }
     ensures numbers { (size number : ℕ) → number ≤ greatest_of size
         → value_of Number (Exactly size) (decimal number) ≡ Ok (number_bytes size number) }
     ensures bytes { (bytes : List ℕ) → IsBytes bytes → length bytes ≤ 255
         → value_of Bytes (Exactly (length bytes)) (value_words Bytes bytes) ≡ Ok bytes }
+    ensures codes { (after : ℕ) (bytes : List ℕ) → IsBytes bytes → 1 ≤ length bytes → length bytes ≤ 8
+        → value_of Bytes (AllBut after) (value_words Bytes bytes) ≡ Ok bytes }
 {}

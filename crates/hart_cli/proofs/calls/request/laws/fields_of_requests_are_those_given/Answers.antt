@@ -148,7 +148,7 @@ by_word command field words row value is = grind (arith, common_steps, nat_tests
 abbrev Falls : List (List ℕ) → List Row → List ℕ → Type 0
 Falls words rows bytes = AreGiven words rows (fields_of rows bytes) × (bytes_of (fields_of rows bytes) ≡ bytes)
 
--- if later data fall into their fields, a value before them falls into its field
+-- data that fall into given fields still do if the value of one more given field is put before them
 more : (words : List (List ℕ)) (name : List ℕ) (kind : FieldKind) (size : FieldSize) (rows : List Row) (value later : List ℕ)
     → closes kind size rows ≡ true
     → place_for words (record { name = name; size = size; kind = kind }) < length words

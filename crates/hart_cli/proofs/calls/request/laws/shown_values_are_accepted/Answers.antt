@@ -117,3 +117,7 @@ returns-clause-numbers c size number fits =
 pub returns-clause-bytes : goal.returns-clause-bytes
 unfolding hex_value
 returns-clause-bytes c bytes are few = grind (arith, common_steps, nat_tests, decode_of-encode_upper bytes are)
+
+pub returns-clause-codes : goal.returns-clause-codes
+unfolding hex_value
+returns-clause-codes c after bytes are some few = grind (arith, common_steps, nat_tests, decode_of-encode_upper bytes are)
