@@ -7,9 +7,13 @@ pub mod Data
 pub mod Status
 pub mod Message
 pub mod Misses
+pub mod objects
+pub mod Before
 pub mod Explanation
 pub mod Explain
 pub mod Gaps
 pub mod Dumped
+pub mod Told
 pub mod Dates
+pub mod LastMessages
 pub mod Telling

@@ -7,7 +7,7 @@ use crate::stream::{Failed, Sink};
 use hart_values::ByteList;
 
 /// The greatest number of bytes of text that are kept.
-const KEPT_LEN: usize = 32_768;
+pub const KEPT_LEN: usize = 32_768;
 
 /// The greatest number of bytes in a piece of text: a date, a space and a paragraph.
 const PIECE_LEN: usize = 8_225;

@@ -23,6 +23,7 @@
 //! - `fault`: why a call ended early.
 //! - `image_word`: the device with which a call starts.
 //! - `input`: the reading of an input.
+//! - `held`: what was read and may still decide something.
 //! - `output`, `kept`: the writing of a text, either whole or piece by piece.
 //! - `stream`: readers and writers as the calls see them.
 //! - `text`: hex items, and lines of words and bytes.
@@ -31,6 +32,7 @@
 
 mod calls;
 mod fault;
+mod held;
 mod image_word;
 mod input;
 mod kept;
@@ -43,10 +45,11 @@ pub use calls::dump::{dump, one_dump};
 pub use calls::encode::{encode_text, one_encoding};
 pub use calls::explain::laws::{
     every_start_outside_messages_has_one_line, explanations_grow,
-    explanations_name_the_messages_of_dump, hints_of_explanations_are_right,
+    explanations_name_the_messages_of_dump, hints_of_explanations_are_right, json_lines_grow,
+    json_tells_what_explain_tells,
 };
-pub use calls::explain::{explain, explain_raw, one_explanation};
-pub use calls::program::command_line::{one_call, words_are_calls};
+pub use calls::explain::{explain, explain_json, explain_raw, explain_raw_json, one_explanation};
+pub use calls::program::laws::{one_call, words_are_calls};
 pub use calls::program::{DONE, FAULT, NO_CALL, program};
 pub use calls::request::fault::{BadField, FieldFault};
 pub use calls::request::laws::{

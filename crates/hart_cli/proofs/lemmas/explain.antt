@@ -1,5 +1,7 @@
 -- `hart explain`.
 pub mod Fields
+pub mod Objects
+pub mod Rows
 pub mod Units
 pub mod Gaps
 pub mod Header
@@ -7,9 +9,14 @@ pub mod Seems
 pub mod Sightings
 pub mod Decided
 pub mod Dates
+pub mod InStretches
+pub mod Before
+pub mod Styles
 pub mod Telling
 pub mod Stretches
 pub mod HeldDates
 pub mod Told
+pub mod ToldText
 pub mod TellInput
 pub mod TellRaw
+pub mod Grow

@@ -3,9 +3,13 @@ use Rattle.std.specs.Prelude.{◌≡◌, ◌+◌, ℕ, zero, suc, List, [], ◌�
 use Rattle.std.specs.List.{flat_map}
 use Rattle.hart_frame.specs.heard.Character.{Character}
 use Rattle.hart_frame.specs.heard.Sighting.{AreSightings, Message, Missed, Seen, moved_seen}
+use Rattle.hart_cli.specs.declared.calls.explain.teller.Style.{Style}
+use Rattle.hart_cli.specs.declared.calls.explain.teller.Style.TheVariants.{Objects, Words}
+use Rattle.hart_cli.specs.explain.Before.{before_of}
 use Rattle.hart_cli.specs.explain.Gaps.{seen_place}
 use Rattle.hart_cli.specs.explain.Message.{paragraph}
 use Rattle.hart_cli.specs.explain.Misses.{miss_line, seems_line}
+use Rattle.hart_cli.specs.explain.objects.Line.{json_line}
 use Rattle.hart_cli.specs.text.Heard.{Date, Heard, HeardChar, Silence, stretches}
 
 -- The text of a sighting is the paragraph of a message, or the line of a place where a message only seems to start. If a header was
@@ -56,21 +60,55 @@ AreSightingsFrom first (chars ∷ later) seen =
 abbrev pub AreSightingsOf : List Heard → List Seen → Type 0
 AreSightingsOf heard seen = AreSightingsFrom 0 (stretches heard) seen
 
--- The explanation of what was heard is the text of the sightings in it, with the dates of their places.
-pub record IsExplanationOf (heard : List Heard) (text : List ℕ) : Type 0 where
+-- The line of a sighting is its JSON object, with the date of its place and with what the sightings before it say of it.
+abbrev pub object_line : (ℕ → List ℕ) → List Seen → Seen → List ℕ
+object_line date earlier seen = json_line (date (seen_place seen)) (before_of earlier seen) seen
+
+-- The lines of sightings are the line of each, in their order. `earlier` are the sightings before the first of them.
+abbrev pub object_lines : (ℕ → List ℕ) → List Seen → List Seen → List ℕ
+object_lines date earlier [] = []
+object_lines date earlier (seen ∷ later) = object_line date earlier seen ++ object_lines date (earlier ++ seen ∷ []) later
+
+-- The text of sightings in a style, if `earlier` are the sightings before them: their explanation in words, or their lines.
+abbrev pub text_after : Style → (ℕ → List ℕ) → List Seen → List Seen → List ℕ
+text_after Words date earlier seen = explanation date seen
+text_after Objects date earlier seen = object_lines date earlier seen
+
+-- The text of sightings in a style, if no sightings are before them.
+abbrev pub text_in : Style → (ℕ → List ℕ) → List Seen → List ℕ
+text_in style date seen = text_after style date [] seen
+
+-- The text of what was heard, in a style, is the text of the sightings in it, with the dates of their places.
+pub record IsTextIn (style : Style) (heard : List Heard) (text : List ℕ) : Type 0 where
   pub seen : List Seen
   pub are_sightings : AreSightingsOf heard seen
-  pub text_is : text ≡ explanation (date_of heard) seen
+  pub text_is : text ≡ text_in style (date_of heard) seen
+
+-- The explanation of what was heard is its text in words.
+abbrev pub IsExplanationOf : List Heard → List ℕ → Type 0
+IsExplanationOf = IsTextIn Words
+
+-- The JSON lines of what was heard are its text in objects.
+abbrev pub IsJsonOf : List Heard → List ℕ → Type 0
+IsJsonOf = IsTextIn Objects
 
 -- These sightings come first in what was heard, whatever is heard next.
 abbrev pub ComeFirst : List Heard → List Seen → Type 0
 ComeFirst heard seen =
     (more : List Heard) (all : List Seen) → AreSightingsOf (heard ++ more) all → (later : List Seen) × (all ≡ seen ++ later)
 
--- This explanation of what was heard is decided: whatever is heard next, its sightings come first, and no further sighting is sure
--- to follow them.
-pub record IsDecidedExplanation (heard : List Heard) (text : List ℕ) : Type 0 where
+-- This text of what was heard, in a style, is decided: whatever is heard next, its sightings come first, and no further sighting is
+-- sure to follow them.
+pub record IsDecidedIn (style : Style) (heard : List Heard) (text : List ℕ) : Type 0 where
   pub seen : List Seen
   pub first : ComeFirst heard seen
   pub no_more : (next : Seen) → ComeFirst heard (seen ++ next ∷ []) → ⊥
-  pub text_is : text ≡ explanation (date_of heard) seen
+  pub text_is : text ≡ text_in style (date_of heard) seen
+
+-- This explanation of what was heard is decided.
+abbrev pub IsDecidedExplanation : List Heard → List ℕ → Type 0
+IsDecidedExplanation = IsDecidedIn Words
+
+-- These JSON lines of what was heard are decided.
+abbrev pub IsDecidedJson : List Heard → List ℕ → Type 0
+IsDecidedJson = IsDecidedIn Objects

@@ -1,4 +1,4 @@
--- What is heard, and what is told of it. Only private calls use these definitions (own profile).
+-- How characters and marks are heard, and what is told of them. Only private calls use these definitions (own profile).
 use Rattle.std.specs.Prelude.{◌≡◌, ◌≤◌, ◌<◌, ◌+◌, ◌-◌, ◌^◌, ℕ, Bool, false, true, List, [], ◌∷◌, ◌++◌, Option, None, Result, Ok, Err}
 use Rattle.std.specs.Prelude.{MatchResult}
 use Rattle.std.specs.Prelude.{IfSome, drop, length, map}
@@ -10,11 +10,14 @@ use Rattle.hart_frame.specs.declared.scan.sighting.Sighting.TheVariants as given
 use Rattle.hart_frame.specs.heard.Character.{Character, faultless}
 use Rattle.hart_frame.specs.heard.Sighting.{IsUndecidedSighting, Seen, SeesOn, moved_seen}
 use Rattle.hart_frame.specs.scan.Sighting.{EndsAt, NamesPlacesBelow, heard_with, is_end, sightings_of}
+use Rattle.hart_cli.specs.declared.calls.explain.teller.Style.{Style}
+use Rattle.hart_cli.specs.declared.calls.explain.teller.Teller.{Teller}
 use Rattle.hart_cli.specs.declared.calls.explain.telling.Telling.{Telling}
 use Rattle.hart_cli.specs.declared.fault.CliFault.{CliFault}
 use Rattle.hart_cli.specs.declared.stream.Failed.{Failed}
 use Rattle.hart_cli.specs.explain.Dates.{date_from}
-use Rattle.hart_cli.specs.explain.Explanation.{IsDecidedExplanation, IsExplanationOf, explanation}
+use Rattle.hart_cli.specs.explain.Explanation.{IsDecidedIn, IsTextIn, text_after}
+use Rattle.hart_cli.specs.explain.LastMessages.{KeepsOwn, no_messages, recalled}
 use Rattle.hart_cli.specs.input.Ahead.{DecodesAll}
 use Rattle.hart_cli.specs.input.Decoding.{Decoding}
 use Rattle.hart_cli.specs.input.LiveInput.{IsDecidedText, StopsWriting, WroteInTime}
@@ -33,6 +36,7 @@ FitsFrom first (given.Missed place miss header) = (first + place < 2 ^ 64) × Na
 pub record IsNextSighting (held : List ℕ) (after : After) (from : ℕ) (next : NextSighting) : Type 0 where
   pub sees : SeesOn (heard_with held after) (is_end after) from (sightings_of next.sighting) next.used
   pub within : next.used ≤ length (heard_with held after)
+  pub onward : from ≤ next.used
   pub further : IfSome next.sighting (λ sighting. from < next.used)
   pub places : IfSome next.sighting (EndsAt (length (heard_with held after)) next.used)
   pub few : next.sighting ≡ None → length (heard_with held after) < next.used + 269
@@ -45,34 +49,51 @@ chars_after More = []
 chars_after (Damaged character) = character ∷ []
 chars_after End = []
 
--- The text of sightings whose places are counted from `first` on.
-abbrev pub text_from : (ℕ → List ℕ) → ℕ → List Seen → List ℕ
-text_from date first seen = explanation date (map (moved_seen first) seen)
+-- Two lists of earlier sightings are alike in a style if later sightings have the same text after both, whatever comes between.
+abbrev pub AreAlike : Style → List Seen → List Seen → Type 0
+AreAlike style one other = (date : ℕ → List ℕ) (between later : List Seen)
+    → text_after style date (one ++ between) later ≡ text_after style date (other ++ between) later
+
+-- The text of sightings whose places are counted from `first` on, after what was told before.
+abbrev pub text_from : Teller → (ℕ → List ℕ) → ℕ → List Seen → List ℕ
+text_from teller date first seen = text_after teller.style date (recalled teller.last) (map (moved_seen first) seen)
+
+-- The text of a sighting, after what was told before.
+abbrev pub told_text : Teller → (ℕ → List ℕ) → Seen → List ℕ
+told_text teller date seen = text_after teller.style date (recalled teller.last) (seen ∷ [])
+
+-- Sightings were told: the style stays, and what is told next has the text that it has after these sightings.
+pub record GoesOn (old new : Teller) (seen : List Seen) : Type 0 where
+  pub style : new.style ≡ old.style
+  pub alike : AreAlike old.style (recalled new.last) (recalled old.last ++ seen)
 
 -- The held characters wait for more if no sighting in them is decided. There are at most 268 of them, each with its date.
 pub record IsWaiting (telling : Telling) : Type 0 where
   pub undecided : IsUndecidedSighting (faultless telling.held)
   pub few : length telling.held ≤ 268
   pub dated : length telling.dates.held.items ≡ length telling.held
+  pub own : KeepsOwn telling.first telling.teller.last
 
 -- All decided sightings in held bytes, and in what comes after them, were told, up to the place `used`.
-pub record TellsDecided (date : ℕ → List ℕ) (first : ℕ) (held : List ℕ) (after : After) (used : ℕ) (kept kept_after : List ℕ)
-    (writer writer_after : Stream) : Type 0 where
+pub record TellsDecided (date : ℕ → List ℕ) (first : ℕ) (held : List ℕ) (after : After) (used : ℕ) (teller teller_after : Teller)
+    (kept kept_after : List ℕ) (writer writer_after : Stream) : Type 0 where
   pub seen : List Seen
   pub sees : SeesOn (heard_with held after) (is_end after) 0 seen used
   pub within : used ≤ length (heard_with held after)
-  pub adds : AddsText writer writer_after kept kept_after (text_from date first seen)
+  pub adds : AddsText writer writer_after kept kept_after (text_from teller date first seen)
+  pub goes_on : GoesOn teller teller_after (map (moved_seen first) seen)
+  pub own : KeepsOwn (first + used) teller_after.last
   pub few : length (heard_with held after) < used + 269
   pub all : (after ≡ More → ⊥) → used ≡ length (heard_with held after)
   pub undecided : after ≡ More → IsUndecidedSighting (faultless (drop used held))
 
 -- A write failed within a text: the kept text, followed by the text of the first sightings in these characters.
-pub record FailsToTell (date : ℕ → List ℕ) (first : ℕ) (chars : List Character) (ended : Bool) (kept : List ℕ)
+pub record FailsToTell (date : ℕ → List ℕ) (first : ℕ) (chars : List Character) (ended : Bool) (teller : Teller) (kept : List ℕ)
     (writer writer_after : Stream) : Type 0 where
   pub seen : List Seen
   pub used : ℕ
   pub sees : SeesOn chars ended 0 seen used
-  pub fails : FailsToWrite writer writer_after (kept ++ text_from date first seen)
+  pub fails : FailsToWrite writer writer_after (kept ++ text_from teller date first seen)
 
 -- Characters were heard after the held ones. The sightings in the held and the new characters together were told up to the place
 -- `used`, and the characters after this place are held, with their dates. If `ended` is true, nothing comes after the new characters.
@@ -84,12 +105,13 @@ pub record Hears (old new : Telling) (chars : List Character) (ended : Bool) (wr
   pub first : new.first ≡ old.first + used
   pub held : faultless new.held ≡ drop used (faultless old.held ++ chars)
   pub dates : (place : ℕ) → new.first ≤ place → date_from new place ≡ date_from old place
-  pub adds : AddsText writer writer_after old.kept new.kept (text_from (date_from old) old.first seen)
+  pub adds : AddsText writer writer_after old.kept new.kept (text_from old.teller (date_from old) old.first seen)
+  pub goes_on : GoesOn old.teller new.teller (map (moved_seen old.first) seen)
 
 -- A write failed within the text of the held characters and of the characters heard after them.
 abbrev pub FailsToHear : Telling → List Character → Bool → Stream → Stream → Type 0
 FailsToHear old chars ended writer writer_after =
-    FailsToTell (date_from old) old.first (faultless old.held ++ chars) ended old.kept writer writer_after
+    FailsToTell (date_from old) old.first (faultless old.held ++ chars) ended old.teller old.kept writer writer_after
 
 -- Characters were heard, or a write failed.
 abbrev pub HearsOrFails : {T : Type 0} → Telling → Telling → List Character → Bool → Stream → Stream → Result T Failed → Type 0
@@ -126,16 +148,18 @@ pub record IsNew (telling : Telling) : Type 0 where
   pub quiet : telling.kept ≡ []
   pub dated : telling.dates.held.items ≡ []
   pub undated : (place : ℕ) → date_from telling place ≡ []
+  pub no_last : telling.teller.last ≡ no_messages
 
 -- A date was heard: it is the date of the characters that come next, and of no held one.
 pub record HearsDate (old new : Telling) (word : List ℕ) : Type 0 where
+  pub teller : new.teller ≡ old.teller
   pub first : new.first ≡ old.first
   pub held : new.held ≡ old.held
   pub kept : new.kept ≡ old.kept
   pub earlier : (place : ℕ) → old.first ≤ place → place < old.first + length old.held → date_from new place ≡ date_from old place
   pub later : (place : ℕ) → old.first + length old.held ≤ place → date_from new place ≡ word
 
--- A mark was heard. At a silence, everything held is told.
+-- A mark was heard: a silence, which ends what is held, so that all of it is told; or a date.
 abbrev pub HearsMark : Telling → Telling → Heard → Stream → Stream → Type 0
 HearsMark old new (HeardChar character) writer writer_after = ⊥
 HearsMark old new Silence writer writer_after = Hears old new [] true writer writer_after × (new.held ≡ [])
@@ -191,7 +215,7 @@ pub record TellsAll (decoding : Decoding (List Heard)) (limit : ℕ) (reader rea
   pub hears : HearsAll old new heard writer writer_after
   pub waiting : IsWaiting new
   pub quiet : new.kept ≡ []
-  pub in_time : WroteInTime (IsDecidedText decoding IsDecidedExplanation) input writer writer_after
+  pub in_time : WroteInTime (IsDecidedText decoding (IsDecidedIn old.teller.style)) input writer writer_after
 
 -- An input was read and told, or a write failed.
 abbrev pub TellsInput : Decoding (List Heard) → ℕ → Stream → Stream → Stream → Stream → Telling → Telling
@@ -199,10 +223,10 @@ abbrev pub TellsInput : Decoding (List Heard) → ℕ → Stream → Stream → 
 TellsInput decoding limit reader reader_after writer writer_after old new (Ok fault) =
     TellsAll decoding limit reader reader_after writer writer_after old new fault
 TellsInput decoding limit reader reader_after writer writer_after old new (Err failed) =
-    StopsWriting decoding limit IsExplanationOf IsDecidedExplanation reader reader_after writer writer_after
+    StopsWriting decoding limit (IsTextIn old.teller.style) (IsDecidedIn old.teller.style) reader reader_after writer writer_after
 
 -- The sightings in the held characters were told, up to the end of these characters.
 pub record TellsRest (old : Telling) (writer writer_after : Stream) : Type 0 where
   pub seen : List Seen
   pub sees : SeesOn (faultless old.held) true 0 seen (length old.held)
-  pub wrote : WritesAll writer writer_after (text_from (date_from old) old.first seen)
+  pub wrote : WritesAll writer writer_after (text_from old.teller (date_from old) old.first seen)

@@ -1,6 +1,6 @@
 -- What the words after the program's name ask for, as clap reads them (own profile).
-use Rattle.std.specs.Prelude.{◌≡◌, ◌&&◌, if◌then◌else◌, [], ◌∷◌, ℕ, List, Option, None, Some, true, codes, length, nat_le, nat_lt}
-use Rattle.std.specs.Prelude.{option_map, pos, unwrap_or}
+use Rattle.std.specs.Prelude.{◌≡◌, ◌&&◌, if◌then◌else◌, [], ◌∷◌, ℕ, Bool, List, Option, None, Some, codes, false, length, nat_le, nat_lt}
+use Rattle.std.specs.Prelude.{option_map, pos, true, unwrap_or}
 use Rattle.std.specs.Option.{option_and_then}
 use Rattle.std.specs.Str.{all_ascii_digits, bytes_eq}
 use Rattle.std.specs.Str.Parse.{digits_value, without_leading_plus}
@@ -10,8 +10,8 @@ use Rattle.clap.specs.declared.builder.value_parser.ValueParser.TheVariants.{Sig
 use Rattle.hart_cli.specs.encode.MessageWords.{MessageWords}
 use Rattle.hart_cli.specs.request.RequestWords.{RequestWords}
 use Rattle.hart_cli.specs.declared.calls.program.command_line.Call.{Call}
-use Rattle.hart_cli.specs.declared.calls.program.command_line.Call.TheVariants.{Answer, Dump, Encode, Explain, ExplainRaw, Request, Serve}
-use Rattle.hart_cli.specs.declared.calls.program.command_line.Call.TheVariants.{Sim}
+use Rattle.hart_cli.specs.declared.calls.program.command_line.Call.TheVariants.{Answer, Dump, Encode, Explain, ExplainJson, ExplainRaw}
+use Rattle.hart_cli.specs.declared.calls.program.command_line.Call.TheVariants.{ExplainRawJson, Request, Serve, Sim}
 
 -- The rule of clap for a required word with this name.
 abbrev pub required_rule : Text → Rule
@@ -34,9 +34,13 @@ image_rule = record (new_rule (codes "image")) { long = Some (codes "image"); va
 abbrev pub raw_rule : Rule
 raw_rule = record (new_rule (codes "raw")) { long = Some (codes "raw"); action = Some SetTrue }
 
--- The command `explain` takes the flag `--raw`, and no words.
+-- The flag `--json` asks for JSON.
+abbrev pub json_rule : Rule
+json_rule = record (new_rule (codes "json")) { long = Some (codes "json"); action = Some SetTrue }
+
+-- The command `explain` takes the flags `--raw` and `--json`, and no words.
 abbrev pub explain_app : App
-explain_app = with_rule (new_app (codes "explain")) raw_rule
+explain_app = with_rule (with_rule (new_app (codes "explain")) raw_rule) json_rule
 
 -- The commands `answer`, `serve` and `sim` take an image, and no words.
 abbrev pub image_app : Text → App
@@ -118,10 +122,15 @@ words_of rows = message_words
     (first_of (codes "WHO") rows) (first_of (codes "ADDRESS") rows) (first_of (codes "COMMAND") rows)
     (unwrap_or (first_of (codes "DATA") rows) [])
 
--- The call of `explain` is for a raw input if the flag `--raw` is set.
-abbrev pub explain_call : Option Text → Call
-explain_call (Some word) = if bytes_eq word (codes "true") then ExplainRaw else Explain
-explain_call None = Explain
+-- Whether a flag is set: clap then gives the word `true` for it.
+abbrev pub is_set : Option Text → Bool
+is_set (Some word) = bytes_eq word (codes "true")
+is_set None = false
+
+-- The call of `explain` is for a raw input if the flag `--raw` is set, and it writes JSON if the flag `--json` is set.
+abbrev pub explain_call : Option Text → Option Text → Call
+explain_call raw json =
+    if is_set json then (if is_set raw then ExplainRawJson else ExplainJson) else (if is_set raw then ExplainRaw else Explain)
 
 -- What `request` is given: the number of preamble bytes, three words and the fields; or `None` if the number or a required word is missing.
 abbrev pub request_words : Option ℕ → Option Text → Option Text → Option Text → List Text → Option RequestWords
@@ -142,7 +151,7 @@ abbrev pub call_named : Text → List Row → Option Call
 call_named name rows =
     if bytes_eq name (codes "answer") then Some (Answer (first_of (codes "image") rows))
     else if bytes_eq name (codes "dump") then Some Dump
-    else if bytes_eq name (codes "explain") then Some (explain_call (first_of (codes "raw") rows))
+    else if bytes_eq name (codes "explain") then Some (explain_call (first_of (codes "raw") rows) (first_of (codes "json") rows))
     else if bytes_eq name (codes "serve") then Some (Serve (first_of (codes "image") rows))
     else if bytes_eq name (codes "sim") then Some (Sim (first_of (codes "image") rows))
     else if bytes_eq name (codes "encode") then option_map (λ words. Encode words) (words_of rows)

@@ -6,7 +6,7 @@ use Rattle.hart_cli.specs.Answer.{AnswerOutcome}
 use Rattle.hart_cli.specs.program.CommandLine.{Calls, call_of}
 use Rattle.hart_cli.specs.dump.Dump.{DumpOutcome}
 use Rattle.hart_cli.specs.encode.Encode.{EncodeOutcome}
-use Rattle.hart_cli.specs.explain.Explain.{ExplainOutcome, RawExplainOutcome}
+use Rattle.hart_cli.specs.explain.Explain.{ExplainOutcome, JsonOutcome, RawExplainOutcome, RawJsonOutcome}
 use Rattle.hart_cli.specs.FaultText.{fault_line}
 use Rattle.hart_cli.specs.request.Request.{RequestOutcome}
 use Rattle.hart_cli.specs.serve.Serve.{ServeOutcome}
@@ -14,8 +14,8 @@ use Rattle.hart_cli.specs.sim.Sim.{SimOutcome}
 use Rattle.hart_cli.specs.stream.Stream.{Stream, WritesUnlessFailed}
 use Rattle.hart_cli.specs.declared.fault.CliFault.{CliFault}
 use Rattle.hart_cli.specs.declared.calls.program.command_line.Call.{Call}
-use Rattle.hart_cli.specs.declared.calls.program.command_line.Call.TheVariants.{Answer, Dump, Encode, Explain, ExplainRaw, Request, Serve}
-use Rattle.hart_cli.specs.declared.calls.program.command_line.Call.TheVariants.{Sim}
+use Rattle.hart_cli.specs.declared.calls.program.command_line.Call.TheVariants.{Answer, Dump, Encode, Explain, ExplainJson, ExplainRaw}
+use Rattle.hart_cli.specs.declared.calls.program.command_line.Call.TheVariants.{ExplainRawJson, Request, Serve, Sim}
 
 -- A call returned this result, and left the reader and the writer as the outcome of its subcommand says. Calls of `encode` and `request` do
 -- not touch the reader.
@@ -28,6 +28,10 @@ CallOutcome Explain reader reader_after writer writer_after result =
     ExplainOutcome reader reader_after writer writer_after result
 CallOutcome ExplainRaw reader reader_after writer writer_after result =
     RawExplainOutcome reader reader_after writer writer_after result
+CallOutcome ExplainJson reader reader_after writer writer_after result =
+    JsonOutcome reader reader_after writer writer_after result
+CallOutcome ExplainRawJson reader reader_after writer writer_after result =
+    RawJsonOutcome reader reader_after writer writer_after result
 CallOutcome (Serve image) reader reader_after writer writer_after result =
     ServeOutcome image reader reader_after writer writer_after result
 CallOutcome (Sim image) reader reader_after writer writer_after result =

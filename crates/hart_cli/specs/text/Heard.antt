@@ -28,15 +28,15 @@ stretches (HeardChar character ∷ heard) = after_chars (character ∷ []) (stre
 stretches (Silence ∷ heard) = [] ∷ stretches heard
 stretches (Date word ∷ heard) = stretches heard
 
--- A byte is printable, and no space: it is one from `!` to `~`.
-abbrev pub IsPrintable : ℕ → Type 0
-IsPrintable byte = (33 ≤ byte) × (byte ≤ 126)
+-- A byte is visible if it is one from `!` to `~`, so no space.
+abbrev pub IsVisible : ℕ → Type 0
+IsVisible byte = (33 ≤ byte) × (byte ≤ 126)
 
--- The word of a date has 1 to 32 printable bytes.
+-- The word of a date has 1 to 32 visible bytes.
 pub record IsDateWord (word : List ℕ) : Type 0 where
   pub some : 0 < length word
   pub few : length word ≤ 32
-  pub printable : All IsPrintable word
+  pub visible : All IsVisible word
 
 -- A separator stands at the beginning of a text.
 pub record BeginsWithSeparator (text : List ℕ) : Type 0 where

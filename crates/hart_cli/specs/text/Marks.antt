@@ -2,7 +2,7 @@
 use Rattle.std.specs.Prelude.{◌≡◌, ◌≤◌, ◌+◌, ℕ, List, ◌∷◌, All, drop, length, take}
 use Rattle.hart_cli.specs.declared.text.marks.Mark.{Mark}
 use Rattle.hart_cli.specs.declared.text.marks.Mark.TheVariants as given
-use Rattle.hart_cli.specs.text.Heard.{BeginsWithMark, Date, Heard, IsPrintable, Silence}
+use Rattle.hart_cli.specs.text.Heard.{BeginsWithMark, Date, Heard, IsVisible, Silence}
 
 -- What is heard at the mark that begins a text.
 abbrev pub heard_mark : List ℕ → Mark → Heard
@@ -18,9 +18,9 @@ mark_length (given.Date len) = 1 + len
 abbrev pub HasMark : List ℕ → Mark → Type 0
 HasMark text mark = BeginsWithMark text (heard_mark text mark) (drop (mark_length mark) text)
 
--- A text is a `@` and at most 32 printable bytes.
+-- A text is a `@` and at most 32 visible bytes.
 pub record MayBeginDate (text : List ℕ) : Type 0 where
   pub word : List ℕ
   pub text_is : text ≡ 64 ∷ word
   pub few : length word ≤ 32
-  pub printable : All IsPrintable word
+  pub visible : All IsVisible word

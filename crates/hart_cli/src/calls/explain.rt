@@ -1,11 +1,13 @@
 //! `hart explain`: what was heard, in words.
 ghost use Rattle.std.specs.Prelude.{◌≡◌, ℕ, List, Option};
 ghost use Rattle.hart_cli.specs.declared.fault.CliFault.{CliFault};
-ghost use Rattle.hart_cli.specs.explain.Explain.{ExplainOutcome, IsExplanation, IsRawExplanation, RawExplainOutcome};
+ghost use Rattle.hart_cli.specs.explain.Explain.{ExplainOutcome, IsExplanation, IsJson, IsRawExplanation, IsRawJson, JsonOutcome};
+ghost use Rattle.hart_cli.specs.explain.Explain.{RawExplainOutcome, RawJsonOutcome, RawTextOutcome, TextOutcome};
 ghost use Rattle.hart_cli.specs.explain.Telling.{IsNew, TellsInput};
 ghost use Rattle.hart_cli.specs.input.Decoding.{heard_decoding, raw_decoding, raw_limit};
 ghost use Rattle.hart_cli.specs.input.Input.{Ending, stream_limit};
 
+use crate::calls::explain::teller::Style;
 use crate::calls::explain::telling::Telling;
 use crate::fault::CliFault;
 use crate::input::ahead::{HeardAhead, HeardOpen, NextStep, next_heard_step, read_ahead};
@@ -19,11 +21,14 @@ mod codes;
 mod data;
 mod dates;
 mod fields;
+mod last_messages;
 pub mod laws;
 mod message;
 mod misses;
+mod objects;
 mod sightings;
 mod status;
+mod teller;
 mod telling;
 pub(crate) mod values;
 mod words;
@@ -57,13 +62,27 @@ pub fn explain<R: Source, W: Sink>(
         (W.stream writer.old) (W.stream writer.new)
         result }
 {
-    let mut telling = Telling::new();
-    let fault = tell_input(reader, writer, &mut telling)?;
-    telling.finish(writer)?;
-    match fault {
-        Some(fault) => Err(fault),
-        None => Ok(()),
-    }
+    explain_heard(Style::Words, reader, writer)
+}
+
+/// Reads the characters that [`explain`] reads, and writes a JSON object for each part of the text of `explain`, at the moment at which
+/// `explain` writes that part. Each object is one line. For a reply it also says which request it answers, and for a request how many times
+/// in a row it has been sent.
+///
+/// # Errors
+///
+/// The faults of [`explain`], in the same order. The lines about the characters before the fault are written first.
+pub fn explain_json<R: Source, W: Sink>(
+    _alloc: Global,
+    reader: &mut R,
+    writer: &mut W,
+) -> Result<(), CliFault>
+    ensures { JsonOutcome
+        (R.stream reader.old) (R.stream reader.new)
+        (W.stream writer.old) (W.stream writer.new)
+        result }
+{
+    explain_heard(Style::Objects, reader, writer)
 }
 
 /// Reads the bytes heard on a HART line as raw bytes, and explains them in the words of [`explain`].
@@ -85,7 +104,67 @@ pub fn explain_raw<R: Source, W: Sink>(
         (W.stream writer.old) (W.stream writer.new)
         result }
 {
-    let mut telling = Telling::new();
+    explain_bytes(Style::Words, reader, writer)
+}
+
+/// Reads the bytes that [`explain_raw`] reads, and writes the lines of [`explain_json`].
+///
+/// # Errors
+///
+/// The faults of [`explain_raw`], in the same order. The lines about the bytes before the fault are written first.
+pub fn explain_raw_json<R: Source, W: Sink>(
+    _alloc: Global,
+    reader: &mut R,
+    writer: &mut W,
+) -> Result<(), CliFault>
+    ensures { RawJsonOutcome
+        (R.stream reader.old) (R.stream reader.new)
+        (W.stream writer.old) (W.stream writer.new)
+        result }
+{
+    explain_bytes(Style::Objects, reader, writer)
+}
+
+/// Reads what was heard as hex items, and tells it in a style.
+///
+/// # Errors
+///
+/// The first fault of the input, or `Write` at the first write that fails.
+fn explain_heard<R: Source, W: Sink>(
+    style: Style,
+    reader: &mut R,
+    writer: &mut W,
+) -> Result<(), CliFault>
+    ensures { TextOutcome style
+        (R.stream reader.old) (R.stream reader.new)
+        (W.stream writer.old) (W.stream writer.new)
+        result }
+{
+    let mut telling = Telling::new(style);
+    let fault = tell_input(reader, writer, &mut telling)?;
+    telling.finish(writer)?;
+    match fault {
+        Some(fault) => Err(fault),
+        None => Ok(()),
+    }
+}
+
+/// Reads what was heard as raw bytes, and tells it in a style.
+///
+/// # Errors
+///
+/// The first fault of the input, or `Write` at the first write that fails.
+fn explain_bytes<R: Source, W: Sink>(
+    style: Style,
+    reader: &mut R,
+    writer: &mut W,
+) -> Result<(), CliFault>
+    ensures { RawTextOutcome style
+        (R.stream reader.old) (R.stream reader.new)
+        (W.stream writer.old) (W.stream writer.new)
+        result }
+{
+    let mut telling = Telling::new(style);
     let fault = tell_raw_input(reader, writer, &mut telling)?;
     telling.finish(writer)?;
     match fault {
@@ -94,13 +173,17 @@ pub fn explain_raw<R: Source, W: Sink>(
     }
 }
 
-/// The bytes read of an input, of hex items or raw, have at most one fault and one text. So unless a write fails, what `explain`
-/// writes is determined by what it reads.
+/// The bytes read of an input, of hex items or raw, have at most one fault, one text and one list of JSON lines. So unless a write
+/// fails, what `explain` writes is determined by what it reads.
 pub fn one_explanation()
     ensures raw { (input : List ℕ) (ending : Ending) (f g : Option CliFault) (xs ys : List ℕ)
         → IsRawExplanation input ending f xs → IsRawExplanation input ending g ys → (f ≡ g) × (xs ≡ ys) }
     ensures items { (input : List ℕ) (ending : Ending) (f g : Option CliFault) (xs ys : List ℕ)
         → IsExplanation input ending f xs → IsExplanation input ending g ys → (f ≡ g) × (xs ≡ ys) }
+    ensures raw_json { (input : List ℕ) (ending : Ending) (f g : Option CliFault) (xs ys : List ℕ)
+        → IsRawJson input ending f xs → IsRawJson input ending g ys → (f ≡ g) × (xs ≡ ys) }
+    ensures json { (input : List ℕ) (ending : Ending) (f g : Option CliFault) (xs ys : List ℕ)
+        → IsJson input ending f xs → IsJson input ending g ys → (f ≡ g) × (xs ≡ ys) }
 {}
 
 /// Reads an input up to its first fault, and tells what its characters decide.

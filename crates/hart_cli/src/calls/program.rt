@@ -9,11 +9,12 @@ ghost use Rattle.hart_cli.specs.stream.Stream.{WritesUnlessFailed};
 
 pub mod command_line;
 mod help;
+pub mod laws;
 
 use crate::calls::answer::answer;
 use crate::calls::dump::dump;
 use crate::calls::encode::{EncodeWords, encode_text};
-use crate::calls::explain::{explain, explain_raw};
+use crate::calls::explain::{explain, explain_json, explain_raw, explain_raw_json};
 use crate::calls::request::request;
 use crate::calls::serve::serve;
 use crate::calls::sim::simulate;
@@ -110,6 +111,8 @@ fn make_call<R: Source, W: Sink>(
         Call::Dump => dump(alloc, reader, writer),
         Call::Explain => explain(alloc, reader, writer),
         Call::ExplainRaw => explain_raw(alloc, reader, writer),
+        Call::ExplainJson => explain_json(alloc, reader, writer),
+        Call::ExplainRawJson => explain_raw_json(alloc, reader, writer),
         Call::Serve(image) => serve(alloc, image.word, reader, writer),
         Call::Sim(image) => simulate(alloc, image.word, reader, writer),
         Call::Request(words) => request(alloc, &words, writer),

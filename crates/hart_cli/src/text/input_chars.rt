@@ -16,7 +16,7 @@ use hart_values::ByteList;
 use std::alloc::Global;
 
 /// The greatest number of bytes that are read before their characters are made.
-const STRETCH_LEN: usize = 256;
+const RUN_LEN: usize = 256;
 
 /// The bytes read of an input, and how the input ended, determine the characters before its fault, and the fault itself.
 pub fn inputs_are_unambiguous()
@@ -29,7 +29,7 @@ pub fn inputs_are_unambiguous()
 /// # Errors
 ///
 /// [`CliFault::BadHex`] at the place of the first thing that is neither a separator nor an item; fault bits of a character are no
-/// fault of the input. [`CliFault::Memory`] if room for half as many characters as the input has bytes was refused.
+/// fault of the input. [`CliFault::Memory`] if memory was refused: room is asked for one character per two bytes of the input.
 pub fn read_chars(alloc: Global, mut text: Filling<u8>) -> Result<Vec<Char>, CliFault>
     requires spare { length text.items < text.room }
     ensures chars { IfOk result (λ chars. ReadsAs text.items chars.items) }
@@ -56,7 +56,7 @@ pub fn read_pieces(digits: &Digits, text: &[u8], chars: &mut Filling<Char>) -> u
     ensures stops { NoPieceBegins (drop result text.now) }
     ensures kept { chars.new.room ≡ chars.old.room }
 {
-    let mut bytes: ByteList<STRETCH_LEN> = ByteList::new();
+    let mut bytes: ByteList<RUN_LEN> = ByteList::new();
     let mut place = 0;
     loop {
         bytes.clear();
@@ -78,7 +78,7 @@ fn push_faultless(chars: &mut Filling<Char>, bytes: &[u8])
     requires room { length chars.old.items + length bytes.now ≤ chars.old.room }
     ensures { chars.new ≡ record chars.old { items = chars.old.items ++ faultless bytes.now } }
 {
-    let mut heard = [faultless_char(0); STRETCH_LEN];
+    let mut heard = [faultless_char(0); RUN_LEN];
     let heard = &mut heard[..bytes.len()];
     write_faultless(heard, bytes);
     chars.extend(heard);

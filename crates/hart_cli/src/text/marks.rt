@@ -1,6 +1,6 @@
-//! Marks between what was heard: silences of the line, and dates.
+//! Marks between characters that were heard: silences of the line, and dates.
 ghost use Rattle.std.specs.Prelude.{◌≡◌, ◌∷◌, ◌↔◌, ◌<◌, ◌≤◌, IfSome, IsTrue, MatchOption, All, drop, get_or, length, take};
-ghost use Rattle.hart_cli.specs.text.Heard.{IsPrintable, NoMarkBegins, NothingBegins};
+ghost use Rattle.hart_cli.specs.text.Heard.{IsVisible, NoMarkBegins, NothingBegins};
 ghost use Rattle.hart_cli.specs.text.Items.{NoPieceBegins, Opens};
 ghost use Rattle.hart_cli.specs.text.Marks.{HasMark, MayBeginDate, mark_length};
 
@@ -9,7 +9,7 @@ use crate::text::items::{is_separator, may_begin};
 /// The greatest number of bytes in the word of a date.
 pub const DATE_LEN: usize = 32;
 
-/// A mark between what was heard.
+/// A mark between characters that were heard.
 #[derive(Clone, Copy)]
 pub enum Mark {
     /// A `/`: the line fell silent.
@@ -36,7 +36,7 @@ fn leading_date(text: &[u8]) -> Option<Mark>
     ensures mark { MatchOption result (NoMarkBegins text.now) (HasMark text.now) }
     ensures within { IfSome result (λ mark. mark_length mark ≤ length text.now) }
 {
-    let len = printable_len(&text[1..]);
+    let len = visible_len(&text[1..]);
     let next = text.get(1 + len)?;
     if len == 0 || len > DATE_LEN || !is_separator(*next) {
         return None;
@@ -44,22 +44,22 @@ fn leading_date(text: &[u8]) -> Option<Mark>
     Some(Mark::Date { len })
 }
 
-/// Returns how many printable bytes begin a text.
-fn printable_len(text: &[u8]) -> usize
+/// Returns how many visible bytes begin a text.
+fn visible_len(text: &[u8]) -> usize
     ensures within { result ≤ length text.now }
-    ensures printable { All IsPrintable (take result text.now) }
-    ensures stops { result < length text.now → IsPrintable (get_or text.now result 0) → ⊥ }
+    ensures visible { All IsVisible (take result text.now) }
+    ensures stops { result < length text.now → IsVisible (get_or text.now result 0) → ⊥ }
 {
     let mut len = 0;
-    while len < text.len() && is_printable(text[len]) {
+    while len < text.len() && is_visible(text[len]) {
         len += 1;
     }
     len
 }
 
-/// Returns true if a byte is printable, and no space.
-fn is_printable(byte: u8) -> bool
-    ensures { IsTrue result ↔ IsPrintable byte }
+/// Returns true if a byte is visible. A space is not.
+fn is_visible(byte: u8) -> bool
+    ensures { IsTrue result ↔ IsVisible byte }
 {
     (b'!'..=b'~').contains(&byte)
 }
@@ -80,5 +80,5 @@ fn may_begin_date(text: &[u8]) -> bool
 {
     text.first() == Some(&b'@')
         && text.len() <= 1 + DATE_LEN
-        && printable_len(&text[1..]) == text.len() - 1
+        && visible_len(&text[1..]) == text.len() - 1
 }

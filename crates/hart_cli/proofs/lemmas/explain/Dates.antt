@@ -10,7 +10,11 @@ use Rattle.hart_frame.specs.heard.Sighting.{sightings}
 use Rattle.hart_frame.specs.wire.Header.{HeaderParts}
 use Rattle.hart_frame.specs.declared.heard.found.Found.{Found}
 use Rattle.hart_frame.proofs.lemmas.heard.Place.{StandsIn-within}
-use Rattle.hart_cli.specs.explain.Explanation.{AreSightingsFrom, date_after, date_of, explanation, undated}
+use Rattle.hart_cli.specs.declared.calls.explain.teller.Style.{Style}
+use Rattle.hart_cli.specs.declared.calls.explain.teller.Style.TheVariants.{Objects, Words}
+use Rattle.hart_cli.specs.declared.calls.explain.teller.Teller.{Teller}
+use Rattle.hart_cli.specs.explain.Explanation.{AreSightingsFrom, date_after, date_of, text_after, text_in, undated}
+use Rattle.hart_cli.specs.explain.LastMessages.{recalled}
 use Rattle.hart_cli.specs.explain.Gaps.{seen_place}
 use Rattle.hart_cli.specs.explain.Telling.{text_from}
 use Rattle.hart_cli.specs.text.Heard.{Date, Heard, HeardChar, Silence, after_chars, heard_chars, stretches}
@@ -23,26 +27,58 @@ pub moved_place : (n : ℕ) (s : Seen) → seen_place (moved_seen n s) ≡ n + s
 moved_place n (Message found) = refl
 moved_place n (Missed place miss header) = refl
 
+-- texts with the same date at each of their sightings are the same
+same_at : (style : Style) (f g : ℕ → List ℕ) (earlier seen : List Seen) → All (λ s. f (seen_place s) ≡ g (seen_place s)) seen
+    → text_after style f earlier seen ≡ text_after style g earlier seen
+same_at Words f g earlier [] same = refl
+same_at Words f g earlier (s ∷ seen) same =
+    let here = All-head (λ (x : Seen). f (seen_place x) ≡ g (seen_place x)) s seen same in
+    let later = same_at Words f g earlier seen (All-tail (λ (x : Seen). f (seen_place x) ≡ g (seen_place x)) s seen same) in
+    rw (here, later) refl
+same_at Objects f g earlier [] same = refl
+same_at Objects f g earlier (s ∷ seen) same =
+    let here = All-head (λ (x : Seen). f (seen_place x) ≡ g (seen_place x)) s seen same in
+    let later = same_at Objects f g (earlier ++ s ∷ []) seen
+    (All-tail (λ (x : Seen). f (seen_place x) ≡ g (seen_place x)) s seen same) in
+    rw (here, later) refl
+
 -- texts with the same dates from a place on are the same, if they are of sightings from that place on
-pub same_from : (f g : ℕ → List ℕ) (n : ℕ) → ((place : ℕ) → n ≤ place → f place ≡ g place) → (seen : List Seen)
-    → text_from f n seen ≡ text_from g n seen
-same_from f g n same [] = refl
-same_from f g n same (s ∷ seen) =
-    let here = same (seen_place (moved_seen n s)) (omega (arith, moved_place n s)) in
-    rw (here, same_from f g n same seen) refl
+from_place : (f g : ℕ → List ℕ) (n : ℕ) → ((place : ℕ) → n ≤ place → f place ≡ g place) → (seen : List Seen)
+    → All (λ s. f (seen_place s) ≡ g (seen_place s)) (map (moved_seen n) seen)
+from_place f g n same [] = All-nil (λ (s : Seen). f (seen_place s) ≡ g (seen_place s))
+from_place f g n same (s ∷ seen) =
+    All-cons (λ (x : Seen). f (seen_place x) ≡ g (seen_place x)) (moved_seen n s) (map (moved_seen n) seen)
+    (same (seen_place (moved_seen n s)) (omega (arith, moved_place n s)))
+    (from_place f g n same seen)
+
+pub same_from : (teller : Teller) (f g : ℕ → List ℕ) (n : ℕ) → ((place : ℕ) → n ≤ place → f place ≡ g place) → (seen : List Seen)
+    → text_from teller f n seen ≡ text_from teller g n seen
+same_from teller f g n same seen =
+    same_at teller.style f g (recalled teller.last) (map (moved_seen n) seen) (from_place f g n same seen)
 
 -- texts with the same dates before a place are the same, if they are of sightings before that place
-pub same_within : (f g : ℕ → List ℕ) (n : ℕ) → ((place : ℕ) → place < n → f place ≡ g place) → (seen : List Seen)
-    → All (λ s. seen_place s < n) seen → explanation f seen ≡ explanation g seen
-same_within f g n same [] within = refl
-same_within f g n same (s ∷ seen) within =
-    let here = same (seen_place s) (All-head (λ (x : Seen). seen_place x < n) s seen within) in
-    rw (here, same_within f g n same seen (All-tail (λ (x : Seen). seen_place x < n) s seen within)) refl
+before_place : (f g : ℕ → List ℕ) (n : ℕ) → ((place : ℕ) → place < n → f place ≡ g place) → (seen : List Seen)
+    → All (λ s. seen_place s < n) seen → All (λ s. f (seen_place s) ≡ g (seen_place s)) seen
+before_place f g n same [] within = All-nil (λ (s : Seen). f (seen_place s) ≡ g (seen_place s))
+before_place f g n same (s ∷ seen) within =
+    All-cons (λ (x : Seen). f (seen_place x) ≡ g (seen_place x)) s seen
+    (same (seen_place s) (All-head (λ (x : Seen). seen_place x < n) s seen within))
+    (before_place f g n same seen (All-tail (λ (x : Seen). seen_place x < n) s seen within))
+
+pub same_within : (style : Style) (f g : ℕ → List ℕ) (n : ℕ) → ((place : ℕ) → place < n → f place ≡ g place) → (seen : List Seen)
+    → All (λ s. seen_place s < n) seen → text_in style f seen ≡ text_in style g seen
+same_within style f g n same seen within = same_at style f g [] seen (before_place f g n same seen within)
 
 -- texts with the same dates are the same
-pub same_dates : (f g : ℕ → List ℕ) → ((place : ℕ) → f place ≡ g place) → (seen : List Seen) → explanation f seen ≡ explanation g seen
-same_dates f g same [] = refl
-same_dates f g same (s ∷ seen) = rw (same (seen_place s), same_dates f g same seen) refl
+each_place : (f g : ℕ → List ℕ) → ((place : ℕ) → f place ≡ g place) → (seen : List Seen)
+    → All (λ s. f (seen_place s) ≡ g (seen_place s)) seen
+each_place f g same [] = All-nil (λ (s : Seen). f (seen_place s) ≡ g (seen_place s))
+each_place f g same (s ∷ seen) =
+    All-cons (λ (x : Seen). f (seen_place x) ≡ g (seen_place x)) s seen (same (seen_place s)) (each_place f g same seen)
+
+pub same_dates : (style : Style) (f g : ℕ → List ℕ) → ((place : ℕ) → f place ≡ g place) → (seen : List Seen)
+    → text_in style f seen ≡ text_in style g seen
+same_dates style f g same seen = same_at style f g [] seen (each_place f g same seen)
 
 -- characters alone change no date
 date_none : (last : List ℕ) (xs : List Character) (place : ℕ) → date_after last (heard_chars xs) place ≡ last

@@ -32,8 +32,10 @@ dates_stay held old last used count long same few at = elim (before_or_not at co
 
 -- a date that is heard is that of no held character
 pub date_heard : (old new : Telling) (word : List ℕ) → IsWaiting old → new.first ≡ old.first → new.held ≡ old.held
-    → new.kept ≡ old.kept → new.dates.held ≡ old.dates.held → kept_word new.dates.last ≡ word → HearsDate old new word
-date_heard old new word waiting first held kept same last = record {
+    → new.kept ≡ old.kept → new.teller ≡ old.teller → new.dates.held ≡ old.dates.held → kept_word new.dates.last ≡ word
+    → HearsDate old new word
+date_heard old new word waiting first held kept teller same last = record {
+  teller = teller;
   first = first;
   held = held;
   kept = kept;
@@ -54,9 +56,11 @@ date_heard old new word waiting first held kept same last = record {
 }
 
 -- after a date, the held characters wait as before
-pub date_waits : (old new : Telling) → IsWaiting old → new.held ≡ old.held → new.dates.held ≡ old.dates.held → IsWaiting new
-date_waits old new waiting held same = record {
+pub date_waits : (old new : Telling) → IsWaiting old → new.held ≡ old.held → new.dates.held ≡ old.dates.held → new.first ≡ old.first
+    → new.teller ≡ old.teller → IsWaiting new
+date_waits old new waiting held same first teller = record {
   undecided = rw held waiting.undecided;
   few = rw held waiting.few;
   dated = rw (held, same) waiting.dated;
+  own = rw (first, teller) waiting.own;
 }

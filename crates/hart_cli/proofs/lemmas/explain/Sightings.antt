@@ -1,11 +1,10 @@
 -- Sightings that are found one after another, and what is said of them.
 use Rattle.std.proofs.Common.{◌≡◌, ◌≤◌, ◌+◌, ℕ, Bool, false, List, [], ◌∷◌, ◌++◌, length, map, drop, refl, append_assoc, append-nil}
 use Rattle.std.proofs.Common.{arith}
-use Rattle.std.proofs.lemmas.Grind.{common_steps, flat_map-append}
+use Rattle.std.proofs.lemmas.Grind.{common_steps}
 use Rattle.std.proofs.lemmas.List.{drop-append-le, drop-drop, map-append}
 use Rattle.hart_frame.specs.heard.Character.{Character}
 use Rattle.hart_frame.specs.heard.Sighting.{AreSightings, IsUndecidedSighting, Message, Missed, Seen, SeesOn, moved_seen}
-use Rattle.hart_cli.specs.explain.Telling.{text_from}
 use Rattle.hart_frame.proofs.lemmas.scan.SightingLaws.{all as seen_to_the_end, one as one_list, rest as rest_is_seen, some as some_list}
 
 -- moving a sighting by two numbers moves it by their sum
@@ -49,11 +48,6 @@ pub undecided_nothing : IsUndecidedSighting []
 undecided_nothing first comes =
     let none = seen_to_the_end [] false [] (λ more later closed are. are) in
     let (later, is) = comes [] [] none in absurd cc
-
--- the text about some sightings, followed by the text about later ones, is the text about all of them in one list
-pub text_on : (date : ℕ → List ℕ) (first used : ℕ) (seen given : List Seen)
-    → text_from date first seen ++ text_from date (first + used) given ≡ text_from date first (seen ++ map (moved_seen used) given)
-text_on date first used seen given = rw (map-append, flat_map-append, moved_twice first used given) refl
 
 -- characters with nothing after them have the same sightings
 pub at_end : (chars : List Character) (seen : List Seen) → AreSightings (chars ++ []) 0 seen → AreSightings chars 0 seen

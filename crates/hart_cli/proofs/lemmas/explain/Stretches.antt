@@ -57,9 +57,9 @@ all_long a b _ _ _ (part.mark now _ xs m w u v k one) =
 
 -- the same was heard once the kept text is written
 pub all_written : (a b c : Telling) (xs : List Heard) (w w1 w2 : Stream) → HearsAll a b xs w w1 → WritesAll w1 w2 b.kept
-    → c.first ≡ b.first → c.held ≡ b.held → c.dates ≡ b.dates → c.kept ≡ [] → HearsAll a c xs w w2
-all_written a b c xs w w1 w2 h wrote first held dates quiet =
-    let one = hears_written b b c [] false w1 w1 w2 (hears_nothing b w1) wrote first held dates quiet in
+    → c.first ≡ b.first → c.held ≡ b.held → c.dates ≡ b.dates → c.teller ≡ b.teller → c.kept ≡ [] → HearsAll a c xs w w2
+all_written a b c xs w w1 w2 h wrote first held dates teller quiet =
+    let one = hears_written b b c [] false w1 w1 w2 (hears_nothing b w1) wrote first held dates teller quiet in
     rw append-nil at (chars b c xs [] w w1 w2 h one)
 
 -- while these things were heard, some text was written
@@ -189,13 +189,13 @@ fails_kept start a text place w w1 w2 h fails = record {
 
 -- what is said of a text was written
 pub stretch_written : (start a b : Telling) (text : List ℕ) (place : ℕ) (w w1 w2 : Stream) → HearsStretches start a text place w w1
-    → WritesAll w1 w2 a.kept → b.first ≡ a.first → b.held ≡ a.held → b.dates ≡ a.dates → b.kept ≡ []
+    → WritesAll w1 w2 a.kept → b.first ≡ a.first → b.held ≡ a.held → b.dates ≡ a.dates → b.teller ≡ a.teller → b.kept ≡ []
     → HearsStretches start b text place w w2
-stretch_written start a b text place w w1 w2 h wrote first held dates quiet = record {
+stretch_written start a b text place w w1 w2 h wrote first held dates teller quiet = record {
   within = h.within;
   heard = h.heard;
   reads = h.reads;
-  hears = all_written start a b h.heard w w1 w2 h.hears wrote first held dates quiet;
+  hears = all_written start a b h.heard w w1 w2 h.hears wrote first held dates teller quiet;
 }
 
 -- the characters let go, the held ones and the rest of a text are together no more than they were at the start of the text

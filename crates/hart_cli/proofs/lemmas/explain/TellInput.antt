@@ -11,7 +11,7 @@ use Rattle.hart_cli.specs.declared.fault.CliFault.{CliFault}
 use Rattle.hart_cli.specs.declared.input.InputEnd.{InputEnd}
 use Rattle.hart_cli.specs.declared.input.Portion.{Portion}
 use Rattle.hart_cli.specs.declared.input.ahead.NextStep.TheVariants.{Stop}
-use Rattle.hart_cli.specs.explain.Explanation.{IsDecidedExplanation, IsExplanationOf}
+use Rattle.hart_cli.specs.explain.Explanation.{IsDecidedIn, IsTextIn}
 use Rattle.hart_cli.specs.explain.Telling.{FailsInStretches, FailsInText, FailsToHear, Hears, HearsAll, HearsStretches, HearsText}
 use Rattle.hart_cli.specs.explain.Telling.{IsNew, IsWaiting, TellsAll, TellsRest, nothing as nothing_heard}
 use Rattle.hart_cli.specs.input.Ahead.{IsNextStep, ReadsAhead, ended_length}
@@ -27,7 +27,8 @@ use Rattle.hart_cli.proofs.lemmas.Writes.{in_time_on}
 use Rattle.hart_cli.proofs.lemmas.explain.Sightings.{undecided_nothing}
 use Rattle.hart_cli.proofs.lemmas.explain.Stretches.{all_failed, all_on, fails_after}
 use Rattle.hart_cli.proofs.lemmas.explain.Telling.{fails_later, hears_long, hears_then}
-use Rattle.hart_cli.proofs.lemmas.explain.Told.{fails_in_text, held_within, rest_text, tell_all, told_is_decided}
+use Rattle.hart_cli.proofs.lemmas.explain.Told.{held_within, tell_all}
+use Rattle.hart_cli.proofs.lemmas.explain.ToldText.{fails_in_text, rest_text, told_is_decided}
 use Rattle.hart_cli.proofs.lemmas.input.Decoded.{DecodedUpTo, decoded_part, decoded_step, decodes_all, in_time_before, stops_in}
 use Rattle.hart_cli.proofs.lemmas.text.Heard.{heard_few, heard_laws}
 use Rattle.hart_cli.proofs.lemmas.text.Items.{ReadsUpTo-few, ReadsUpTo-on}
@@ -103,6 +104,7 @@ new_waits start new = record {
   undecided = rw new.held undecided_nothing;
   few = rw new.held (omega arith);
   dated = rw (new.held, new.dated) refl;
+  own = rw new.no_last (tt, tt);
 }
 
 -- twice the number of characters heard, and the length of the rest, add up to at most 2^64
@@ -117,11 +119,11 @@ places_fit r r1 start telling end rest read w w1 new due within =
 -- what was told before a read is decided, and was written in time
 told_in_time : (r r1 w w1 : Stream) (start old : Telling) (ahead : List ℕ) (read : ℕ) (bytes : List ℕ) → IsNew start
     → (due : ToldUpTo r r1 start old None ahead read w w1) → Opens NothingBegins ahead → length bytes ≤ most_at_once
-    → WroteInTime (IsDecidedText heard_decoding IsDecidedExplanation) (due.input ++ bytes) w w1
+    → WroteInTime (IsDecidedText heard_decoding (IsDecidedIn start.teller.style)) (due.input ++ bytes) w w1
 told_in_time r r1 w w1 start old ahead read bytes new due may few =
     let decided = told_is_decided start old due.heard w w1 new (tell_all start old due.heard w w1 new due.hears) due.waiting due.quiet in
-    in_time_before ReadsHeard NothingBegins most_heard_ahead heard_laws IsDecidedExplanation stream_limit r r1 w w1 ahead read due.input
-    due.heard _ bytes due.decoded may few decided.0 decided.1.0
+    in_time_before ReadsHeard NothingBegins most_heard_ahead heard_laws (IsDecidedIn start.teller.style) stream_limit r r1 w w1
+    ahead read due.input due.heard _ bytes due.decoded may few decided.0 decided.1.0
 
 -- what one read gave is told, and what was decided before that read was written in time
 pub told_step : (r r1 r2 w w1 w2 : Stream) (start old new : Telling) (ahead after : List ℕ) (read place : ℕ) (portion : Portion)
@@ -130,7 +132,7 @@ pub told_step : (r r1 r2 w w1 w2 : Stream) (start old new : Telling) (ahead afte
     → length after ≤ most_heard_ahead → NothingBegins (drop place after) → HearsStretches old new after place w1 w2 → IsWaiting new
     → new.kept ≡ []
     → (now : ToldUpTo r r2 start new portion.end (drop place after) (read + portion.len) w w2)
-    × WroteInTime (IsDecidedText heard_decoding IsDecidedExplanation) now.input w w1
+    × WroteInTime (IsDecidedText heard_decoding (IsDecidedIn start.teller.style)) now.input w w1
 told_step r r1 r2 w w1 w2 start old new ahead after read place portion begun due may one few stops text waiting quiet = (
   record {
     input = due.input ++ one.bytes;
@@ -148,21 +150,21 @@ told_step r r1 r2 w w1 w2 start old new ahead after read place portion begun due
 pub stops_explaining : (decoding : Decoding (List Heard)) (limit : ℕ) (r r2 w w1 w2 : Stream) (start now : Telling) (input : List ℕ)
     (ending : Ending) (passed : List Heard) (chars : List Character) (ended : Bool) (between : Stream) (last : List ℕ) → IsNew start
     → ReadsToWithin limit r r2 input ending → decoding.Decoded input ending (passed ++ heard_chars chars)
-    → WroteInTime (IsDecidedText decoding IsDecidedExplanation) input w w1
+    → WroteInTime (IsDecidedText decoding (IsDecidedIn start.teller.style)) input w w1
     → HearsAll start now passed w between → FailsToHear now chars ended between w2 → FailsToWrite w1 w2 last
-    → StopsWriting decoding limit IsExplanationOf IsDecidedExplanation r r2 w w2
+    → StopsWriting decoding limit (IsTextIn start.teller.style) (IsDecidedIn start.teller.style) r r2 w w2
 stops_explaining decoding limit r r2 w w1 w2 start now input ending passed chars ended between last new reads decoded in_time hears k
     last_fails =
     let told = tell_all start now passed w between new hears in
     let (text, is, fails) = fails_in_text start now passed w between w2 new told chars ended k in
-    stops_in decoding limit IsExplanationOf IsDecidedExplanation r r2 w w1 w2 input ending (passed ++ heard_chars chars) text last reads
-    decoded is in_time fails last_fails
+    stops_in decoding limit (IsTextIn start.teller.style) (IsDecidedIn start.teller.style) r r2 w w1 w2 input ending
+    (passed ++ heard_chars chars) text last reads decoded is in_time fails last_fails
 
 -- a write failed in the explanation of a part of what one read gave
 pub stopped_telling : (r r1 r2 w w1 w2 : Stream) (start old : Telling) (ahead after : List ℕ) (read : ℕ) (portion : Portion) → IsNew start
     → ToldUpTo r r1 start old None ahead read w w1 → Opens NothingBegins ahead → ReadsAhead r1 r2 ahead after (stream_limit - read) portion
     → length after ≤ most_heard_ahead → FailsInStretches old after w1 w2
-    → StopsWriting heard_decoding stream_limit IsExplanationOf IsDecidedExplanation r r2 w w2
+    → StopsWriting heard_decoding stream_limit (IsTextIn start.teller.style) (IsDecidedIn start.teller.style) r r2 w w2
 stopped_telling r r1 r2 w w1 w2 start old ahead after read portion new due may one few k =
     let in_time = told_in_time r r1 w w1 start old ahead read one.bytes new due may one.few in
     let part = decoded_part ReadsHeard NothingBegins most_heard_ahead heard_laws stream_limit r r1 r2 ahead after k.rest read portion
@@ -175,7 +177,7 @@ stopped_telling r r1 r2 w w1 w2 start old ahead after read portion new due may o
 -- once no more of an input is read, the last step says the fault of the input
 pub tells_all : (r r2 w w1 w2 : Stream) (start telling : Telling) (end : Option InputEnd) (rest : List ℕ) (read : ℕ)
     (fault : Option CliFault) → IsNew start → (told : ToldUpTo r r2 start telling end rest read w w2)
-    → WroteInTime (IsDecidedText heard_decoding IsDecidedExplanation) told.input w w1 → (text : List ℕ) → WritesAll w1 w2 text
+    → WroteInTime (IsDecidedText heard_decoding (IsDecidedIn start.teller.style)) told.input w w1 → (text : List ℕ) → WritesAll w1 w2 text
     → IsNextStep (Opens NothingBegins) end rest (ended_length end read - length rest) (Stop fault)
     → TellsAll heard_decoding stream_limit r r2 w w2 start telling fault
 tells_all r r2 w w1 w2 start telling end rest read fault new told in_time text wrote step =
@@ -191,13 +193,13 @@ tells_all r r2 w w1 w2 start telling end rest read fault new told in_time text w
       hears = told.hears;
       waiting = told.waiting;
       quiet = told.quiet;
-      in_time = in_time_on (IsDecidedText heard_decoding IsDecidedExplanation) told.input w w1 w2 text in_time wrote.0;
+      in_time = in_time_on (IsDecidedText heard_decoding (IsDecidedIn start.teller.style)) told.input w w1 w2 text in_time wrote.0;
     }
 
--- once the rest is told, the explanation of all that was heard is written
+-- after the rest is told, the whole text of what was heard is written
 pub explains_all : (decoding : Decoding (List Heard)) (limit : ℕ) (r r2 w w1 w2 : Stream) (start telling : Telling)
     (fault : Option CliFault) → IsNew start → TellsAll decoding limit r r2 w w1 start telling fault → TellsRest telling w1 w2
-    → (text : List ℕ) × ReadsText decoding limit IsExplanationOf r r2 fault text × WritesAll w w2 text
+    → (text : List ℕ) × ReadsText decoding limit (IsTextIn start.teller.style) r r2 fault text × WritesAll w w2 text
 explains_all decoding limit r r2 w w1 w2 start telling fault new all k =
     let told = tell_all start telling all.heard w w1 new all.hears in
     let (text, is, wrote) = rest_text start telling all.heard w w1 w2 new told all.waiting all.quiet k in (
@@ -215,7 +217,8 @@ explains_all decoding limit r r2 w w1 w2 start telling fault new all k =
 -- a write failed in the explanation of the rest
 pub stops_at_rest : (decoding : Decoding (List Heard)) (limit : ℕ) (r r2 w w1 w2 : Stream) (start telling : Telling)
     (fault : Option CliFault) → IsNew start → TellsAll decoding limit r r2 w w1 start telling fault
-    → FailsToHear telling [] true w1 w2 → StopsWriting decoding limit IsExplanationOf IsDecidedExplanation r r2 w w2
+    → FailsToHear telling [] true w1 w2
+    → StopsWriting decoding limit (IsTextIn start.teller.style) (IsDecidedIn start.teller.style) r r2 w w2
 stops_at_rest decoding limit r r2 w w1 w2 start telling fault new all k =
     stops_explaining decoding limit r r2 w w1 w2 start telling all.input all.decodes.ending all.heard [] true w1 _ new all.decodes.reads
     (rw (append-nil all.heard) all.decodes.decoded) all.in_time all.hears k k.fails

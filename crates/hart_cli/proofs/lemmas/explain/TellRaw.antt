@@ -3,10 +3,11 @@ use Rattle.std.proofs.Common.{◌≡◌, ◌≤◌, ◌<◌, ◌+◌, ◌-◌, �
 use Rattle.std.proofs.Common.{◌∙◌, ap, refl, sym, arith, append-nil, length-append}
 use Rattle.std.proofs.KnownBytes.{Consumes-nil}
 use Rattle.hart_frame.specs.heard.Character.{faultless}
+use Rattle.hart_cli.specs.declared.calls.explain.teller.Style.{Style}
 use Rattle.hart_cli.specs.declared.calls.explain.telling.Telling.{Telling}
 use Rattle.hart_cli.specs.declared.input.InputEnd.{InputEnd}
 use Rattle.hart_cli.specs.declared.input.InputEnd.TheVariants.{Ended, ReadFailed, TooLong}
-use Rattle.hart_cli.specs.explain.Explanation.{IsDecidedExplanation, IsExplanationOf}
+use Rattle.hart_cli.specs.explain.Explanation.{IsDecidedIn, IsTextIn}
 use Rattle.hart_cli.specs.explain.Telling as part
 use Rattle.hart_cli.specs.explain.Telling.{FailsToHear, Hears, HearsAll, IsNew, IsWaiting, TellsAll, nothing as nothing_heard}
 use Rattle.hart_cli.specs.text.Heard.{heard_chars}
@@ -16,7 +17,8 @@ use Rattle.hart_cli.specs.input.LiveInput.{IsDecidedText, StopsSoon, StopsWritin
 use Rattle.hart_cli.specs.stream.Stream.{Stream, WritesAll}
 use Rattle.hart_cli.proofs.lemmas.Writes.{in_time_on}
 use Rattle.hart_cli.proofs.lemmas.explain.TellInput.{new_waits, stops_explaining}
-use Rattle.hart_cli.proofs.lemmas.explain.Told.{held_within, tell_all, told_is_decided}
+use Rattle.hart_cli.proofs.lemmas.explain.Told.{held_within, tell_all}
+use Rattle.hart_cli.proofs.lemmas.explain.ToldText.{told_is_decided}
 use Rattle.hart_cli.proofs.lemmas.text.Heard.{chars_on, count_chars}
 use Rattle.hart_cli.proofs.lemmas.explain.Telling.{long_is}
 use Rattle.hart_cli.proofs.lemmas.input.Decoded.{read_more, read_to, some_long}
@@ -64,10 +66,10 @@ raw_fits r r1 r2 w w1 start telling read bytes end new due reads =
     omega (arith, long, same, long_is due.input, within, length-append due.input bytes)
 
 -- what was decided before a read was written in time
-raw_in_time : (input bytes : List ℕ) → length bytes ≤ most_at_once → (text : List ℕ) (w w1 : Stream)
-    → IsDecidedExplanation (heard_chars (faultless input)) text → WritesAll w w1 text
-    → WroteInTime (IsDecidedText raw_decoding IsDecidedExplanation) (input ++ bytes) w w1
-raw_in_time input bytes few text w w1 decided wrote = record {
+raw_in_time : (style : Style) (input bytes : List ℕ) → length bytes ≤ most_at_once → (text : List ℕ) (w w1 : Stream)
+    → IsDecidedIn style (heard_chars (faultless input)) text → WritesAll w w1 text
+    → WroteInTime (IsDecidedText raw_decoding (IsDecidedIn style)) (input ++ bytes) w w1
+raw_in_time style input bytes few text w w1 decided wrote = record {
   before = input;
   last = bytes;
   split = refl;
@@ -84,7 +86,7 @@ pub raw_step : (r r1 r2 w w1 w2 : Stream) (start old new : Telling) (read len : 
     → ReadsPortion r1 r2 bytes (raw_limit - read) end → length bytes ≤ most_at_once
     → Hears old new (faultless bytes) false w1 w2 → IsWaiting new → new.kept ≡ []
     → (now : RawUpTo r r2 start new end (read + len) w w2)
-    × WroteInTime (IsDecidedText raw_decoding IsDecidedExplanation) now.input w w1
+    × WroteInTime (IsDecidedText raw_decoding (IsDecidedIn start.teller.style)) now.input w w1
 raw_step r r1 r2 w w1 w2 start old new read len bytes end begun long due reads few hears waiting quiet =
     let told = tell_all start old (heard_chars (faultless due.input)) w w1 begun due.hears in
     let decided = told_is_decided start old (heard_chars (faultless due.input)) w w1 begun told due.waiting due.quiet in (
@@ -97,19 +99,19 @@ raw_step r r1 r2 w w1 w2 start old new read len bytes end begun long due reads f
         waiting = waiting;
         quiet = quiet;
       },
-      raw_in_time due.input bytes few _ w w1 decided.0 decided.1,
+      raw_in_time start.teller.style due.input bytes few _ w w1 decided.0 decided.1,
     )
 
 -- a write failed in what is said of the bytes of one read
 pub raw_stopped : (r r1 r2 w w1 w2 : Stream) (start old : Telling) (read : ℕ) (bytes : List ℕ) (end : Option InputEnd) → IsNew start
     → RawUpTo r r1 start old None read w w1 → ReadsPortion r1 r2 bytes (raw_limit - read) end → length bytes ≤ most_at_once
     → FailsToHear old (faultless bytes) false w1 w2
-    → StopsWriting raw_decoding raw_limit IsExplanationOf IsDecidedExplanation r r2 w w2
+    → StopsWriting raw_decoding raw_limit (IsTextIn start.teller.style) (IsDecidedIn start.teller.style) r r2 w w2
 raw_stopped r r1 r2 w w1 w2 start old read bytes end new due reads few k =
     let told = tell_all start old (heard_chars (faultless due.input)) w w1 new due.hears in
     let decided = told_is_decided start old (heard_chars (faultless due.input)) w w1 new told due.waiting due.quiet in
     let came = read_more r r1 r2 due.input bytes (raw_limit - read) raw_limit end due.came.0 (omega (arith, due.came.1, due.count)) reads in
-    let in_time = raw_in_time due.input bytes few _ w w1 decided.0 decided.1 in
+    let in_time = raw_in_time start.teller.style due.input bytes few _ w w1 decided.0 decided.1 in
     let same = ap heard_chars (faultless_on due.input bytes) ∙ chars_on (faultless due.input) (faultless bytes) in
     stops_explaining raw_decoding raw_limit r r2 w w1 w2 start old (due.input ++ bytes) (ending_of end)
     (heard_chars (faultless due.input)) (faultless bytes) false w1 _ new (read_to r r2 (due.input ++ bytes) raw_limit end came) (sym same)
@@ -130,7 +132,7 @@ raw_soon TooLong input = tt
 -- a raw input was told up to its end
 pub raw_tells_all : (r r2 w w1 w2 : Stream) (start telling : Telling) (last : Option InputEnd) (end : InputEnd) (read : ℕ)
     → IsNew start → last ≡ Some end → (told : RawUpTo r r2 start telling last read w w2)
-    → WroteInTime (IsDecidedText raw_decoding IsDecidedExplanation) told.input w w1 → (text : List ℕ) → WritesAll w1 w2 text
+    → WroteInTime (IsDecidedText raw_decoding (IsDecidedIn start.teller.style)) told.input w w1 → (text : List ℕ) → WritesAll w1 w2 text
     → TellsAll raw_decoding raw_limit r r2 w w2 start telling (fault_of_end end)
 raw_tells_all r r2 w w1 w2 start telling last end read new is told in_time text wrote = record {
   input = told.input;
@@ -152,7 +154,7 @@ raw_tells_all r r2 w w1 w2 start telling last end read new is told in_time text 
   hears = told.hears;
   waiting = told.waiting;
   quiet = told.quiet;
-  in_time = in_time_on (IsDecidedText raw_decoding IsDecidedExplanation) told.input w w1 w2 text in_time wrote.0;
+  in_time = in_time_on (IsDecidedText raw_decoding (IsDecidedIn start.teller.style)) told.input w w1 w2 text in_time wrote.0;
 }
 
 -- a read that did not end the input gave at least one byte, within the limit

@@ -2,7 +2,7 @@
 use Rattle.std.proofs.Common.{◌≡◌, ◌≤◌, ◌<◌, ◌+◌, ◌-◌, ◌^◌, ℕ, Bool, false, true, List, [], ◌∷◌, ◌++◌, length, map, drop, zero, suc, refl}
 use Rattle.std.proofs.Common.{sym, ap, ◌∙◌, arith}
 use Rattle.std.proofs.Common.{Err, MatchResult, Ok, Result, append_assoc, append-nil, length-append, length-drop}
-use Rattle.std.proofs.lemmas.Grind.{common_steps, flat_map-append}
+use Rattle.std.proofs.lemmas.Grind.{common_steps}
 use Rattle.std.proofs.lemmas.List.{drop-append-le, drop-drop, drop_all, length-map, map-append}
 use Rattle.hart_frame.specs.declared.heard.miss.Miss.{Miss}
 use Rattle.hart_frame.specs.declared.scan.sighting.After.{After}
@@ -13,22 +13,30 @@ use Rattle.hart_frame.specs.heard.Character.{Character, faultless}
 use Rattle.hart_frame.specs.heard.Sighting.{IsUndecidedSighting, Seen, SeesOn, moved_seen}
 use Rattle.hart_frame.specs.scan.Sighting.{EndsAt, NamesPlacesBelow, heard_with, is_end}
 use Rattle.hart_frame.proofs.lemmas.scan.SightingLaws.{grown, onward}
+use Rattle.hart_cli.specs.declared.calls.explain.teller.Teller.{Teller}
 use Rattle.hart_cli.specs.declared.calls.explain.telling.Telling.{Telling}
 use Rattle.hart_cli.specs.declared.stream.Failed.{Failed}
 use Rattle.hart_cli.specs.explain.Dates.{date_at, date_from}
-use Rattle.hart_cli.specs.explain.Explanation.{dated_text, explanation}
+use Rattle.hart_cli.specs.explain.LastMessages.{KeepsOwn, recalled}
 use Rattle.hart_cli.specs.explain.Telling.{FailsToHear, FailsToTell, FitsFrom, Hears, IsWaiting, TellsDecided, TellsRest, chars_after}
-use Rattle.hart_cli.specs.explain.Telling.{text_from}
+use Rattle.hart_cli.specs.explain.Telling.{GoesOn, text_from, told_text}
 use Rattle.hart_cli.specs.stream.Kept.{AddsText}
 use Rattle.hart_cli.specs.stream.Stream.{FailsToWrite, Stream, Writes, WritesAll}
 use Rattle.hart_cli.proofs.lemmas.Kept.{adds_kept, adds_then, fails_then}
 use Rattle.hart_cli.proofs.lemmas.Writes.{FailsToWrite-on, WritesAll-on}
 use Rattle.hart_cli.proofs.lemmas.explain.Dates.{same_from}
-use Rattle.hart_cli.proofs.lemmas.explain.Sightings.{sees_later, text_on, undecided_nothing}
+use Rattle.hart_cli.proofs.lemmas.explain.Before.{own_more}
+use Rattle.hart_cli.proofs.lemmas.explain.Sightings.{sees_later, undecided_nothing}
+use Rattle.hart_cli.proofs.lemmas.explain.Styles.{goes_nothing, goes_one, goes_then, one_more, text_none, text_on}
 
 -- there are as many characters as bytes
 pub long_is : (bytes : List ℕ) → length (faultless bytes) ≡ length bytes
 long_is bytes = length-map bytes _
+
+-- no sightings add no text
+nothing_more : (t : Telling) → t.kept ≡ t.kept ++ text_from t.teller (date_from t) t.first []
+nothing_more t =
+    sym (ap (λ xs. t.kept ++ xs) (text_none t.teller.style (date_from t) (recalled t.teller.last)) ∙ append-nil t.kept)
 
 -- nothing more was heard
 pub hears_nothing : (t : Telling) (w : Stream) → Hears t t [] false w w
@@ -40,7 +48,8 @@ hears_nothing t w = record {
   first = omega arith;
   held = sym (append-nil (faultless t.held));
   dates = λ place from. refl;
-  adds = adds_kept w t.kept t.kept [] (sym (append-nil t.kept));
+  adds = adds_kept w t.kept t.kept _ (nothing_more t);
+  goes_on = goes_nothing t.teller;
 }
 
 -- what was let go and what is held add up to all that was heard
@@ -57,9 +66,9 @@ same_held : (old mid : Telling) (bytes : List ℕ) → mid.held ≡ old.held ++ 
 same_held old mid bytes held = rw (held, append-nil, map-append) refl
 
 pub hears_more : (old mid new : Telling) (bytes : List ℕ) (ended : Bool) (w w1 : Stream) → mid.held ≡ old.held ++ bytes
-    → mid.first ≡ old.first → mid.kept ≡ old.kept → mid.dates ≡ old.dates → Hears mid new [] ended w w1
+    → mid.first ≡ old.first → mid.kept ≡ old.kept → mid.dates ≡ old.dates → mid.teller ≡ old.teller → Hears mid new [] ended w w1
     → Hears old new (faultless bytes) ended w w1
-hears_more old mid new bytes ended w w1 held first kept dates h =
+hears_more old mid new bytes ended w w1 held first kept dates teller h =
     let same = same_held old mid bytes held in
     record {
       seen = h.seen;
@@ -69,24 +78,25 @@ hears_more old mid new bytes ended w w1 held first kept dates h =
       first = rw first at h.first;
       held = rw same at h.held;
       dates = rw (first, dates) at h.dates;
-      adds = rw (first, kept, dates) at h.adds;
+      adds = rw (first, kept, dates, teller) at h.adds;
+      goes_on = rw (first, teller) at h.goes_on;
     }
 
 pub fails_more : (old mid : Telling) (bytes : List ℕ) (ended : Bool) (w w1 : Stream) → mid.held ≡ old.held ++ bytes
-    → mid.first ≡ old.first → mid.kept ≡ old.kept → mid.dates ≡ old.dates → FailsToHear mid [] ended w w1
+    → mid.first ≡ old.first → mid.kept ≡ old.kept → mid.dates ≡ old.dates → mid.teller ≡ old.teller → FailsToHear mid [] ended w w1
     → FailsToHear old (faultless bytes) ended w w1
-fails_more old mid bytes ended w w1 held first kept dates k = record {
+fails_more old mid bytes ended w w1 held first kept dates teller k = record {
   seen = k.seen;
   used = k.used;
   sees = rw (same_held old mid bytes held) at k.sees;
-  fails = rw (first, kept, dates) at k.fails;
+  fails = rw (first, kept, dates, teller) at k.fails;
 }
 
 -- the same was heard once the kept text is written
 pub hears_written : (old mid new : Telling) (xs : List Character) (ended : Bool) (w w1 w2 : Stream) → Hears old mid xs ended w w1
-    → WritesAll w1 w2 mid.kept → new.first ≡ mid.first → new.held ≡ mid.held → new.dates ≡ mid.dates → new.kept ≡ []
-    → Hears old new xs ended w w2
-hears_written old mid new xs ended w w1 w2 h wrote first held dates quiet = record {
+    → WritesAll w1 w2 mid.kept → new.first ≡ mid.first → new.held ≡ mid.held → new.dates ≡ mid.dates → new.teller ≡ mid.teller
+    → new.kept ≡ [] → Hears old new xs ended w w2
+hears_written old mid new xs ended w w1 w2 h wrote first held dates teller quiet = record {
   seen = h.seen;
   used = h.used;
   sees = h.sees;
@@ -99,6 +109,7 @@ hears_written old mid new xs ended w w1 w2 h wrote first held dates quiet = reco
     wrote = WritesAll-on w w1 w2 h.adds.written mid.kept h.adds.wrote wrote;
     whole = rw (quiet, append-nil) h.adds.whole;
   };
+  goes_on = rw teller h.goes_on;
 }
 
 -- a write failed in what is kept
@@ -153,12 +164,12 @@ sees_on a b xs ys ended given used w w1 h on =
 
 -- what is said of sightings and then of later ones is what is said of both in one list
 said_on : (a b : Telling) (xs : List Character) (given : List Seen) (w w1 : Stream) → (h : Hears a b xs false w w1)
-    → text_from (date_from a) a.first h.seen ++ text_from (date_from b) b.first given
-    ≡ text_from (date_from a) a.first (h.seen ++ map (moved_seen h.used) given)
+    → text_from a.teller (date_from a) a.first h.seen ++ text_from b.teller (date_from b) b.first given
+    ≡ text_from a.teller (date_from a) a.first (h.seen ++ map (moved_seen h.used) given)
 said_on a b xs given w w1 h =
-    let same = same_from (date_from b) (date_from a) b.first h.dates given in
-    let both = text_on (date_from a) a.first h.used h.seen given in
-    ap (λ text. text_from (date_from a) a.first h.seen ++ text) same ∙ rw (← h.first) at both
+    let same = same_from b.teller (date_from b) (date_from a) b.first h.dates given in
+    let both = text_on a.teller b.teller (date_from a) a.first h.used h.seen given h.goes_on in
+    ap (λ text. text_from a.teller (date_from a) a.first h.seen ++ text) same ∙ rw (← h.first) at both
 
 -- characters were heard, and then more
 pub hears_then : (a b c : Telling) (xs ys : List Character) (ended : Bool) (w w1 w2 : Stream) → Hears a b xs false w w1
@@ -176,6 +187,7 @@ hears_then a b c xs ys ended w w1 w2 h k =
       held = rw (← append_assoc) (k.held ∙ (ap (drop k.used) now ∙ drop-drop k.used h.used whole));
       dates = λ place from. k.dates place from ∙ h.dates place (omega (arith, k.first, from));
       adds = rw (said_on a b xs k.seen w w1 h) at (adds_then w w1 w2 a.kept b.kept c.kept _ _ h.adds k.adds);
+      goes_on = goes_then a.teller b.teller c.teller a.first h.used h.seen k.seen h.goes_on (rw h.first at k.goes_on);
     }
 
 -- a write failed in what is said of the later characters
@@ -244,7 +256,8 @@ stays_dated old new used first dates place from =
 
 -- the decided sightings of what was held were told, and the rest is held
 pub told_held : (old new : Telling) (after : After) (used : ℕ) (w w1 : Stream)
-    → TellsDecided (date_from old) old.first old.held after used old.kept new.kept w w1 → new.first ≡ old.first + used
+    → TellsDecided (date_from old) old.first old.held after used old.teller new.teller old.kept new.kept w w1
+    → new.first ≡ old.first + used
     → new.held ≡ drop used old.held → length new.dates.held.items ≡ length new.held
     → ((place : ℕ) → date_at new.dates place ≡ date_at old.dates (used + place))
     → Hears old new (chars_after after) (is_end after) w w1 × IsWaiting new
@@ -258,77 +271,93 @@ told_held old new after used w w1 told first held dated dates = (
     held = rw held (stays_held old.held after used told.all);
     dates = stays_dated old new used first dates;
     adds = told.adds;
+    goes_on = told.goes_on;
   },
   record {
     undecided = rw held (waits_held old.held after used told.all told.undecided);
     few = rw held (few_stay old.held after used told.few);
     dated = dated;
+    own = rw first told.own;
   },
 )
 
 -- a write failed in what is said of the decided sightings
 pub fails_held : (old : Telling) (after : After) (w w1 : Stream)
-    → FailsToTell (date_from old) old.first (heard_with old.held after) (is_end after) old.kept w w1
+    → FailsToTell (date_from old) old.first (heard_with old.held after) (is_end after) old.teller old.kept w w1
     → FailsToHear old (chars_after after) (is_end after) w w1
 fails_held old after w w1 fails = rw (heard_is old.held after) at fails
 
 -- the sightings told so far of the held bytes and of what comes after them
-pub record ToldSoFar (date : ℕ → List ℕ) (first : ℕ) (held : List ℕ) (after : After) (used : ℕ) (kept kept_after : List ℕ)
-    (writer writer_after : Stream) : Type 0 where
+pub record ToldSoFar (date : ℕ → List ℕ) (first : ℕ) (held : List ℕ) (after : After) (used : ℕ) (teller teller_after : Teller)
+    (kept kept_after : List ℕ) (writer writer_after : Stream) : Type 0 where
   pub seen : List Seen
   pub sees : SeesOn (heard_with held after) (is_end after) 0 seen used
   pub within : used ≤ length (heard_with held after)
-  pub adds : AddsText writer writer_after kept kept_after (text_from date first seen)
+  pub adds : AddsText writer writer_after kept kept_after (text_from teller date first seen)
+  pub goes_on : GoesOn teller teller_after (map (moved_seen first) seen)
+  pub own : KeepsOwn (first + used) teller_after.last
 
--- the text with one more sighting ends with what is said of that sighting
-one_more : (date : ℕ → List ℕ) (first : ℕ) (seen : List Seen) (next : Seen)
-    → text_from date first (seen ++ next ∷ []) ≡ text_from date first seen ++ dated_text date (moved_seen first next)
-one_more date first seen next =
-    let one : text_from date first (next ∷ []) ≡ dated_text date (moved_seen first next) = append-nil _ in
-    ap (explanation date) (map-append (moved_seen first) seen (next ∷ []))
-    ∙ (flat_map-append (dated_text date) (map (moved_seen first) seen) (moved_seen first next ∷ [])
-    ∙ ap (λ text. text_from date first seen ++ text) one)
-
--- one more sighting was told
-pub told_next : (date : ℕ → List ℕ) (first : ℕ) (held : List ℕ) (after : After) (used to : ℕ) (a b c d : List ℕ) (next : Seen)
-    (w w1 w2 : Stream) → ToldSoFar date first held after used a b w w1 → SeesOn (heard_with held after) (is_end after) used (next ∷ []) to
-    → to ≤ length (heard_with held after) → AddsText w1 w2 b c [] → d ≡ c ++ dated_text date (moved_seen first next)
-    → ToldSoFar date first held after to a d w w2
-told_next date first held after used to a b c d next w w1 w2 h sees within room added =
-    let text = dated_text date (moved_seen first next) in
-    let one : AddsText w1 w2 b d ([] ++ text) = adds_then w1 w2 w2 b c d [] text room (adds_kept w2 c d text added) in
+-- no sighting was told yet
+pub told_none_yet : (date : ℕ → List ℕ) (first : ℕ) (held : List ℕ) (after : After) (teller : Teller) (kept : List ℕ) (w : Stream)
+    → KeepsOwn first teller.last → ToldSoFar date first held after 0 teller teller kept kept w w
+told_none_yet date first held after teller kept w own =
+    let place : first + 0 ≡ first = omega arith in
     record {
-      seen = h.seen ++ next ∷ [];
-      sees = onward (heard_with held after) (is_end after) 0 used to h.seen (next ∷ []) h.sees sees;
-      within = within;
-      adds = rw (one_more date first h.seen next) (adds_then w w1 w2 a b d (text_from date first h.seen) text h.adds one);
+      seen = [];
+      sees = λ more later closed are. are;
+      within = omega arith;
+      adds = adds_kept w kept kept _
+          (sym (ap (λ xs. kept ++ xs) (text_none teller.style date (recalled teller.last)) ∙ append-nil kept));
+      goes_on = goes_nothing teller;
+      own = rw place own;
     }
 
+-- one more sighting was told
+pub told_next : (date : ℕ → List ℕ) (first : ℕ) (held : List ℕ) (after : After) (used to : ℕ) (t now new : Teller) (a b c : List ℕ)
+    (next : Seen) (w w1 w2 : Stream) → ToldSoFar date first held after used t now a b w w1
+    → SeesOn (heard_with held after) (is_end after) used (next ∷ []) to → used < to → to ≤ length (heard_with held after)
+    → AddsText w1 w2 b c (told_text now date (moved_seen first next)) → GoesOn now new (moved_seen first next ∷ [])
+    → ((most : ℕ) → KeepsOwn most now.last → KeepsOwn (most + 1) new.last)
+    → ToldSoFar date first held after to t new a c w w2
+told_next date first held after used to t now new a b c next w w1 w2 h sees further within adds goes own = record {
+  seen = h.seen ++ next ∷ [];
+  sees = onward (heard_with held after) (is_end after) 0 used to h.seen (next ∷ []) h.sees sees;
+  within = within;
+  adds = rw (one_more t now date first h.seen next h.goes_on) at (adds_then w w1 w2 a b c _ _ h.adds adds);
+  goes_on = goes_one t now new first h.seen next h.goes_on goes;
+  own = own_more (first + used + 1) (first + to) new.last (omega (arith, further)) (own (first + used) h.own);
+}
+
 -- no decided sighting is left to tell
-pub told_decided : (date : ℕ → List ℕ) (first : ℕ) (held : List ℕ) (after : After) (used to : ℕ) (a b : List ℕ) (w w1 : Stream)
-    → ToldSoFar date first held after used a b w w1 → SeesOn (heard_with held after) (is_end after) used [] to
+pub told_decided : (date : ℕ → List ℕ) (first : ℕ) (held : List ℕ) (after : After) (used to : ℕ) (t now : Teller) (a b : List ℕ)
+    (w w1 : Stream) → ToldSoFar date first held after used t now a b w w1
+    → SeesOn (heard_with held after) (is_end after) used [] to → used ≤ to
     → to ≤ length (heard_with held after) → length (heard_with held after) < to + 269
     → ((after ≡ More → ⊥) → to ≡ length (heard_with held after))
-    → (after ≡ More → IsUndecidedSighting (heard_with (drop to held) More)) → TellsDecided date first held after to a b w w1
-told_decided date first held after used to a b w w1 h sees within few all undecided = record {
+    → (after ≡ More → IsUndecidedSighting (heard_with (drop to held) More)) → TellsDecided date first held after to t now a b w w1
+told_decided date first held after used to t now a b w w1 h sees onwards within few all undecided = record {
   seen = h.seen;
   sees = rw append-nil at (onward (heard_with held after) (is_end after) 0 used to h.seen [] h.sees sees);
   within = within;
   adds = h.adds;
+  goes_on = h.goes_on;
+  own = own_more (first + used) (first + to) now.last (omega (arith, onwards)) h.own;
   few = few;
   all = all;
   undecided = undecided;
 }
 
--- a write failed before one more sighting was told
-pub fails_next : (date : ℕ → List ℕ) (first : ℕ) (held : List ℕ) (after : After) (used : ℕ) (a b : List ℕ) (w w1 w2 : Stream)
-    → ToldSoFar date first held after used a b w w1 → FailsToWrite w1 w2 (b ++ [])
-    → FailsToTell date first (heard_with held after) (is_end after) a w w2
-fails_next date first held after used a b w w1 w2 h fails = record {
-  seen = h.seen;
-  used = used;
-  sees = h.sees;
-  fails = rw append-nil at (fails_then w w1 w2 a b (text_from date first h.seen) [] h.adds fails);
+-- a write failed in what is said of one more sighting
+pub fails_next : (date : ℕ → List ℕ) (first : ℕ) (held : List ℕ) (after : After) (used to : ℕ) (t now : Teller) (a b : List ℕ)
+    (next : Seen) (w w1 w2 : Stream) → ToldSoFar date first held after used t now a b w w1
+    → SeesOn (heard_with held after) (is_end after) used (next ∷ []) to
+    → FailsToWrite w1 w2 (b ++ told_text now date (moved_seen first next))
+    → FailsToTell date first (heard_with held after) (is_end after) t a w w2
+fails_next date first held after used to t now a b next w w1 w2 h sees fails = record {
+  seen = h.seen ++ next ∷ [];
+  used = to;
+  sees = onward (heard_with held after) (is_end after) 0 used to h.seen (next ∷ []) h.sees sees;
+  fails = rw (one_more t now date first h.seen next h.goes_on) at (fails_then w w1 w2 a b _ _ h.adds fails);
 }
 
 -- a miss whose places are below a bound has them below each greater bound

@@ -2,83 +2,32 @@
 use Rattle.std.proofs.Common.{◌≡◌, ◌≤◌, ◌<◌, ◌+◌, ◌∙◌, ◌⊎◌, ℕ, All, Bool, false, true, List, [], ◌∷◌, ◌++◌, length, map, drop, refl, sym}
 use Rattle.std.proofs.Common.{ap, arith, inl, inr}
 use Rattle.std.proofs.Common.{append-nil, append_assoc, length-append, length-drop}
-use Rattle.std.proofs.lemmas.Grind.{flat_map-append}
 use Rattle.std.proofs.lemmas.List.{drop-append-le, drop-drop, map-append}
 use Rattle.hart_frame.specs.heard.Character.{Character, faultless}
 use Rattle.hart_frame.specs.heard.Sighting.{AreSightings, Seen, SeesOn, moved_seen}
-use Rattle.hart_frame.proofs.lemmas.scan.SightingLaws.{all as seen_to_the_end, grown, one as one_list, rest as rest_is_seen}
+use Rattle.hart_frame.proofs.lemmas.scan.SightingLaws.{all as seen_to_the_end, grown}
 use Rattle.hart_frame.proofs.lemmas.scan.SightingLaws.{some as some_list}
+use Rattle.hart_cli.specs.declared.calls.explain.teller.Style.{Style}
 use Rattle.hart_cli.specs.declared.calls.explain.telling.Telling.{Telling}
 use Rattle.hart_cli.specs.explain.Dates.{date_from}
-use Rattle.hart_cli.specs.explain.Explanation.{AreSightingsFrom, ComeFirst, IsDecidedExplanation, IsExplanationOf, date_of, dated_text}
-use Rattle.hart_cli.specs.explain.Explanation.{explanation}
+use Rattle.hart_cli.specs.explain.Explanation.{AreSightingsFrom, ComeFirst, date_of, text_in}
 use Rattle.hart_cli.specs.explain.Gaps.{seen_place}
-use Rattle.hart_cli.specs.explain.Telling.{FailsToHear, Hears, HearsAll, HearsDate, HearsMark, IsNew, IsWaiting, TellsRest, text_from}
+use Rattle.hart_cli.specs.explain.LastMessages.{recalled}
+use Rattle.hart_cli.specs.explain.Telling.{AreAlike, GoesOn, Hears, HearsAll, HearsDate, HearsMark, IsNew}
+use Rattle.hart_cli.specs.explain.Telling.{text_from}
 use Rattle.hart_cli.specs.explain.Telling as part
 use Rattle.hart_cli.specs.stream.Kept.{AddsText}
-use Rattle.hart_cli.specs.stream.Stream.{FailsToWrite, Stream, WritesAll}
+use Rattle.hart_cli.specs.stream.Stream.{Stream}
 use Rattle.hart_cli.specs.text.Heard.{Date, Heard, HeardChar, Silence, after_chars, heard_chars, stretches}
-use Rattle.hart_cli.proofs.lemmas.Kept.{adds_kept, adds_then, fails_then}
-use Rattle.hart_cli.proofs.lemmas.Writes.{FailsToWrite-longer, WritesAll-on}
+use Rattle.hart_cli.proofs.lemmas.Kept.{adds_kept, adds_then}
 use Rattle.hart_cli.proofs.lemmas.explain.Dates.{all_first, date_before, date_chars, date_later, date_silence, same_dates, same_from}
 use Rattle.hart_cli.proofs.lemmas.explain.Dates.{same_within, stretches_within, total, total_count}
-use Rattle.hart_cli.proofs.lemmas.explain.Telling.{long_is}
 use Rattle.hart_cli.proofs.lemmas.text.Heard.{count}
+use Rattle.hart_cli.proofs.lemmas.explain.InStretches.{after_nothing, after_twice, one_seen, one_stretch, seen_on, some_seen}
+use Rattle.hart_cli.proofs.lemmas.explain.InStretches.{stretches_chars, total_on}
 use Rattle.hart_cli.proofs.lemmas.explain.Stretches.{all_long}
-use Rattle.hart_cli.proofs.lemmas.explain.Decided.{back, cancel, first_moved}
-use Rattle.hart_cli.proofs.lemmas.explain.Sightings.{at_end, moved_twice, sees_later, text_on}
-
--- what was heard has a first stretch
-one_stretch : (heard : List Heard) → (first : List Character) × (later : List (List Character)) × (stretches heard ≡ first ∷ later)
-one_stretch [] = ([], [], refl)
-one_stretch (Silence ∷ heard) = ([], stretches heard, refl)
-one_stretch (Date word ∷ heard) = one_stretch heard
-one_stretch (HeardChar character ∷ heard) =
-    let (first, later, is) = one_stretch heard in (character ∷ first, later, rw is refl)
-
--- stretches with no characters before them stay the same
-after_nothing : (heard : List Heard) → after_chars [] (stretches heard) ≡ stretches heard
-after_nothing heard = let (first, later, is) = one_stretch heard in rw is refl
-
--- characters put before stretches in two steps can be put there as one list
-after_twice : (xs ys : List Character) (later : List (List Character))
-    → after_chars xs (after_chars ys later) ≡ after_chars (xs ++ ys) later
-after_twice xs ys [] = refl
-after_twice xs ys (first ∷ later) = rw append_assoc refl
-
--- characters before what was heard are the beginning of its first stretch
-pub stretches_chars : (xs : List Character) (heard : List Heard) → stretches (heard_chars xs ++ heard) ≡ after_chars xs (stretches heard)
-stretches_chars [] heard = sym (after_nothing heard)
-stretches_chars (x ∷ xs) heard =
-    ap (after_chars (x ∷ [])) (stretches_chars xs heard) ∙ after_twice (x ∷ []) xs (stretches heard)
-
-total_on : (xs ys : List (List Character)) → total (xs ++ ys) ≡ total xs + total ys
-total_on [] ys = omega arith
-total_on (chars ∷ xs) ys = omega (arith, total_on xs ys)
-
--- stretches have one list of sightings
-pub one_seen : (first : ℕ) (parts : List (List Character)) (xs ys : List Seen) → AreSightingsFrom first parts xs
-    → AreSightingsFrom first parts ys → xs ≡ ys
-one_seen first [] xs ys h k = h ∙ sym k
-one_seen first (chars ∷ later) xs ys (own, are, rest, more, is) (own', are', rest', more', is') =
-    let same = one_list chars 0 own own' are are' in
-    let after = one_seen (first + length chars) later rest rest' more more' in
-    is ∙ (rw (same, after) refl ∙ sym is')
-
-pub some_seen : (first : ℕ) (parts : List (List Character)) → (seen : List Seen) × AreSightingsFrom first parts seen
-some_seen first [] = ([], refl)
-some_seen first (chars ∷ later) =
-    let (own, are) = some_list chars 0 in
-    let (rest, more) = some_seen (first + length chars) later in
-    (map (moved_seen first) own ++ rest, (own, are, rest, more, refl))
-
--- the sightings of stretches, followed by the sightings of later stretches, are the sightings of both in one list
-pub seen_on : (first : ℕ) (xs ys : List (List Character)) (seen later : List Seen) → AreSightingsFrom first xs seen
-    → AreSightingsFrom (first + total xs) ys later → AreSightingsFrom first (xs ++ ys) (seen ++ later)
-seen_on first [] ys seen later h k = let same : first + 0 ≡ first = omega arith in rw h (rw same at k)
-seen_on first (chars ∷ xs) ys seen later (own, are, rest, more, is) k =
-    let place : first + (length chars + total xs) ≡ first + length chars + total xs = omega arith in
-    (own, are, rest ++ later, seen_on (first + length chars) xs ys rest later more (rw place at k), rw (is, append_assoc) refl)
+use Rattle.hart_cli.proofs.lemmas.explain.Sightings.{sees_later}
+use Rattle.hart_cli.proofs.lemmas.explain.Styles.{alike_same, alike_then, text_more, text_none}
 
 -- what was told: all of the earlier stretches, and what is decided of the last stretch, whose rest is held
 pub record Told (start telling : Telling) (heard : List Heard) (writer writer_after : Stream) : Type 0 where
@@ -94,22 +43,14 @@ pub record Told (start telling : Telling) (heard : List Heard) (writer writer_af
   pub first : telling.first ≡ total earlier + used
   pub held : faultless telling.held ≡ drop used chars
   pub dates : (place : ℕ) → telling.first ≤ place → date_from telling place ≡ date_of heard place
+  pub style : telling.teller.style ≡ start.teller.style
+  pub alike : AreAlike start.teller.style (recalled telling.teller.last) (told ++ map (moved_seen (total earlier)) seen)
   pub adds : AddsText writer writer_after start.kept telling.kept
-      (explanation (date_of heard) (told ++ map (moved_seen (total earlier)) seen))
+      (text_in start.teller.style (date_of heard) (told ++ map (moved_seen (total earlier)) seen))
 
 -- counting from place 0 changes no place
 zero_plus : (n : ℕ) → 0 + n ≡ n
 zero_plus n = omega arith
-
--- what was told and what is said of more sightings is the explanation of all of them
-text_more : (date : ℕ → List ℕ) (told seen given : List Seen) (first used : ℕ)
-    → explanation date (told ++ map (moved_seen first) seen) ++ text_from date (first + used) given
-    ≡ explanation date (told ++ map (moved_seen first) (seen ++ map (moved_seen used) given))
-text_more date told seen given first used =
-    ap (λ xs. xs ++ text_from date (first + used) given) (flat_map-append (dated_text date) told (map (moved_seen first) seen))
-    ∙ (append_assoc (explanation date told) (text_from date first seen) (text_from date (first + used) given)
-    ∙ (ap (λ xs. explanation date told ++ xs) (text_on date first used seen given)
-    ∙ sym (flat_map-append (dated_text date) told (map (moved_seen first) (seen ++ map (moved_seen used) given)))))
 
 -- nothing was told yet
 told_none : (start : Telling) (w : Stream) → IsNew start → Told start start [] w w
@@ -126,11 +67,14 @@ told_none start w new = record {
   first = omega (arith, new.first);
   held = rw new.held refl;
   dates = λ place from. new.undated place;
-  adds = adds_kept w start.kept start.kept [] (sym (append-nil start.kept));
+  style = refl;
+  alike = alike_same start.teller.style _ _ (ap recalled new.no_last);
+  adds = adds_kept w start.kept start.kept _ (sym (ap (λ xs. start.kept ++ xs) (text_none start.teller.style (date_of []) [])
+      ∙ append-nil start.kept));
 }
 
 -- more of the last stretch is seen
-part_sees : (start a : Telling) (heard : List Heard) (w w1 : Stream) (t : Told start a heard w w1) (xs : List Character) (ended : Bool)
+pub part_sees : (start a : Telling) (heard : List Heard) (w w1 : Stream) (t : Told start a heard w w1) (xs : List Character) (ended : Bool)
     (given : List Seen) (used : ℕ) → SeesOn (faultless a.held ++ xs) ended 0 given used
     → SeesOn (t.chars ++ xs) ended 0 (t.seen ++ map (moved_seen t.used) given) (t.used + used)
 part_sees start a heard w w1 t xs ended given used on =
@@ -140,30 +84,49 @@ part_sees start a heard w w1 t xs ended given used on =
     (grown t.chars xs ended 0 t.used t.seen t.sees) (rw rest at on)
 
 -- the dates of what is held are those of what was heard
-part_dated : (start a : Telling) (heard : List Heard) (w w1 : Stream) (t : Told start a heard w w1) (given : List Seen)
-    → text_from (date_from a) a.first given ≡ text_from (date_of heard) (total t.earlier + t.used) given
+pub part_dated : (start a : Telling) (heard : List Heard) (w w1 : Stream) (t : Told start a heard w w1) (given : List Seen)
+    → text_from a.teller (date_from a) a.first given ≡ text_from a.teller (date_of heard) (total t.earlier + t.used) given
 part_dated start a heard w w1 t given =
-    same_from (date_from a) (date_of heard) a.first t.dates given ∙ ap (λ first. text_from (date_of heard) first given) t.first
+    same_from a.teller (date_from a) (date_of heard) a.first t.dates given
+    ∙ ap (λ first. text_from a.teller (date_of heard) first given) t.first
 
 -- what is said of more of the last stretch comes after what was said before
+pub part_text : (start a : Telling) (heard : List Heard) (w w1 : Stream) (t : Told start a heard w w1) (given : List Seen)
+    → text_in start.teller.style (date_of heard) (t.told ++ map (moved_seen (total t.earlier)) t.seen)
+    ++ text_from a.teller (date_of heard) (total t.earlier + t.used) given
+    ≡ text_in start.teller.style (date_of heard)
+    (t.told ++ map (moved_seen (total t.earlier)) (t.seen ++ map (moved_seen t.used) given))
+part_text start a heard w w1 t given =
+    text_more start.teller.style a.teller (date_of heard) t.told t.seen given (total t.earlier) t.used t.style t.alike
+
 part_adds : (start a b : Telling) (heard : List Heard) (w w1 w2 : Stream) (t : Told start a heard w w1) (given : List Seen)
-    → AddsText w1 w2 a.kept b.kept (text_from (date_from a) a.first given)
+    → AddsText w1 w2 a.kept b.kept (text_from a.teller (date_from a) a.first given)
     → AddsText w w2 start.kept b.kept
-    (explanation (date_of heard) (t.told ++ map (moved_seen (total t.earlier)) (t.seen ++ map (moved_seen t.used) given)))
+    (text_in start.teller.style (date_of heard)
+    (t.told ++ map (moved_seen (total t.earlier)) (t.seen ++ map (moved_seen t.used) given)))
 part_adds start a b heard w w1 w2 t given adds =
-    rw (text_more (date_of heard) t.told t.seen given (total t.earlier) t.used) at
+    rw (part_text start a heard w w1 t given) at
     (adds_then w w1 w2 start.kept a.kept b.kept _ _ t.adds (rw (part_dated start a heard w w1 t given) at adds))
 
--- what is heard next changes no date that matters
-chars_dated : (heard : List Heard) (xs : List Character) (seen : List Seen)
-    → explanation (date_of heard) seen ≡ explanation (date_of (heard ++ heard_chars xs)) seen
-chars_dated heard xs seen =
-    same_dates (date_of heard) (date_of (heard ++ heard_chars xs)) (λ place. sym (date_chars [] heard xs place)) seen
+-- later sightings have the text that they have after all that was told
+part_alike : (start a b : Telling) (heard : List Heard) (w w1 : Stream) (t : Told start a heard w w1) (given : List Seen)
+    → GoesOn a.teller b.teller (map (moved_seen a.first) given)
+    → AreAlike start.teller.style (recalled b.teller.last)
+    (t.told ++ map (moved_seen (total t.earlier)) (t.seen ++ map (moved_seen t.used) given))
+part_alike start a b heard w w1 t given goes =
+    alike_then start.teller.style t.told (recalled a.teller.last) (recalled b.teller.last) (total t.earlier) t.used t.seen given t.alike
+    (rw (t.style, t.first) at goes.alike)
 
-silence_dated : (heard : List Heard) (seen : List Seen)
-    → explanation (date_of heard) seen ≡ explanation (date_of (heard ++ Silence ∷ [])) seen
-silence_dated heard seen =
-    same_dates (date_of heard) (date_of (heard ++ Silence ∷ [])) (λ place. sym (date_silence [] heard place)) seen
+-- what is heard next changes no date that matters
+pub chars_dated : (style : Style) (heard : List Heard) (xs : List Character) (seen : List Seen)
+    → text_in style (date_of heard) seen ≡ text_in style (date_of (heard ++ heard_chars xs)) seen
+chars_dated style heard xs seen =
+    same_dates style (date_of heard) (date_of (heard ++ heard_chars xs)) (λ place. sym (date_chars [] heard xs place)) seen
+
+silence_dated : (style : Style) (heard : List Heard) (seen : List Seen)
+    → text_in style (date_of heard) seen ≡ text_in style (date_of (heard ++ Silence ∷ [])) seen
+silence_dated style heard seen =
+    same_dates style (date_of heard) (date_of (heard ++ Silence ∷ [])) (λ place. sym (date_silence [] heard place)) seen
 
 -- what is held is the rest of the last stretch
 part_held : (start a : Telling) (heard : List Heard) (w w1 : Stream) (t : Told start a heard w w1) (xs : List Character) (used : ℕ)
@@ -198,11 +161,13 @@ told_chars start a b heard xs w w1 w2 t k = record {
   held = k.held ∙ part_held start a heard w w1 t xs k.used;
   dates = λ place from.
       k.dates place from ∙ (t.dates place (omega (arith, k.first, from)) ∙ sym (date_chars [] heard xs place));
-  adds = rw (chars_dated heard xs _) at (part_adds start a b heard w w1 w2 t k.seen k.adds);
+  style = k.goes_on.style ∙ t.style;
+  alike = part_alike start a b heard w w1 t k.seen k.goes_on;
+  adds = rw (chars_dated start.teller.style heard xs _) at (part_adds start a b heard w w1 w2 t k.seen k.adds);
 }
 
 -- the sightings of an ended last stretch come after those of the earlier stretches
-ended_seen : (start a : Telling) (heard : List Heard) (w w1 : Stream) (t : Told start a heard w w1) (chars : List Character)
+pub ended_seen : (start a : Telling) (heard : List Heard) (w w1 : Stream) (t : Told start a heard w w1) (chars : List Character)
     (seen : List Seen) → AreSightings chars 0 seen
     → AreSightingsFrom 0 (t.earlier ++ chars ∷ []) (t.told ++ map (moved_seen (total t.earlier)) seen)
 ended_seen start a heard w w1 t chars seen are =
@@ -237,11 +202,13 @@ told_silence start a b heard w w1 w2 t k none =
       held = rw none refl;
       dates = λ place from.
           k.dates place from ∙ (t.dates place (omega (arith, k.first, from)) ∙ sym (date_silence [] heard place));
-      adds = rw (append-nil _) (rw (silence_dated heard _) at (part_adds start a b heard w w1 w2 t k.seen k.adds));
+      style = k.goes_on.style ∙ t.style;
+      alike = rw (append-nil _) (part_alike start a b heard w w1 t k.seen k.goes_on);
+      adds = rw (append-nil _) (rw (silence_dated start.teller.style heard _) at (part_adds start a b heard w w1 w2 t k.seen k.adds));
     }
 
 -- what was told comes first, whatever is heard next
-told_first : (start a : Telling) (heard : List Heard) (w w1 : Stream) (t : Told start a heard w w1)
+pub told_first : (start a : Telling) (heard : List Heard) (w w1 : Stream) (t : Told start a heard w w1)
     → ComeFirst heard (t.told ++ map (moved_seen (total t.earlier)) t.seen)
 told_first start a heard w w1 t = λ more all are.
     let (s, ss, is) = one_stretch more in
@@ -295,7 +262,7 @@ told_date : (start a b : Telling) (heard : List Heard) (word : List ℕ) (w w1 :
 told_date start a b heard word w w1 t long h =
     let seen = t.told ++ map (moved_seen (total t.earlier)) t.seen in
     let within = first_within heard seen (told_first start a heard w w1 t) in
-    let same = same_within (date_of heard) (date_of (heard ++ Date word ∷ [])) (count heard)
+    let same = same_within start.teller.style (date_of heard) (date_of (heard ++ Date word ∷ [])) (count heard)
     (λ place below. sym (date_before [] heard (Date word ∷ []) place below)) seen within in
     record {
       earlier = t.earlier;
@@ -310,6 +277,8 @@ told_date start a b heard word w w1 t long h =
       first = h.first ∙ t.first;
       held = rw h.held t.held;
       dates = date_dated start a b heard word w w1 t long h;
+      style = ap (λ teller. teller.style) h.teller ∙ t.style;
+      alike = rw h.teller t.alike;
       adds = rw h.kept (rw same at t.adds);
     }
 
@@ -334,108 +303,3 @@ tell_all start b _ _ _ new (part.chars now _ heard xs w u v k one) =
     told_chars start now b heard xs w u v (tell_all start now heard w u new k) one
 tell_all start b _ _ _ new (part.mark now _ heard m w u v k one) =
     told_mark start now b heard m w u v (tell_all start now heard w u new k) (held_within start now heard w u new k) one
-
--- no sighting after those told is decided
-told_no_more : (start a : Telling) (heard : List Heard) (w w1 : Stream) (t : Told start a heard w w1) → IsWaiting a → (next : Seen)
-    → ComeFirst heard ((t.told ++ map (moved_seen (total t.earlier)) t.seen) ++ next ∷ []) → ⊥
-told_no_more start a heard w w1 t waiting next claim =
-    let first = total t.earlier in
-    waiting.undecided (back (first + t.used) next) (λ more all are.
-    let whole = t.chars ++ more in
-    let rest : drop t.used whole ≡ drop t.used t.chars ++ more = drop-append-le t.used t.chars more t.within in
-    let stands = rest_is_seen t.used whole all (rw rest (rw t.held at are)) in
-    let own = t.sees more (map (moved_seen t.used) all) (λ never. absurd cc) stands in
-    let last : stretches (heard_chars more) ≡ more ∷ [] =
-    rw (append-nil (heard_chars more), append-nil more) at (stretches_chars more []) in
-    let parts : stretches (heard ++ heard_chars more) ≡ t.earlier ++ whole ∷ [] =
-    t.splits (heard_chars more) ∙ ap (λ x. t.earlier ++ after_chars t.chars x) last in
-    let seen = t.seen ++ map (moved_seen t.used) all in
-    let list = ended_seen start a heard w w1 t whole seen own in
-    let (later, is) = claim (heard_chars more) (t.told ++ map (moved_seen first) seen) (rw parts list) in
-    let begun = map (moved_seen first) t.seen in
-    let after = map (moved_seen first) (map (moved_seen t.used) all) in
-    let split : t.told ++ (begun ++ after) ≡ t.told ++ (begun ++ next ∷ later) =
-    ap (λ x. t.told ++ x) (sym (map-append _ t.seen (map (moved_seen t.used) all)))
-    ∙ (is ∙ (append_assoc (t.told ++ begun) (next ∷ []) later ∙ append_assoc t.told begun (next ∷ later))) in
-    let left : after ≡ next ∷ later =
-    cancel begun after (next ∷ later) (cancel t.told (begun ++ after) (begun ++ next ∷ later) split) in
-    first_moved (first + t.used) all next later (sym (moved_twice first t.used all) ∙ left))
-
--- what was told is the decided explanation, and it was written
-pub told_is_decided : (start a : Telling) (heard : List Heard) (w w1 : Stream) → IsNew start → (t : Told start a heard w w1)
-    → IsWaiting a → a.kept ≡ []
-    → IsDecidedExplanation heard (explanation (date_of heard) (t.told ++ map (moved_seen (total t.earlier)) t.seen))
-    × WritesAll w w1 (explanation (date_of heard) (t.told ++ map (moved_seen (total t.earlier)) t.seen))
-told_is_decided start a heard w w1 new t waiting quiet =
-    let seen = t.told ++ map (moved_seen (total t.earlier)) t.seen in
-    let all : t.adds.written ≡ explanation (date_of heard) seen =
-    sym (append-nil t.adds.written) ∙ rw (quiet, new.quiet) at t.adds.whole in (
-      record {
-        seen = seen;
-        first = told_first start a heard w w1 t;
-        no_more = told_no_more start a heard w w1 t waiting;
-        text_is = refl;
-      },
-      rw all at t.adds.wrote,
-    )
-
--- the explanation of what was heard, with these sightings of its last stretch
-pub whole_text : (start a : Telling) (heard : List Heard) (w w1 : Stream) (t : Told start a heard w w1) (xs : List Character)
-    (seen : List Seen) → AreSightings (t.chars ++ xs) 0 seen
-    → IsExplanationOf (heard ++ heard_chars xs) (explanation (date_of heard) (t.told ++ map (moved_seen (total t.earlier)) seen))
-whole_text start a heard w w1 t xs seen are =
-    let last : stretches (heard_chars xs) ≡ xs ∷ [] = rw (append-nil (heard_chars xs), append-nil xs) at (stretches_chars xs []) in
-    let parts : stretches (heard ++ heard_chars xs) ≡ t.earlier ++ (t.chars ++ xs) ∷ [] =
-    t.splits (heard_chars xs) ∙ ap (λ x. t.earlier ++ after_chars t.chars x) last in
-    record {
-      seen = t.told ++ map (moved_seen (total t.earlier)) seen;
-      are_sightings = rw parts (ended_seen start a heard w w1 t (t.chars ++ xs) seen are);
-      text_is = chars_dated heard xs (t.told ++ map (moved_seen (total t.earlier)) seen);
-    }
-
--- a write failed in what is said of more characters
-pub fails_in_text : (start a : Telling) (heard : List Heard) (w w1 w2 : Stream) → IsNew start → (t : Told start a heard w w1)
-    → (xs : List Character) (ended : Bool) → FailsToHear a xs ended w1 w2
-    → (text : List ℕ) × IsExplanationOf (heard ++ heard_chars xs) text × FailsToWrite w w2 text
-fails_in_text start a heard w w1 w2 new t xs ended k =
-    let sees = part_sees start a heard w w1 t xs ended k.seen k.used k.sees in
-    let seen = t.seen ++ map (moved_seen t.used) k.seen in
-    let (later, stands) = some_list ((t.chars ++ xs) ++ []) (t.used + k.used) in
-    let are = at_end (t.chars ++ xs) (seen ++ later) (sees [] later (λ over. refl) stands) in
-    let first = total t.earlier in
-    let date = date_of heard in
-    let fails = rw (part_dated start a heard w w1 t k.seen) at k.fails in
-    let both = fails_then w w1 w2 start.kept a.kept _ (text_from date (first + t.used) k.seen) t.adds fails in
-    let begun : FailsToWrite w w2 (explanation date (t.told ++ map (moved_seen first) seen)) =
-    rw (new.quiet, text_more date t.told t.seen k.seen first t.used) at both in
-    let more : explanation date (t.told ++ map (moved_seen first) (seen ++ later))
-    ≡ explanation date (t.told ++ map (moved_seen first) seen) ++ text_from date first later =
-    ap (λ x. explanation date (t.told ++ x)) (map-append _ seen later)
-    ∙ (ap (explanation date) (sym (append_assoc t.told (map (moved_seen first) seen) (map (moved_seen first) later)))
-    ∙ flat_map-append (dated_text date) (t.told ++ map (moved_seen first) seen) (map (moved_seen first) later)) in (
-      explanation date (t.told ++ map (moved_seen first) (seen ++ later)),
-      whole_text start a heard w w1 t xs (seen ++ later) are,
-      rw more
-          (FailsToWrite-longer w w2 (explanation date (t.told ++ map (moved_seen first) seen)) (text_from date first later) begun),
-    )
-
--- once the rest is told, the explanation of all that was heard is written
-pub rest_text : (start a : Telling) (heard : List Heard) (w w1 w2 : Stream) → IsNew start → Told start a heard w w1 → IsWaiting a
-    → a.kept ≡ [] → TellsRest a w1 w2 → (text : List ℕ) × IsExplanationOf heard text × WritesAll w w2 text
-rest_text start a heard w w1 w2 new t waiting quiet k =
-    let same : faultless a.held ++ [] ≡ faultless a.held = append-nil (faultless a.held) in
-    let sees = part_sees start a heard w w1 t [] true k.seen (length a.held) (rw same k.sees) in
-    let seen = t.seen ++ map (moved_seen t.used) k.seen in
-    let first = total t.earlier in
-    let long : length a.held ≡ length (drop t.used t.chars) = sym (long_is a.held) ∙ ap length t.held in
-    let end : t.used + length a.held ≡ length (t.chars ++ []) =
-    omega (arith, long, t.within, length-drop t.used t.chars, length-append t.chars []) in
-    let are = seen_to_the_end (t.chars ++ []) true seen (rw end at sees) in
-    let decided = told_is_decided start a heard w w1 new t waiting quiet in
-    let date = date_of heard in
-    let wrote = WritesAll-on w w1 w2 _ (text_from (date_from a) a.first k.seen) decided.1 k.wrote in
-    let placed = rw (part_dated start a heard w w1 t k.seen) at wrote in (
-      explanation date (t.told ++ map (moved_seen first) seen),
-      rw (append-nil heard) at (whole_text start a heard w w1 t [] seen are),
-      rw (text_more date t.told t.seen k.seen first t.used) at placed,
-    )

@@ -59,7 +59,7 @@ selected : (test : ℕ → Bool) (f g : ℕ → ℕ) (bytes : List ℕ)
 selected test f g [] = refl
 selected test f g (x ∷ xs) = ap (λ r. cond (test x) (f x) (g x) ∷ r) (selected test f g xs)
 
--- The same of lanes that are known to be computed so.
+-- If three lists of lanes are computed from the same bytes, so are the lanes that the first selects from the others.
 pub selected_is : (f g h : ℕ → ℕ) (bytes mask xs ys : List ℕ) → mask ≡ map f bytes → xs ≡ map g bytes → ys ≡ map h bytes
     → sel_l (map (top 7) mask) xs ys ≡ map (λ x. cond (top 7 (f x)) (g x) (h x)) bytes
 selected_is f g h bytes mask xs ys is left right =

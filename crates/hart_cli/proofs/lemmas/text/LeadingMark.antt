@@ -1,32 +1,32 @@
--- The date that begins a text with a `@`, by how many printable bytes follow.
+-- The date that begins a text with a `@`, by how many visible bytes follow.
 use Rattle.std.proofs.Common.{◌≡◌, ◌≤◌, ◌<◌, ◌+◌, ◌∙◌, ◌⊎◌, ℕ, zero, suc, All, List, [], ◌∷◌, ◌++◌, length, drop, take, get_or, refl, sym}
 use Rattle.std.proofs.Common.{ap, arith, inl, inr, length-append, length-drop, take-append-drop}
 use Rattle.std.proofs.lemmas.List.{drop-drop, drop_more, get_or-append-add, length-take-le}
 use Rattle.std.proofs.lemmas.List.Elements.{All-head, All-tail}
 use Rattle.hart_cli.specs.declared.text.marks.Mark.TheVariants as given
-use Rattle.hart_cli.specs.text.Heard.{BeginsWithSeparator, Date, HeardChar, IsDateWord, IsPrintable, NoMarkBegins}
+use Rattle.hart_cli.specs.text.Heard.{BeginsWithSeparator, Date, HeardChar, IsDateWord, IsVisible, NoMarkBegins}
 use Rattle.hart_cli.specs.text.Heard.{Silence}
 use Rattle.hart_cli.specs.text.Items.{IsSeparator}
 use Rattle.hart_cli.specs.text.Marks.{HasMark}
 use Rattle.hart_cli.proofs.lemmas.text.Marks.{not_both, not_date}
 
--- the first printable bytes of a text are those of the word that begins it before a separator
-word_long : (text word rest : List ℕ) (len : ℕ) → text ≡ word ++ rest → All IsPrintable word → BeginsWithSeparator rest
-    → All IsPrintable (take len text) → (len < length text → IsPrintable (get_or text len 0) → ⊥) → len ≤ length text
+-- the first visible bytes of a text are those of the word that begins it before a separator
+word_long : (text word rest : List ℕ) (len : ℕ) → text ≡ word ++ rest → All IsVisible word → BeginsWithSeparator rest
+    → All IsVisible (take len text) → (len < length text → IsVisible (get_or text len 0) → ⊥) → len ≤ length text
     → len ≡ length word
 word_long text [] rest zero is valid next all stops within = refl
 word_long text [] rest (suc n) is valid next all stops within =
     let same : text ≡ next.byte ∷ next.after = is ∙ next.text_is in
-    let one = All-head IsPrintable next.byte (take n next.after) (rw same at all) in
+    let one = All-head IsVisible next.byte (take n next.after) (rw same at all) in
     absurd (not_both next.byte one next.separates)
 word_long [] (b ∷ word) rest len is valid next all stops within = absurd cc
 word_long (x ∷ text) (b ∷ word) rest zero is valid next all stops within =
     let same : x ≡ b = cc in
-    absurd (stops (omega arith) (rw same (All-head IsPrintable b word valid)))
+    absurd (stops (omega arith) (rw same (All-head IsVisible b word valid)))
 word_long (x ∷ text) (b ∷ word) rest (suc n) is valid next all stops within =
     let later : text ≡ word ++ rest = ap (drop 1) is in
-    let one = word_long text word rest n later (All-tail IsPrintable b word valid) next (All-tail IsPrintable x (take n text) all)
-    (λ below printable. stops (omega (arith, below)) printable) (omega (arith, within)) in
+    let one = word_long text word rest n later (All-tail IsVisible b word valid) next (All-tail IsVisible x (take n text) all)
+    (λ below visible. stops (omega (arith, below)) visible) (omega (arith, within)) in
     omega (arith, one)
 
 -- the separator after a word is the byte at its end
@@ -40,7 +40,7 @@ separates_at text word rest is next =
       ap (λ xs. get_or xs (length word) 0) is ∙ (there ∙ head),
     )
 
--- what is wrong with the printable bytes after a `@`
+-- what is wrong with the visible bytes after a `@`
 abbrev pub IsWrong : List ℕ → ℕ → Type 0
 IsWrong after len = (len ≡ 0) ⊎ (32 < len) ⊎ (len < length after → IsSeparator (get_or after len 0) → ⊥)
 
@@ -53,31 +53,31 @@ wrong_word after word rest len is valid next long (inr (inr other)) =
     rw long at other below (rw there next.separates)
 
 no_date : (text word rest : List ℕ) (len : ℕ) → text ≡ 64 ∷ word ++ rest → IsDateWord word → BeginsWithSeparator rest
-    → All IsPrintable (take len (drop 1 text)) → (len < length (drop 1 text) → IsPrintable (get_or (drop 1 text) len 0) → ⊥)
+    → All IsVisible (take len (drop 1 text)) → (len < length (drop 1 text) → IsVisible (get_or (drop 1 text) len 0) → ⊥)
     → len ≤ length (drop 1 text) → IsWrong (drop 1 text) len → ⊥
 no_date text word rest len is valid next all stops within wrong =
     let after : drop 1 text ≡ word ++ rest = ap (drop 1) is in
     wrong_word (drop 1 text) word rest len after valid next
-    (word_long (drop 1 text) word rest len after valid.printable next all stops within) wrong
+    (word_long (drop 1 text) word rest len after valid.visible next all stops within) wrong
 
 -- no mark begins a text with a `@` and the wrong bytes after it
-pub no_mark : (text : List ℕ) (len : ℕ) → text ≡ 64 ∷ drop 1 text → All IsPrintable (take len (drop 1 text))
-    → (len < length (drop 1 text) → IsPrintable (get_or (drop 1 text) len 0) → ⊥) → len ≤ length (drop 1 text)
+pub no_mark : (text : List ℕ) (len : ℕ) → text ≡ 64 ∷ drop 1 text → All IsVisible (take len (drop 1 text))
+    → (len < length (drop 1 text) → IsVisible (get_or (drop 1 text) len 0) → ⊥) → len ≤ length (drop 1 text)
     → IsWrong (drop 1 text) len → NoMarkBegins text
 no_mark text len is all stops within wrong (HeardChar character) rest never = never
 no_mark text len is all stops within wrong Silence rest begins = not_date text rest (drop 1 text) begins is
 no_mark text len is all stops within wrong (Date word) rest (valid, also, next) =
     no_date text word rest len also valid next all stops within wrong
 
--- a date begins a text with a `@`, 1 to 32 printable bytes and a separator
-pub has_date : (text : List ℕ) (len : ℕ) → text ≡ 64 ∷ drop 1 text → All IsPrintable (take len (drop 1 text)) → 0 < len → len ≤ 32
+-- a date begins a text with a `@`, 1 to 32 visible bytes and a separator
+pub has_date : (text : List ℕ) (len : ℕ) → text ≡ 64 ∷ drop 1 text → All IsVisible (take len (drop 1 text)) → 0 < len → len ≤ 32
     → 1 + len < length text → IsSeparator (get_or text (1 + len) 0) → HasMark text (given.Date len)
 has_date text len is all some few within separates =
     let after = drop 1 text in
     let whole : take len after ++ drop len after ≡ after = take-append-drop len after in
     let rest : drop len after ≡ drop (1 + len) text = drop-drop len 1 text in
     let long : length (take len after) ≡ len = length-take-le len after (omega (arith, within, length-drop 1 text)) in (
-      record { some = omega (arith, long, some); few = omega (arith, long, few); printable = all },
+      record { some = omega (arith, long, some); few = omega (arith, long, few); visible = all },
       is ∙ ap (λ xs. 64 ∷ xs) (sym whole ∙ ap (λ xs. take len after ++ xs) rest),
       record {
         byte = get_or text (1 + len) 0;

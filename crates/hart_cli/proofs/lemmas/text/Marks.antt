@@ -3,7 +3,7 @@ use Rattle.std.proofs.Common.{◌≡◌, ◌≤◌, ◌+◌, ◌∙◌, ◌⊎�
 use Rattle.std.proofs.Common.{IsTrue, ap, arith, inl, inr, append-nil, append_assoc, length-append}
 use Rattle.std.proofs.lemmas.Grind.{common_steps}
 use Rattle.std.proofs.lemmas.List.Elements.{All-cons, All-head, All-nil, All-tail}
-use Rattle.hart_cli.specs.text.Heard.{BeginsWithMark, BeginsWithSeparator, Date, Heard, HeardChar, IsDateWord, IsPrintable, NothingBegins}
+use Rattle.hart_cli.specs.text.Heard.{BeginsWithMark, BeginsWithSeparator, Date, Heard, HeardChar, IsDateWord, IsVisible, NothingBegins}
 use Rattle.hart_cli.specs.text.Heard.{Silence}
 use Rattle.hart_cli.specs.text.Items.{IsSeparator, MayBegin, NoPieceBegins, Opens}
 use Rattle.hart_cli.specs.text.Marks.{MayBeginDate}
@@ -40,26 +40,26 @@ mark_more text (Date word) rest more (valid, is, next) = (
   separator_more rest more next,
 )
 
--- a printable byte is no separator
-pub not_both : (byte : ℕ) → IsPrintable byte → IsSeparator byte → ⊥
-not_both byte printable separates = grind (arith, common_steps)
+-- a visible byte is no separator
+pub not_both : (byte : ℕ) → IsVisible byte → IsSeparator byte → ⊥
+not_both byte visible separates = grind (arith, common_steps)
 
 -- a text begins with one word before a separator
-one_word : (word other rest last : List ℕ) → All IsPrintable word → All IsPrintable other → BeginsWithSeparator rest
+one_word : (word other rest last : List ℕ) → All IsVisible word → All IsVisible other → BeginsWithSeparator rest
     → BeginsWithSeparator last → word ++ rest ≡ other ++ last → (word ≡ other) × (rest ≡ last)
 one_word [] [] rest last p q s t is = (refl, is)
 one_word [] (b ∷ other) rest last p q s t is =
     let text = s.text_is in
     let same : b ≡ s.byte = cc in
-    absurd (not_both b (All-head IsPrintable b other q) (rw same s.separates))
+    absurd (not_both b (All-head IsVisible b other q) (rw same s.separates))
 one_word (a ∷ word) [] rest last p q s t is =
     let text = t.text_is in
     let same : a ≡ t.byte = cc in
-    absurd (not_both a (All-head IsPrintable a word p) (rw same t.separates))
+    absurd (not_both a (All-head IsVisible a word p) (rw same t.separates))
 one_word (a ∷ word) (b ∷ other) rest last p q s t is =
     let first : a ≡ b = cc in
     let later : word ++ rest ≡ other ++ last = cc in
-    let same = one_word word other rest last (All-tail IsPrintable a word p) (All-tail IsPrintable b other q) s t later in
+    let same = one_word word other rest last (All-tail IsVisible a word p) (All-tail IsVisible b other q) s t later in
     (rw (first, same.0) refl, same.1)
 
 -- a text that begins with a `/` does not begin with a `@`
@@ -78,7 +78,7 @@ one_date text word (HeardChar character) r s begins never = absurd never
 one_date text word Silence r s (valid, is, next) also = absurd (not_date text s (word ++ r) also is)
 one_date text word (Date other) r s (valid, is, next) (fine, also, later) =
     let same : word ++ r ≡ other ++ s = ap (drop 1) (sym is ∙ also) in
-    let one = one_word word other r s valid.printable fine.printable next later same in (ap Date one.0, one.1)
+    let one = one_word word other r s valid.visible fine.visible next later same in (ap Date one.0, one.1)
 
 -- a text begins with one mark
 pub one_mark : (text : List ℕ) (m n : Heard) (r s : List ℕ) → BeginsWithMark text m r → BeginsWithMark text n s → (m ≡ n) × (r ≡ s)
@@ -105,30 +105,30 @@ split (x ∷ a) b (y ∷ c) d is =
       | inr (z, longer) ↦ inr (z, cc)
     ]
 
--- the first part of printable bytes is printable
-first_printable : (xs ys : List ℕ) → All IsPrintable (xs ++ ys) → All IsPrintable xs
-first_printable [] ys all = All-nil IsPrintable
-first_printable (x ∷ xs) ys all =
-    All-cons IsPrintable x xs (All-head IsPrintable x (xs ++ ys) all) (first_printable xs ys (All-tail IsPrintable x (xs ++ ys) all))
+-- the first part of visible bytes is visible
+first_visible : (xs ys : List ℕ) → All IsVisible (xs ++ ys) → All IsVisible xs
+first_visible [] ys all = All-nil IsVisible
+first_visible (x ∷ xs) ys all =
+    All-cons IsVisible x xs (All-head IsVisible x (xs ++ ys) all) (first_visible xs ys (All-tail IsVisible x (xs ++ ys) all))
 
 -- a space separates
 space : BeginsWithSeparator (32 ∷ [])
 space = record { byte = 32; after = []; separates = inl refl; text_is = refl }
 
 -- the beginning of a date is open: more bytes complete it
-date_opens : (text word : List ℕ) → text ≡ 64 ∷ word → length word ≤ 32 → All IsPrintable word → Opens NothingBegins text
-date_opens text [] is few printable =
+date_opens : (text word : List ℕ) → text ≡ 64 ∷ word → length word ≤ 32 → All IsVisible word → Opens NothingBegins text
+date_opens text [] is few visible =
     let one : IsDateWord (48 ∷ []) = record {
       some = omega arith;
       few = omega arith;
-      printable = All-cons IsPrintable 48 [] (omega arith, omega arith) (All-nil IsPrintable);
+      visible = All-cons IsVisible 48 [] (omega arith, omega arith) (All-nil IsVisible);
     } in
     record {
       more = 48 ∷ 32 ∷ [];
       goes_on = λ stops. stops.no_mark (Date (48 ∷ [])) (32 ∷ []) (one, ap (λ xs. xs ++ 48 ∷ 32 ∷ []) is, space);
     }
-date_opens text (byte ∷ word) is few printable =
-    let valid : IsDateWord (byte ∷ word) = record { some = omega arith; few = few; printable = printable } in
+date_opens text (byte ∷ word) is few visible =
+    let valid : IsDateWord (byte ∷ word) = record { some = omega arith; few = few; visible = visible } in
     record {
       more = 32 ∷ [];
       goes_on = λ stops. stops.no_mark (Date (byte ∷ word)) (32 ∷ []) (valid, ap (λ xs. xs ++ 32 ∷ []) is, space);
@@ -137,7 +137,7 @@ date_opens text (byte ∷ word) is few printable =
 -- what may begin a piece or a date is open
 pub opens : (text : List ℕ) → MayBegin text ⊎ MayBeginDate text → Opens NothingBegins text
 opens text (inl may) = record { more = may.more; goes_on = λ stops. stops.no_piece may.piece may.tail may.begins }
-opens text (inr begins) = date_opens text begins.word begins.text_is begins.few begins.printable
+opens text (inr begins) = date_opens text begins.word begins.text_is begins.few begins.visible
 
 -- no date is completed by more bytes if no date begins, or may begin
 never_date : (text more word rest : List ℕ) → NothingBegins (64 ∷ text) → (MayBeginDate (64 ∷ text) → ⊥) → IsDateWord word
@@ -145,7 +145,7 @@ never_date : (text more word rest : List ℕ) → NothingBegins (64 ∷ text) �
 never_date text more word rest stops never valid is next = elim (split text more word rest is) [
   | inl ([], same, after) ↦
       let whole : text ≡ word = same ∙ append-nil word in
-      never (record { word = text; text_is = refl; few = rw whole valid.few; printable = rw whole valid.printable })
+      never (record { word = text; text_is = refl; few = rw whole valid.few; visible = rw whole valid.visible })
   | inl (byte ∷ xs, same, after) ↦
       let begins = next.text_is in
       let own : byte ≡ next.byte = cc in
@@ -155,13 +155,13 @@ never_date text more word rest stops never valid is next = elim (split text more
         record { byte = byte; after = xs; separates = rw own next.separates; text_is = refl },
       )
   | inr (xs, same) ↦
-      let printable = first_printable text xs (rw same at valid.printable) in
+      let visible = first_visible text xs (rw same at valid.visible) in
       let long = ap length same in
       never (record {
         word = text;
         text_is = refl;
         few = omega (arith, long, length-append text xs, valid.few);
-        printable = printable;
+        visible = visible;
       })
 ]
 

@@ -7,22 +7,14 @@ ghost use Rattle.hart_cli.specs.input.Decoding.{most_ahead};
 ghost use Rattle.hart_cli.specs.text.Items.{NoPieceBegins};
 
 use crate::calls::dump::text::push_frame_line;
-use crate::text::chunk::{CHUNK_LEN, Chunk, read_chunk};
+use crate::held;
+use crate::held::Held;
+use crate::text::chunk::{Chunk, read_chunk};
 use crate::text::items::next_piece;
 use crate::text::pairs::Pairs;
 use hart_frame::{Char, next_in_bytes};
 use hart_line::Digits;
 use hart_values::ByteList;
-
-/// The greatest number of characters that are kept while they decide nothing: two preamble bytes, and the longest body without its
-/// check byte.
-const MOST_OPEN: usize = 268;
-
-/// Characters that decide nothing yet.
-type Open = ByteList<MOST_OPEN>;
-
-/// The greatest number of characters that are searched together: those that decide nothing yet, and a chunk of what is read.
-const HELD_LEN: usize = MOST_OPEN + CHUNK_LEN;
 
 /// The greatest number of bytes of lines that are kept: 12 for each character that a frame takes up. At most 268 characters are
 /// held. The bytes read ahead are at most 16,389, and have at most one character for every two bytes.
@@ -35,7 +27,7 @@ type TextLines = ByteList<TEXT_LINES_LEN>;
 #[derive(Drop)]
 pub struct FrameLines {
     /// The characters that may still begin a frame.
-    pub held: ByteList<HELD_LEN>,
+    pub held: Held,
     /// The place of the first held character in all that was heard.
     pub first: u64,
     /// The lines that are not yet written.
@@ -52,7 +44,7 @@ impl FrameLines {
         ensures lines { result.lines ≡ [] }
     {
         FrameLines {
-            held: ByteList::new(),
+            held: Held::new(),
             first: 0,
             lines: TextLines::new(),
             pairs: Pairs::new(),
@@ -176,22 +168,7 @@ impl FrameLines {
         ensures { self.new ≡ record self.old { held = drop used self.old.held; first = self.old.first + used } }
     {
         self.first += used as u64;
-        if used == self.held.len() {
-            self.held.clear();
-        } else {
-            self.hold_from(used);
-        }
-    }
-
-    /// Holds only the characters from a place on. This is a separate function, since no characters are left in most cases.
-    fn hold_from(&mut self, place: usize)
-        requires within { place ≤ length self.old.held }
-        requires few { length (drop place self.old.held) ≤ 268 }
-        ensures { self.new ≡ record self.old { held = drop place self.old.held } }
-    {
-        let open = Open::from_slice(&self.held.as_slice()[place..]).unwrap();
-        self.held.clear();
-        self.held.extend_from_slice(open.as_slice());
+        held::let_go(&mut self.held, used);
     }
 }
 

@@ -16,7 +16,7 @@ pub fn push_code(text: &mut Kept, command: u8, code: u8)
 }
 
 /// Returns the name of a response code of a command, if it has one.
-fn code_name(command: u8, code: u8) -> Option<&'static str>
+pub fn code_name(command: u8, code: u8) -> Option<&'static str>
     ensures name { option_map (λ name. name.now) result ≡ code_name command code }
     ensures short { IfSome result (λ name. length name.now ≤ 64) }
 {

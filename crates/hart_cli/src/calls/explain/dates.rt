@@ -3,13 +3,13 @@ ghost use Rattle.std.specs.Prelude.{◌≡◌, ◌+◌, ◌≤◌, ◌++◌, ◌
 ghost use Rattle.hart_cli.specs.explain.Dates.{date_at, kept_word};
 ghost use Rattle.hart_cli.specs.explain.Explanation.{date_words};
 
-use crate::calls::explain::telling::MOST_OPEN;
+use crate::held::MOST_OPEN;
 use crate::kept::Kept;
 use crate::text::marks::DATE_LEN;
 use arrayvec::ArrayVec;
 
 /// A date: the length of its word, and then the word. The length is 0 if there is no date.
-type Date = [u8; DATE_LEN + 1];
+pub type Date = [u8; DATE_LEN + 1];
 
 /// The dates of the held characters, and of those that come next.
 #[derive(Drop)]
@@ -51,9 +51,9 @@ impl Dates {
         ensures few { length text.new ≤ length text.old + 33 }
     {
         let date = self.date_at(place);
-        let len = usize::from(date[0]).min(DATE_LEN);
-        if len > 0 {
-            text.extend_from_slice(&date[1..=len]);
+        let word = word_of(&date);
+        if !word.is_empty() {
+            text.extend_from_slice(word);
             text.push(b' ');
         }
     }
@@ -78,7 +78,7 @@ impl Dates {
     }
 
     /// Returns the date of the held character at a place.
-    fn date_at(&self, place: usize) -> Date
+    pub fn date_at(&self, place: usize) -> Date
         ensures { result ≡ get_or self.now.held.items place self.now.last }
     {
         match self.held.as_slice().get(place) {
@@ -86,4 +86,13 @@ impl Dates {
             None => self.last,
         }
     }
+}
+
+/// Returns the word of a date, or no bytes if there is no date.
+pub fn word_of(date: &Date) -> &[u8]
+    ensures word { result.now ≡ kept_word date.now }
+    ensures few { length result.now ≤ 32 }
+{
+    let len = usize::from(date[0]).min(DATE_LEN);
+    &date[1..=len]
 }

@@ -6,7 +6,7 @@ ghost use Rattle.hart_frame.specs.heard.Character.{Character, faultless};
 ghost use Rattle.hart_frame.specs.heard.Frames.{AreFrames};
 ghost use Rattle.hart_frame.specs.heard.InTheWay.{FollowsOnePreamble, HasBodyAt, HasFaultsAt, IsInTheWay, bytes_from};
 ghost use Rattle.hart_frame.specs.heard.Place.{HasFrameUpTo};
-ghost use Rattle.hart_frame.specs.heard.Sighting.{Missed, header_at, miss_in_whole, missed, seen_miss, sightings, two_begin_in_body};
+ghost use Rattle.hart_frame.specs.heard.Sighting.{Missed, Seen, header_at, miss_in_whole, missed, seen_miss, sightings, two_begin_in_body};
 ghost use Rattle.hart_frame.specs.heard.Start.{IsStart};
 ghost use Rattle.hart_frame.specs.declared.heard.found.Found.{Found};
 ghost use Rattle.hart_frame.specs.declared.heard.miss.Miss.{Miss};
@@ -17,11 +17,13 @@ ghost use Rattle.hart_frame.specs.wire.Parity.{IsCheckByte};
 ghost use Rattle.hart_cli.specs.declared.fault.CliFault.{CliFault};
 ghost use Rattle.hart_cli.specs.dump.Dump.{IsDump};
 ghost use Rattle.hart_cli.specs.explain.Dumped.{AreOfOneHearing};
-ghost use Rattle.hart_cli.specs.explain.Explain.{IsExplanation, IsRawExplanation};
-ghost use Rattle.hart_cli.specs.explain.Explanation.{IsDecidedExplanation, IsExplanationOf, date_words, dated_text, explanation};
+ghost use Rattle.hart_cli.specs.explain.Explain.{IsExplanation, IsJson, IsRawExplanation, IsRawJson};
+ghost use Rattle.hart_cli.specs.explain.Explanation.{ComeFirst, IsDecidedExplanation, IsDecidedJson, IsExplanationOf, IsJsonOf, date_of};
+ghost use Rattle.hart_cli.specs.explain.Explanation.{date_words, dated_text, explanation, object_lines};
 ghost use Rattle.hart_cli.specs.explain.Gaps.{IsGap, IsOneLine, seen_place};
 ghost use Rattle.hart_cli.specs.explain.Message.{paragraph};
 ghost use Rattle.hart_cli.specs.explain.Misses.{miss_line, seems_line};
+ghost use Rattle.hart_cli.specs.explain.Told.{AreOfOneTelling};
 ghost use Rattle.hart_cli.specs.input.Input.{Ending, Left};
 ghost use Rattle.hart_cli.specs.input.Decoding.{heard_decoding, raw_decoding};
 ghost use Rattle.hart_cli.specs.input.LiveInput.{IsDecidedText};
@@ -43,6 +45,35 @@ pub fn explanations_grow()
     ensures raw { (input more : List ℕ) (ending : Ending) (fault : Option CliFault) (told whole : List ℕ)
         → IsDecidedText raw_decoding IsDecidedExplanation input told → IsRawExplanation (input ++ more) ending fault whole
         → (rest : List ℕ) × (whole ≡ told ++ rest) }
+{}
+
+/// JSON lines are never taken back: whatever is heard or read next, the lines that were decided so far are a prefix of all lines. What
+/// was heard determines the lines that are decided.
+pub fn json_lines_grow()
+    ensures one { (heard : List Heard) (xs ys : List ℕ) → IsDecidedJson heard xs → IsDecidedJson heard ys → xs ≡ ys }
+    ensures heard { (heard more : List Heard) (told whole : List ℕ) → IsDecidedJson heard told → IsJsonOf (heard ++ more) whole
+        → (rest : List ℕ) × (whole ≡ told ++ rest) }
+    ensures read { (input more : List ℕ) (ending : Ending) (fault : Option CliFault) (told whole : List ℕ)
+        → IsDecidedText heard_decoding IsDecidedJson input told → IsJson (input ++ more) ending fault whole
+        → (rest : List ℕ) × (whole ≡ told ++ rest) }
+    ensures raw { (input more : List ℕ) (ending : Ending) (fault : Option CliFault) (told whole : List ℕ)
+        → IsDecidedText raw_decoding IsDecidedJson input told → IsRawJson (input ++ more) ending fault whole
+        → (rest : List ℕ) × (whole ≡ told ++ rest) }
+{}
+
+/// `hart explain` and `hart explain --json` tell the same. For an input read equally far they return the same fault, if any, and they
+/// tell the same sightings in the same order, with the same dates: each has one text in the explanation, and one JSON line. What is
+/// decided at any moment are the same sightings, too.
+pub fn json_tells_what_explain_tells()
+    ensures items { (input : List ℕ) (ending : Ending) (f g : Option CliFault) (text lines : List ℕ)
+        → IsExplanation input ending f text → IsJson input ending g lines
+        → (f ≡ g) × AreOfOneTelling heard_decoding input ending g text lines }
+    ensures raw { (input : List ℕ) (ending : Ending) (f g : Option CliFault) (text lines : List ℕ)
+        → IsRawExplanation input ending f text → IsRawJson input ending g lines
+        → (f ≡ g) × AreOfOneTelling raw_decoding input ending g text lines }
+    ensures decided { (heard : List Heard) (text lines : List ℕ) → IsDecidedExplanation heard text → IsDecidedJson heard lines
+        → (seen : List Seen) × ComeFirst heard seen × (text ≡ explanation (date_of heard) seen)
+        × (lines ≡ object_lines (date_of heard) [] seen) }
 {}
 
 /// For an input without silences and dates, read equally far, `hart dump` and `hart explain` return the same fault, if any, and write about

@@ -11,9 +11,9 @@ use crate::text::words::push_text;
 use hart_values::{ByteList, CommFaults, DeviceStatus};
 
 /// A bit of a status byte, and its name.
-struct NamedBit {
-    value: u8,
-    name: &'static str,
+pub struct NamedBit {
+    pub value: u8,
+    pub name: &'static str,
 }
 
 /// Makes a named bit in one line.
@@ -27,7 +27,7 @@ macro_rules! bit {
 }
 
 /// The communication faults that have names.
-const COMM_FAULTS: &[NamedBit] = &[
+pub const COMM_FAULTS: &[NamedBit] = &[
     bit!(CommFaults::VERTICAL_PARITY, "vertical parity"),
     bit!(CommFaults::OVERRUN, "overrun"),
     bit!(CommFaults::FRAMING, "framing"),
@@ -36,7 +36,7 @@ const COMM_FAULTS: &[NamedBit] = &[
 ];
 
 /// The bits of the device status.
-const DEVICE_STATES: &[NamedBit] = &[
+pub const DEVICE_STATES: &[NamedBit] = &[
     bit!(DeviceStatus::DEVICE_MALFUNCTION, "device malfunction"),
     bit!(DeviceStatus::CONFIGURATION_CHANGED, "configuration changed"),
     bit!(DeviceStatus::COLD_START, "cold start"),

@@ -5,6 +5,7 @@ ghost use Rattle.hart_frame.specs.declared.scan.sighting.After.TheVariants.{End}
 ghost use Rattle.hart_frame.specs.heard.Character.{faultless};
 ghost use Rattle.hart_frame.specs.scan.Sighting.{AfterIsValid, heard_with, is_end};
 ghost use Rattle.hart_cli.specs.explain.Dates.{date_at, date_from};
+ghost use Rattle.hart_cli.specs.explain.LastMessages.{KeepsOwn};
 ghost use Rattle.hart_cli.specs.explain.Telling.{FailsToHear, FailsToTell, HearsMark, HearsOrFails};
 ghost use Rattle.hart_cli.specs.explain.Telling.{HearsStretchesOrFails, HearsTextOrFails};
 ghost use Rattle.hart_cli.specs.explain.Telling.{IsNew, IsNextSighting, IsWaiting, TellsDecided, TellsRest, chars_after};
@@ -14,54 +15,45 @@ ghost use Rattle.hart_cli.specs.text.Items.{NoPieceBegins};
 ghost use Rattle.hart_cli.specs.text.Marks.{HasMark, heard_mark, mark_length};
 
 use crate::calls::explain::dates::Dates;
-use crate::calls::explain::sightings::push_sighting;
-use crate::kept::{Kept, make_room};
+use crate::calls::explain::teller::{Style, Teller};
+use crate::held;
+use crate::held::Held;
+use crate::kept::Kept;
 use crate::output::write_all;
 use crate::stream::{Failed, Sink};
-use crate::text::chunk::{CHUNK_LEN, Chunk, read_chunk};
+use crate::text::chunk::{Chunk, read_chunk};
 use crate::text::items::next_piece;
 use crate::text::marks::{Mark, leading_mark};
-use crate::text::pairs::Pairs;
 use hart_frame::{After, Char, NextSighting, next_sighting};
 use hart_line::Digits;
-use hart_values::ByteList;
-
-/// The greatest number of characters that are kept while they decide nothing: two preamble bytes, and the longest body without its
-/// check byte.
-pub const MOST_OPEN: usize = 268;
-
-/// Characters that decide nothing yet.
-type Open = ByteList<MOST_OPEN>;
-
-/// The greatest number of characters that are looked at together: those that decide nothing yet, and a chunk of what is read.
-const HELD_LEN: usize = MOST_OPEN + CHUNK_LEN;
 
 /// Faultless characters that were heard but are not wholly told, and text that is not yet written.
 #[derive(Drop)]
 pub struct Telling {
     /// The characters that are not wholly told.
-    pub held: ByteList<HELD_LEN>,
+    pub held: Held,
     /// The place of the first held character in all that was heard.
     pub first: u64,
     /// The dates of the held characters, and of those that come next.
     pub dates: Dates,
     /// The text that is not yet written.
     pub kept: Kept,
-    /// The table of hex digits for the text.
-    pub pairs: Pairs,
+    /// How what is heard is told.
+    pub teller: Teller,
 }
 
 impl Telling {
     /// Returns the state in which nothing was heard and no text is kept.
-    pub fn new() -> Telling
-        ensures { IsNew result }
+    pub fn new(style: Style) -> Telling
+        ensures new { IsNew result }
+        ensures style { result.teller.style ≡ style }
     {
         Telling {
-            held: ByteList::new(),
+            held: Held::new(),
             first: 0,
             dates: Dates::new(),
             kept: Kept::new(),
-            pairs: Pairs::new(),
+            teller: Teller::new(style),
         }
     }
 
@@ -215,6 +207,7 @@ impl Telling {
     /// `Failed` at the first write that fails.
     fn hear_silence<W: Sink>(&mut self, writer: &mut W) -> Result<(), Failed>
         requires dated { length self.old.dates.held.items ≡ length self.old.held }
+        requires own { KeepsOwn self.old.first self.old.teller.last }
         requires places { self.old.first + length self.old.held < 2 ^ 64 - 1 }
         ensures hears { HearsOrFails self.old self.new [] true (W.stream writer.old) (W.stream writer.new) result }
         ensures waiting { OnOk result (IsWaiting self.new) }
@@ -267,6 +260,7 @@ impl Telling {
         requires valid { AfterIsValid after }
         requires places { self.old.first + length self.old.held < 2 ^ 64 - 1 }
         requires dated { length self.old.dates.held.items ≤ length self.old.held }
+        requires own { KeepsOwn self.old.first self.old.teller.last }
         ensures hears { HearsOrFails
             self.old self.new
             (chars_after after) (is_end after)
@@ -278,7 +272,7 @@ impl Telling {
         let used = tell_decided(
             writer,
             &mut self.kept,
-            &self.pairs,
+            &mut self.teller,
             &self.dates,
             self.first,
             held,
@@ -297,15 +291,14 @@ impl Telling {
         ensures held { self.new.held ≡ drop used self.old.held }
         ensures first { self.new.first ≡ self.old.first + used }
         ensures kept { self.new.kept ≡ self.old.kept }
+        ensures teller { self.new.teller ≡ self.old.teller }
         ensures dated { length self.new.dates.held.items ≡ length self.new.held }
         ensures dates { (place : ℕ) → date_at self.new.dates place ≡ date_at self.old.dates (used + place) }
     {
-        let held = self.held.as_slice();
-        let open = Open::from_slice(&held[used.min(held.len())..]).unwrap();
-        self.held.clear();
-        self.held.extend_from_slice(open.as_slice());
+        let count = self.held.len().saturating_sub(used);
+        held::let_go(&mut self.held, used);
         self.first += used as u64;
-        self.dates.let_go(used, self.held.len());
+        self.dates.let_go(used, count);
     }
 
     /// Tells the rest of what was heard, since nothing comes after it, and writes the text.
@@ -317,6 +310,7 @@ impl Telling {
         requires quiet { self.old.kept ≡ [] }
         requires places { self.old.first + length self.old.held < 2 ^ 64 - 1 }
         requires dated { length self.old.dates.held.items ≤ length self.old.held }
+        requires own { KeepsOwn self.old.first self.old.teller.last }
         ensures { MatchResult result
             (λ _. TellsRest self.old (W.stream writer.old) (W.stream writer.new))
             (λ _. FailsToHear self.old [] true (W.stream writer.old) (W.stream writer.new)) }
@@ -335,24 +329,26 @@ impl Telling {
 fn tell_decided<W: Sink>(
     writer: &mut W,
     kept: &mut Kept,
-    pairs: &Pairs,
+    teller: &mut Teller,
     dates: &Dates,
     first: u64,
     held: &[u8],
     after: &After,
 ) -> Result<usize, Failed>
     requires valid { AfterIsValid after.now }
+    requires own { KeepsOwn first teller.old.last }
     requires places { first + length held.now < 2 ^ 64 - 1 }
     ensures { MatchResult result
         (λ used. TellsDecided
         (λ place. date_at dates.now (place - first))
         first held.now after.now used
+        teller.old teller.new
         kept.old kept.new
         (W.stream writer.old) (W.stream writer.new))
         (λ _. FailsToTell
         (λ place. date_at dates.now (place - first))
         first (heard_with held.now after.now) (is_end after.now)
-        kept.old
+        teller.old kept.old
         (W.stream writer.old) (W.stream writer.new)) }
 {
     let mut used = 0;
@@ -362,8 +358,7 @@ fn tell_decided<W: Sink>(
         let Some(sighting) = next.sighting else {
             return Ok(used);
         };
-        make_room(writer, kept)?;
-        push_sighting(kept, pairs, dates, first, &sighting);
+        teller.tell(writer, kept, dates, first, &sighting)?;
     }
 }
 

@@ -3,7 +3,7 @@ ghost use Rattle.std.specs.Prelude.{◌≡◌, ◌++◌, ◌+◌, ◌*◌, ◌�
 ghost use Rattle.std.specs.List.{list_all};
 ghost use Rattle.std.specs.Option.{option_map};
 ghost use Rattle.hart_values.specs.packed_text.Packing.{IsPackedSize};
-ghost use Rattle.hart_cli.specs.explain.Values.{day_words, in_parentheses, is_printable, latin_words, no_date_words, suits};
+ghost use Rattle.hart_cli.specs.explain.Values.{day_words, in_parentheses, is_printable, latin_words, no_date_words, number_in, suits};
 ghost use Rattle.hart_cli.specs.explain.Values.{two_digits, unpacked};
 ghost use Rattle.hart_cli.specs.explain.Values.{unit_words, value_words, variable_words, variables_words};
 
@@ -46,12 +46,19 @@ fn push_number(text: &mut Kept, bytes: &[u8])
     ensures words { text.new ≡ text.old ++ value_words FieldKind.Number bytes.now }
     ensures few { length text.new ≤ length text.old + 30 }
 {
-    let number = match bytes {
+    push_text(text, Buffer::new().format(number_of(bytes)));
+}
+
+/// Returns the number of one or two bytes.
+pub fn number_of(bytes: &[u8]) -> u16
+    requires { suits FieldKind.Number (length bytes.now) ≡ true }
+    ensures { result ≡ number_in bytes.now }
+{
+    match bytes {
         [byte] => u16::from(*byte),
         [high, low] => u16::from_be_bytes([*high, *low]),
         _ => unreachable!(),
-    };
-    push_text(text, Buffer::new().format(number));
+    }
 }
 
 /// Appends the unit of one byte.
@@ -98,17 +105,27 @@ fn push_packed_text(text: &mut Kept, bytes: &[u8])
     ensures few { length text.new ≤ length text.old + 2 * length bytes.now + 2 }
 {
     push_text(text, "\"");
-    match bytes.len() {
-        6 => push_characters::<6>(text, bytes),
-        12 => push_characters::<12>(text, bytes),
-        _ => push_characters::<24>(text, bytes),
-    }
+    push_unpacked(text, bytes);
     push_text(text, "\"");
 }
 
+/// Adds the characters of a packed text.
+pub fn push_unpacked<const M: usize>(text: &mut ByteList<M>, bytes: &[u8])
+    requires room { length text.old + 2 * length bytes.now ≤ M }
+    requires suits { suits FieldKind.PackedText (length bytes.now) ≡ true }
+    ensures characters { text.new ≡ text.old ++ unpacked bytes.now }
+    ensures few { length text.new ≤ length text.old + 2 * length bytes.now }
+{
+    match bytes.len() {
+        6 => push_characters::<M, 6>(text, bytes),
+        12 => push_characters::<M, 12>(text, bytes),
+        _ => push_characters::<M, 24>(text, bytes),
+    }
+}
+
 /// Adds the characters of a packed text of `N` bytes.
-fn push_characters<const N: usize>(text: &mut Kept, bytes: &[u8])
-    requires room { length text.old + 2 * N ≤ 32768 }
+fn push_characters<const M: usize, const N: usize>(text: &mut ByteList<M>, bytes: &[u8])
+    requires room { length text.old + 2 * N ≤ M }
     requires size { length bytes.now ≡ N }
     requires packed { IsPackedSize N }
     ensures characters { text.new ≡ text.old ++ unpacked bytes.now }
@@ -138,7 +155,7 @@ fn push_latin_text(text: &mut Kept, pairs: &Pairs, bytes: &[u8])
 }
 
 /// Returns true if all characters of a text in ISO Latin-1 can be printed.
-fn are_printable(characters: &[u8]) -> bool
+pub fn are_printable(characters: &[u8]) -> bool
     ensures { result ≡ list_all is_printable characters.now }
 {
     characters.iter().all(|code| is_printable(*code))

@@ -1,17 +1,14 @@
 //! The call that the words after the program's name ask for.
 
-ghost use Rattle.std.specs.Prelude.{◌≡◌, ◌∷◌, [], ℕ, IfErr, IfOk, List, None, OnOk, Some, codes, false, map, string_bytes, true};
+ghost use Rattle.std.specs.Prelude.{◌≡◌, [], IfErr, IfOk, OnOk, codes, false, map, string_bytes, true};
 ghost use Rattle.clap.specs.Words.{App, HasKind, Rule, all_of, app_of, fault_of, first_of, found_of, new_app, new_rule, rows_of, rule_of};
 ghost use Rattle.clap.specs.Words.{subcommand_of, subcommand_rows_of};
 ghost use Rattle.clap.specs.Words.{with_rule, with_subcommand};
 ghost use Rattle.std.specs.Option.{option_map};
-ghost use Rattle.hart_cli.specs.program.CommandLine.{Calls, app_with_required_words, asking_app, call_of, encode_app, explain_app};
-ghost use Rattle.hart_cli.specs.program.CommandLine.{explain_call, fields_rule, hart_alone, hart_app, hearing_app, image_app, image_rule};
-ghost use Rattle.hart_cli.specs.program.CommandLine.{preambles_of, preambles_rule, raw_rule, reading_app, request_app, request_words_of};
-ghost use Rattle.hart_cli.specs.program.CommandLine.{required_rule, words_of};
-ghost use Rattle.hart_cli.specs.declared.calls.program.command_line.Call.{Call};
-ghost use Rattle.hart_cli.specs.declared.calls.program.command_line.Call.TheVariants.{Answer, Dump, Encode, Explain, ExplainRaw};
-ghost use Rattle.hart_cli.specs.declared.calls.program.command_line.Call.TheVariants.{Request, Serve, Sim};
+ghost use Rattle.hart_cli.specs.program.CommandLine.{app_with_required_words, asking_app, call_of, encode_app, explain_app};
+ghost use Rattle.hart_cli.specs.program.CommandLine.{explain_call, fields_rule, hart_alone, hart_app, hearing_app, image_app};
+ghost use Rattle.hart_cli.specs.program.CommandLine.{image_rule, is_set, json_rule, preambles_of, preambles_rule, raw_rule};
+ghost use Rattle.hart_cli.specs.program.CommandLine.{reading_app, request_app, request_words_of, required_rule, words_of};
 
 use super::help;
 use super::help::Page;
@@ -25,44 +22,6 @@ use std::alloc::{AllocError, Global};
 /// The version that `hart --version` shows.
 const VERSION: &str = "0.1.0";
 
-/// If the only word is `answer`, `dump`, `explain`, `serve` or `sim`, it calls that subcommand, without an image. After `answer`, `serve`
-/// or `sim`, `--image 01` gives the image `01`; after `explain`, `--raw` makes the input raw. `encode P @0 0` has no data and 5 preamble
-/// bytes, or 20 if `--preambles 20` follows. `request P @0 0` has no fields, and `request P @0 6 a=1 b=2` has two.
-pub fn words_are_calls()
-    ensures answer { Calls (Answer None) (codes "answer" ∷ []) }
-    ensures answer_image { Calls (Answer (Some (codes "01"))) (codes "answer" ∷ codes "--image" ∷ codes "01" ∷ []) }
-    ensures dump { Calls Dump (codes "dump" ∷ []) }
-    ensures explain { Calls Explain (codes "explain" ∷ []) }
-    ensures explain_raw { Calls ExplainRaw (codes "explain" ∷ codes "--raw" ∷ []) }
-    ensures serve { Calls (Serve None) (codes "serve" ∷ []) }
-    ensures serve_image { Calls (Serve (Some (codes "01"))) (codes "serve" ∷ codes "--image" ∷ codes "01" ∷ []) }
-    ensures sim { Calls (Sim None) (codes "sim" ∷ []) }
-    ensures sim_image { Calls (Sim (Some (codes "01"))) (codes "sim" ∷ codes "--image" ∷ codes "01" ∷ []) }
-    ensures encode { Calls
-        (Encode (record { who = codes "P"; address = codes "@0"; command = codes "0"; payload = []; preambles = 5 }))
-        (codes "encode" ∷ codes "P" ∷ codes "@0" ∷ codes "0" ∷ []) }
-    ensures preambles { Calls
-        (Encode (record { who = codes "P"; address = codes "@0"; command = codes "0"; payload = []; preambles = 20 }))
-        (codes "encode" ∷ codes "P" ∷ codes "@0" ∷ codes "0" ∷ codes "--preambles" ∷ codes "20" ∷ []) }
-    ensures request { Calls
-        (Request (record { who = codes "P"; address = codes "@0"; command = codes "0"; fields = []; preambles = 5 }))
-        (codes "request" ∷ codes "P" ∷ codes "@0" ∷ codes "0" ∷ []) }
-    ensures request_fields { Calls
-        (Request (record {
-          who = codes "P";
-          address = codes "@0";
-          command = codes "6";
-          fields = codes "a=1" ∷ codes "b=2" ∷ [];
-          preambles = 5;
-        }))
-        (codes "request" ∷ codes "P" ∷ codes "@0" ∷ codes "6" ∷ codes "a=1" ∷ codes "b=2" ∷ []) }
-{}
-
-/// Words make at most one call, so they determine what the program does.
-pub fn one_call()
-    ensures { (a b : Call) (words : List (List ℕ)) → Calls a words → Calls b words → a ≡ b }
-{}
-
 /// The calls that a command line can make.
 #[derive(Drop)]
 pub enum Call<'w, 'a: 'w> {
@@ -74,6 +33,10 @@ pub enum Call<'w, 'a: 'w> {
     Explain,
     /// `hart explain --raw`.
     ExplainRaw,
+    /// `hart explain --json`.
+    ExplainJson,
+    /// `hart explain --raw --json`.
+    ExplainRawJson,
     /// `hart serve`.
     Serve(ImageWord<'a>),
     /// `hart sim`.
@@ -116,14 +79,25 @@ pub fn call_of<'w, 'a: 'w>(matches: &'w ArgMatches<'a>) -> Option<Call<'w, 'a>>
     }
 }
 
-/// Returns the call of `hart explain`, with its flag or without.
+/// Returns the call of `hart explain`, with its flags or without.
 fn explain_call<'w, 'a: 'w>(given: &'w ArgMatches<'a>) -> Call<'w, 'a>
-    ensures { result ≡ explain_call (first_of (codes "raw") (rows_of (found_of given.now))) }
+    ensures { result ≡ explain_call
+        (first_of (codes "raw") (rows_of (found_of given.now)))
+        (first_of (codes "json") (rows_of (found_of given.now))) }
 {
-    match word_of(given, "raw") {
-        Some("true") => Call::ExplainRaw,
-        _ => Call::Explain,
+    match (is_set(given, "raw"), is_set(given, "json")) {
+        (false, false) => Call::Explain,
+        (true, false) => Call::ExplainRaw,
+        (false, true) => Call::ExplainJson,
+        (true, true) => Call::ExplainRawJson,
     }
+}
+
+/// Returns true if a flag is set.
+fn is_set(given: &ArgMatches<'_>, id: &str) -> bool
+    ensures { result ≡ is_set (first_of id.now (rows_of (found_of given.now))) }
+{
+    matches!(word_of(given, id), Some("true"))
 }
 
 /// Returns the word of the image of `hart answer`, `hart serve` or `hart sim`, if an image was given.
@@ -228,11 +202,13 @@ fn hearing_command<'a>(alloc: Global) -> Result<Command<'a>, AllocError>
     with_made(hart, explain_command(alloc))
 }
 
-/// Returns `hart explain` with its flag.
+/// Returns `hart explain` with its flags.
 fn explain_command<'a>(alloc: Global) -> Result<Command<'a>, AllocError>
     ensures { IfOk result (λ command. app_of command ≡ explain_app) }
 {
-    plain_command(alloc, "explain", help::EXPLAIN).arg(raw_flag(alloc))
+    let explain = Ok(plain_command(alloc, "explain", help::EXPLAIN));
+    let explain = with_arg(explain, raw_flag(alloc));
+    with_arg(explain, json_flag(alloc))
 }
 
 /// Returns `hart` without its subcommands.
@@ -376,6 +352,17 @@ fn raw_flag<'a>(alloc: Global) -> Arg<'a>
         .long("raw")
         .action(ArgAction::SetTrue)
         .help(help::RAW_HELP)
+}
+
+/// Returns the flag for JSON.
+fn json_flag<'a>(alloc: Global) -> Arg<'a>
+    ensures rule { rule_of result ≡ json_rule }
+    ensures local { result.global ≡ false }
+{
+    Arg::new(alloc, "json")
+        .long("json")
+        .action(ArgAction::SetTrue)
+        .help(help::JSON_HELP)
 }
 
 /// Returns the option for how many preamble bytes a message begins with.

@@ -124,7 +124,7 @@ writes
 
 pub(super) const EXPLAIN: Page = Page {
     about: "Say in words what was heard, in hex, from standard input",
-    usage: "hart explain [--raw] < FILE",
+    usage: "hart explain [--raw] [--json] < FILE",
     help: "\
 Say in words what was heard on a line, and why a message is missing.
 
@@ -335,6 +335,8 @@ writes
 };
 
 pub(super) const RAW_HELP: &str = "Read bytes as they are, and not as hex";
+
+pub(super) const JSON_HELP: &str = "Write JSON, one object a line";
 
 pub(super) const REQUEST: Page = Page {
     about: "Write a request by the names of its fields, in hex",

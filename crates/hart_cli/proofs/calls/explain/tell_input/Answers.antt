@@ -2,7 +2,7 @@ use Rattle.std.proofs.Common.{◌≡◌, ◌+◌, ◌∙◌, drop, arith}
 use Rattle.std.proofs.lemmas.Grind.{common_steps}
 use Rattle.std.proofs.lemmas.List.{take_rest}
 use Rattle.std.proofs.lemmas.Result.{err_from_is_err_and}
-use Rattle.hart_cli.specs.explain.Explanation.{IsDecidedExplanation}
+use Rattle.hart_cli.specs.explain.Explanation.{IsDecidedIn}
 use Rattle.hart_cli.specs.input.Decoding.{heard_decoding, most_heard_ahead}
 use Rattle.hart_cli.specs.input.Input.{stream_limit}
 use Rattle.hart_cli.specs.input.LiveInput.{IsDecidedText, WroteInTime}
@@ -39,7 +39,7 @@ told : (g : Over) (c : In_ok-place g)
     c.tell_text.new.self c.read_ahead-portion.result.end (drop c.in_ok-place.place c.read_ahead-portion.new.ahead)
     (c.loop-place.read + c.read_ahead-portion.result.len)
     (g.W.Sink.stream c.args.writer.now) (g.W.Sink.stream c.tell_text.new.writer))
-    × WroteInTime (IsDecidedText heard_decoding IsDecidedExplanation) now.input (g.W.Sink.stream c.args.writer.now)
+    × WroteInTime (IsDecidedText heard_decoding (IsDecidedIn c.args.telling.now.teller.style)) now.input (g.W.Sink.stream c.args.writer.now)
     (g.W.Sink.stream c.loop-place.writer)
 told g c =
     let loop = c.loop-place.invariant in

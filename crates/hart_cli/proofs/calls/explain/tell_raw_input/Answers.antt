@@ -1,6 +1,6 @@
 use Rattle.std.proofs.Common.{◌≡◌, ◌≤◌, ◌∙◌, refl, arith, length, length-take, take, ◌+◌}
 use Rattle.std.proofs.lemmas.Result.{err_from_is_err_and}
-use Rattle.hart_cli.specs.explain.Explanation.{IsDecidedExplanation}
+use Rattle.hart_cli.specs.explain.Explanation.{IsDecidedIn}
 use Rattle.hart_cli.specs.input.Decoding.{raw_decoding}
 use Rattle.hart_cli.specs.input.Input.{most_at_once}
 use Rattle.hart_cli.specs.input.LiveInput.{IsDecidedText, WroteInTime}
@@ -35,7 +35,7 @@ told : (g : Over) (c : In_ok-tell_bytes g)
     → (now : RawUpTo (g.R.Source.stream c.args.reader.now) (g.R.Source.stream c.read_portion-portion.new.reader) c.args.telling.now
     c.tell_bytes.new.self c.read_portion-portion.result.end (c.loop-end.read + c.read_portion-portion.result.len)
     (g.W.Sink.stream c.args.writer.now) (g.W.Sink.stream c.tell_bytes.new.writer))
-    × WroteInTime (IsDecidedText raw_decoding IsDecidedExplanation) now.input (g.W.Sink.stream c.args.writer.now)
+    × WroteInTime (IsDecidedText raw_decoding (IsDecidedIn c.args.telling.now.teller.style)) now.input (g.W.Sink.stream c.args.writer.now)
     (g.W.Sink.stream c.loop-end.writer)
 told g c =
     let one = few g (goal.at.In_ok-tell_bytes g c).After-read_portion-portion in

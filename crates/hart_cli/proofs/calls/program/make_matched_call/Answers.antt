@@ -6,8 +6,8 @@ use Rattle.std.specs.Str.{bytes_eq}
 use Rattle.clap.specs.Words.{Row, Text, all_of, first_of, subcommand_rows_of}
 use Rattle.hart_frame.specs.wire.Message.{IsPreambleCount}
 use Rattle.hart_cli.specs.declared.calls.program.command_line.Call.{Call}
-use Rattle.hart_cli.specs.declared.calls.program.command_line.Call.TheVariants.{Answer, Dump, Encode, Explain, ExplainRaw, Request, Serve}
-use Rattle.hart_cli.specs.declared.calls.program.command_line.Call.TheVariants.{Sim}
+use Rattle.hart_cli.specs.declared.calls.program.command_line.Call.TheVariants.{Answer, Dump, Encode, Explain, ExplainJson, ExplainRaw}
+use Rattle.hart_cli.specs.declared.calls.program.command_line.Call.TheVariants.{ExplainRawJson, Request, Serve, Sim}
 use Rattle.hart_cli.specs.encode.MessageWords.{MessageWords}
 use Rattle.hart_cli.specs.request.RequestWords.{RequestWords}
 use Rattle.hart_cli.specs.program.CommandLine.{call_of, explain_call, message_words, preambles_of, request_words, request_words_of}
@@ -26,24 +26,24 @@ request_counted : (word : Option Text) (who address command : Option Text) (fiel
 request_counted word who address command fields words h = grind (arith, common_steps, nat_tests)
 
 -- a call of `encode` has the words that the matches give to `encode`
-words_called : (answer dump explain serve sim encode request : Bool) (image raw : Option Text) (given : Option MessageWords)
+words_called : (answer dump explain serve sim encode request : Bool) (image raw json : Option Text) (given : Option MessageWords)
     (named : Option RequestWords) (words : MessageWords)
-    → (if answer then Some (Answer image) else if dump then Some Dump else if explain then Some (explain_call raw)
+    → (if answer then Some (Answer image) else if dump then Some Dump else if explain then Some (explain_call raw json)
     else if serve then Some (Serve image)
     else if sim then Some (Sim image)
     else if encode then option_map (λ w. Encode w) given
     else if request then option_map (λ w. Request w) named else None) ≡ Some (Encode words) → given ≡ Some words
-words_called answer dump explain serve sim encode request image raw given named words h = grind (arith, common_steps)
+words_called answer dump explain serve sim encode request image raw json given named words h = grind (arith, common_steps)
 
 -- a call of `request` has the words that the matches give to `request`
-request_called : (answer dump explain serve sim encode request : Bool) (image raw : Option Text) (given : Option MessageWords)
+request_called : (answer dump explain serve sim encode request : Bool) (image raw json : Option Text) (given : Option MessageWords)
     (named : Option RequestWords) (words : RequestWords)
-    → (if answer then Some (Answer image) else if dump then Some Dump else if explain then Some (explain_call raw)
+    → (if answer then Some (Answer image) else if dump then Some Dump else if explain then Some (explain_call raw json)
     else if serve then Some (Serve image)
     else if sim then Some (Sim image)
     else if encode then option_map (λ w. Encode w) given
     else if request then option_map (λ w. Request w) named else None) ≡ Some (Request words) → named ≡ Some words
-request_called answer dump explain serve sim encode request image raw given named words h = grind (arith, common_steps)
+request_called answer dump explain serve sim encode request image raw json given named words h = grind (arith, common_steps)
 
 -- a call of `encode` or `request` has a number of preamble bytes that a sender may use
 call_counted : (met : Option (Text × List Row)) (call : Call) → call_of met ≡ Some call → HasPreambleCount call
@@ -56,7 +56,8 @@ call_counted (Some found) (Encode words) gives =
     (bytes_eq found.0 (codes "answer")) (bytes_eq found.0 (codes "dump")) (bytes_eq found.0 (codes "explain"))
     (bytes_eq found.0 (codes "serve")) (bytes_eq found.0 (codes "sim")) (bytes_eq found.0 (codes "encode"))
     (bytes_eq found.0 (codes "request"))
-    (first_of (codes "image") found.1) (first_of (codes "raw") found.1) (words_of found.1) (request_words_of found.1) words gives)
+    (first_of (codes "image") found.1) (first_of (codes "raw") found.1) (first_of (codes "json") found.1) (words_of found.1)
+    (request_words_of found.1) words gives)
 call_counted (Some found) (Request words) gives =
     request_counted
     (first_of (codes "preambles") found.1) (first_of (codes "WHO") found.1) (first_of (codes "ADDRESS") found.1)
@@ -65,11 +66,14 @@ call_counted (Some found) (Request words) gives =
     (bytes_eq found.0 (codes "answer")) (bytes_eq found.0 (codes "dump")) (bytes_eq found.0 (codes "explain"))
     (bytes_eq found.0 (codes "serve")) (bytes_eq found.0 (codes "sim")) (bytes_eq found.0 (codes "encode"))
     (bytes_eq found.0 (codes "request"))
-    (first_of (codes "image") found.1) (first_of (codes "raw") found.1) (words_of found.1) (request_words_of found.1) words gives)
+    (first_of (codes "image") found.1) (first_of (codes "raw") found.1) (first_of (codes "json") found.1) (words_of found.1)
+    (request_words_of found.1) words gives)
 call_counted (Some found) (Answer image) gives = tt
 call_counted (Some found) Dump gives = tt
 call_counted (Some found) Explain gives = tt
 call_counted (Some found) ExplainRaw gives = tt
+call_counted (Some found) ExplainJson gives = tt
+call_counted (Some found) ExplainRawJson gives = tt
 call_counted (Some found) (Serve image) gives = tt
 call_counted (Some found) (Sim image) gives = tt
 

@@ -12,18 +12,18 @@ use Rattle.hart_cli.proofs.text.marks.leading_date.Goals as goal
 pub returns-in_err-next-clause-mark : goal.returns-in_err-next-clause-mark
 returns-in_err-next-clause-mark c =
     let text = c.args.text.now in
-    let len = c.printable_len-len.result in
-    let said = rw take_rest at c.printable_len-len.ensures in
+    let len = c.visible_len-len.result in
+    let said = rw take_rest at c.visible_len-len.ensures in
     let past : length text ≤ 1 + len = grind (arith, common_steps) in
     let wrong : IsWrong (drop 1 text) len = inr (inr (λ below. absurd (omega (arith, past, below, ap length c.requires.at)))) in
-    let none : NoMarkBegins text = no_mark text len c.requires.at said.printable said.stops said.within wrong in
+    let none : NoMarkBegins text = no_mark text len c.requires.at said.visible said.stops said.within wrong in
     grind (arith, none)
 
 pub returns-then-len-eq0-clause-mark : goal.returns-then-len-eq0-clause-mark
 returns-then-len-eq0-clause-mark c =
     let text = c.args.text.now in
-    let len = c.printable_len-len.result in
-    let said = rw take_rest at c.printable_len-len.ensures in
+    let len = c.visible_len-len.result in
+    let said = rw take_rest at c.visible_len-len.ensures in
     let wrong : IsWrong (drop 1 text) len = elim c.then-len-eq0.branch [
       | then-len-eq0-via-then-len-eq0 w ↦ let none : len ≡ 0 = grind (arith, common_steps) in inl none
       | then-len-eq0-via-else-len-eq0+then-len-gt-DATE_LEN w ↦ let most : 32 < len = grind (arith, common_steps) in inr (inl most)
@@ -31,4 +31,4 @@ returns-then-len-eq0-clause-mark c =
           let other : IsSeparator (get_or (drop 1 text) len 0) → ⊥ = grind (arith, common_steps, get_or_after_one) in
           inr (inr (λ below. other))
     ] in
-    no_mark text len c.requires.at said.printable said.stops said.within wrong
+    no_mark text len c.requires.at said.visible said.stops said.within wrong

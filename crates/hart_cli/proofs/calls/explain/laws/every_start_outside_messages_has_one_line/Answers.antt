@@ -5,7 +5,7 @@ use Rattle.std.proofs.lemmas.List.Folds.{list_all-append}
 use Rattle.hart_frame.specs.heard.Character.{Character}
 use Rattle.hart_frame.specs.heard.Sighting.{Message, header_at, miss_in_whole, missed, seen_miss, sightings}
 use Rattle.hart_cli.specs.explain.Explanation.{date_words, dated_text, explanation}
-use Rattle.hart_cli.specs.text.Heard.{IsPrintable}
+use Rattle.hart_cli.specs.text.Heard.{IsVisible}
 use Rattle.hart_cli.specs.explain.Message.{paragraph}
 use Rattle.hart_cli.specs.explain.Misses.{miss_words}
 use Rattle.hart_cli.specs.explain.Words.{header_words}
@@ -31,9 +31,9 @@ returns-clause-one_line c place miss = record {
   unbroken = unbroken-all _ (simp (list_all-append, unbroken-decimal, unbroken-miss_words));
 }
 
--- a printable byte is no line feed
-printable_stays : (byte : ℕ) → IsPrintable byte → byte ≢ 10
-printable_stays byte printable = λ same. omega (arith, printable.0, same)
+-- a visible byte is no line feed
+visible_stays : (byte : ℕ) → IsVisible byte → byte ≢ 10
+visible_stays byte visible = λ same. omega (arith, visible.0, same)
 
 pub returns-clause-dated_line : goal.returns-clause-dated_line
 returns-clause-dated_line c word place miss valid =
@@ -42,7 +42,7 @@ returns-clause-dated_line c word place miss valid =
       words = word ++ told;
       ended = sym (append_assoc word told (10 ∷ []));
       unbroken = All-append (λ code. code ≢ 10) word told
-          (All-weaker IsPrintable (λ code. code ≢ 10) printable_stays word valid.printable) unbroken;
+          (All-weaker IsVisible (λ code. code ≢ 10) visible_stays word valid.visible) unbroken;
     }
 
 pub returns-clause-second_line : goal.returns-clause-second_line

@@ -3,6 +3,7 @@ use Rattle.hart_frame.specs.heard.Character.{Character}
 use Rattle.hart_frame.specs.heard.Sighting.{moved_seen}
 use Rattle.hart_frame.proofs.lemmas.Laws.{frames_are_unambiguous-one_list}
 use Rattle.hart_cli.specs.declared.fault.CliFault.{CliFault}
+use Rattle.hart_cli.specs.declared.calls.explain.teller.Style.TheVariants.{Words}
 use Rattle.hart_cli.specs.dump.Dump.{AreFrameLines}
 use Rattle.hart_cli.specs.dump.Text.{dump_text}
 use Rattle.hart_cli.specs.explain.Dumped.{AreOfOneHearing}
@@ -13,7 +14,7 @@ use Rattle.hart_cli.specs.text.InputChars.{HasChars}
 use Rattle.hart_cli.specs.text.Items.{NoPieceBegins, ReadsUpTo}
 use Rattle.hart_cli.proofs.lemmas.explain.Dates.{no_date, same_dates}
 use Rattle.hart_cli.proofs.lemmas.explain.Sightings.{moved_none}
-use Rattle.hart_cli.proofs.lemmas.explain.Told.{stretches_chars}
+use Rattle.hart_cli.proofs.lemmas.explain.InStretches.{stretches_chars}
 use Rattle.hart_cli.proofs.lemmas.text.InputChars.{item_laws, one_input}
 use Rattle.hart_cli.proofs.lemmas.text.NoMark.{plain_input}
 use Rattle.hart_cli.proofs.lemmas.text.Reads.{left_more, one_left}
@@ -33,7 +34,7 @@ of_one_hearing input ending xs ys heard fault lines text same is dump said has =
     let frames : dump.frames ≡ seen.frames =
     frames_are_unambiguous-one_list ys 0 dump.frames seen.frames (rw same at dump.are_frames) seen.are_frames in
     let all : said.seen ≡ parts.0 = parts.4 ∙ (ap (λ zs. map (moved_seen 0) parts.0 ++ zs) parts.3 ∙ (append-nil _ ∙ moved_none parts.0)) in
-    let bare = same_dates (date_of heard) undated (rw is (no_date ys)) said.seen in
+    let bare = same_dates Words (date_of heard) undated (rw is (no_date ys)) said.seen in
     record {
       chars = ys;
       has_chars = has;

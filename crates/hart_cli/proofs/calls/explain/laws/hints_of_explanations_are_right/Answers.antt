@@ -73,7 +73,7 @@ own_check : (from at byte fits : ℕ) (own : Miss) → BadCheck at byte fits ≡
 own_check from at byte fits (BadCheck start b f) is = (start, grind arith, grind arith)
 own_check from at byte fits _ is = absurd cc
 
--- a miss that names a character with fault bits in the whole list names it in the rest too
+-- if a miss, counted in the whole list, names a character with fault bits, it names that character in the rest too
 own_fault : (from at faults : ℕ) (own : Miss) → Faulty at faults ≡ miss_in_whole from own
     → (start : ℕ) × (own ≡ Faulty start faults) × (at ≡ from + start)
 own_fault from at faults (Faulty start f) is = (start, grind arith, grind arith)
@@ -94,7 +94,7 @@ alone_is : (chars : List Character) (place : ℕ) → seen_miss chars place ≡ 
     → two_begin_in_body chars place ≡ false
 alone_is chars place seen follows = let one = one_preamble-yes chars place follows in grind (arith, one)
 
--- a miss other than `OnePreamble` is told only for a place where a body may start
+-- if a place has any miss but `OnePreamble`, a body may start there
 started : (start : ℕ) (chars : List Character) (miss : Miss) → IsStart start chars ⊎ (miss ≡ OnePreamble) → miss ≢ OnePreamble
     → IsStart start chars
 started start chars miss either other = grind arith

@@ -6,7 +6,8 @@ use Rattle.hart_cli.proofs.calls.explain.telling.tell_decided.Given as goal
 
 abbrev pub invariant-loop-sighting : goal.invariant-loop-sighting
 invariant-loop-sighting g l =
-    ToldSoFar (λ place. date_at l.dates (place - l.first)) l.first l.held l.after l.used l.initial.kept l.kept
+    ToldSoFar (λ place. date_at l.dates (place - l.first)) l.first l.held l.after l.used l.initial.teller l.teller l.initial.kept
+    l.kept
     (g.W.Sink.stream l.initial.writer) (g.W.Sink.stream l.writer)
 
 abbrev pub decreases-loop-sighting : goal.decreases-loop-sighting

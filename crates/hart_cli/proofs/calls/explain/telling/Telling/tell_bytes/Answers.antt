@@ -12,4 +12,4 @@ returns-in_err-write_all-clause-hears g c =
 pub returns-clause-hears : goal.returns-clause-hears
 returns-clause-hears g c =
     hears_written c.args.self.now c.hear_bytes.new.self _ _ _ _ _ _ c.in_ok-hear_bytes.ensures.hears
-    (rw c.as_slice.ensures.value at c.in_ok-write_all.ensures) refl refl refl c.clear.ensures
+    (rw c.as_slice.ensures.value at c.in_ok-write_all.ensures) refl refl refl refl c.clear.ensures

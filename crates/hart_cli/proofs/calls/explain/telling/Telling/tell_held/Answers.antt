@@ -13,7 +13,7 @@ told : (g : Over) (c : After-let_go g)
 told g c =
     let go = c.let_go.ensures in
     told_held c.args.self.now c.let_go.new.self c.args.after c.in_ok-used.used _ _
-    (rw (c.as_slice-held.ensures.value, ← go.kept) at c.in_ok-used.ensures) go.first go.held go.dated go.dates
+    (rw (c.as_slice-held.ensures.value, ← go.kept, ← go.teller) at c.in_ok-used.ensures) go.first go.held go.dated go.dates
 
 pub returns-clause-hears : goal.returns-clause-hears
 returns-clause-hears g c = (told g c).0

@@ -1,0 +1,24 @@
+use Rattle.std.proofs.Common.{◌≡◌, ◌≤◌, ◌++◌, ℕ, List, ◌∷◌, arith, drop, length, refl}
+use Rattle.std.specs.Prelude.{slice_index}
+use Rattle.hart_frame.specs.declared.wire.kind.FrameKind.TheVariants.{Ack}
+use Rattle.hart_cli.specs.explain.objects.Data.{reply_members}
+use Rattle.hart_cli.specs.explain.objects.Message.{payload_members}
+use Rattle.hart_cli.specs.explain.objects.Status.{status_members}
+use Rattle.hart_cli.proofs.lemmas.explain.Objects.{members_then}
+use Rattle.hart_cli.proofs.calls.explain.objects.message.push_answer.Goals as goal
+
+-- the payload of a reply is its status bytes and its data
+payload_members-is : (command : ℕ) (payload : List ℕ) → 2 ≤ length payload
+    → payload_members Ack command payload
+    ≡ status_members command (slice_index payload 0) (slice_index payload 1)
+    ++ reply_members command (slice_index payload 0) (slice_index payload 1) (drop 2 payload)
+payload_members-is command (first ∷ second ∷ bytes) enough = refl
+payload_members-is command _ enough = absurd (omega arith)
+
+pub returns : goal.returns
+returns g c =
+    let payload = c.args.payload.now in
+    rw (payload_members-is c.args.command payload c.requires)
+    (members_then (status_members c.args.command (slice_index payload 0) (slice_index payload 1))
+    (reply_members c.args.command (slice_index payload 0) (slice_index payload 1) (drop 2 payload))
+    c.push_status.ensures c.push_reply.ensures)

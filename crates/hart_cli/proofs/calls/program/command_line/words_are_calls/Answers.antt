@@ -1,6 +1,0 @@
-use Rattle.clap.proofs.OnLiterals.{clap_on_literals}
-use Rattle.hart_cli.proofs.calls.program.command_line.words_are_calls.Goals as goal
-
-pub returns : goal.returns
-unfolding clap_on_literals
-returns c = assumption
