@@ -6,6 +6,7 @@ mod fakes;
 mod growths;
 mod heard;
 mod images;
+mod json;
 mod limits;
 mod plain;
 mod program;

@@ -1,8 +1,8 @@
 //! A call of hart_cli, which is made by the name of its function or by words of the command line.
 
 use hart_cli::{
-    CliFault, RequestWords, Sink, Source, answer, dump, encode_text, explain, explain_raw, request,
-    serve, simulate,
+    CliFault, RequestWords, Sink, Source, answer, dump, encode_text, explain, explain_json,
+    explain_raw, explain_raw_json, request, serve, simulate,
 };
 use hart_frame::{LEAST_PREAMBLES, is_preamble_count};
 use std::alloc::{AllocError, Global};
@@ -35,6 +35,10 @@ pub enum Call<'a> {
     Explain,
     /// `explain --raw`.
     ExplainRaw,
+    /// `explain --json`.
+    ExplainJson,
+    /// `explain --raw --json`.
+    ExplainRawJson,
     /// With the word of an image, if one is given.
     Answer(Option<&'a str>),
     /// With the word of an image, if one is given.
@@ -131,7 +135,9 @@ impl Call<'_> {
     pub fn subcommand(self) -> &'static str {
         match self {
             Call::Dump => "dump",
-            Call::Explain | Call::ExplainRaw => "explain",
+            Call::Explain | Call::ExplainRaw | Call::ExplainJson | Call::ExplainRawJson => {
+                "explain"
+            }
             Call::Answer(_) => "answer",
             Call::Serve(_) => "serve",
             Call::Simulate(_) => "sim",
@@ -155,6 +161,8 @@ impl Call<'_> {
             }
             Call::Encode(message) => message.push_to(alloc, words),
             Call::ExplainRaw => push_word(alloc, words, "--raw"),
+            Call::ExplainJson => push_word(alloc, words, "--json"),
+            Call::ExplainRawJson => push_words(alloc, words, &["--raw", "--json"]),
             Call::Request(named) => named.push_to(alloc, words),
             Call::Dump
             | Call::Explain
@@ -175,6 +183,8 @@ impl Call<'_> {
             Call::Dump => Ok(make_dump(alloc, reader, writer)),
             Call::Explain => Ok(make_explain(alloc, reader, writer)),
             Call::ExplainRaw => Ok(make_explain_raw(alloc, reader, writer)),
+            Call::ExplainJson => Ok(make_explain_json(alloc, reader, writer)),
+            Call::ExplainRawJson => Ok(make_explain_raw_json(alloc, reader, writer)),
             Call::Answer(image) => Ok(make_answer(alloc, image, reader, writer)),
             Call::Serve(image) => Ok(make_serve(alloc, image, reader, writer)),
             Call::Simulate(image) => Ok(make_simulate(alloc, image, reader, writer)),
@@ -212,6 +222,24 @@ fn make_explain_raw<R: Source, W: Sink>(
     writer: &mut W,
 ) -> Result<(), CliFault> {
     explain_raw(alloc, reader, writer)
+}
+
+/// Makes the call of `explain_json`.
+fn make_explain_json<R: Source, W: Sink>(
+    alloc: Global,
+    reader: &mut R,
+    writer: &mut W,
+) -> Result<(), CliFault> {
+    explain_json(alloc, reader, writer)
+}
+
+/// Makes the call of `explain_raw_json`.
+fn make_explain_raw_json<R: Source, W: Sink>(
+    alloc: Global,
+    reader: &mut R,
+    writer: &mut W,
+) -> Result<(), CliFault> {
+    explain_raw_json(alloc, reader, writer)
 }
 
 /// Makes the call of `answer`.

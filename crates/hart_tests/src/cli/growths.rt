@@ -30,6 +30,8 @@ const CALLS: &[(Call, &str, &str)] = &[
     (Call::Dump, "dump", HEARD),
     (Call::Explain, "explain", HEARD),
     (Call::ExplainRaw, "explain_raw", HEARD),
+    (Call::ExplainJson, "explain_json", HEARD),
+    (Call::ExplainRawJson, "explain_raw_json", HEARD),
     (Call::Answer(None), "answer", IDENTIFY),
     (Call::Answer(Some(NEW)), "answer with an image", IDENTIFY),
     (Call::Serve(None), "serve", IDENTIFY),

@@ -11,7 +11,7 @@ use std::io;
 use std::io::{ErrorKind, Read, Write};
 use std::test::Fail;
 
-/// Whether a call, made by its name on readers and writers of the standard library, writes a text.
+/// Whether the function of a call, with a reader and a writer of the standard library, succeeds and writes exactly this text.
 fn serves_by_name(alloc: Global, call: Call, input: &str, text: &str) -> Result<bool, Fail> {
     let mut output = Plain::new(Vec::new(alloc));
     let result = call.make(alloc, &mut Plain::new(input.as_bytes()), &mut output)?;

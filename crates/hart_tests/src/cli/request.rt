@@ -55,7 +55,8 @@ const TEXTS: &[Row] = &[
         "22",
         &["long_tag=Feed pump, building 3"],
         5,
-        "FF FF FF FF FF 82 B7 42 0A 1B 2C 16 20 46 65 65 64 20 70 75 6D 70 2C 20 62 75 69 6C 64 69 6E 67 20 33 20 20 20 20 20 20 20 20 20 20 20 4F\n",
+        "FF FF FF FF FF 82 B7 42 0A 1B 2C 16 20 46 65 65 64 20 70 75 6D 70 2C 20 62 75 69 6C 64 69 6E 67 20 \
+         33 20 20 20 20 20 20 20 20 20 20 20 4F\n",
         NONE,
     ),
     (
@@ -64,7 +65,8 @@ const TEXTS: &[Row] = &[
         "21",
         &["long_tag=Prüfstand ÿ"],
         5,
-        "FF FF FF FF FF 82 80 00 00 00 00 15 20 50 72 FC 66 73 74 61 6E 64 20 FF 20 20 20 20 20 20 20 20 20 20 20 20 20 20 20 20 20 20 20 20 20 1C\n",
+        "FF FF FF FF FF 82 80 00 00 00 00 15 20 50 72 FC 66 73 74 61 6E 64 20 FF 20 20 20 20 20 20 20 20 20 \
+         20 20 20 20 20 20 20 20 20 20 20 20 1C\n",
         NONE,
     ),
     (
@@ -73,7 +75,8 @@ const TEXTS: &[Row] = &[
         "22",
         &["long_tag=0x4a4a4a4a4a4a4a4a4a4a4a4a4a4a4a4a4a4a4a4a4a4a4a4a4a4a4a4a4a4a4a4a"],
         5,
-        "FF FF FF FF FF 82 B7 42 0A 1B 2C 16 20 4A 4A 4A 4A 4A 4A 4A 4A 4A 4A 4A 4A 4A 4A 4A 4A 4A 4A 4A 4A 4A 4A 4A 4A 4A 4A 4A 4A 4A 4A 4A 4A 7C\n",
+        "FF FF FF FF FF 82 B7 42 0A 1B 2C 16 20 4A 4A 4A 4A 4A 4A 4A 4A 4A 4A 4A 4A 4A 4A 4A 4A 4A 4A 4A 4A \
+         4A 4A 4A 4A 4A 4A 4A 4A 4A 4A 4A 4A 7C\n",
         NONE,
     ),
     (
@@ -82,7 +85,8 @@ const TEXTS: &[Row] = &[
         "22",
         &["long_tag="],
         5,
-        "FF FF FF FF FF 82 B7 42 0A 1B 2C 16 20 20 20 20 20 20 20 20 20 20 20 20 20 20 20 20 20 20 20 20 20 20 20 20 20 20 20 20 20 20 20 20 20 7C\n",
+        "FF FF FF FF FF 82 B7 42 0A 1B 2C 16 20 20 20 20 20 20 20 20 20 20 20 20 20 20 20 20 20 20 20 20 20 \
+         20 20 20 20 20 20 20 20 20 20 20 20 7C\n",
         NONE,
     ),
     (
