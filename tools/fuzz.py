@@ -12,11 +12,13 @@ another one in each run.
 """
 
 import argparse
+import fcntl
 import itertools
 import os
 import random
 import signal
 import sys
+import termios
 from typing import NamedTuple
 
 sys.dont_write_bytecode = True
@@ -31,10 +33,13 @@ LONGEST_TOGETHER = 10_000
 BETWEEN = b" 00!40 "
 MOST_SHRUNK = 10
 MOST_SHOWN = 2000
+# A pipe of packets has room for 256 of them, if it may have 1 MiB.
+PIPE_BYTES = 1 << 20
+MOST_ODD, LATER_PORTION, LONGEST_PORTIONED = 200, 512, 20_000
 
 
 class Call(NamedTuple):
-    """A call of the program: its name, how often it is tried among fifteen, the maker of what it is given, and the model of it."""
+    """A call of the program: its name, how often it is tried among eighteen, the maker of what it is given, and the model of it."""
 
     name: str
     share: int
@@ -44,7 +49,7 @@ class Call(NamedTuple):
 
 CALLS = (
     Call("dump", 3, calls.dump_given, texts.dump),
-    Call("explain", 3, calls.explain_given, explain.explain),
+    Call("explain", 6, calls.explain_given, explain.explain),
     Call("answer", 2, calls.answer_given, texts.answer),
     Call("serve", 2, calls.serve_given, serve.serve),
     Call("sim", 3, calls.sim_given, scripts.sim),
@@ -54,23 +59,51 @@ CALLS = (
 BY_NAME = {call.name: call for call in CALLS}
 
 
-def input_stream(text):
-    """Returns a stream of this text; for None, a folder, whose reads fail."""
-    if text is None:
+def input_stream(given):
+    """Returns a stream of what is given; for no text, a folder, whose reads fail."""
+    if given.text is None:
         return os.open(os.sep, os.O_RDONLY)
+    if is_portioned(given):
+        return portioned_stream(given)
     stream = os.memfd_create("input")
-    os.write(stream, text)
+    os.write(stream, given.text)
     os.lseek(stream, 0, os.SEEK_SET)
     return stream
 
 
+def is_portioned(given):
+    """Whether a text comes in portions; a long one does not."""
+    return given.portions and given.text is not None and len(given.text) <= LONGEST_PORTIONED
+
+
+def portioned_stream(given):
+    """Returns a pipe of packets, which gives one portion a read."""
+    stream, end = os.pipe2(os.O_DIRECT | os.O_CLOEXEC)
+    fcntl.fcntl(end, fcntl.F_SETPIPE_SZ, PIPE_BYTES)
+    place = 0
+    for number in itertools.count():
+        if place >= len(given.text):
+            break
+        size = given.portions[number % len(given.portions)] if number < MOST_ODD else LATER_PORTION
+        place += os.write(end, given.text[place:place + size])
+    os.close(end)
+    return stream
+
+
+def is_unread(stream, given):
+    """Whether nothing was read from a stream of what is given."""
+    if is_portioned(given):
+        return int.from_bytes(fcntl.ioctl(stream, termios.FIONREAD, bytes(4)), sys.byteorder) == len(given.text)
+    return os.lseek(stream, 0, os.SEEK_CUR) == 0
+
+
 def run(program, call, given):
     """What the program does: the words follow the call's name, and the text is its standard input."""
-    streams = [input_stream(given.text), os.memfd_create("output"), os.memfd_create("errors")]
+    streams = [input_stream(given), os.memfd_create("output"), os.memfd_create("errors")]
     places = [(os.POSIX_SPAWN_DUP2, stream, number) for number, stream in enumerate(streams)]
     status = status_of(os.posix_spawn(program, [program, call.name, *given.words], {}, file_actions=places))
     written, errors = (os.pread(stream, os.fstat(stream).st_size, 0) for stream in streams[1:])
-    unread = os.lseek(streams[0], 0, os.SEEK_CUR) == 0
+    unread = is_unread(streams[0], given)
     for stream in streams:
         os.close(stream)
     return texts.Result(status, written, errors, unread)
@@ -145,7 +178,7 @@ def cut(value):
 def print_difference(call, given, shown, wanted):
     """Prints a difference."""
     print(f"  words after {call.name}: {cut(given.words)}")
-    print(f"  input:   {cut(given.text)}")
+    print(f"  input:   {cut(given.text)}" + (f", in portions of {given.portions} bytes" if is_portioned(given) else ""))
     print(f"  program: {cut(tuple(shown))}")
     print(f"  model:   {cut(tuple(wanted))}", flush=True)
 

@@ -73,6 +73,25 @@ class Kit:
         flags = ["--jobs", "1", *[word for it in functions for word in ("--only", it)]]
         return self.rt.checked(self.crates[name], texts, flags, kept).stdout
 
+    def check_over(self, name, below, texts, functions):
+        """Checks these functions of a crate over the sources of the libraries below it, of which one has these texts, and returns what the
+        prover printed."""
+        crate, changed = self.crates[name], self.crates[below]
+        flags = ["--jobs", "1", *[word for it in functions for word in ("--only", it)]]
+        with tempfile.TemporaryDirectory(prefix="over-") as room:
+            for part in filter(os.path.isdir, [f"{changed.folder}/{it}" for it in self.rt.rtlib.PARTS]):
+                shutil.copytree(part, f"{room}/{os.path.basename(part)}")
+            for path, text in texts.items():
+                with open(f"{room}/{path}", "w", encoding="utf-8") as it:
+                    it.write(text)
+            words = crate.words(flags, keeps=False, as_source=True)
+            return self.call(crate.folder, ["check", *[it.replace(f"={changed.folder}/src/", f"={room}/src/") for it in words]]).stdout
+
+    def call(self, folder, words):
+        """Calls the prover in a folder."""
+        how = {"cwd": folder, "stdin": subprocess.DEVNULL, "stdout": subprocess.PIPE, "stderr": subprocess.STDOUT, "errors": "replace"}
+        return subprocess.run([*self.rt.rtlib.guarded(), self.rt.rtlib.RATTLE, *words], check=False, **how)
+
     def build_static(self, name, to):
         """Builds a static library over the built libraries, and proves those parts of it that are not kept. Returns what the prover
         printed, and its status."""
@@ -83,6 +102,5 @@ class Kit:
             for part in self.rt.rtlib.PARTS:
                 if os.path.isdir(f"{crate.folder}/{part}"):
                     shutil.copytree(f"{crate.folder}/{part}", f"{room}/{part}")
-            how = {"cwd": room, "stdin": subprocess.DEVNULL, "stdout": subprocess.PIPE, "stderr": subprocess.STDOUT, "errors": "replace"}
-            ran = subprocess.run([*self.rt.rtlib.guarded(), self.rt.rtlib.RATTLE, "build", *words], **how)
+            ran = self.call(room, ["build", *words])
             return ran.stdout, ran.returncode

@@ -1,7 +1,8 @@
 """Makes what a call is given, its words and its text."""
 
-from . import events, heard, images, inputs, misheard, serve
+from . import dialogues, events, heard, images, inputs, misheard, serve
 from .device import NEW_IMAGE, Device
+from .explain import JSON, RAW
 from .heard import weighted
 from .texts import INPUT_LIMIT, Given
 
@@ -16,14 +17,16 @@ def dump_given(rng):
 
 def explain_given(rng):
     """What `hart explain` is given."""
-    make = weighted(rng, (5, misheard.misheard), (3, misheard.spoken), (2, heard.random_heard))
+    make = weighted(rng, (5, misheard.misheard), (3, misheard.spoken), (2, heard.random_heard), (4, dialogues.dialogue))
     chars = make(rng)
-    kind = weighted(rng, (60, "items"), (20, "raw"), (1, "bad words"))
-    if kind == "raw":
-        words, text = [b"--raw"], bytes(char.byte for char in chars)
-    else:
-        words, text = bad_explain_words(rng) if kind == "bad words" else [], with_marks(rng, inputs.input_text(rng, chars))
-    return Given(words, None if rng.random() < 0.002 else text)
+    words = weighted(rng, (30, []), (10, [RAW]), (30, [JSON]), (5, [RAW, JSON]), (5, [JSON, RAW]), (1, bad_explain_words(rng)))
+    text = bytes(char.byte for char in chars) if RAW in words else with_marks(rng, inputs.input_text(rng, chars))
+    return Given(words, None if rng.random() < 0.002 else text, portions(rng) if rng.random() < 0.1 else ())
+
+
+def portions(rng):
+    """How many bytes a pipe gives at a time, over and over."""
+    return tuple(rng.choice((1, 1, 2, 3, 4, 5, 7, 11, 64, 300)) for _ in range(rng.randint(1, 6)))
 
 
 def with_marks(rng, text):
@@ -43,7 +46,8 @@ def date(rng):
 
 def bad_explain_words(rng):
     """Words that `hart explain` does not take."""
-    return rng.choice(([b"--raw", b"--raw"], [b"--raw=true"], [b"--image", b"00"], [b"extra"], [b"--help"], [b"--raw", b"extra"]))
+    return rng.choice(([RAW, RAW], [b"--raw=true"], [b"--image", b"00"], [b"extra"], [b"--help"], [RAW, b"extra"], [JSON, JSON],
+                       [b"--json=true"], [JSON, b"--help"], [JSON, RAW, JSON], [b"--jso"], [b"--JSON"]))
 
 
 def encode_given(rng):

@@ -12,6 +12,7 @@ SECTION = PAGE.read_text(encoding="utf-8").split("\n## Names of fields\n")[1].sp
 WHOSE = re.compile(r"(requests of|replies to) ([^;]+)")
 KINDS_OF_MESSAGES = {"requests of": "STX", "replies to": "ACK"}
 VARIABLE_BYTES = 8
+NOT_SET = bytes(3)
 
 
 class Field(NamedTuple):
@@ -69,38 +70,52 @@ def packed_text(data):
     return f'"{unpacked(data).decode()}"'
 
 
+def printable_text(data):
+    """The characters of a text in Latin-1, if all of them can be printed; otherwise None."""
+    text = data.decode("latin-1")
+    return text if all(" " <= character <= "~" or "\xa0" <= character for character in text) else None
+
+
 def latin_text(data):
     """The characters of a text in Latin-1 in quotes, if all of them can be printed, and otherwise its bytes."""
-    text = data.decode("latin-1")
-    return f'"{text}"' if all(" " <= character <= "~" or "\xa0" <= character for character in text) else bytes_text(data)
+    text = printable_text(data)
+    return bytes_text(data) if text is None else f'"{text}"'
+
+
+def day_text(data):
+    """A day by its year, month and day."""
+    day, month, year = data
+    return f"{1900 + year}-{month:02}-{day:02}"
 
 
 def date_text(data):
-    """A date by its year, month and day."""
-    if data == bytes(3):
+    """A date that is set, not set or no date."""
+    if data == NOT_SET:
         return "not set"
-    if not is_date(data):
-        return f"{bytes_text(data)}, no date"
-    day, month, year = data
-    return f"{1900 + year}-{month:02}-{day:02}"
+    return day_text(data) if is_date(data) else f"{bytes_text(data)}, no date"
 
 
 def variable_text(data):
     """A device variable by its parts."""
     code, classification, unit = data[:3]
-    return f"code {code}, classification {classification}, unit {unit_text(unit)}, value {bytes_text(data[3:7])}, status {bytes_text(data[7:])}"
+    return (f"code {code}, classification {classification}, unit {unit_text(unit)}, value {bytes_text(data[3:7])}, "
+            f"status {bytes_text(data[7:])}")
+
+
+def variables_of(data):
+    """The bytes of each device variable."""
+    return [data[place:place + VARIABLE_BYTES] for place in range(0, len(data), VARIABLE_BYTES)]
 
 
 def variables_text(data):
     """Device variables, one after the other."""
-    return "; ".join(variable_text(data[place:place + VARIABLE_BYTES]) for place in range(0, len(data), VARIABLE_BYTES))
+    return "; ".join(map(variable_text, variables_of(data)))
 
 
 VALUES = {"bytes": bytes_text, "float": bytes_text, "number": number_text, "unit": lambda data: unit_text(data[0]),
           "packed text": packed_text, "Latin-1 text": latin_text, "date": date_text, "variables": variables_text}
 
 
-def said_of_fields(kind, command, data):
-    """The names and the values of the fields of these data of a command, in a message of a kind."""
-    for field, part in fallen(FIELDS.get((kind, command), ()), data):
-        yield field.name, VALUES[field.kind](part)
+def fields_of(kind, command, data):
+    """The fields of these data of a command in a message of a kind, each with its bytes."""
+    return fallen(FIELDS.get((kind, command), ()), data)

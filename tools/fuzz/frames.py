@@ -59,6 +59,10 @@ class Found(NamedTuple):
     stop: int
     frame: Frame
 
+    def moved(self, first):
+        """The frame with `first` added to its places."""
+        return Found(self.start + first, self.stop + first, self.frame)
+
 
 def parity(data):
     """The exclusive or of all bytes."""

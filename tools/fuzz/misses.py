@@ -1,12 +1,62 @@
-"""Why no message stands at a place at which one seems to start, as `hart explain` says it."""
+"""Why no message stands at a place at which one seems to start: what `hart explain` says of it, in words or as an object."""
+
+from typing import NamedTuple
 
 from .frames import KINDS, LEAST_ACK_PAYLOAD, PREAMBLE, Frame, is_delimiter, parity, read_address
 
 BURST_BITS = 1
 
+# The words of each reason, with its details.
+WORDS = {
+    "faulty": "the character at {at} has the fault bits 0x{faults:02X}",
+    "burst": "it is a burst message, which is not read",
+    "bad_delimiter": "0x{byte:02X} is no delimiter of this profile",
+    "ends_before_byte_count": "it ends before its byte count",
+    "short_reply": "it is a reply, and its byte count {byte_count} is below 2",
+    "missing": "it lacks {count} characters, the last of them its check byte",
+    "bad_check": "the check byte is 0x{byte:02X} at {at}, and 0x{fits:02X} would fit",
+    "one_preamble": "only one 0xFF stands before it",
+}
+ONLY_CHECK_BYTE = "it lacks 1 character, its check byte"
+
+
+class Reason(NamedTuple):
+    """Why no message stands at a place: the name of the reason, and its details by their names."""
+
+    name: str
+    details: dict
+
+    def text(self):
+        """The reason in words."""
+        return ONLY_CHECK_BYTE if self.details == {"count": 1} else WORDS[self.name].format(**self.details)
+
+    def moved(self, first):
+        """The reason with `first` added to the place that it names, if it names one."""
+        return Reason(self.name, {name: value + first * (name == "at") for name, value in self.details.items()})
+
+
+ENDS_EARLY = Reason("ends_before_byte_count", {})
+ONE_PREAMBLE = Reason("one_preamble", {})
+
+
+class Miss(NamedTuple):
+    """A place at which a message only seems to start, the reason, and the header that is heard there, None if it is not whole."""
+
+    place: int
+    reason: Reason
+    header: Frame | None
+
+    def moved(self, first):
+        """The miss with `first` added to its places."""
+        return Miss(self.place + first, self.reason.moved(first), self.header)
+
 
 class Wrong(Exception):
     """What is wrong first with the characters from a place on."""
+
+    def __init__(self, reason):
+        super().__init__(reason)
+        self.reason = reason
 
 
 class Walk:
@@ -18,36 +68,34 @@ class Walk:
         self.bytes = b""
 
     def take(self, count, at_end):
-        """Returns the bytes of the next `count` characters. If some are missing, `at_end` of their number is what is wrong."""
+        """Returns the bytes of the next `count` characters. If some are missing, `at_end` of their number is the reason."""
         for taken in range(count):
             if self.place == len(self.heard):
                 raise Wrong(at_end(count - taken))
             char = self.heard[self.place]
             if char.faults:
-                raise Wrong(f"the character at {self.place} has the fault bits 0x{char.faults:02X}")
+                raise Wrong(Reason("faulty", {"at": self.place, "faults": char.faults}))
             self.bytes += bytes([char.byte])
             self.place += 1
         return self.bytes[len(self.bytes) - count:]
 
 
 def early_end(_):
-    """What is wrong at an end before the byte count."""
-    return "it ends before its byte count"
+    """The reason at an end before the byte count."""
+    return ENDS_EARLY
 
 
 def later_end(missing):
-    """What is wrong at an end after the byte count, by the number of the characters that are missing."""
-    if missing == 1:
-        return "it lacks 1 character, its check byte"
-    return f"it lacks {missing} characters, the last of them its check byte"
+    """The reason at an end after the byte count, by the number of the characters that are missing."""
+    return Reason("missing", {"count": missing})
 
 
 def judge_delimiter(byte):
     """Raises `Wrong` unless a byte is a delimiter of the profile."""
     if byte & 0x18 == 0 and byte & 7 == BURST_BITS:
-        raise Wrong("it is a burst message, which is not read")
+        raise Wrong(Reason("burst", {}))
     if not is_delimiter(byte):
-        raise Wrong(f"0x{byte:02X} is no delimiter of this profile")
+        raise Wrong(Reason("bad_delimiter", {"byte": byte}))
 
 
 def walk_header(walk):
@@ -65,11 +113,11 @@ def walk_body(walk):
     header = walk_header(walk)
     count, = walk.take(1, early_end)
     if header.kind == "ACK" and count < LEAST_ACK_PAYLOAD:
-        raise Wrong(f"it is a reply, and its byte count {count} is below 2")
+        raise Wrong(Reason("short_reply", {"byte_count": count}))
     walk.take(count + 1, later_end)
     last, fits = walk.bytes[-1], parity(walk.bytes[:-1])
     if last != fits:
-        raise Wrong(f"the check byte is 0x{last:02X} at {walk.place - 1}, and 0x{fits:02X} would fit")
+        raise Wrong(Reason("bad_check", {"at": walk.place - 1, "byte": last, "fits": fits}))
 
 
 def wrong_from(heard, place):
@@ -77,7 +125,7 @@ def wrong_from(heard, place):
     try:
         walk_body(Walk(heard, place))
     except Wrong as wrong:
-        return str(wrong)
+        return wrong.reason
     return None
 
 
@@ -100,13 +148,12 @@ def stands_alone(heard, place):
 
 
 def missed(heard, begin, end):
-    """The misses between `begin`, where a message stopped, and `end`: the line of each, and the header that is heard there, None if it
-    is not whole. What stands before `begin` does not count."""
+    """The misses between `begin`, where a message stopped, and `end`. What stands before `begin` does not count."""
     for place in range(begin + 1, end):
         if heard[place - 1] != PREAMBLE or heard[place] == PREAMBLE:
             continue
         reason = wrong_from(heard, place)
         if place - 2 < begin or heard[place - 2] != PREAMBLE:
-            reason = "only one 0xFF stands before it" if stands_alone(heard, place) else None
+            reason = ONE_PREAMBLE if stands_alone(heard, place) else None
         if reason is not None:
-            yield f"{place}: no message: {reason}", header_from(heard, place)
+            yield Miss(place, reason, header_from(heard, place))

@@ -8,6 +8,17 @@ CODES = (1, 2, 3, 4, 5, 6, 7, 8, 9, 10, 11, 12, 13, 14, 16, 32, 33, 34, 35, 36, 
 FAULT_BYTES = (0x80, 0x81, 0x82, 0x84, 0x85, 0x88, 0x90, 0xA0, 0xC0, 0xE8, 0xFA, 0xFF)
 STATUS_BYTES = (0x00, 0x00, 0x40, 0x48, 0x60, 0x80, 0x10, 0x08, 0x04, 0x02, 0x01, 0xFF)
 MOST_REPLY_DATA = 253
+LONG_TAG_BYTES = 32
+LATIN = b' "\\/\'ABab09~\xa0\xad\xb0\xe9\xff'
+UNPRINTABLE = b"\x00\x09\x0a\x1f\x7f\x80\x85\x9f"
+
+
+def latin_text(rng):
+    """A long tag with quotes and backslashes, sometimes with a character that cannot be printed."""
+    text = rng.choices(LATIN, k=LONG_TAG_BYTES)
+    if rng.random() < 0.2:
+        text[rng.randrange(LONG_TAG_BYTES)] = rng.choice(UNPRINTABLE)
+    return bytes(text)
 
 
 def request_data(rng, command):
@@ -21,6 +32,8 @@ def request_data(rng, command):
         return heard.random_bytes(rng, rng.randrange(11))
     if command == 38:
         return heard.random_bytes(rng, rng.randrange(4))
+    if command in (21, 22) and rng.random() < 0.5:
+        return latin_text(rng) + heard.random_bytes(rng, rng.choice((0, 0, 1)))
     return heard.random_data(rng, command)
 
 
@@ -40,6 +53,8 @@ def reply_data(rng, command):
     data = heard.random_bytes(rng, reply_size(rng, command))
     if command in (13, 18):
         data = data[:18] + heard.random_date(rng)
+    if command in (20, 22) and rng.random() < 0.7:
+        data = latin_text(rng)
     if command in IDENTITY_COMMANDS and rng.random() < 0.8:
         data = bytes([IDENTITY_FIRST]) + data[1:]
     more = heard.random_bytes(rng, rng.choice((1, 1, 2, 4, 5, 8, 30)))

@@ -1,7 +1,5 @@
 """Makes a failing input smaller, as long as it fails."""
 
-from .texts import Given
-
 MOST_TRIES = 2000
 
 
@@ -32,24 +30,27 @@ class Shrinker:
         return parts
 
     def given(self, given):
-        """The smallest words and text that were found."""
-        words = self.words(given.words, given.text)
-        return Given(words, given.text if given.text is None else self.text(words, given.text))
+        """The smallest words and text that were found, without portions if they are not needed."""
+        whole = given._replace(portions=())
+        if given.portions and self.still_fails(whole):
+            given = whole
+        given = given._replace(words=self.words(given))
+        return given if given.text is None else given._replace(text=self.text(given))
 
-    def text(self, words, text):
+    def text(self, given):
         """The smallest text that was found: first lines are dropped, then bytes."""
         def with_parts(parts):
-            return Given(words, b"".join(parts))
-        lines = self.dropped(text.splitlines(keepends=True), with_parts)
+            return given._replace(text=b"".join(parts))
+        lines = self.dropped(given.text.splitlines(keepends=True), with_parts)
         letters = [bytes([byte]) for byte in b"".join(lines)]
         return b"".join(self.dropped(letters, with_parts))
 
-    def words(self, words, text):
+    def words(self, given):
         """The smallest list of words that was found: first words are dropped, then bytes of each."""
-        words = self.dropped(list(words), lambda left: Given(left, text))
+        words = self.dropped(list(given.words), lambda left: given._replace(words=left))
         for number, word in enumerate(words):
             def with_word(letters, number=number):
-                return Given(words[:number] + [b"".join(letters)] + words[number + 1:], text)
+                return given._replace(words=words[:number] + [b"".join(letters)] + words[number + 1:])
             letters = self.dropped([bytes([byte]) for byte in word], with_word)
             words = with_word(letters).words
         return words

@@ -28,10 +28,14 @@ DECIMAL_DIGITS = re.compile(rb"[0-9]+")
 
 
 class Given(NamedTuple):
-    """What a call is given: the words after its name, and the text that it may read. With None every read fails."""
+    """What a call is given: the words after its name, and the text that it may read. With None every read fails.
+
+    With portions the text comes through a pipe that gives so many bytes at a time, over and over.
+    """
 
     words: list
     text: bytes | None
+    portions: tuple = ()
 
 
 class Result(NamedTuple):
