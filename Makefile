@@ -6,6 +6,7 @@
 #   make test                 proves every crate and runs every test and script, without the wrong bodies
 #   make mistakes             tries the wrong bodies of crates/NAME/mistakes in batches
 #   make mistakes-table       tries all wrong bodies, and writes the table of docs/WRONG_BODIES.md
+#   make definitions          tries the wrong definitions, after a change to a definition; not part of make check
 #   make refused-growths      refuses each allocation of ./hart and of each call in turn
 #   make runs                 runs ./hart on rows of words and inputs, with reads and writes cut short
 #   make streams              runs ./hart on streams that fail, and compares its help texts
@@ -28,7 +29,7 @@ TESTS := crates/hart_tests/out/hart_tests_tests
 GUIDE := docs/GUIDE.md docs/COMMANDS.md docs/WIRE.md docs/FORMATS.md docs/explained.txt docs/worked.txt docs/vectors.tsv
 SOURCES := crates.txt $(shell find crates -name out -prune -o \( -name '*.rt' -o -name '*.antt' \) -print)
 
-.PHONY: all quick check test mistakes mistakes-table runs refused-growths streams examples vectors manual held-view links library library-examples fuzz bench install install-library clean
+.PHONY: all quick check test mistakes mistakes-table definitions runs refused-growths streams examples vectors manual held-view links library library-examples fuzz bench install install-library clean
 
 all: hart
 
@@ -66,6 +67,10 @@ mistakes:
 
 mistakes-table:
 	python3 tools/mistakes.py --table
+
+definitions:
+	python3 tools/mistakes.py --definitions --table
+	python3 tools/mistakes.py --definitions --can-fail
 
 held-view:
 	sh tools/held-view.sh

@@ -2,12 +2,15 @@
 """Tries wrong bodies in batches: each has to be refused at a goal of the function that it changes.
 
 Usage: tools/mistakes.py [--gate FOLDER] [--table] [CRATE | MISTAKE ..]
-       tools/mistakes.py --can-fail
+       tools/mistakes.py [--definitions] --can-fail
+       tools/mistakes.py --definitions [--untried] [--table] [CRATE | FILE.DEFINITION ..]
 
 Without names it tries all of `crates/NAME/mistakes/`, and then holds the table of docs/WRONG_BODIES.md against what it saw.
 `--table` tries those of `must-fail/` too, which the gate tries one by one, and writes the table. `--gate` is for a run right after
 the gate: it takes the libraries that the gate has built, and the folder has what it proved of each crate. `--can-fail` shows that
-edits that are no mistakes make a run fail.
+edits that are no mistakes make a run fail. `--definitions` tries wrong variants of definitions instead, and with `--untried` only
+those of which the page does not say where they are refused. With `--can-fail` it shows that a variant that says the same and a
+definition without a variant make a run fail.
 """
 
 import argparse
@@ -15,7 +18,7 @@ import os
 import sys
 from concurrent.futures import ThreadPoolExecutor, as_completed
 
-from mistakes import planted, table
+from mistakes import definitions, planted, table
 from mistakes.edits import BadEdit, batches_of, edits_of, mistake_of, texts_of
 from kit import Kit
 from mistakes.verdicts import Verdict, verdict_of
@@ -104,11 +107,15 @@ def main():
     parser.add_argument("--gate", metavar="FOLDER", help="take the libraries that the gate has just built, and what it proved")
     parser.add_argument("--table", action="store_true", help="write the table of docs/WRONG_BODIES.md")
     parser.add_argument("--can-fail", action="store_true", help="show that a run fails by edits that are no mistakes")
+    parser.add_argument("--definitions", action="store_true", help="try the wrong variants of definitions instead")
+    parser.add_argument("--untried", action="store_true", help="of these only those of which the page does not say where they are refused")
     parser.add_argument("names", nargs="*", metavar="CRATE | MISTAKE")
     words = parser.parse_args()
     kit = Kit(words.gate)
     if words.can_fail:
-        sys.exit(planted.run(kit, judged, mistakes_of))
+        sys.exit(planted.run_definitions(kit) if words.definitions else planted.run(kit, judged, mistakes_of))
+    if words.definitions:
+        sys.exit(definitions.run(kit, words))
     rows, failed = [], []
     for edit, functions, verdict in tried(kit, chosen_edits(kit, words), bool(words.gate)):
         name = f"{os.path.basename(edit.crate)}/{edit.name}"

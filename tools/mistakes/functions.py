@@ -61,15 +61,17 @@ def owner_of(head, module, modules):
     trait, is_for, of = head.partition(" for ")
     if is_for:
         return joined(module, with_given(of, free) + with_given(trait, free))
-    return joined(modules.get(bare(head), module), bare(head))
+    declared = modules.get(bare(head), [module])
+    return joined(module if module in declared else declared[0], bare(head))
 
 
 def modules_of_types(crate):
-    """The module in which each type of the crate is declared, by the type's name."""
+    """The modules in which types of the crate are declared, by the types' names. Two modules may each have a type of the same name."""
     found = {}
     for file in source_files(crate):
         with open(f"{crate}/{file}", encoding="utf-8") as it:
-            found.update({name: module_of(file) for name in DECLARED.findall(it.read())})
+            for name in DECLARED.findall(it.read()):
+                found.setdefault(name, []).append(module_of(file))
     return found
 
 

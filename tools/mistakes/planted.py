@@ -1,8 +1,10 @@
-"""Shows that a run can fail: edits of hart_values that are no mistakes, and a mistake under a contract that was made weak."""
+"""Shows that a run can fail: edits of hart_values that are no mistakes, a mistake under a contract that was made weak, a definition in
+other words, and a definition without a variant."""
 
 import re
 from typing import NamedTuple
 
+from mistakes import definitions
 from mistakes.edits import read_edit, texts_of
 from mistakes.verdicts import verdict_of
 
@@ -55,6 +57,8 @@ UNREAD = (
 )
 # The first clause of `len` says the length. This says half of what it says, and the mistake halves it.
 WEAKENED = ("src/byte_list.rt", "ensures value { result ≡ length self.now }", "ensures value { result ≤ length self.now }")
+# A variant that says what the definition says, so that no proof refuses it.
+SAME_DEFINITION = ("EachMaster.with_master", "primary = a; secondary = each.secondary", "secondary = each.secondary; primary = a")
 
 
 def edit_of(crate, planted):
@@ -95,3 +99,20 @@ def run(kit, judged, mistakes_of):
     wrong = sum(it is not None for it in found) + lacking
     print(f"mistakes: of {len(by_name) + 1} planted edits {wrong} had another verdict than they must have")
     return 1 if wrong else 0
+
+
+def run_definitions(kit):
+    """Plants a variant that says the same, and takes a variant away. Returns 0 if a run would fail by each."""
+    name, old, new = SAME_DEFINITION
+    table = {**definitions.rows(), (CRATE, name): (old, new)}
+    variants, wrong = definitions.variants_of(kit.crates[CRATE], table)
+    if wrong:
+        raise SystemExit(f"definitions: {wrong[0]}: mend the planted variant")
+    same = definitions.try_alone(definitions.Crate(kit, CRATE, variants), name)
+    del table[CRATE, name]
+    _, lacking = definitions.variants_of(kit.crates[CRATE], table)
+    print(f"planted variant that says the same: {'refused at ' + same.refused_at[0] if same.refused_at else same.why}")
+    print(f"planted definition without a variant: {lacking[0] if lacking else 'nothing is told'}")
+    found = [same.why == "its crate is still proved", lacking == [f"{CRATE}/{name}: it has no variant"]]
+    print(f"definitions: of 2 planted faults {found.count(False)} were not told")
+    return 0 if all(found) else 1

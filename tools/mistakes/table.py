@@ -9,6 +9,10 @@ from mistakes.verdicts import Verdict
 
 PAGE = f"{ROOT}/docs/WRONG_BODIES.md"
 START = "<!-- `make mistakes-table` writes from here on. -->"
+AFTER = "\n## Wrong definitions\n"
+DEFINITIONS = "<!-- `python3 tools/mistakes.py --definitions --table` writes from here on. -->"
+CRATES = ("values", "frame", "commands", "device", "master", "text", "line", "c", "cli")
+HEADING = "### Definitions of "
 WIDTH = 3
 
 
@@ -39,24 +43,72 @@ def lines_of(rows):
     return found
 
 
-def ordered(rows, crates=("values", "frame", "commands", "device", "master", "line", "c", "cli")):
-    return sorted(rows, key=lambda it: (crates.index(it.crate().removeprefix("hart_")), it.edit.name))
+def place_of(crate):
+    return CRATES.index(crate.removeprefix("hart_"))
 
 
-def text_before(page):
-    before, start, _ = page.partition(START)
-    if not start:
-        raise SystemExit(f"mistakes: {PAGE} lacks the line {START}")
+def ordered(rows):
+    return sorted(rows, key=lambda it: (place_of(it.crate()), it.edit.name))
+
+
+def text_before(page, start):
+    before, found, _ = page.partition(start)
+    if not found:
+        raise SystemExit(f"mistakes: {PAGE} lacks the line {start}")
     return before
 
 
 def write(rows):
     """Writes the table of these rows into the page. Nothing fails by it."""
     with open(PAGE, encoding="utf-8") as it:
-        before = text_before(it.read())
+        page = it.read()
+    _, head, after = page.partition(AFTER)
     with open(PAGE, "w", encoding="utf-8") as it:
-        it.write("\n".join([before + START, *lines_of(ordered(rows)), ""]))
+        it.write("\n".join([text_before(page, START) + START, *lines_of(ordered(rows)), ""]) + head + after)
     return []
+
+
+def place_words(place):
+    """The words of a function that refuses a variant, or of a lemma and its file."""
+    return " of ".join(f"`{it}`" for it in place.split(" of "))
+
+
+def definition_cells(variant):
+    """The cells of a variant of a definition but for the last, which says what refused it."""
+    new = f"`{variant.new}`" if variant.new else "nothing"
+    return f"| `{variant.name}` | `{variant.old}` | {new} |"
+
+
+def definition_line(tried):
+    """The line of a variant of a definition that was tried."""
+    refused_at = list(map(place_words, tried.refused_at))
+    more = [f"{len(refused_at) - WIDTH} more"] if len(refused_at) > WIDTH else []
+    return f"{definition_cells(tried.variant)} {', '.join(refused_at[:WIDTH] + more) or f'nothing: {tried.why}'} |"
+
+
+def definition_lines():
+    """The lines of the page for variants of definitions, by crate and cells but for the last."""
+    found, crate = {}, ""
+    with open(PAGE, encoding="utf-8") as it:
+        for line in it.read().partition(DEFINITIONS)[2].split("\n"):
+            crate = line.removeprefix(HEADING) if line.startswith(HEADING) else crate
+            if line.startswith("| `"):
+                found[crate, line[: line.rindex(" | ") + 2]] = line
+    return found
+
+
+def write_definitions(tried, every):
+    """Writes the table of every variant of a definition to the end of the page. One that was not tried keeps its line."""
+    said, lines = definition_lines(), []
+    new = {(it.crate, definition_cells(it.variant)): definition_line(it) for it in tried}
+    for crate in sorted({it for it, _ in every}, key=place_of):
+        cells = [definition_cells(it) for at, it in every if at == crate]
+        rows = [new.get((crate, it)) or said.get((crate, it)) or f"{it} not tried yet |" for it in cells]
+        lines += ["", f"{HEADING}{crate}", "", "| Definition | Is | Becomes | Refused at |", "|---|---|---|---|", *sorted(rows)]
+    with open(PAGE, encoding="utf-8") as it:
+        before = text_before(it.read(), DEFINITIONS)
+    with open(PAGE, "w", encoding="utf-8") as it:
+        it.write("\n".join([before + DEFINITIONS, *lines, ""]))
 
 
 def lines_by_mistake():
