@@ -1,10 +1,10 @@
 #!/usr/bin/env python3
 """Measures `hart explain` on inputs of the largest size. It asserts no time.
 
-Prints for each input characters a second, the ratio of its time to that of `hart dump` over the same text, and the size of what it
-writes beside what `hart dump` does. Each time is the best of several runs of the whole program, from its start to its end, with its
-output thrown away. Beside it stand the instructions for each byte of the text, by valgrind where it is there, and how they grow from
-the first 64 KiB to the whole.
+Prints for each input, for `hart explain` and for `hart explain --json`, characters a second, the ratio of its time to that of `hart
+dump` over the same text, and the size of what it writes beside what `hart dump` does. Each time is the best of several runs of the
+whole program, from its start to its end, with its output thrown away. Beside it stand the instructions for each byte of the text, by
+valgrind where it is there, and how they grow from the first 64 KiB to the whole.
 
 Usage: bench/explain.py [PROGRAM [RUNS]]; PROGRAM is ./hart, RUNS 15.
 """
@@ -24,13 +24,16 @@ def written(command, text):
 def main():
     program = sys.argv[1] if len(sys.argv) > 1 else "./hart"
     runs = int(sys.argv[2]) if len(sys.argv) > 2 else 15
-    explain, dump = [program, "explain"], [program, "dump"]
+    dump = [program, "dump"]
     for name, characters in inputs(SPACED).items():
         text = spaced(characters)
-        seconds = best_time(explain, text, runs)
         dumped = best_time(dump, text, runs)
-        print(f"{name}: {SPACED / seconds / 1e6:.1f} million characters a second, {seconds / dumped:.2f} of the time of hart dump, "
-              f"writes {written(explain, text)} bytes, hart dump {written(dump, text)}; {counted(explain, text)}")
+        for words in (["explain"], ["explain", "--json"]):
+            call = [program, *words]
+            seconds = best_time(call, text, runs)
+            print(f"{' '.join(words)}, {name}: {SPACED / seconds / 1e6:.1f} million characters a second, "
+                  f"{seconds / dumped:.2f} of the time of hart dump, writes {written(call, text)} bytes, "
+                  f"hart dump {written(dump, text)}; {counted(call, text)}")
 
 
 if __name__ == "__main__":
