@@ -2,7 +2,8 @@
 """Tries `tools/hart-listen` on a pseudo-terminal: what it hears at the pace of a line has to be explained in time.
 
 Characters go to the pseudo-terminal at 1200 baud. `hart explain` has to say each message at most 0.2 s after its last character, and
-each cut message at most 0.2 s after the silence behind it, each with a time of day. Then the port goes away.
+each cut message at most 0.2 s after the silence behind it, each with a time of day. Then the port goes away. All this happens once more
+with `hart explain --json`.
 
 Usage: tools/listen.py PROGRAM
 """
@@ -26,13 +27,20 @@ SILENCE = 0.050
 LATE = 0.2
 REQUEST = bytes.fromhex("FFFFFFFFFF82B7420A1B2C1303012345 3D")
 CUT = REQUEST[:-3]
-# The time of day before each line.
-TIME = r"\d\d:[0-5]\d:[0-5]\d\.\d\d "
-# What is heard, what the first line then says, and how long it may take after the last character.
-ROWS = (
-    (REQUEST, TIME + r"5-17: request of the primary master", LATE),
-    (CUT, TIME + r"22: no message: it lacks 3 characters", SILENCE + LATE),
-    (REQUEST, TIME + r"36-48: request of the primary master", LATE),
+# The time of day of each line.
+TIME = r"\d\d:[0-5]\d:[0-5]\d\.\d\d"
+# What is heard, and how long an explanation may take after the last character.
+HEARD = ((REQUEST, LATE), (CUT, SILENCE + LATE), (REQUEST, LATE))
+# The words of each call, and what the first line then says each time.
+CALLS = (
+    (["explain"], (
+        TIME + r" 5-17: request of the primary master",
+        TIME + r" 22: no message: it lacks 3 characters",
+        TIME + r" 36-48: request of the primary master")),
+    (["explain", "--json"], (
+        r'{"type":"message","time":"' + TIME + r'","start":5,"stop":17,.*,"sending":1}\n',
+        r'{"type":"miss","time":"' + TIME + r'","place":22,"reason":"missing","count":3,',
+        r'{"type":"message","time":"' + TIME + r'","start":36,"stop":48,.*,"sending":2}\n')),
 )
 # What a port with marks delivers, in the pieces in which it comes, and the items of each piece.
 READINGS = (
@@ -91,8 +99,8 @@ def drop_rest(output):
         os.read(output.fileno(), 65536)
 
 
-def try_rows(port, output):
-    for number, (heard, wanted, limit) in enumerate(ROWS, start=1):
+def try_rows(port, output, lines):
+    for number, ((heard, limit), wanted) in enumerate(zip(HEARD, lines), start=1):
         ended = play(port, heard)
         line = first_line(output, limit)
         if line is None:
@@ -103,25 +111,30 @@ def try_rows(port, output):
         drop_rest(output)
 
 
-def main():
-    parser = argparse.ArgumentParser()
-    parser.add_argument("program")
-    program = parser.parse_args().program
-    try_readings()
+def try_call(call, lines):
     port, terminal = os.openpty()
     tty.setraw(terminal)
     heard = subprocess.Popen([LISTENER, os.ttyname(terminal)], stdout=subprocess.PIPE, stderr=subprocess.PIPE, text=True)
-    said = subprocess.Popen([program, "explain"], stdin=heard.stdout, stdout=subprocess.PIPE)
+    said = subprocess.Popen(call, stdin=heard.stdout, stdout=subprocess.PIPE)
     heard.stdout.close()
     time.sleep(0.5)
     os.close(terminal)
-    try_rows(port, said.stdout)
+    try_rows(port, said.stdout, lines)
     os.close(port)
     status, sentence = heard.wait(timeout=5), heard.stderr.read()
     if status != 1 or not sentence.endswith(" is gone\n"):
         fails(f"without a port it ends with {status} and {sentence!r}")
     if said.wait(timeout=5) != 0:
-        fails("hart explain did not end with 0")
+        fails(f"{' '.join(call)} did not end with 0")
+
+
+def main():
+    parser = argparse.ArgumentParser()
+    parser.add_argument("program")
+    program = parser.parse_args().program
+    try_readings()
+    for words, lines in CALLS:
+        try_call([program, *words], lines)
     print("listen: as wanted")
 
 

@@ -124,6 +124,12 @@ printf '\377\377\002\200\000\000\202' >"$work/input"
 sed -i 1q "$work/wanted"
 refuse_each 0 explain --raw
 
+# The same message as an object.
+cat >"$work/wanted" <<'TEXT'
+{"type":"message","start":2,"stop":7,"kind":"request","master":"primary","address":"@0","burst":false,"expansion":"","command":0,"command_name":"read unique identifier","data":"","fields":{},"ignored":"","problem":null,"sending":1}
+TEXT
+refuse_each 0 explain --raw --json
+
 # So many messages that they are read in 52 portions, and their lines written in more.
 messages=40000
 awk -v messages="$messages" 'BEGIN { while (messages--) print "FF FF 02 80 00 00 82" }' >"$work/input"
@@ -195,6 +201,8 @@ run 0
 dump 0 58
 explain 0 240
 explain_raw 0 0
+explain_json 0 518
+explain_raw_json 0 0
 answer 0 102
 answer with an image 0 102
 serve 0 102
@@ -219,8 +227,8 @@ while refuse_by_name "$number"; do
     number=$((number + 1))
 done
 
-# How many growths each call has, and what it answers and how many bytes it has written if one of them is refused. `dump`, `explain`,
-# `explain_raw`, `encode_text` and `request` have none.
+# How many growths each call has, and what it answers and how many bytes it has written if one of them is refused. `dump`, the four
+# calls of `explain`, `encode_text` and `request` have none.
 cat >"$work/growths" <<'GROWTHS'
 2 answer 7 0
 3 answer with an image 7 0

@@ -17,40 +17,13 @@ from typing import NamedTuple
 sys.dont_write_bytecode = True
 
 from fuzz import worked  # noqa: E402
-from rows import answer, dump, encode, explain, images, items, request, serve, sim, words  # noqa: E402
+from rows import answer, dump, encode, explain, images, items, objects, request, serve, sim, words  # noqa: E402
+from rows.calls import CALLS, DONE, FAULT, IDENTIFY, NO_CALL, REFUSALS, WITHOUT_END  # noqa: E402
 
-DONE, FAULT, NO_CALL = 0, 1, 2
 INPUT_LIMIT = 1_048_576
-
-# A request for the identity, as it is heard.
-IDENTIFY = "FF FF 02 80 00 00 82"
-
-# The words of each call, an input, and what it writes if it reads that.
-CALLS = (
-    (["answer"], IDENTIFY, answer.REPLY_TO_PRIMARY),
-    (["dump"], dump.TWO_MESSAGES, dump.TWO_LINES),
-    (["explain"], IDENTIFY, explain.IDENTIFY),
-    (["explain", "--raw"], bytes.fromhex(IDENTIFY), explain.IDENTIFY),
-    (["serve"], serve.LINES, serve.SAID),
-    (["sim"], "turn P ok ok", sim.AS_IT_WAS),
-    (["encode", "P", "@0", "0"], "", encode.IDENTIFY),
-)
 
 # How many bytes a read returns at most. The numbers from 4 to 8 cut the second item of `FF FF!40` after each of its bytes.
 PORTIONS = (1, 2, 3, 4, 5, 6, 7, 8, 100)
-
-# A word with which the program refuses the input `!`, and the status.
-REFUSALS = (("answer", FAULT), ("dump", FAULT), ("explain", FAULT), ("sim", FAULT), ("frob", NO_CALL))
-
-# A subcommand, what it reads before endless spaces, and what it writes.
-WITHOUT_END = (
-    ("answer", "", ""),
-    ("answer", IDENTIFY + " ", ""),
-    ("dump", "", ""),
-    ("dump", IDENTIFY + " ", dump.FIRST_LINE),
-    ("sim", "", ""),
-    ("sim", "turn P ok ok\n", ""),
-)
 
 # Sizes of inputs, of which the last is the largest that is taken.
 SIZES = (255, 256, 1000, 1001, 4095, 4096, 4097, 65_536, INPUT_LIMIT)
@@ -156,6 +129,13 @@ def raw_bytes_are_said_in_words(runner):
     runner.check_rows(["explain", "--raw"], explain.RAW_FAILED_READS, "failure")
 
 
+def what_was_heard_is_written_as_objects(runner):
+    runner.check_rows(["explain", "--json"], objects.ROWS)
+    runner.check_rows(["explain", "--json"], objects.FAILED_READS, "failure")
+    for call in (["explain", "--raw", "--json"], ["explain", "--json", "--raw"]):
+        runner.check_rows(call, objects.RAW_ROWS)
+
+
 def scripts_are_carried_out(runner):
     runner.check_rows(["sim"], sim.ROWS)
 
@@ -207,7 +187,9 @@ def inputs_up_to_the_largest_are_taken(runner):
 
 
 def an_explanation_has_no_such_limit(runner):
-    runner.serves(["explain"], " " * (2 * INPUT_LIMIT) + IDENTIFY, explain.IDENTIFY)
+    text = " " * (2 * INPUT_LIMIT) + IDENTIFY
+    runner.serves(["explain"], text, explain.IDENTIFY)
+    runner.serves(["explain", "--json"], text, objects.IDENTIFY)
 
 
 def words_give_a_message_or_the_first_bad_one(runner):
@@ -306,11 +288,18 @@ def a_failed_write_of_errors_leaves_the_status(runner):
 
 
 def lines_are_written_before_more_is_read(runner):
-    for word, rows in (("dump", dump.FAILED_WRITES), ("explain", explain.FAILED_WRITES)):
+    calls = (
+        (["dump"], dump.FAILED_WRITES),
+        (["explain"], explain.FAILED_WRITES),
+        (["explain", "--json"], objects.FAILED_WRITES),
+        (["explain", "--raw"], explain.RAW_FAILED_WRITES),
+        (["explain", "--raw", "--json"], objects.RAW_FAILED_WRITES),
+    )
+    for call, rows in calls:
         for text, most_read, most_written, write, reads, wanted in rows:
-            run = runner.run([word], text, most_read=most_read, most_written=most_written, failed_output=write)
+            run = runner.run(call, text, most_read=most_read, most_written=most_written, failed_output=write)
             is_named = run.gave(FAULT, wanted, "write fault\n") and (run.reads, run.writes) == (reads, write + 1)
-            runner.hold(is_named, [word], f"at write {write} on {text}: {run}")
+            runner.hold(is_named, call, f"at write {write} on {text}: {run}")
 
 
 def worked_calls_end_as_shown(runner):
@@ -332,11 +321,11 @@ def worked_calls_write_before_they_read_on(runner):
 
 
 def nothing_is_read_after_the_end(runner):
-    for word, rows in (("dump", dump.READS), ("explain", explain.READS)):
+    for call, rows in ((["dump"], dump.READS), (["explain"], explain.READS), (["explain", "--json"], objects.READS)):
         for text, after, most_read, fault, reads, writes, wanted in rows:
-            run = runner.run([word], text, most_read=most_read, after=after)
+            run = runner.run(call, text, most_read=most_read, after=after)
             is_no_more = run.gave(FAULT if fault else DONE, wanted, fault) and (run.reads, run.writes) == (reads, writes)
-            runner.hold(is_no_more, [word], f"on {text}, {most_read} a read: {run}")
+            runner.hold(is_no_more, call, f"on {text}, {most_read} a read: {run}")
 
 
 def inputs_are_read_up_to_the_limit(runner):
@@ -359,6 +348,8 @@ CHECKS = (
     every_command_is_answered_where_it_comes_alone,
     frames_in_noise_have_a_line_each,
     what_was_heard_is_said_in_words,
+    raw_bytes_are_said_in_words,
+    what_was_heard_is_written_as_objects,
     scripts_are_carried_out,
     lines_are_served_in_turn,
     a_line_is_served_before_more_is_read,

@@ -1,7 +1,7 @@
 #!/bin/sh
 # Runs the built program on what no contract speaks of. It has to report streams and words of the system that fail: a full device,
-# an unreadable input, a word that is not UTF-8. For example, with a buffered standard output `hart dump >/dev/full` would end with
-# 0, although every proof is done and every test passes. On a pipe that stays open `hart dump` has to write each line before it
+# an unreadable input, a word that is not UTF-8. For example, if standard output were buffered, `hart dump >/dev/full` would wrongly
+# report success, and no proof or test would notice. On a pipe that stays open `hart dump` has to write each line before it
 # reads on, and to end at bad hex. All words have to reach the call, even a seventh one and an empty one, and the texts of clap have
 # to be those in tools/texts, each in its place.
 #
@@ -69,10 +69,10 @@ shows() {
     echo "hart $*: showed $wanted"
 }
 
-# Runs hart with this word on a pipe that stays open.
+# Runs hart with these words on a pipe that stays open.
 begins() {
-    word=$1
-    timeout 60 "$program" "$word" <"$work/heard" >"$work/lines" 2>"$work/errors" &
+    word=$*
+    timeout 60 "$program" "$@" <"$work/heard" >"$work/lines" 2>"$work/errors" &
     running=$!
     exec 3>"$work/heard" 4<"$work/lines"
 }
@@ -80,6 +80,19 @@ begins() {
 # Gives a text to the hart that runs: it has to write this line, or these lines, though it could read on.
 says_at_once() {
     printf '%s' "$1" >&3
+    has_said "$1" "$2"
+}
+
+# Like `says_at_once`, with a write for each byte.
+says_byte_by_byte() {
+    printf '%s' "$1" | sed 's/./&\n/g' | while IFS= read -r byte; do
+        printf '%s' "$byte" >&3
+    done
+    has_said "$1" "$2"
+}
+
+# The hart that runs has to have written this line, or these lines, at a text.
+has_said() {
     lines=$(timeout 60 head -n "$(printf '%s\n' "$2" | wc -l)" <&4) || true
     if [ "$lines" != "$2" ]; then
         echo "hart $word: '$lines' at '$1' on an open pipe, but '$2' is wanted" >&2
@@ -124,6 +137,20 @@ says_at_once '00!40 ' '31: no message: the character at 38 has the fault bits 0x
     seems: request of the primary master to device 37420A1B2C, Command 19, write final assembly number'
 ends_at_bad_hex 91
 
+begins explain --json
+identified='"address":"@0","burst":false,"expansion":"","command":0,"command_name":"read unique identifier"'
+identified=$identified',"data":"","fields":{},"ignored":"","problem":null'
+of_primary='"kind":"request","master":"primary"'
+seems_write="{$of_primary,\"address\":\"37420A1B2C\",\"command\":19,\"command_name\":\"write final assembly number\"}"
+says_byte_by_byte 'FF FF 02 80 00 00 82 ' "{\"type\":\"message\",\"start\":2,\"stop\":7,$of_primary,$identified,\"sending\":1}"
+says_byte_by_byte '@12:00:01 FF FF 02 80 00 00 82/' \
+    "{\"type\":\"message\",\"time\":\"12:00:01\",\"start\":9,\"stop\":14,$of_primary,$identified,\"sending\":2}"
+says_byte_by_byte 'FFFF02/' '{"type":"miss","time":"12:00:01","place":16,"reason":"ends_before_byte_count","seems":null}'
+printf 'FFFF82B7420A1B2C13FFFFFFFFFFFF0280000082' >&3
+says_byte_by_byte '00!40 ' '{"type":"miss","time":"12:00:01","place":19,"reason":"faulty","at":37,"faults":"40","seems":'"$seems_write}
+{\"type\":\"message\",\"time\":\"12:00:01\",\"start\":32,\"stop\":37,$of_primary,$identified,\"sending\":3}"
+ends_at_bad_hex 105
+
 # A serving device answers each line with a line before it reads on, and stays the same device all the time.
 mkfifo "$work/asked" "$work/said"
 timeout 60 "$program" serve <"$work/asked" >"$work/said" 2>"$work/errors" &
@@ -155,12 +182,15 @@ echo "hart serve: said a line for each line on an open pipe, and ended with 0"
 
 ends_with 1 'write fault' /dev/full dump <"$request"
 ends_with 1 'write fault' /dev/full explain <"$request"
+ends_with 1 'write fault' /dev/full explain --json <"$request"
 ends_with 1 'write fault' /dev/full answer <"$request"
 ends_with 1 'write fault' /dev/full serve <"$request"
 ends_with 1 'write fault' /dev/full sim </dev/null
 ends_with 1 'write fault' /dev/full encode P @0 0 </dev/null
 ends_with 1 'read fault' "$work/output" dump <"$work"
 ends_with 1 'read fault' "$work/output" explain <"$work"
+ends_with 1 'read fault' "$work/output" explain --json <"$work"
+ends_with 1 'read fault' "$work/output" explain --raw --json <"$work"
 ends_with 1 'read fault' "$work/output" answer <"$work"
 ends_with 1 'read fault' "$work/output" serve <"$work"
 ends_with 1 'read fault' "$work/output" sim <"$work"
@@ -206,6 +236,30 @@ for word in dump answer sim; do
 done
 heard=$work/longer
 writes '' explain
+writes '' explain --json
+
+# `hart explain` needs no more memory for a longer input: with 12 MB of address space it explains 16.8 MB of messages and misses.
+awk 'BEGIN { while (count++ < 400000) print "FF FF 02 80 00 00 82 FF FF 02 80 00 00 83" }' >"$work/long"
+
+# Explains them, with the words that follow the text: the last lines have to be this text.
+ends_long() {
+    text=$1
+    shift
+    shown=$(ulimit -v 12000 && "$program" "$@" <"$work/long" | tail -n "$(printf '%s\n' "$text" | wc -l)")
+    if [ "$shown" != "$text" ]; then
+        echo "hart $*: '$shown' at the end of a long input, but '$text' is wanted" >&2
+        exit 1
+    fi
+    echo "hart $*: explained a long input in little memory"
+}
+
+ends_long "5599988-5599993: $identify
+5599995: no message: the check byte is 0x83 at 5599999, and 0x82 would fit
+    seems: $identify" explain
+seems_identify="{$of_primary,\"address\":\"@0\",\"command\":0,\"command_name\":\"read unique identifier\"}"
+ends_long "{\"type\":\"message\",\"start\":5599988,\"stop\":5599993,$of_primary,$identified,\"sending\":400000}
+{\"type\":\"miss\",\"place\":5599995,\"reason\":\"bad_check\",\"at\":5599999,\"byte\":\"83\",\"fits\":\"82\",\"seems\":$seems_identify}" \
+    explain --json
 
 # Any number of preamble bytes is no frame, and the frame after them is found.
 head -c 100000 /dev/zero | tr '\0' '\377' | od -An -v -tx1 >"$work/preamble"

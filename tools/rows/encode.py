@@ -28,7 +28,7 @@ ROWS = (
     (["encode", "P", "all", "0", "7F" * 256], "", "bad word 4\n"),
 )
 
-# Four words, and the line of their request with 5 preamble bytes.
+# The four words of each request, and the line that `encode` writes for them with 5 preamble bytes.
 REQUESTS = (
     (["P", "@0", "0", ""], "FF FF FF FF FF 02 80 00 00 82\n"),
     (["S", "@07", "000", ""], "FF FF FF FF FF 02 07 00 00 05\n"),

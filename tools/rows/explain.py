@@ -258,7 +258,7 @@ RAW_ROWS = (
         "",
     ),
     (b"\xFF\xFF\x02\x80\x00\x00", "2: no message: it lacks 1 character, its check byte\n" + SEEMS_IDENTIFY, ""),
-    (b"0G!@/\xFF\xFF\x20", "7: no message: 0x20 is no delimiter\n", ""),
+    (b"0G!@/\xFF\xFF\x20", "7: no message: 0x20 is no delimiter of this profile\n", ""),
 )
 
 # An input of raw bytes that cannot be read further, what is said of it, and its fault.
@@ -289,6 +289,13 @@ FAILED_WRITES = (
     # A silence decides at once what is open.
     ("FF FF 82 B7/FF FF FF ", 1, None, 0, 12, ""),
     (IN_OPEN_BODY, 1, None, 0, 48, ""),
+)
+
+# The same of raw bytes.
+RAW_FAILED_WRITES = (
+    (bytes.fromhex(MESSAGES), 1, None, 0, 7, ""),
+    (bytes.fromhex(MESSAGES), 1, None, 1, 13, IDENTIFY),
+    (bytes.fromhex(MESSAGES), 7, None, 0, 1, ""),
 )
 
 # An input, what comes after it, and the most bytes of a read; then the line of the fault, the numbers of reads and writes, and what is
