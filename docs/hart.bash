@@ -5,7 +5,7 @@ _hart() {
     1:*) words='answer dump explain serve sim request encode help --help --version' ;;
     *:help) words='answer dump explain serve sim request encode help' ;;
     *:answer | *:serve | *:sim) words='--image --help' ;;
-    *:explain) words='--raw --help' ;;
+    *:explain) words='--raw --json --help' ;;
     *:encode | *:request) words='--preambles --help' ;;
     *) words='--help' ;;
     esac
