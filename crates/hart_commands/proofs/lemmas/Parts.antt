@@ -1,4 +1,4 @@
--- Lemmas about joined parts of data, and about lists that are written byte by byte.
+-- Lemmas about joined parts of data, and about lists spelled out byte by byte.
 use Rattle.std.proofs.Common.{◌≡◌, ℕ, ◌≤◌, zero, suc, List, [], ◌∷◌, ◌++◌, take, drop, length, map, refl, subst, arith, slice_index}
 use Rattle.std.proofs.Common.{ap, append-nil, sym}
 use Rattle.std.proofs.lemmas.Grind.{common_steps}
