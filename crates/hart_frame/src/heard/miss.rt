@@ -8,6 +8,8 @@ ghost use Rattle.hart_frame.specs.private.Prefix.{shown_by};
 ghost use Rattle.hart_frame.specs.heard.Place.{HasFrameAt, HasFrameUpTo};
 ghost use Rattle.hart_frame.specs.heard.Miss.{body_miss, delimiter_miss, faulty_or, follows_one_preamble, follows_preamble, miss_of};
 ghost use Rattle.hart_frame.specs.heard.Start.{IsStart};
+ghost use Rattle.hart_frame.specs.wire.Body.{BeginsWithBody};
+ghost use Rattle.hart_frame.specs.wire.FrameParts.{FrameParts};
 ghost use Rattle.hart_frame.specs.wire.Parity.{IsCheckByte};
 ghost use Rattle.hart_frame.specs.wire.Refusal.{IsRefusedWith};
 ghost use Rattle.hart_frame.specs.declared.wire.fault.FrameFault.{FrameFault};
@@ -203,11 +205,14 @@ pub fn misses_say_what_is_wrong()
 {}
 
 /// Where a body may start, the miss corresponds to the fault of the bytes from there to the first character with fault bits. So misses are
-/// found in the order of the faults of [`decode`](crate::decode).
+/// found in the order of the faults of [`decode`](crate::decode). A miss corresponds to no fault if these bytes begin with a body.
 pub fn misses_are_faults()
-    ensures { (start : ℕ) (chars : List Character) (miss : Miss) → All (λ character. character.byte < 256) chars
+    ensures refused { (start : ℕ) (chars : List Character) (miss : Miss) → All (λ character. character.byte < 256) chars
         → IsStart start chars → miss_of chars start ≡ Some miss
         → (fault : FrameFault) × (fault_of miss ≡ Some fault) × IsRefusedWith (faultless_bytes (drop start chars)) fault }
+    ensures whole { (start len : ℕ) (chars : List Character) (miss : Miss) (frame : FrameParts)
+        → All (λ character. character.byte < 256) chars → miss_of chars start ≡ Some miss
+        → BeginsWithBody (faultless_bytes (drop start chars)) frame len → fault_of miss ≡ None }
 {}
 
 /// `miss_of`, which goes step by step, finds exactly the misses that `IsMiss` describes, and a place has at most one miss. Where a body may

@@ -15,6 +15,8 @@ use Rattle.hart_frame.specs.heard.InTheWay.{ComeToTheEnd, HasFaultsAt, IsInTheWa
 use Rattle.hart_frame.specs.heard.Miss.{miss_in, body_miss, faulty_or, miss_of}
 use Rattle.hart_frame.specs.heard.Start.{IsStart}
 use Rattle.hart_frame.specs.private.Miss.{IsOfBytes}
+use Rattle.hart_frame.specs.wire.Body.{BeginsWithBody}
+use Rattle.hart_frame.specs.wire.FrameParts.{FrameParts}
 use Rattle.hart_frame.specs.wire.Layout.{body_length}
 use Rattle.hart_frame.specs.wire.Parity.{IsCheckByte}
 use Rattle.hart_frame.specs.wire.Refusal.{IsRefusedWith}
@@ -22,6 +24,7 @@ use Rattle.hart_frame.proofs.lemmas.heard.Front.{char_at, after_faultless, lengt
 use Rattle.hart_frame.proofs.lemmas.heard.Missed.{miss_of-some, miss_of-start}
 use Rattle.hart_frame.proofs.lemmas.heard.Place.{preamble, rest_at}
 use Rattle.hart_frame.proofs.lemmas.wire.Parity.{IsCheckByte-fold, fits-is, fits_at, odd}
+use Rattle.hart_frame.proofs.lemmas.wire.Refusal.{not_refused}
 
 -- Each byte before the first character with fault bits is heard at its place as a faultless character.
 heard_at : (chars : List Character) (start i place : ℕ) → place ≡ start + i → i < length (bytes_from chars start)
@@ -118,3 +121,12 @@ miss_is_fault start chars miss fit is miss_is =
     let way = (in_the_way start chars miss fit is).0 miss_is in
     let (fault, same) = has_fault miss (λ same. rw same at way) in
     (fault, same, refused_so (faultless_bytes heard) _ _ start miss fit (miss_of-start chars heard start refl is ∙ miss_is) fault same)
+
+-- A miss corresponds to no fault if a body begins at its place.
+pub whole_is_no_fault : (start : ℕ) (chars : List Character) (miss : Miss) (f : FrameParts) (len : ℕ) → IsOfBytes (drop start chars)
+    → miss_of chars start ≡ Some miss → BeginsWithBody (faultless_bytes (drop start chars)) f len → fault_of miss ≡ None
+whole_is_no_fault start chars OnePreamble f len fit told begins = refl
+whole_is_no_fault start chars miss f len fit told begins =
+    let (is, way) = way_of start chars miss (λ place byte fits same. fit) told (λ same. cc) in
+    let (fault, same, refused) = miss_is_fault start chars miss fit is told in
+    absurd (not_refused (faultless_bytes (drop start chars)) f len fault begins refused)
