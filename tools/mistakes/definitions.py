@@ -262,11 +262,11 @@ def try_alone(crate, name):
             return settled(crate, name, found, bad.get(name, ""))
         if not VERDICT.search(said):
             return settled(crate, name, (), f"no verdict: {said[-100:]}")
-    return settled(crate, name, (), "its crate is still proved")
+    return try_above(crate, name, "its crate is still proved")
 
 
-def try_above(crate, name):
-    """Plants a variant on which nothing of its crate rests, and checks functions of crates above whose contracts name the definition."""
+def try_above(crate, name, why="nothing rests on it"):
+    """Plants a variant that nothing of its crate refuses, and checks functions of crates above whose contracts name the definition."""
     word = name.partition(".")[2]
     for above in crate.kit.crates.values():
         if crate.name in [it.name for it in above.below()]:
@@ -276,7 +276,7 @@ def try_above(crate, name):
             found = [path for path, rest in FUNCTION.findall(said) if "`search` did not prove" in rest or rest.startswith("not proved")]
             if found:
                 return settled(crate, name, found)
-    return settled(crate, name, (), "nothing rests on it")
+    return settled(crate, name, (), why)
 
 
 def tried(crate):
