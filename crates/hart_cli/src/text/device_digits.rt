@@ -1,5 +1,6 @@
 //! The ten digits of a device.
 ghost use Rattle.std.specs.Prelude.{◌≡◌, ◌++◌, ◌+◌, ◌≤◌, length};
+ghost use Rattle.hex.specs.Hex.{encode_upper};
 ghost use Rattle.hart_cli.specs.text.DeviceDigits.{device_digits};
 
 use crate::text::hex_text::push_hex;
@@ -16,11 +17,14 @@ pub fn push_device_digits<const N: usize>(
     ensures digits { line.new ≡ line.old ++ device_digits device }
     ensures len { length line.new ≡ length line.old + 10 }
 {
+    push_hex(line, pairs, &device_bytes(device));
+}
+
+/// Returns the bytes whose digits are the ten of a device.
+pub fn device_bytes(device: UniqueAddress) -> [u8; 5]
+    ensures { encode_upper result ≡ device_digits device }
+{
     let [type_high, type_low] = device.expanded_type().to_be_bytes();
     let [_, id_high, id_middle, id_low] = device.device_id().to_be_bytes();
-    push_hex(
-        line,
-        pairs,
-        &[type_high, type_low, id_high, id_middle, id_low],
-    );
+    [type_high, type_low, id_high, id_middle, id_low]
 }

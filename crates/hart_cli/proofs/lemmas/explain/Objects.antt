@@ -5,10 +5,9 @@ use Rattle.std.proofs.KnownBytes.{Appends-nil}
 use Rattle.std.proofs.lemmas.Bool.Decides.{nat_tests}
 use Rattle.std.proofs.lemmas.Grind.{common_steps, flat_map-append}
 use Rattle.std.proofs.lemmas.List.{map-append}
-use Rattle.std.proofs.lemmas.List.Elements.{All-head, All-tail}
 use Rattle.std.proofs.lemmas.List.Folds.{list_all_at}
 use Rattle.std.specs.List.{flat_map, join_by}
-use Rattle.std.specs.Prelude.{◌&&◌, All, slice_index}
+use Rattle.std.specs.Prelude.{◌&&◌, slice_index}
 use Rattle.hex.specs.Hex.{encode_upper, encode_with, upper_digits}
 use Rattle.json.specs.Print.{escape, escape_byte}
 use Rattle.serde_json.specs.Data.{Data}
@@ -103,18 +102,6 @@ pub an_object : {W : Type 0} {stream : W → Stream} {a b c d e : Page W} (first
     → Adds stream a b (opening_words first.name) → Adds stream b c (compact_text first.value) → Adds stream c d (further_members others)
     → Adds stream d e (125 ∷ []) → Adds stream a e (compact_text (object_of (first ∷ others)))
 an_object first others o v m e = rw opened-is at (also (also (also o v) m) e)
-
--- a byte is not escaped
-abbrev pub IsPlain : ℕ → Type 0
-IsPlain byte = escape_byte byte ≡ byte ∷ []
-
--- a string of which no byte is escaped is not escaped
-pub escape-plain : (bytes : List ℕ) → All IsPlain bytes → escape bytes ≡ bytes
-escape-plain [] plain = refl
-escape-plain (byte ∷ bytes) plain =
-    let first = All-head IsPlain byte bytes plain in
-    let rest = escape-plain bytes (All-tail IsPlain byte bytes plain) in
-    grind arith
 
 -- whether a character is a hex digit or stands between two of them
 is_near_digit : ℕ → Bool

@@ -11,6 +11,7 @@ use crate::stream::Sink;
 
 /// Begins an object: adds a brace, and the name of the first member up to its value.
 #[tactic(auto, unfolding(crate::specs::explain::objects::Members::opening_words))]
+#[inline(always)]
 pub fn open_object<W: Sink>(page: &mut Page<'_, W>, name: &str)
     ensures { Adds W.stream page.old page.new (opening_words name.now) }
 {
@@ -21,6 +22,7 @@ pub fn open_object<W: Sink>(page: &mut Page<'_, W>, name: &str)
 
 /// Begins a further member of an object: adds a comma, and the name of the member up to its value.
 #[tactic(auto, unfolding(crate::specs::explain::objects::Members::key_words))]
+#[inline(always)]
 pub fn push_key<W: Sink>(page: &mut Page<'_, W>, name: &str)
     ensures { Adds W.stream page.old page.new (key_words name.now) }
 {
@@ -30,6 +32,7 @@ pub fn push_key<W: Sink>(page: &mut Page<'_, W>, name: &str)
 }
 
 /// Adds a further member that is a number.
+#[inline(always)]
 pub fn push_count<W: Sink>(page: &mut Page<'_, W>, name: &str, value: u64)
     ensures { Adds W.stream page.old page.new (further_member (record { name = name.now; value = count value })) }
 {
@@ -38,6 +41,7 @@ pub fn push_count<W: Sink>(page: &mut Page<'_, W>, name: &str, value: u64)
 }
 
 /// Adds a further member that is a string.
+#[inline(always)]
 pub fn push_string<W: Sink>(page: &mut Page<'_, W>, name: &str, value: &str)
     ensures { Adds W.stream page.old page.new (further_member (record { name = name.now; value = string value.now })) }
 {
@@ -46,6 +50,7 @@ pub fn push_string<W: Sink>(page: &mut Page<'_, W>, name: &str, value: &str)
 }
 
 /// Adds a further member that is a string of bytes in hex.
+#[inline(always)]
 pub fn push_hex<W: Sink>(page: &mut Page<'_, W>, name: &str, value: &[u8])
     ensures { Adds W.stream page.old page.new (further_member (record { name = name.now; value = hex value.now })) }
 {
@@ -54,6 +59,7 @@ pub fn push_hex<W: Sink>(page: &mut Page<'_, W>, name: &str, value: &[u8])
 }
 
 /// Adds a further member that is true or false.
+#[inline(always)]
 pub fn push_bool<W: Sink>(page: &mut Page<'_, W>, name: &str, value: bool)
     ensures { Adds W.stream page.old page.new (further_member (record { name = name.now; value = boolean value })) }
 {
@@ -66,6 +72,7 @@ pub fn push_bool<W: Sink>(page: &mut Page<'_, W>, name: &str, value: bool)
 }
 
 /// Adds a further member that is null.
+#[inline(always)]
 pub fn push_null<W: Sink>(page: &mut Page<'_, W>, name: &str)
     ensures { Adds W.stream page.old page.new (further_member (record { name = name.now; value = null })) }
 {
@@ -74,6 +81,7 @@ pub fn push_null<W: Sink>(page: &mut Page<'_, W>, name: &str)
 }
 
 /// Adds a further member that is a name, or null if there is no name.
+#[inline(always)]
 pub fn push_name<W: Sink>(page: &mut Page<'_, W>, name: &str, value: Option<&str>)
     ensures { Adds W.stream page.old page.new
         (further_member (record { name = name.now; value = name_or_null (option_map (λ name. name.now) value.entry) })) }
@@ -85,6 +93,7 @@ pub fn push_name<W: Sink>(page: &mut Page<'_, W>, name: &str, value: Option<&str
 }
 
 /// Adds a comma, if a member or a value stands before.
+#[inline(always)]
 pub fn push_comma<W: Sink>(page: &mut Page<'_, W>, later: bool)
     ensures { Adds W.stream page.old page.new (comma_if later) }
 {

@@ -13,9 +13,9 @@ ghost use Rattle.hart_cli.specs.explain.objects.Page.{Adds};
 
 use crate::calls::explain::objects::Before;
 use crate::calls::explain::objects::data::{push_reply, push_request};
-use crate::calls::explain::objects::header::{kind_name, push_command, push_ends};
+use crate::calls::explain::objects::header::{push_command, push_ends, push_kind};
 use crate::calls::explain::objects::members::{
-    open_object, push_bool, push_count, push_hex, push_key, push_null, push_string,
+    open_object, push_bool, push_count, push_hex, push_key, push_null,
 };
 use crate::calls::explain::objects::page::Page;
 use crate::calls::explain::objects::status::push_status;
@@ -60,7 +60,8 @@ pub fn push_time<W: Sink>(page: &mut Page<'_, W>, date: &[u8])
 fn push_frame<W: Sink>(page: &mut Page<'_, W>, frame: &FrameView<'_>)
     ensures { Adds W.stream page.old page.new (further_members (frame_members (parts_of frame.now))) }
 {
-    push_string(page, "kind", kind_name(frame.kind()));
+    push_key(page, "kind");
+    push_kind(page, frame.kind());
     push_ends(page, frame.master(), frame.address());
     push_bool(page, "burst", frame.burst());
     push_hex(page, "expansion", frame.expansion());

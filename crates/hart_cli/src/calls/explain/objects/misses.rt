@@ -10,7 +10,7 @@ ghost use Rattle.hart_cli.specs.explain.objects.Members.{further_member, further
 ghost use Rattle.hart_cli.specs.explain.objects.Misses.{miss_members, reason_members, seems_value};
 ghost use Rattle.hart_cli.specs.explain.objects.Page.{Adds};
 
-use crate::calls::explain::objects::header::{kind_name, push_command, push_ends};
+use crate::calls::explain::objects::header::{push_command, push_ends, push_kind};
 use crate::calls::explain::objects::members::{
     open_object, push_count, push_hex, push_key, push_null, push_string,
 };
@@ -96,7 +96,7 @@ fn push_header<W: Sink>(page: &mut Page<'_, W>, header: &Header)
     ensures { Adds W.stream page.old page.new (compact_text (header_value (header_parts header.now))) }
 {
     open_object(page, "kind");
-    page.quoted_text(kind_name(header.kind()));
+    push_kind(page, header.kind());
     push_ends(page, header.master(), header.address());
     push_command(page, header.command());
     page.text("}");

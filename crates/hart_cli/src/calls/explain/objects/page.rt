@@ -15,6 +15,9 @@ use itoa::Buffer;
 
 /// Text on its way to a writer. It is kept as long as there is room, and written when there is none. After a failed write nothing
 /// more is written.
+///
+/// Most pieces are short texts that the code names. Calls that add them are compiled in place, where their length is known: they
+/// then are a few moves, and no call.
 #[derive(Drop)]
 pub struct Page<'a, W> {
     pub writer: &'a mut W,
@@ -28,6 +31,7 @@ impl<'a, W: Sink> Page<'a, W> {
     ghost use Rattle.hart_cli.specs.stream.Kept.{Tells};
 
     /// Adds bytes.
+    #[inline(always)]
     pub fn bytes(&mut self, bytes: &[u8])
         ensures { Adds W.stream self.old self.new bytes.now }
     {
@@ -42,6 +46,7 @@ impl<'a, W: Sink> Page<'a, W> {
     }
 
     /// Adds a text.
+    #[inline(always)]
     pub fn text(&mut self, text: &str)
         ensures { Adds W.stream self.old self.new text.now }
     {
@@ -87,6 +92,7 @@ impl<'a, W: Sink> Page<'a, W> {
     }
 
     /// Adds a text as a string, in double quotes.
+    #[inline(always)]
     pub fn quoted_text(&mut self, text: &str)
         ensures { Adds W.stream self.old self.new (quoted text.now) }
     {
@@ -94,6 +100,7 @@ impl<'a, W: Sink> Page<'a, W> {
     }
 
     /// Adds a string, in double quotes.
+    #[inline(always)]
     pub fn quoted(&mut self, bytes: &[u8])
         ensures { Adds W.stream self.old self.new (quoted bytes.now) }
     {
@@ -103,6 +110,7 @@ impl<'a, W: Sink> Page<'a, W> {
     }
 
     /// Adds the characters of a string, escaped where JSON wants it.
+    #[inline(always)]
     pub fn escaped(&mut self, bytes: &[u8])
         ensures { Adds W.stream self.old self.new (escape bytes.now) }
     {
@@ -123,8 +131,20 @@ impl<'a, W: Sink> Page<'a, W> {
     }
 
     /// Adds a byte of a string, escaped where JSON wants it.
-    #[tactic(auto, unfolding(json::specs::Print::escape_byte))]
+    #[inline(always)]
     pub fn escaped_byte(&mut self, byte: u8)
+        ensures { Adds W.stream self.old self.new (escape_byte byte) }
+    {
+        if is_plain(byte) {
+            self.bytes(&[byte]);
+        } else {
+            self.escape(byte);
+        }
+    }
+
+    /// Adds a byte of a string, by its escape if it has one.
+    #[tactic(auto, unfolding(json::specs::Print::escape_byte))]
+    fn escape(&mut self, byte: u8)
         ensures { Adds W.stream self.old self.new (escape_byte byte) }
     {
         match byte {
@@ -156,6 +176,7 @@ impl<'a, W: Sink> Page<'a, W> {
     }
 
     /// Writes what is kept.
+    #[inline(never)]
     fn write_kept(&mut self)
         ensures adds { Adds W.stream self.old self.new [] }
         ensures empty { self.new.kept.now ≡ [] }
@@ -167,6 +188,7 @@ impl<'a, W: Sink> Page<'a, W> {
     }
 
     /// Writes bytes at once, if nothing is kept.
+    #[inline(never)]
     fn write_now(&mut self, bytes: &[u8])
         requires { self.old.kept.now ≡ [] }
         ensures { Adds W.stream self.old self.new bytes.now }
@@ -193,16 +215,22 @@ impl<'a, W: Sink> Page<'a, W> {
 }
 
 /// Returns true only if no character of a string is escaped.
+#[inline(always)]
 fn are_plain(bytes: &[u8]) -> bool
     ensures { OnTrue result (escape bytes.now ≡ bytes.now) }
 {
-    bytes.iter().all(|byte| is_plain(*byte))
+    let mut plain = true;
+    for byte in bytes {
+        plain &= is_plain(*byte);
+    }
+    plain
 }
 
 /// Returns true only if a byte of a string is not escaped.
+#[inline(always)]
 #[tactic(auto, unfolding(json::specs::Print::escape_byte))]
 fn is_plain(byte: u8) -> bool
     ensures { OnTrue result (escape_byte byte ≡ byte ∷ []) }
 {
-    matches!(byte, b' ' | b'!' | b'#'..=b'[' | b']'..)
+    byte >= b' ' && byte != b'"' && byte != b'\\'
 }

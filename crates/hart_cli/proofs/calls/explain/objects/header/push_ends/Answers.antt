@@ -5,5 +5,5 @@ use Rattle.hart_cli.proofs.calls.explain.objects.header.push_ends.Goals as goal
 
 pub returns : goal.returns
 returns g c =
-    let master = rw c.master_name.ensures at c.push_string.ensures in
-    also master (also (keyed _ (string (address_word c.args.address)) c.push_key.ensures c.push_address.ensures) (adds_nothing _ _))
+    let address = keyed _ (string (address_word c.args.address)) c.push_key.ensures c.push_address.ensures in
+    also c.push_master.ensures (also address (adds_nothing _ _))

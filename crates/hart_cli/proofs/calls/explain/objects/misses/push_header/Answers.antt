@@ -12,6 +12,6 @@ returns g c =
     let ends = ends_members header.master header.address in
     let command = command_members header.command in
     an_object (named "kind" (string (kind_name header.kind))) (ends ++ command) c.open_object.ensures
-    (rw (c.kind_name.ensures, c.kind.ensures) at c.quoted_text.ensures)
+    (rw c.kind.ensures at c.push_kind.ensures)
     (members_then ends command (rw (c.master.ensures, c.address.ensures) at c.push_ends.ensures)
     (rw c.command.ensures at c.push_command.ensures)) c.text.ensures

@@ -2,7 +2,7 @@ use Rattle.std.proofs.Common.{arith}
 use Rattle.std.proofs.lemmas.Bool.Decides.{nat_tests}
 use Rattle.std.proofs.lemmas.Grind.{common_steps}
 use Rattle.json.specs.Print.{escape_byte}
-use Rattle.hart_cli.proofs.calls.explain.objects.page.Page.escaped_byte.Goals as goal
+use Rattle.hart_cli.proofs.calls.explain.objects.page.Page.escape.Goals as goal
 
 pub returns-in_default : goal.returns-in_default
 unfolding escape_byte
