@@ -265,14 +265,26 @@ def try_alone(crate, name):
     return try_above(crate, name, "its crate is still proved")
 
 
+def resting_on(crate, word):
+    """The definition of this name and those that rest on it, by their names, with how many steps lie between."""
+    blocks = {it.own: words_of(it.block) for it in definitions_of(crate.folder).values()}
+    found, last = {word: 0}, {word}
+    while last:
+        last = {own for own, words in blocks.items() if own not in found and words & last}
+        found.update(dict.fromkeys(last, 1 + max(found.values())))
+    return found
+
+
 def try_above(crate, name, why="nothing rests on it"):
-    """Plants a variant that nothing of its crate refuses, and checks functions of crates above whose contracts name the definition."""
-    word = name.partition(".")[2]
+    """Plants a variant that nothing of its crate refuses, and checks functions of crates above: those first whose contracts name the
+    definition, or one that rests on it in the fewest steps."""
+    steps = resting_on(crate, name.partition(".")[2])
     for above in crate.kit.crates.values():
         if crate.name in [it.name for it in above.below()]:
             code = Code(above.folder)
-            fit = sorted((len(code.contract_of(it)), it.path) for it in code.functions if word in words_of(code.contract_of(it)))
-            said = crate.kit.check_over(above.name, crate.name, crate.texts([name]), [path for _, path in fit[:FEW]]) if fit else ""
+            named = {it.path: steps.keys() & words_of(code.contract_of(it)) for it in code.functions}
+            fit = sorted((min(map(steps.get, words)), len(words), path) for path, words in named.items() if words)
+            said = crate.kit.check_over(above.name, crate.name, crate.texts([name]), [it[-1] for it in fit[:MANY]]) if fit else ""
             found = [path for path, rest in FUNCTION.findall(said) if "`search` did not prove" in rest or rest.startswith("not proved")]
             if found:
                 return settled(crate, name, found)

@@ -214,7 +214,8 @@ impl<'a, W: Sink> Page<'a, W> {
     }
 }
 
-/// Returns true only if no character of a string is escaped.
+/// Returns true only if no character of a string is escaped. The loop always goes to the end: so the compiler answers for a text that the
+/// code names.
 #[inline(always)]
 fn are_plain(bytes: &[u8]) -> bool
     ensures { OnTrue result (escape bytes.now ≡ bytes.now) }
