@@ -46,7 +46,7 @@ pub use calls::encode::{encode_text, one_encoding};
 pub use calls::explain::laws::{
     every_start_outside_messages_has_one_line, explanations_grow,
     explanations_name_the_messages_of_dump, hints_of_explanations_are_right, json_lines_grow,
-    json_tells_what_explain_tells,
+    json_objects_are_lines, json_tells_what_explain_tells,
 };
 pub use calls::explain::{explain, explain_json, explain_raw, explain_raw_json, one_explanation};
 pub use calls::program::laws::{one_call, words_are_calls};

@@ -24,6 +24,8 @@ ghost use Rattle.hart_cli.specs.explain.Gaps.{IsGap, IsOneLine, seen_place};
 ghost use Rattle.hart_cli.specs.explain.Message.{paragraph};
 ghost use Rattle.hart_cli.specs.explain.Misses.{miss_line, seems_line};
 ghost use Rattle.hart_cli.specs.explain.Told.{AreOfOneTelling};
+ghost use Rattle.hart_cli.specs.explain.objects.Line.{json_line};
+ghost use Rattle.hart_cli.specs.declared.calls.explain.objects.Before.{Before};
 ghost use Rattle.hart_cli.specs.input.Input.{Ending, Left};
 ghost use Rattle.hart_cli.specs.input.Decoding.{heard_decoding, raw_decoding};
 ghost use Rattle.hart_cli.specs.input.LiveInput.{IsDecidedText};
@@ -45,6 +47,11 @@ pub fn explanations_grow()
     ensures raw { (input more : List ℕ) (ending : Ending) (fault : Option CliFault) (told whole : List ℕ)
         → IsDecidedText raw_decoding IsDecidedExplanation input told → IsRawExplanation (input ++ more) ending fault whole
         → (rest : List ℕ) × (whole ≡ told ++ rest) }
+{}
+
+/// Each object of JSON is one line: its text ends with a line feed and has no other.
+pub fn json_objects_are_lines()
+    ensures { (date : List ℕ) (before : Before) (seen : Seen) → IsOneLine (json_line date before seen) }
 {}
 
 /// JSON lines are never taken back: whatever is heard or read next, the lines that were decided so far are a prefix of all lines. What
