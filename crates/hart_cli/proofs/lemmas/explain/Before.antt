@@ -6,8 +6,7 @@ use Rattle.std.proofs.lemmas.Grind.{common_steps, flat_map-append}
 use Rattle.std.proofs.lemmas.List.{reverse-append}
 use Rattle.std.proofs.lemmas.List.Folds.{prefix_len-replicate}
 use Rattle.std.proofs.lemmas.Slice.Eq.{bytes_eq-Decides}
-use Rattle.std.specs.List.{flat_map, prefix_len}
-use Rattle.std.specs.Str.{bytes_eq}
+use Rattle.std.specs.List.{flat_map}
 use Rattle.hart_values.specs.declared.address.Address.{Address}
 use Rattle.hart_values.specs.declared.address.Address.TheVariants.{Polling, Unique}
 use Rattle.hart_values.specs.declared.master_id.MasterId.{MasterId}
@@ -15,15 +14,13 @@ use Rattle.hart_values.specs.declared.master_id.MasterId.TheVariants.{Primary, S
 use Rattle.hart_values.specs.EachMaster.{of_master, with_master}
 use Rattle.hart_frame.specs.declared.heard.found.Found.{Found}
 use Rattle.hart_frame.specs.declared.heard.miss.Miss.{Miss}
-use Rattle.hart_frame.specs.declared.wire.kind.FrameKind.{FrameKind}
-use Rattle.hart_frame.specs.declared.wire.kind.FrameKind.TheVariants.{Ack, Stx}
 use Rattle.hart_frame.specs.heard.Sighting.{Message, Missed, Seen}
 use Rattle.hart_frame.specs.wire.FrameParts.{FrameParts}
 use Rattle.hart_frame.specs.wire.Header.{HeaderParts}
 use Rattle.hart_cli.specs.declared.calls.explain.last_messages.LastMessage.{LastMessage}
 use Rattle.hart_cli.specs.declared.calls.explain.objects.Before.{Before}
 use Rattle.hart_cli.specs.declared.calls.explain.teller.Style.TheVariants.{Objects}
-use Rattle.hart_cli.specs.explain.Before.{answered, asks_for, before_of, is_request, message_of, messages_back, repeats, same_address}
+use Rattle.hart_cli.specs.explain.Before.{answered, before_of, message_of, messages_back, repeats, same_address}
 use Rattle.hart_cli.specs.explain.Before.{same_bit, same_master, same_request}
 use Rattle.hart_cli.specs.explain.LastMessages.{IsOwn, KeepsOwn, LastMessages, found_in, listed, recalled}
 use Rattle.hart_cli.specs.explain.Telling.{AreAlike}

@@ -1,5 +1,5 @@
 -- The header that is heard at a place is the header of every body that stands there in characters that are the same up to the command.
-use Rattle.std.proofs.Common.{◌≡◌, ◌+◌, ◌<◌, ◌∙◌, ℕ, zero, suc, List, [], ◌∷◌, ◌++◌, None, Option, Some, arith, drop, length}
+use Rattle.std.proofs.Common.{◌≡◌, ◌+◌, ◌<◌, ◌∙◌, ℕ, zero, suc, List, [], ◌∷◌, None, Option, Some, arith, drop, length}
 use Rattle.std.proofs.Common.{refl, sym, take, ◌==◌}
 use Rattle.std.proofs.lemmas.Bool.Decides.{nat_tests}
 use Rattle.std.proofs.lemmas.Grind.{common_steps}

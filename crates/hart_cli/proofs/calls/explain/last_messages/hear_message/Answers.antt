@@ -1,4 +1,4 @@
-use Rattle.std.proofs.Common.{◌≡◌, ◌+◌, ◌-◌, ◌^◌, refl, arith}
+use Rattle.std.proofs.Common.{◌≡◌, ◌-◌, ◌^◌, refl, arith}
 use Rattle.hart_frame.specs.heard.Frames.{moved}
 use Rattle.hart_frame.specs.scan.View.{found_of}
 use Rattle.hart_values.specs.EachMaster.{of_master}
