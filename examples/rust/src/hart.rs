@@ -1,4 +1,4 @@
-//! The calls of include/hart.h, and a finder of frames in bytes as they come in.
+//! `hart_find_in_bytes` of include/hart.h, and a finder of frames in bytes as they come in.
 
 /// A frame, and where it stands in what was passed.
 #[repr(C)]
