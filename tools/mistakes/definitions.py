@@ -1,8 +1,8 @@
-"""Tries a wrong variant of each definition that a reader believes: a proof of its crate has to fail by it.
+"""Tries a wrong variant of each definition that a reader believes: a proof has to fail by it.
 
 A variant changes a definition of `specs/` alone, in a copy of its crate: a number is one off, a case is dropped, two parts are
 exchanged. Several are planted at once, each with functions whose goals rest on it and on no other variant that is planted. One that
-these functions do not refuse is tried again beside others, then alone, and at last with its whole crate."""
+these functions do not refuse is tried again beside others, then alone, then with its whole crate, and at last with crates above."""
 
 import glob
 import os
@@ -265,9 +265,13 @@ def try_alone(crate, name):
     return try_above(crate, name, "its crate is still proved")
 
 
-def resting_on(crate, word):
-    """The definition of this name and those that rest on it, by their names, with how many steps lie between."""
-    blocks = {it.own: words_of(it.block) for it in definitions_of(crate.folder).values()}
+def resting_on(folders, word):
+    """The definitions of these crates that rest on one of this name, and itself, by their names, with how many steps lie between.
+
+    Definitions of one name count as one."""
+    blocks = {}
+    for it in [it for folder in folders for it in definitions_of(folder).values()]:
+        blocks[it.own] = blocks.get(it.own, frozenset()) | words_of(it.block)
     found, last = {word: 0}, {word}
     while last:
         last = {own for own, words in blocks.items() if own not in found and words & last}
@@ -278,9 +282,11 @@ def resting_on(crate, word):
 def try_above(crate, name, why="nothing rests on it"):
     """Plants a variant that nothing of its crate refuses, and checks functions of crates above: those first whose contracts name the
     definition, or one that rests on it in the fewest steps."""
-    steps = resting_on(crate, name.partition(".")[2])
     for above in crate.kit.crates.values():
-        if crate.name in [it.name for it in above.below()]:
+        below = above.below()
+        if crate.name in [it.name for it in below]:
+            between = [it.folder for it in below if crate.name in [lower.name for lower in it.below()]]
+            steps = resting_on([crate.folder, *between, above.folder], crate.left[name].definition.own)
             code = Code(above.folder)
             named = {it.path: steps.keys() & words_of(code.contract_of(it)) for it in code.functions}
             fit = sorted((min(map(steps.get, words)), len(words), path) for path, words in named.items() if words)

@@ -20,7 +20,7 @@ pub fn push_device_digits<const N: usize>(
     push_hex(line, pairs, &device_bytes(device));
 }
 
-/// Returns the bytes whose digits are the ten of a device.
+/// Returns the five bytes that the ten digits of a device show.
 pub fn device_bytes(device: UniqueAddress) -> [u8; 5]
     ensures { encode_upper result ≡ device_digits device }
 {

@@ -35,7 +35,7 @@ unbroken-comma : (later : Bool) → list_all no_line_feed (comma_if later) ≡ t
 unbroken-comma later = grind arith
 
 mutual
-  pub unbroken-data : (d : Data) → list_all no_line_feed (compact_text d) ≡ true
+  unbroken-data : (d : Data) → list_all no_line_feed (compact_text d) ≡ true
   unbroken-data null = refl
   unbroken-data (boolean b) = grind arith
   unbroken-data (number n) = unbroken-number n

@@ -19,7 +19,7 @@ ghost use Rattle.hart_cli.specs.dump.Dump.{IsDump};
 ghost use Rattle.hart_cli.specs.explain.Dumped.{AreOfOneHearing};
 ghost use Rattle.hart_cli.specs.explain.Explain.{IsExplanation, IsJson, IsRawExplanation, IsRawJson};
 ghost use Rattle.hart_cli.specs.explain.Explanation.{ComeFirst, IsDecidedExplanation, IsDecidedJson, IsExplanationOf, IsJsonOf, date_of};
-ghost use Rattle.hart_cli.specs.explain.Explanation.{date_words, dated_text, explanation, object_lines};
+ghost use Rattle.hart_cli.specs.explain.Explanation.{date_words, explanation, object_lines};
 ghost use Rattle.hart_cli.specs.explain.Gaps.{IsGap, IsOneLine, seen_place};
 ghost use Rattle.hart_cli.specs.explain.Message.{paragraph};
 ghost use Rattle.hart_cli.specs.explain.Misses.{miss_line, seems_line};

@@ -1,14 +1,12 @@
 //! A header as members of an object.
-ghost use Rattle.std.specs.Prelude.{◌≡◌};
 ghost use Rattle.json.specs.Print.{quoted};
-ghost use Rattle.serde_json.specs.Data.{string};
 ghost use Rattle.hart_values.specs.declared.address.Address.TheVariants.{Polling};
 ghost use Rattle.hart_cli.specs.dump.Text.{address_word};
 ghost use Rattle.hart_cli.specs.explain.objects.Header.{command_members, ends_members, kind_name, master_name};
-ghost use Rattle.hart_cli.specs.explain.objects.Members.{further_member, further_members, named};
+ghost use Rattle.hart_cli.specs.explain.objects.Members.{further_members};
 ghost use Rattle.hart_cli.specs.explain.objects.Page.{Adds};
 
-use crate::calls::explain::objects::members::{push_count, push_key, push_name, push_string};
+use crate::calls::explain::objects::members::{push_count, push_key, push_name};
 use crate::calls::explain::objects::page::Page;
 use crate::stream::Sink;
 use crate::text::device_digits::device_bytes;
@@ -22,6 +20,7 @@ use itoa::Buffer;
 pub fn push_ends<W: Sink>(page: &mut Page<'_, W>, master: MasterId, address: Address)
     ensures { Adds W.stream page.old page.new (further_members (ends_members master address)) }
 {
+    push_key(page, "master");
     push_master(page, master);
     push_key(page, "address");
     push_address(page, address);
@@ -45,13 +44,13 @@ pub fn push_kind<W: Sink>(page: &mut Page<'_, W>, kind: FrameKind)
     }
 }
 
-/// Adds the member of a master.
+/// Adds a master as a string of its name.
 fn push_master<W: Sink>(page: &mut Page<'_, W>, master: MasterId)
-    ensures { Adds W.stream page.old page.new (further_member (named "master" (string (master_name master)))) }
+    ensures { Adds W.stream page.old page.new (quoted (master_name master)) }
 {
     match master {
-        MasterId::Primary => push_string(page, "master", "primary"),
-        MasterId::Secondary => push_string(page, "master", "secondary"),
+        MasterId::Primary => page.quoted_text("primary"),
+        MasterId::Secondary => page.quoted_text("secondary"),
     }
 }
 
@@ -75,7 +74,7 @@ fn push_address<W: Sink>(page: &mut Page<'_, W>, address: Address)
 fn push_polling<W: Sink>(page: &mut Page<'_, W>, polling: PollingAddress)
     ensures { Adds W.stream page.old page.new (quoted (address_word (Polling polling))) }
 {
-    let mut word = ByteList::<10>::new();
+    let mut word = ByteList::<4>::new();
     word.push(b'@');
     push_text(&mut word, Buffer::new().format(polling.number()));
     page.quoted(word.as_slice());

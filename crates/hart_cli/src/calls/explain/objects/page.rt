@@ -16,8 +16,8 @@ use itoa::Buffer;
 /// Text on its way to a writer. It is kept as long as there is room, and written when there is none. After a failed write nothing
 /// more is written.
 ///
-/// Most pieces are short texts that the code names. Calls that add them are compiled in place, where their length is known: they
-/// then are a few moves, and no call.
+/// Most pieces are string literals. Where the calls that add them are inlined, the length of a literal is known, and it is copied by a few
+/// moves.
 #[derive(Drop)]
 pub struct Page<'a, W> {
     pub writer: &'a mut W,
@@ -214,8 +214,7 @@ impl<'a, W: Sink> Page<'a, W> {
     }
 }
 
-/// Returns true only if no character of a string is escaped. The loop always goes to the end: so the compiler answers for a text that the
-/// code names.
+/// Returns true only if no character of a string is escaped. It has no early exit, so the compiler can evaluate it for a string literal.
 #[inline(always)]
 fn are_plain(bytes: &[u8]) -> bool
     ensures { OnTrue result (escape bytes.now ≡ bytes.now) }
@@ -228,8 +227,8 @@ fn are_plain(bytes: &[u8]) -> bool
 }
 
 /// Returns true only if a byte of a string is not escaped.
-#[inline(always)]
 #[tactic(auto, unfolding(json::specs::Print::escape_byte))]
+#[inline(always)]
 fn is_plain(byte: u8) -> bool
     ensures { OnTrue result (escape_byte byte ≡ byte ∷ []) }
 {
