@@ -214,7 +214,7 @@ def refusals(crate, said):
         path = crate.proofs.get(os.path.dirname(file))
         if name:
             (functions if path else lemmas).append(path or f"{name} of {file}")
-    return [it for it in dict.fromkeys(functions + lemmas) if it in crate.cones]
+    return list(dict.fromkeys(functions + lemmas))
 
 
 def unread(crate, names, said):
@@ -244,7 +244,7 @@ def try_together(crate, chosen):
         return [try_alone(crate, it) for it in chosen]
     found = {}
     for place in refusals(crate, said):
-        hit = list(crate.cones[place] & chosen.keys())
+        hit = list(crate.cones.get(place, frozenset()) & chosen.keys())
         if len(hit) == 1:
             found.setdefault(hit[0], []).append(place)
     crate.tried |= {(it, place) for it, places in chosen.items() if it not in found for place in places}
