@@ -1,6 +1,7 @@
 -- What the messages before a message say of it (own profile).
 use Rattle.std.specs.Prelude.{◌+◌, ◌==◌, ◌&&◌, if◌then◌else◌, ℕ, Bool, true, false, List, [], ◌∷◌, Option, None, Some, reverse}
 use Rattle.std.specs.List.{flat_map, prefix_len}
+use Rattle.std.specs.Bool.{beq}
 use Rattle.std.specs.Str.{bytes_eq}
 use Rattle.hart_values.specs.declared.address.Address.{Address}
 use Rattle.hart_values.specs.declared.address.Address.TheVariants.{Polling, Unique}
@@ -26,12 +27,6 @@ same_address (Unique one) (Unique other) =
     (one.expanded_type == other.expanded_type) && (one.device_id == other.device_id)
 same_address _ _ = false
 
--- Whether two bits are the same.
-abbrev pub same_bit : Bool → Bool → Bool
-same_bit true true = true
-same_bit false false = true
-same_bit _ _ = false
-
 -- Whether a frame is a request.
 abbrev pub is_request : FrameKind → Bool
 is_request Stx = true
@@ -40,7 +35,7 @@ is_request Ack = false
 -- Whether two frames have the same address bytes: the same master, the same burst bit and the same address.
 abbrev pub same_ends : FrameParts → FrameParts → Bool
 same_ends one other =
-    same_master one.master other.master && same_bit one.burst other.burst && same_address one.address other.address
+    same_master one.master other.master && beq one.burst other.burst && same_address one.address other.address
 
 -- Whether two frames have the same expansion bytes, the same command and the same payload.
 abbrev pub same_content : FrameParts → FrameParts → Bool

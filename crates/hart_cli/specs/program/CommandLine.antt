@@ -30,17 +30,13 @@ preambles_rule = record (new_rule (codes "preambles")) {
 abbrev pub image_rule : Rule
 image_rule = record (new_rule (codes "image")) { long = Some (codes "image"); value_names = 1 }
 
--- The flag `--raw` says that the input is raw.
-abbrev pub raw_rule : Rule
-raw_rule = record (new_rule (codes "raw")) { long = Some (codes "raw"); action = Some SetTrue }
+-- The rule of clap for a flag: a long option without a word.
+abbrev pub flag_rule : Text → Rule
+flag_rule name = record (new_rule name) { long = Some name; action = Some SetTrue }
 
--- The flag `--json` asks for JSON.
-abbrev pub json_rule : Rule
-json_rule = record (new_rule (codes "json")) { long = Some (codes "json"); action = Some SetTrue }
-
--- The command `explain` takes the flags `--raw` and `--json`, and no words.
+-- The command `explain` takes the flags `--raw`, for a raw input, and `--json`, for JSON. It takes no words.
 abbrev pub explain_app : App
-explain_app = with_rule (with_rule (new_app (codes "explain")) raw_rule) json_rule
+explain_app = with_rule (with_rule (new_app (codes "explain")) (flag_rule (codes "raw"))) (flag_rule (codes "json"))
 
 -- The commands `answer`, `serve` and `sim` take an image, and no words.
 abbrev pub image_app : Text → App

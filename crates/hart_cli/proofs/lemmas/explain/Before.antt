@@ -6,6 +6,7 @@ use Rattle.std.proofs.lemmas.Grind.{common_steps, flat_map-append}
 use Rattle.std.proofs.lemmas.List.{reverse-append}
 use Rattle.std.proofs.lemmas.List.Folds.{prefix_len-replicate}
 use Rattle.std.proofs.lemmas.Slice.Eq.{bytes_eq-Decides}
+use Rattle.std.specs.Bool.{beq}
 use Rattle.std.specs.List.{flat_map}
 use Rattle.hart_values.specs.declared.address.Address.{Address}
 use Rattle.hart_values.specs.declared.address.Address.TheVariants.{Polling, Unique}
@@ -21,7 +22,7 @@ use Rattle.hart_cli.specs.declared.calls.explain.last_messages.LastMessage.{Last
 use Rattle.hart_cli.specs.declared.calls.explain.objects.Before.{Before}
 use Rattle.hart_cli.specs.declared.calls.explain.teller.Style.TheVariants.{Objects}
 use Rattle.hart_cli.specs.explain.Before.{answered, before_of, message_of, messages_back, repeats, same_address}
-use Rattle.hart_cli.specs.explain.Before.{same_bit, same_master, same_request}
+use Rattle.hart_cli.specs.explain.Before.{same_master, same_request}
 use Rattle.hart_cli.specs.explain.LastMessages.{IsOwn, KeepsOwn, LastMessages, found_in, listed, recalled}
 use Rattle.hart_cli.specs.explain.Telling.{AreAlike}
 use Rattle.hart_cli.proofs.lemmas.explain.Styles.{objects_alike}
@@ -37,7 +38,7 @@ master_self : (a : MasterId) → same_master a a ≡ true
 master_self Primary = refl
 master_self Secondary = refl
 
-bit_same : (a b : Bool) → same_bit a b ≡ true → a ≡ b
+bit_same : (a b : Bool) → beq a b ≡ true → a ≡ b
 bit_same true true is = refl
 bit_same true false is = absurd cc
 bit_same false true is = absurd cc

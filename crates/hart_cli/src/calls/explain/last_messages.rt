@@ -27,6 +27,12 @@ pub struct LastMessage {
 /// The last message of each master.
 pub type LastMessages = EachMaster<Option<LastMessage>>;
 
+/// What the messages before a sighting say of it if they say nothing.
+const NOTHING_BEFORE: Before = Before {
+    answers: None,
+    sending: 1,
+};
+
 /// Returns the state in which no message was heard.
 pub fn no_messages() -> LastMessages
     ensures { result ≡ no_messages }
@@ -47,10 +53,7 @@ pub fn hear_sighting(last: &mut LastMessages, first: u64, sighting: &Sighting<'_
 {
     match sighting {
         Sighting::Message(found) => hear_message(last, first, found),
-        Sighting::Missed { .. } => Before {
-            answers: None,
-            sending: 1,
-        },
+        Sighting::Missed { .. } => NOTHING_BEFORE,
     }
 }
 
@@ -85,10 +88,7 @@ fn before_frame(last: &Option<LastMessage>, frame: &Frame) -> Before
             answers: answered(message, frame),
             sending: sending(message, frame),
         },
-        None => Before {
-            answers: None,
-            sending: 1,
-        },
+        None => NOTHING_BEFORE,
     }
 }
 

@@ -7,11 +7,11 @@ ghost use Rattle.clap.specs.Words.{with_rule, with_subcommand};
 ghost use Rattle.std.specs.Option.{option_map};
 ghost use Rattle.hart_cli.specs.program.CommandLine.{app_with_required_words, asking_app, call_of, encode_app, explain_app};
 ghost use Rattle.hart_cli.specs.program.CommandLine.{explain_call, fields_rule, hart_alone, hart_app, hearing_app, image_app};
-ghost use Rattle.hart_cli.specs.program.CommandLine.{image_rule, is_set, json_rule, preambles_of, preambles_rule, raw_rule};
+ghost use Rattle.hart_cli.specs.program.CommandLine.{flag_rule, image_rule, is_set, preambles_of, preambles_rule};
 ghost use Rattle.hart_cli.specs.program.CommandLine.{reading_app, request_app, request_words_of, required_rule, words_of};
 
 use super::help;
-use super::help::Page;
+use super::help::HelpPage;
 use crate::calls::encode::EncodeWords;
 use crate::calls::request::RequestWords;
 use crate::image_word::ImageWord;
@@ -207,8 +207,8 @@ fn explain_command<'a>(alloc: Global) -> Result<Command<'a>, AllocError>
     ensures { IfOk result (λ command. app_of command ≡ explain_app) }
 {
     let explain = Ok(plain_command(alloc, "explain", help::EXPLAIN));
-    let explain = with_arg(explain, raw_flag(alloc));
-    with_arg(explain, json_flag(alloc))
+    let explain = with_arg(explain, flag(alloc, "raw", help::RAW_HELP));
+    with_arg(explain, flag(alloc, "json", help::JSON_HELP))
 }
 
 /// Returns `hart` without its subcommands.
@@ -256,7 +256,7 @@ fn field_words<'a>(alloc: Global) -> Arg<'a>
 fn with_required_words<'a>(
     alloc: Global,
     name: &'a str,
-    page: Page<'a>,
+    page: HelpPage<'a>,
 ) -> Result<Command<'a>, AllocError>
     ensures { IfOk result (λ command. app_of command ≡ app_with_required_words name.entry.now) }
 {
@@ -278,7 +278,7 @@ fn data_word<'a>(alloc: Global) -> Arg<'a>
 fn image_command<'a>(
     alloc: Global,
     name: &'a str,
-    page: Page<'a>,
+    page: HelpPage<'a>,
 ) -> Result<Command<'a>, AllocError>
     ensures { IfOk result (λ command. app_of command ≡ image_app name.entry.now) }
 {
@@ -314,7 +314,7 @@ fn with_arg<'a>(
 }
 
 /// Returns a subcommand without words of its own.
-fn plain_command<'a>(alloc: Global, name: &'a str, page: Page<'a>) -> Command<'a>
+fn plain_command<'a>(alloc: Global, name: &'a str, page: HelpPage<'a>) -> Command<'a>
     ensures { app_of result ≡ new_app name.entry.now }
 {
     Command::new(alloc, name)
@@ -343,26 +343,15 @@ fn image_option<'a>(alloc: Global) -> Arg<'a>
         .help(help::IMAGE_HELP)
 }
 
-/// Returns the flag for an input of raw bytes.
-fn raw_flag<'a>(alloc: Global) -> Arg<'a>
-    ensures rule { rule_of result ≡ raw_rule }
+/// Returns the flag with this name.
+fn flag<'a>(alloc: Global, name: &'a str, help: &'a str) -> Arg<'a>
+    ensures rule { rule_of result ≡ flag_rule name.entry.now }
     ensures local { result.global ≡ false }
 {
-    Arg::new(alloc, "raw")
-        .long("raw")
+    Arg::new(alloc, name)
+        .long(name)
         .action(ArgAction::SetTrue)
-        .help(help::RAW_HELP)
-}
-
-/// Returns the flag for JSON.
-fn json_flag<'a>(alloc: Global) -> Arg<'a>
-    ensures rule { rule_of result ≡ json_rule }
-    ensures local { result.global ≡ false }
-{
-    Arg::new(alloc, "json")
-        .long("json")
-        .action(ArgAction::SetTrue)
-        .help(help::JSON_HELP)
+        .help(help)
 }
 
 /// Returns the option for how many preamble bytes a message begins with.

@@ -2,7 +2,7 @@
 
 /// What the help of a command shows.
 #[derive(Clone, Copy)]
-pub(super) struct Page<'a> {
+pub(super) struct HelpPage<'a> {
     /// What the command does, in one line.
     pub about: &'a str,
     /// How it is called.
@@ -23,7 +23,7 @@ Exit status 0: the work was done.
 Exit status 1: a fault; one line on standard error names it.
 Exit status 2: the command line is invalid, or help was asked for.";
 
-pub(super) const ANSWER: Page = Page {
+pub(super) const ANSWER: HelpPage = HelpPage {
     about: "Answer one message, in hex, from standard input",
     usage: "hart answer [--image HEX] < FILE",
     help: "\
@@ -69,7 +69,7 @@ writes
   FF FF FF FF FF 86 B7 42 0A 1B 2C 13 02 07 00 58",
 };
 
-pub(super) const DUMP: Page = Page {
+pub(super) const DUMP: HelpPage = HelpPage {
     about: "List the messages in what was heard, in hex, from standard input",
     usage: "hart dump < FILE",
     help: "\
@@ -122,7 +122,7 @@ writes
   2 7 STX P 0 @0 - 0 -",
 };
 
-pub(super) const EXPLAIN: Page = Page {
+pub(super) const EXPLAIN: HelpPage = HelpPage {
     about: "Say in words what was heard, in hex, from standard input",
     usage: "hart explain [--raw] [--json] < FILE",
     help: "\
@@ -182,7 +182,7 @@ writes
       seems: request of the primary master to the device at polling address 0, Command 0, read unique identifier",
 };
 
-pub(super) const SERVE: Page = Page {
+pub(super) const SERVE: HelpPage = HelpPage {
     about: "Serve as a device, a line for each line, until the input ends",
     usage: "hart serve [--image HEX]",
     help: "\
@@ -231,7 +231,7 @@ and as a device at a pseudo-terminal, with each line of hex a delivery,
   socat PTY,link=device,rawer EXEC:'hart serve'",
 };
 
-pub(super) const SIM: Page = Page {
+pub(super) const SIM: HelpPage = HelpPage {
     about: "Carry out a script of two masters and a device from standard input",
     usage: "hart sim [--image HEX] < FILE",
     help: "\
@@ -311,7 +311,7 @@ writes
   counter 1",
 };
 
-pub(super) const ENCODE: Page = Page {
+pub(super) const ENCODE: HelpPage = HelpPage {
     about: "Write a request to a device, in hex",
     usage: "hart encode [OPTIONS] <WHO> <ADDRESS> <COMMAND> [DATA]",
     help: "\
@@ -338,7 +338,7 @@ pub(super) const RAW_HELP: &str = "Read bytes as they are, and not as hex";
 
 pub(super) const JSON_HELP: &str = "Write JSON, one object a line";
 
-pub(super) const REQUEST: Page = Page {
+pub(super) const REQUEST: HelpPage = HelpPage {
     about: "Write a request by the names of its fields, in hex",
     usage: "hart request [OPTIONS] <WHO> <ADDRESS> <COMMAND> [FIELD]...",
     help: "\
