@@ -1,4 +1,4 @@
--- How characters and marks are heard, and what is told of them. Only private calls use these definitions (own profile).
+-- What is told when characters and marks are heard. Only private calls use these definitions (own profile).
 use Rattle.std.specs.Prelude.{◌≡◌, ◌≤◌, ◌<◌, ◌+◌, ◌-◌, ◌^◌, ℕ, Bool, false, true, List, [], ◌∷◌, ◌++◌, Option, None, Result, Ok, Err}
 use Rattle.std.specs.Prelude.{MatchResult}
 use Rattle.std.specs.Prelude.{IfSome, drop, length, map}
@@ -62,7 +62,7 @@ text_from teller date first seen = text_after teller.style date (recalled teller
 abbrev pub told_text : Teller → (ℕ → List ℕ) → Seen → List ℕ
 told_text teller date seen = text_after teller.style date (recalled teller.last) (seen ∷ [])
 
--- Sightings were told: the style stays, and what is told next has the text that it has after these sightings.
+-- These sightings were told. The style is the same, and later sightings have the text that follows them.
 pub record GoesOn (old new : Teller) (seen : List Seen) : Type 0 where
   pub style : new.style ≡ old.style
   pub alike : AreAlike old.style (recalled new.last) (recalled old.last ++ seen)
@@ -159,7 +159,7 @@ pub record HearsDate (old new : Telling) (word : List ℕ) : Type 0 where
   pub earlier : (place : ℕ) → old.first ≤ place → place < old.first + length old.held → date_from new place ≡ date_from old place
   pub later : (place : ℕ) → old.first + length old.held ≤ place → date_from new place ≡ word
 
--- A mark was heard: a silence, which ends what is held, so that all of it is told; or a date.
+-- A mark was heard. After a silence all that is held is told. A date is the date of what comes next.
 abbrev pub HearsMark : Telling → Telling → Heard → Stream → Stream → Type 0
 HearsMark old new (HeardChar character) writer writer_after = ⊥
 HearsMark old new Silence writer writer_after = Hears old new [] true writer writer_after × (new.held ≡ [])

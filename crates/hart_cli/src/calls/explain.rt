@@ -1,4 +1,4 @@
-//! `hart explain`: what was heard, in words.
+//! `hart explain`: what was heard, in words or as JSON.
 ghost use Rattle.std.specs.Prelude.{◌≡◌, ℕ, List, Option};
 ghost use Rattle.hart_cli.specs.declared.fault.CliFault.{CliFault};
 ghost use Rattle.hart_cli.specs.explain.Explain.{ExplainOutcome, IsExplanation, IsJson, IsRawExplanation, IsRawJson, JsonOutcome};

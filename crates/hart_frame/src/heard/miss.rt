@@ -205,8 +205,8 @@ pub fn misses_say_what_is_wrong()
 {}
 
 /// Where a body may start, the miss corresponds to the fault of the bytes from there to the first character with fault bits. So misses are
-/// found in the order of the faults of [`decode`](crate::decode). At any place, a miss corresponds to no fault if the bytes from there begin
-/// with a body.
+/// found in the order of the faults of [`decode`](crate::decode). At any place, a miss corresponds to no fault if the bytes from there
+/// begin with a body.
 pub fn misses_are_faults()
     ensures refused { (start : ℕ) (chars : List Character) (miss : Miss) → All (λ character. character.byte < 256) chars
         → IsStart start chars → miss_of chars start ≡ Some miss

@@ -16,7 +16,7 @@ pub row_at-shown : (rows : List FieldRow) (i : ℕ) (d : FieldRow) → are_shown
     → (length (get_or rows i d).name.now ≤ 40) × (suits_size (get_or rows i d).kind (get_or rows i d).size ≡ true)
 row_at-shown rows i d all within = grind (arith, common_steps, list_all_at is_shown (map seen rows) i (seen d))
 
--- the first bytes, as many as the size of a field says, are the field; the others come after it
+-- a field is as long as its size says, and all other bytes come after it
 pub split-is : (size : FieldSize) (bytes field after : List ℕ) → split size bytes ≡ Some (field, after)
     → (size_in size (length bytes) ≡ Some (length field)) × (length field + length after ≡ length bytes)
     × (after ≡ drop (length field) bytes)
