@@ -1,13 +1,17 @@
 -- The lines of a text, and the words of a line (own profile).
-use Rattle.std.specs.Prelude.{◌≡◌, ◌<◌, ℕ, Bool, true, false, ◌==◌, ◌||◌, List, [], ◌∷◌, filter, get_or, length, map, if◌then◌else◌}
+use Rattle.std.specs.Prelude.{◌≡◌, ◌<◌, ℕ, Bool, true, false, ◌==◌, ◌||◌, ◌+◌, List, [], ◌∷◌, drop, filter, get_or, length, map, if◌then◌else◌}
 use Rattle.std.specs.Int.{bit_at}
-use Rattle.std.specs.List.{slice_split}
+use Rattle.std.specs.List.{position_or_len, slice_split}
 use Rattle.std.specs.Str.Lines.{strip_carriage_return}
 
 -- The lines of a text are its parts between line feeds. If a part ends with a carriage return, this byte is left out. What follows
 -- the last line feed is a line too, perhaps an empty one.
 abbrev pub lines_of : List ℕ → List (List ℕ)
 lines_of text = map strip_carriage_return (slice_split (λ byte. byte == 10) text)
+
+-- The text after the first line feed.
+abbrev pub after_line_feed : List ℕ → List ℕ
+after_line_feed text = drop (position_or_len (λ byte. byte == 10) text + 1) text
 
 -- A blank is a space or a tab.
 abbrev pub is_blank : ℕ → Bool

@@ -3,7 +3,7 @@ ghost use Rattle.std.specs.Prelude.{◌≡◌, ◌≢◌, ◌==◌, ◌<◌, ◌
 ghost use Rattle.std.specs.List.{position_or_len};
 ghost use Rattle.std.specs.Option.{option_map};
 ghost use Rattle.std.specs.Str.Lines.{strip_carriage_return};
-ghost use Rattle.hart_text.specs.Lines.{AreMarks, HasBlanks, is_blank, lines_in_words, words_of};
+ghost use Rattle.hart_text.specs.Lines.{AreMarks, HasBlanks, after_line_feed, is_blank, lines_in_words, words_of};
 
 use memchr::{memchr, memchr2};
 use std::marker::Model;
@@ -38,6 +38,7 @@ impl<'a> Model for Words<'a> {
 #[inline(always)]
 pub fn first_line(text: &[u8]) -> (Words<'_>, Option<&[u8]>)
     ensures cut { lines_in_words text.now ≡ result.0 ∷ unwrap_or (option_map (λ rest. lines_in_words rest.now) result.1) [] }
+    ensures rest { IfSome result.1 (λ rest. rest.now ≡ after_line_feed text.now) }
     ensures shorter { IfSome result.1 (λ rest. length rest.now < length text.now) }
 {
     if let Some((words, rest)) = marked_line(text) {
@@ -56,6 +57,7 @@ pub fn first_line(text: &[u8]) -> (Words<'_>, Option<&[u8]>)
 #[inline(always)]
 fn marked_line(text: &[u8]) -> Option<(Words<'_>, &[u8])>
     ensures cut { IfSome result (λ cut. lines_in_words text.now ≡ cut.0 ∷ lines_in_words cut.1.now) }
+    ensures rest { IfSome result (λ cut. cut.1.now ≡ after_line_feed text.now) }
     ensures shorter { IfSome result (λ cut. length cut.1.now < length text.now) }
 {
     if text.len() < MARKED {

@@ -1,5 +1,5 @@
 use Rattle.hart_text.specs.Lines.{words_of}
-use Rattle.std.proofs.Common.{Bool, List, Some, [], ap, arith, false, get_or, length, map, refl, suc, ℕ, ◌<◌, ◌==◌, ◌∷◌, ◌≡◌}
+use Rattle.std.proofs.Common.{Bool, List, Some, [], ap, arith, drop, false, get_or, length, map, refl, suc, ℕ, ◌+◌, ◌<◌, ◌==◌, ◌∷◌, ◌≡◌}
 use Rattle.std.proofs.lemmas.Bool.{false_from_ne_true}
 use Rattle.std.proofs.lemmas.Grind.{common_steps}
 use Rattle.std.proofs.lemmas.List.{take_rest}
@@ -20,6 +20,12 @@ returns-in-Some-memchr-clause-cut c =
     let text = c.args.text.now in let found = c.in-Some-memchr.ensures in
     let place = found_is (λ (byte : ℕ). byte == 10) text (Some c.in-Some-memchr.len) found in
     rw (c.unmarked.ensures, c.without_return.ensures, take_rest) (ap (map words_of) (cut_at text c.in-Some-memchr.len (cc) found.0.high))
+
+pub returns-in-Some-memchr-clause-rest : goal.returns-in-Some-memchr-clause-rest
+returns-in-Some-memchr-clause-rest c =
+    let text = c.args.text.now in let found = c.in-Some-memchr.ensures in
+    let place = found_is (λ (byte : ℕ). byte == 10) text (Some c.in-Some-memchr.len) found in
+    rw (take_rest) (ap (λ (n : ℕ). drop (n + 1) text) place)
 
 pub returns-in-None-clause-cut : goal.returns-in-None-clause-cut
 returns-in-None-clause-cut c =
