@@ -1,5 +1,7 @@
 -- What the lines of a script say (own profile): a row for each kind of event.
-use Rattle.std.specs.Prelude.{◌≡◌, ◌⊎◌, ℕ, ◌+◌, ◌++◌, ◌/◌, ◌<◌, Any, Bool, true, false, not, nat_eq, List, [], ◌∷◌, codes, filter}
+use Rattle.std.specs.Prelude.{◌≡◌, ◌⊎◌, ℕ, ◌+◌, ◌++◌, ◌/◌, ◌<◌, Any, Bool, true, false, not, nat_eq, List, [], ◌∷◌, codes, drop, filter}
+use Rattle.std.specs.Prelude.{if◌then◌else◌}
+use Rattle.std.specs.Str.{bytes_eq}
 use Rattle.std.specs.Prelude.{length, slice_get, take, Option, None, Some, Result, Ok, Err}
 use Rattle.std.specs.List.{AllZip, starts_with}
 use Rattle.std.specs.Result.{result_ok}
@@ -73,14 +75,20 @@ pub record HasFirstBadLine (text : List ℕ) (number : ℕ) : Type 0 where
   pub bad : IsBadLine words
   pub good : AreEvents (take before (lines_in_words text)) events
 
+-- The words of a line that may hold items: UP and DOWN of a turn, or the word after `noise`.
+abbrev pub item_words : List (List ℕ) → List (List ℕ)
+item_words [] = []
+item_words (kind ∷ words) =
+    if bytes_eq kind (codes "turn") then drop 1 words else if bytes_eq kind (codes "noise") then words else []
+
 -- Words need room for the characters of one of these words. The room is half as many characters as this word has bytes, and at least one.
 abbrev pub IsNeededByWords : List (List ℕ) → ℕ → Type 0
 IsNeededByWords words items = (0 < items) × Any (λ word. items ≡ length word / 2) words
 
--- A line that is not skipped needs room for the one event that it says, or for the characters of one of its words.
+-- A line that is not skipped needs room for the one event that it says, or for the characters of one of its words with items.
 abbrev pub IsNeededByLine : List (List ℕ) → ℕ → Type 0
 IsNeededByLine words items =
-    (is_skipped words ≡ false) × (((event : LineEvent) × Says words event × (items ≡ 1)) ⊎ IsNeededByWords words items)
+    (is_skipped words ≡ false) × (((event : LineEvent) × Says words event × (items ≡ 1)) ⊎ IsNeededByWords (item_words words) items)
 
 -- A text needs room for this number of items if one of its lines needs it.
 abbrev pub IsNeededByText : List ℕ → ℕ → Type 0

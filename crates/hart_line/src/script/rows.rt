@@ -1,6 +1,6 @@
 //! The rows of the table of events, and lines that say no event.
-ghost use Rattle.std.specs.Prelude.{◌≡◌, ◌≢◌, [], ◌∷◌, codes, length, IfErr, MatchOption, OnOk};
-ghost use Rattle.hart_line.specs.script.Rows.{AddsLine, IsLegWord, IsLineFault, ReadsWords, Says, request_of};
+ghost use Rattle.std.specs.Prelude.{◌≡◌, ◌≢◌, [], ◌∷◌, codes, drop, length, IfErr, MatchOption, OnOk};
+ghost use Rattle.hart_line.specs.script.Rows.{AddsLine, IsLegWord, IsLineFault, ReadsWords, Says, item_words, request_of};
 ghost use Rattle.hart_line.specs.script.Words.{Finds};
 
 use crate::script::digits::Digits;
@@ -21,7 +21,7 @@ pub enum RowFault {
 }
 
 /// Reads the line with this number, and appends its event to `events` unless the line is empty or a comment. Any other line that says
-/// no event is bad. Memory may be refused for the event, or for half as many characters as one of the words has bytes.
+/// no event is bad. Memory may be refused for the event, or for half as many characters as one of the words with items has bytes.
 pub fn read_line(
     alloc: Global,
     digits: &Digits,
@@ -55,7 +55,7 @@ fn read_event(
     first: &[u8],
     rest: Words<'_>,
 ) -> Result<LineEvent, RowFault>
-    ensures { ReadsWords (first.now ∷ rest.entry) (Says (first.now ∷ rest.entry)) result }
+    ensures { ReadsWords (item_words (first.now ∷ rest.entry)) (Says (first.now ∷ rest.entry)) result }
 {
     match first {
         b"submit" => read_submit(rest).ok_or(RowFault::Bad),
@@ -99,7 +99,7 @@ fn read_request(command: &[u8], rest: Words<'_>) -> Option<Request>
 
 /// Reads the three words after `turn`: WHO, UP and DOWN.
 fn read_turn(alloc: Global, digits: &Digits, rest: Words<'_>) -> Result<LineEvent, RowFault>
-    ensures { ReadsWords (codes "turn" ∷ rest.entry) (Says (codes "turn" ∷ rest.entry)) result }
+    ensures { ReadsWords (drop 1 rest.entry) (Says (codes "turn" ∷ rest.entry)) result }
 {
     let Some((who, up, down)) = three_words(rest) else {
         return Err(RowFault::Bad);
@@ -145,7 +145,7 @@ fn read_protect(rest: Words<'_>) -> Option<LineEvent>
 
 /// Reads the one word after `noise`: the items of the characters that are heard.
 fn read_noise(alloc: Global, digits: &Digits, rest: Words<'_>) -> Result<LineEvent, RowFault>
-    ensures { ReadsWords (codes "noise" ∷ rest.entry) (Says (codes "noise" ∷ rest.entry)) result }
+    ensures { ReadsWords rest.entry (Says (codes "noise" ∷ rest.entry)) result }
 {
     let Some(items) = rest.only() else {
         return Err(RowFault::Bad);

@@ -1,5 +1,5 @@
 -- Lines say at most one list of events, and lines that say events include no bad line.
-use Rattle.hart_line.proofs.Common.{◌≡◌, ◌<◌, ◌⊎◌, ℕ, List, [], ◌∷◌, Some, Err, ap, arith, codes, subst, suc, sym, refl, take, pred, length}
+use Rattle.hart_line.proofs.Common.{◌≡◌, ◌<◌, ◌⊎◌, ℕ, List, [], ◌∷◌, Some, Err, ap, arith, codes, drop, subst, sym, refl, take, pred, length}
 use Rattle.hart_line.proofs.Common.{get_or, common_steps, AllZip, slice_get, Heard, Chars, Clean, Lost, LineEvent, Noise, Turn, Character}
 use Rattle.hart_line.proofs.Common.{RowFault, AreItems, IsItemsWord, AreEvents, HasFirstBadLine, IsBadLine, IsLegWord, IsScript, ReadsWords}
 use Rattle.hart_line.proofs.Common.{Says, lines_in_words, HasNoValue}
@@ -95,10 +95,10 @@ fault_of_word words k word Bad IsPart IsWhole short here none reads = none reads
 fault_of_word words k word (Memory room) IsPart IsWhole short here none reads = grind arith
 
 -- Take a word after the first word of a row. If the row says nothing when this word says nothing, the word's fault is the row's fault.
-pub fault_in_row : {A : Type 0} (row : List ℕ) (words given : List (List ℕ)) (k : ℕ) (word : List ℕ) (fault : RowFault)
-    (IsPart : A → Type 0) → words ≡ given → k < length given → get_or given k word ≡ word
+pub fault_in_row : {A : Type 0} (row : List ℕ) (words given : List (List ℕ)) (skip k : ℕ) (word : List ℕ) (fault : RowFault)
+    (IsPart : A → Type 0) → words ≡ given → k < length (drop skip given) → get_or (drop skip given) k word ≡ word
     → (HasNoValue IsPart → HasNoValue (Says (row ∷ given))) → ReadsWords (word ∷ []) IsPart (Err fault)
-    → ReadsWords (row ∷ words) (Says (row ∷ words)) (Err fault)
-fault_in_row row words given k word fault IsPart are short here none reads =
-    subst (λ (all : List (List ℕ)). ReadsWords (row ∷ all) (Says (row ∷ all)) (Err fault)) (sym are)
-    (fault_of_word (row ∷ given) (suc k) word fault IsPart _ (omega (arith, short)) here none reads)
+    → ReadsWords (drop skip words) (Says (row ∷ words)) (Err fault)
+fault_in_row row words given skip k word fault IsPart are short here none reads =
+    subst (λ (all : List (List ℕ)). ReadsWords (drop skip all) (Says (row ∷ all)) (Err fault)) (sym are)
+    (fault_of_word (drop skip given) k word fault IsPart _ short here none reads)

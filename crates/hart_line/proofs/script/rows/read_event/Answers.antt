@@ -1,4 +1,4 @@
-use Rattle.hart_line.proofs.Common.{codes, arith, rules, ◌≡◌, ℕ, List, ◌∷◌, Option, None, Some, Result, ok_or, LineEvent, RowFault}
+use Rattle.hart_line.proofs.Common.{codes, arith, rules, ◌≡◌, ℕ, List, [], Option, None, Some, Result, ok_or, LineEvent, RowFault}
 use Rattle.hart_line.proofs.Common.{ReadsWords, Finds, text_from_reads}
 use Rattle.hart_line.specs.declared.script.rows.RowFault.TheVariants.{Bad}
 use Rattle.hart_line.proofs.lemmas.script.Rows.{says_none}
@@ -12,15 +12,15 @@ found_or_bad words IsSaid (Some event) result finds gives = rw gives finds
 
 pub returns-in-submit : goal.returns-in-submit
 returns-in-submit c = rw (text_from_reads c.args.first.now (codes "submit") (omega arith) (search rules))
-    (found_or_bad (codes "submit" ∷ c.args.rest) _ _ _ c.read_submit.ensures c.ok_or.ensures.value)
+    (found_or_bad [] _ _ _ c.read_submit.ensures c.ok_or.ensures.value)
 
 pub returns-in-protect : goal.returns-in-protect
 returns-in-protect c = rw (text_from_reads c.args.first.now (codes "protect") (omega arith) (search rules))
-    (found_or_bad (codes "protect" ∷ c.args.rest) _ _ _ c.read_protect.ensures c.ok_or-in-protect.ensures.value)
+    (found_or_bad [] _ _ _ c.read_protect.ensures c.ok_or-in-protect.ensures.value)
 
 pub returns-in-restart : goal.returns-in-restart
 returns-in-restart c = rw (text_from_reads c.args.first.now (codes "restart") (omega arith) (search rules))
-    (found_or_bad (codes "restart" ∷ c.args.rest) _ _ _ c.read_restart.ensures c.ok_or-in-restart.ensures.value)
+    (found_or_bad [] _ _ _ c.read_restart.ensures c.ok_or-in-restart.ensures.value)
 
 pub returns-in-turn : goal.returns-in-turn
 returns-in-turn c = rw (text_from_reads c.args.first.now (codes "turn") (omega arith) (search rules)) c.read_turn.ensures

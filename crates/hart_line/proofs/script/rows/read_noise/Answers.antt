@@ -6,4 +6,4 @@ pub returns-in_err-read_items : goal.returns-in_err-read_items
 returns-in_err-read_items c =
     let refused = err_from_is_err_and c.from_residual.result c.from_residual.ensures.1 in
     rw (refused.1, refused.2)
-    (fault_in_row (codes "noise") _ _ 0 _ _ _ c.in-Some.ensures (omega arith) refl (no_noise _) c.in_err-read_items.ensures)
+    (fault_in_row (codes "noise") _ _ 0 0 _ _ _ c.in-Some.ensures (omega arith) refl (no_noise _) c.in_err-read_items.ensures)
