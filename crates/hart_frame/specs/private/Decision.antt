@@ -13,7 +13,7 @@ use Rattle.hart_frame.specs.scan.Scanner.{Gives, MovesPast}
 use Rattle.hart_frame.specs.declared.wire.layout.Layout.{Layout}
 use Rattle.hart_frame.specs.declared.scan.buffer.Buffer.{Buffer}
 use Rattle.hart_frame.specs.declared.scan.buffer.Span.{Span}
-use Rattle.hart_frame.specs.declared.scan.search.Sighting.{Sighting}
+use Rattle.hart_frame.specs.declared.scan.search.SearchResult.{SearchResult}
 
 -- The bytes of the body at a span of the buffer's list.
 abbrev pub body_at : Buffer → Span → List ℕ
@@ -46,7 +46,7 @@ IsHeldOpen b place = (length (held_bytes b) ≡ place)
 
 -- A search of the held bytes finds a place before which no frame begins. A frame begins at that place, or the bytes from there on decide
 -- nothing.
-pub record IsHeldSearched (b : Buffer) (found : Sighting) : Type 0 where
+pub record IsHeldSearched (b : Buffer) (found : SearchResult) : Type 0 where
   pub within : found.place ≤ length (held_bytes b)
   pub none : NoneBeginHeld b found.place
   pub stands : MatchOption found.layout (IsHeldOpen b found.place) (λ layout. IsWhole layout (drop found.place (held_bytes b)))

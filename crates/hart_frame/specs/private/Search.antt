@@ -3,7 +3,7 @@ use Rattle.std.specs.Prelude.{◌≡◌, ◌≢◌, ℕ, Bool, false, IsTrue, �
 use Rattle.std.specs.Prelude.{drop}
 use Rattle.hart_frame.specs.heard.Character.{Character, faultless}
 use Rattle.hart_frame.specs.private.Candidate.{BeginWithNone, IsWhole, MayBegin, NeverBegin, NothingFollows}
-use Rattle.hart_frame.specs.declared.scan.search.Sighting.{Sighting}
+use Rattle.hart_frame.specs.declared.scan.search.SearchResult.{SearchResult}
 
 -- No frame begins at a place from `from` to `to - 1`, whatever is heard after the list.
 abbrev pub NoneBegin : List ℕ → ℕ → ℕ → Type 0
@@ -22,14 +22,14 @@ abbrev pub IsOpenBefore : List ℕ → ℕ → ℕ → ℕ → Type 0
 IsOpenBefore bytes from seen count = (fewer : ℕ) → seen ≤ fewer → fewer < count → IsOpenFrom (take fewer bytes) from
 
 -- All bytes together decide nothing: the bytes from the found place on, at most 268, may begin a frame.
-abbrev pub IsOpenAll : List ℕ → Sighting → Type 0
+abbrev pub IsOpenAll : List ℕ → SearchResult → Type 0
 IsOpenAll bytes found =
     (found.decided ≡ length bytes) × (length bytes ≤ found.place + 268) × MayBegin (drop found.place bytes)
 
 -- A search from `from` on finds a place before which no frame begins. The first `decided` bytes show this. Either a frame stands at the
 -- place and within these bytes, or all bytes together decide nothing. No prefix of at least `seen` but fewer than `decided` bytes decides
 -- anything. `decided` is at least `seen`, and at most 269 more than the place.
-pub record IsSearched (bytes : List ℕ) (from seen : ℕ) (found : Sighting) : Type 0 where
+pub record IsSearched (bytes : List ℕ) (from seen : ℕ) (found : SearchResult) : Type 0 where
   pub after : from ≤ found.place
   pub order : found.place ≤ found.decided
   pub late : seen ≤ found.decided
@@ -53,7 +53,7 @@ IsLeftOpen bytes ended place =
 
 -- A search from `from` to the end of a list finds a place before which no frame begins. The bytes from that place on begin with a frame, or
 -- no frame is found in them.
-pub record IsSearchedToEnd (bytes : List ℕ) (from : ℕ) (ended : Bool) (found : Sighting) : Type 0 where
+pub record IsSearchedToEnd (bytes : List ℕ) (from : ℕ) (ended : Bool) (found : SearchResult) : Type 0 where
   pub after : from ≤ found.place
   pub within : found.place ≤ length bytes
   pub none : NoneBeginThen bytes ended from found.place

@@ -9,7 +9,7 @@ ghost use Rattle.hart_frame.specs.declared.scan.buffer.State.TheVariants.{Draine
 use crate::Char;
 use crate::heard::character::faultless_front;
 use crate::scan::buffer::{Buffer, MOST_HELD, ROOM, State};
-use crate::scan::search::{Sighting, search};
+use crate::scan::search::{SearchResult, search};
 use crate::wire::layout::Layout;
 use hart_values::ByteList;
 
@@ -54,7 +54,7 @@ impl Buffer {
     }
 
     /// Returns what is found in the held bytes followed by `part`.
-    fn search_joined(&self, part: &[u8]) -> Sighting
+    fn search_joined(&self, part: &[u8]) -> SearchResult
         requires sound { IsSound self.now }
         requires drained { self.now.state ≡ Drained }
         requires some { 0 < length part.now }
@@ -71,7 +71,7 @@ impl Buffer {
     /// Hears as many bytes of `part` as `found` needed, and returns how many. `found` is the result of a search of the held bytes
     /// and `part`.
     #[inline(always)]
-    fn settle(&mut self, part: &[u8], found: Sighting) -> usize
+    fn settle(&mut self, part: &[u8], found: SearchResult) -> usize
         requires sound { IsSound self.old }
         requires drained { self.old.state ≡ Drained }
         requires some { 0 < length part.now }

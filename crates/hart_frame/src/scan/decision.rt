@@ -6,7 +6,7 @@ ghost use Rattle.hart_frame.specs.scan.Scanner.{GivesNothing};
 ghost use Rattle.hart_frame.specs.declared.scan.buffer.State.TheVariants.{Busy};
 
 use crate::scan::buffer::{Buffer, Span, State};
-use crate::scan::search::{Sighting, search_to_end};
+use crate::scan::search::{SearchResult, search_to_end};
 use crate::wire::layout::Layout;
 
 impl Buffer {
@@ -71,7 +71,7 @@ impl Buffer {
     }
 
     /// Returns what is found in the held bytes. If no byte can follow the held bytes, no frame begins at an open place.
-    fn search_held(&self) -> Sighting
+    fn search_held(&self) -> SearchResult
         requires sound { IsSound self.now }
         ensures { IsHeldSearched self.now result }
     {

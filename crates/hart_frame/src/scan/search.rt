@@ -16,7 +16,7 @@ const LOOKED_AT: usize = LANES + 2;
 
 /// What a search of bytes finds.
 #[derive(Clone, Copy)]
-pub(crate) struct Sighting {
+pub(crate) struct SearchResult {
     /// No frame begins before this place.
     pub(crate) place: usize,
     /// How many bytes were needed to decide this.
@@ -26,7 +26,7 @@ pub(crate) struct Sighting {
 }
 
 /// Searches from `from` for a frame. The prefixes shorter than `seen` are known to be undecided.
-pub(crate) fn search(bytes: &[u8], from: usize, seen: usize) -> Sighting
+pub(crate) fn search(bytes: &[u8], from: usize, seen: usize) -> SearchResult
     requires order { from ≤ seen }
     requires within { seen ≤ length bytes.now }
     requires few { seen ≤ from + 269 }
@@ -42,7 +42,7 @@ pub(crate) fn search(bytes: &[u8], from: usize, seen: usize) -> Sighting
             }
             Candidate::Open => return open_at(bytes, start),
             Candidate::Whole(layout) => {
-                return Sighting {
+                return SearchResult {
                     place: start,
                     decided: decided.max(start + 2 + layout.body_len()),
                     layout: Some(layout),
@@ -55,7 +55,7 @@ pub(crate) fn search(bytes: &[u8], from: usize, seen: usize) -> Sighting
 
 /// Searches from `from` for a frame. If `ended` is true, nothing can follow the bytes, so a place at which a frame might still
 /// begin has none.
-pub(crate) fn search_to_end(bytes: &[u8], from: usize, ended: bool) -> Sighting
+pub(crate) fn search_to_end(bytes: &[u8], from: usize, ended: bool) -> SearchResult
     requires { from ≤ length bytes.now }
     ensures { IsSearchedToEnd bytes.now from ended result }
 {
@@ -67,10 +67,10 @@ pub(crate) fn search_to_end(bytes: &[u8], from: usize, ended: bool) -> Sighting
 }
 
 /// Returns the result if a frame may still begin at `place`.
-fn open_at(bytes: &[u8], place: usize) -> Sighting
+fn open_at(bytes: &[u8], place: usize) -> SearchResult
     ensures { result ≡ record { place = place; decided = length bytes.now; layout = None } }
 {
-    Sighting {
+    SearchResult {
         place,
         decided: bytes.len(),
         layout: None,

@@ -8,7 +8,7 @@ use Rattle.std.specs.Option.{option_to_list}
 use Rattle.hart_frame.specs.declared.scan.buffer.Buffer.{Buffer}
 use Rattle.hart_frame.specs.declared.scan.buffer.State.{State}
 use Rattle.hart_frame.specs.declared.scan.buffer.State.TheVariants.{Busy, Drained}
-use Rattle.hart_frame.specs.declared.scan.search.Sighting.{Sighting}
+use Rattle.hart_frame.specs.declared.scan.search.SearchResult.{SearchResult}
 use Rattle.hart_frame.specs.heard.Character.{faultless}
 use Rattle.hart_frame.specs.heard.Frames.{IsUndecided}
 use Rattle.hart_frame.specs.private.Buffer.{IsSound, IsWaiting, held_bytes, is_drained, scan_of}
@@ -25,7 +25,7 @@ passed b count = record b { from = b.from + count; first = b.first + count; stat
 pub held_passed : (b : Buffer) (count : ℕ) → held_bytes (passed b count) ≡ drop count (held_bytes b)
 held_passed b count = sym (drop-drop count b.from b.bytes)
 
-pub moves_passed : (b : Buffer) (found : Sighting) (state : State) → IsHeldSearched b found
+pub moves_passed : (b : Buffer) (found : SearchResult) (state : State) → IsHeldSearched b found
     → MovesPast (scan_of b) (scan_of (record (passed b found.place) { state = state })) []
 moves_passed b found state is =
     let new = record (passed b found.place) { state = state } in

@@ -5,7 +5,7 @@ use Rattle.std.proofs.lemmas.List.{drop_at, map-append}
 use Rattle.std.specs.Option.{option_to_list}
 use Rattle.hart_frame.specs.declared.scan.buffer.Buffer.{Buffer}
 use Rattle.hart_frame.specs.declared.scan.buffer.State.TheVariants.{Busy, Drained, Stands}
-use Rattle.hart_frame.specs.declared.scan.search.Sighting.{Sighting}
+use Rattle.hart_frame.specs.declared.scan.search.SearchResult.{SearchResult}
 use Rattle.hart_frame.specs.declared.wire.layout.Layout.{Layout}
 use Rattle.hart_frame.specs.heard.Character.{faultless}
 use Rattle.hart_frame.specs.heard.Place.{StandsIn}
@@ -28,7 +28,7 @@ use Rattle.hart_frame.proofs.lemmas.wire.BodiesFound.{held_frame}
 use Rattle.hart_frame.proofs.lemmas.wire.Body.{IsBody-whole}
 
 -- If a search of the held bytes to their end has a result, this is also the result for what the buffer holds.
-pub held_searched : (b : Buffer) (ended : Bool) (found : Sighting) → IsSound b → (IsTrue ended ↔ IsEnded b)
+pub held_searched : (b : Buffer) (ended : Bool) (found : SearchResult) → IsSound b → (IsTrue ended ↔ IsEnded b)
     → IsSearchedToEnd (held_bytes b) 0 ended found → IsHeldSearched b found
 held_searched b ended found sound over is =
     let none : NoneBeginHeld b found.place = λ place below more closed.
@@ -90,14 +90,14 @@ holds_frame b layout whole =
     (_, stands, refl)
 
 -- A buffer gives nothing if it gives nothing after it lets go of the bytes before the found place.
-pub given_nothing : (b mid : Buffer) (found : Sighting) (new : Scan) → IsHeldSearched b found → mid ≡ passed b found.place
+pub given_nothing : (b mid : Buffer) (found : SearchResult) (new : Scan) → IsHeldSearched b found → mid ≡ passed b found.place
     → GivesNothing (scan_of mid) new → GivesNothing (scan_of b) new
 given_nothing b mid found new is same after =
     let given = subst (λ (m : Buffer). GivesNothing (scan_of m) new) same after in
     gives_nothing_then (scan_of b) (scan_of (passed b found.place)) new (moves_passed b found Busy is) given
 
 -- A buffer gives nothing if the bytes from the found place on may begin a frame.
-pub given_open : (b : Buffer) (found : Sighting) → IsHeldSearched b found → IsHeldOpen b found.place
+pub given_open : (b : Buffer) (found : SearchResult) → IsHeldSearched b found → IsHeldOpen b found.place
     → length (held_bytes (passed b found.place)) ≢ 0
     → GivesNothing (scan_of b) (scan_of (record (passed b found.place) { state = Drained }))
 given_open b found is opened some =
@@ -107,6 +107,6 @@ given_open b found is opened some =
     (inl (waits mid (scan_of mid) waiting refl))
 
 -- A buffer holds a frame if the bytes from the found place on begin with this frame.
-pub given_stands : (b : Buffer) (found : Sighting) (layout : Layout) → b.state ≡ Busy → IsHeldSearched b found
+pub given_stands : (b : Buffer) (found : SearchResult) (layout : Layout) → b.state ≡ Busy → IsHeldSearched b found
     → IsWhole layout (drop found.place (held_bytes b)) → HoldsWhole b (record (passed b found.place) { state = Stands layout }) layout
 given_stands b found layout busy is whole = grind (arith, moves_passed b found (Stands layout) is, held_passed)

@@ -3,7 +3,7 @@ use Rattle.std.proofs.Common.{◌≡◌, ℕ, ◌+◌, ◌<◌, ◌⊎◌, inl, 
 use Rattle.std.proofs.Math.Seq.{take-append-add}
 use Rattle.std.proofs.lemmas.List.{append-nil, map-append, take-map, length-map, length-take-le}
 use Rattle.hart_frame.specs.declared.scan.buffer.Buffer.{Buffer}
-use Rattle.hart_frame.specs.declared.scan.search.Sighting.{Sighting}
+use Rattle.hart_frame.specs.declared.scan.search.SearchResult.{SearchResult}
 use Rattle.hart_frame.specs.heard.Character.{faultless}
 use Rattle.hart_frame.specs.heard.Frames.{IsUndecided}
 use Rattle.hart_frame.specs.private.Buffer.{IsSound, IsWaiting, held_bytes, scan_of, state_of}
@@ -30,7 +30,7 @@ undecided_from xs ends =
     (undecided_open (drop ends.place xs) ends.may)
 
 -- A buffer searched the held bytes and a part after them, and kept the bytes from the found place up to the last one looked at.
-pub record IsKept (old new : Buffer) (part : List ℕ) (found : Sighting) : Type 0 where
+pub record IsKept (old new : Buffer) (part : List ℕ) (found : SearchResult) : Type 0 where
   pub waiting : IsWaiting old
   pub searched : IsSearched (held_bytes old ++ part) 0 (length (held_bytes old) + 1) found
   pub held : held_bytes new ≡ drop found.place (take found.decided (held_bytes old ++ part))
@@ -39,7 +39,7 @@ pub record IsKept (old new : Buffer) (part : List ℕ) (found : Sighting) : Type
   pub finished : new.finished ≡ old.finished
   pub state : new.state ≡ state_of found.layout
 
-module _ (old new : Buffer) (part : List ℕ) (found : Sighting) (kept : IsKept old new part found) where
+module _ (old new : Buffer) (part : List ℕ) (found : SearchResult) (kept : IsKept old new part found) where
   -- The scanner stops at the end of the part with nothing decided, or where a frame stands.
   stops_kept : (count : ℕ) → IsSound new → found.decided ≡ length (held_bytes old) + count → StopsAt (scan_of new) count (length part)
   stops_kept count sound counts = grind (arith, length-append, holds_frame, undecided_waiting)

@@ -4,14 +4,14 @@ use Rattle.std.proofs.Math.Seq.{take-length}
 use Rattle.std.proofs.lemmas.Grind.{common_steps}
 use Rattle.std.proofs.lemmas.List.{length-take-le, take-append-drop}
 use Rattle.std.specs.Option.{MatchOption}
-use Rattle.hart_frame.specs.declared.scan.search.Sighting.{Sighting}
+use Rattle.hart_frame.specs.declared.scan.search.SearchResult.{SearchResult}
 use Rattle.hart_frame.specs.private.Candidate.{IsWhole, MayBegin}
 use Rattle.hart_frame.specs.private.Search.{IsSearched, NoneBeginThen}
 use Rattle.hart_frame.proofs.lemmas.scan.Candidate.{nothing_open}
 use Rattle.hart_frame.proofs.lemmas.scan.Search.{joined, none_more, whole_append}
 
 -- No frame begins in a list from `first` up to the found place. At the found place a frame stands or may begin.
-pub record IsLookedAt (bytes : List ℕ) (first : ℕ) (ended : Bool) (found : Sighting) : Type 0 where
+pub record IsLookedAt (bytes : List ℕ) (first : ℕ) (ended : Bool) (found : SearchResult) : Type 0 where
   pub after : first ≤ found.place
   pub within : found.place ≤ length bytes
   pub none : NoneBeginThen bytes ended first found.place
@@ -19,7 +19,7 @@ pub record IsLookedAt (bytes : List ℕ) (first : ℕ) (ended : Bool) (found : S
       (λ layout. IsWhole layout (drop found.place bytes))
 
 -- A search from `from` on finds a place that is `IsLookedAt` from `first` on, if no frame begins from `first` up to `from`.
-pub looked_from : (bytes : List ℕ) (first from : ℕ) (ended : Bool) (found : Sighting) → first ≤ from → NoneBeginThen bytes ended first from
+pub looked_from : (bytes : List ℕ) (first from : ℕ) (ended : Bool) (found : SearchResult) → first ≤ from → NoneBeginThen bytes ended first from
     → IsSearched bytes from from found → IsLookedAt bytes first ended found
 looked_from bytes first from ended found after before is =
     let all = rw (take-length bytes) at
@@ -29,7 +29,7 @@ looked_from bytes first from ended found after before is =
     grind (arith, common_steps, whole_append, take-append-drop found.decided bytes, length-take-le found.decided bytes)
 
 -- If nothing can follow, no frame begins where one might have begun, and the search goes on after that place.
-pub looked_on : (bytes : List ℕ) (first : ℕ) (ended : Bool) (old new : Sighting) → IsTrue ended → IsLookedAt bytes first ended old
+pub looked_on : (bytes : List ℕ) (first : ℕ) (ended : Bool) (old new : SearchResult) → IsTrue ended → IsLookedAt bytes first ended old
     → old.layout ≡ None → IsSearched bytes (old.place + 1) (old.place + 1) new → IsLookedAt bytes first ended new
 looked_on bytes first ended old new over looked none searched =
     let may : MayBegin (drop old.place bytes) = grind (arith, common_steps) in
