@@ -1,12 +1,13 @@
 -- Why no frame stands where a message seems to start: what stands in the way of a body there (HCF_SPEC-081; own profile).
-use Rattle.std.specs.Prelude.{◌≡◌, ◌≢◌, ◌⊎◌, ◌<◌, ◌+◌, ◌-◌, ◌/◌, ◌%◌, ℕ, List, [], ◌∷◌, ◌++◌, Option, None, Some, drop, length, slice_get}
+use Rattle.std.specs.Prelude.{◌≡◌, ◌≢◌, ◌⊎◌, ◌<◌, ◌+◌, ◌-◌, ◌%◌, ℕ, List, [], ◌∷◌, ◌++◌, Option, None, Some, drop, length, slice_get}
 use Rattle.std.specs.Prelude.{take}
 use Rattle.hart_frame.specs.heard.Character.{Character, faultless, faultless_bytes}
 use Rattle.hart_frame.specs.wire.Body.{IsBody}
 use Rattle.hart_frame.specs.wire.FrameParts.{FrameParts}
 use Rattle.hart_frame.specs.wire.Layout.{body_length, byte_count_in, delimiter_in}
 use Rattle.hart_frame.specs.wire.Parity.{IsCheckByte}
-use Rattle.hart_frame.specs.wire.Refusal.{HasByteCount, HasCheckByte, HasGoodByteCount, IsDelimiter, IsTruncated}
+use Rattle.hart_frame.specs.wire.Delimiter.{IsBurstDelimiter, IsDelimiter}
+use Rattle.hart_frame.specs.wire.Refusal.{HasByteCount, HasCheckByte, HasGoodByteCount, IsTruncated}
 use Rattle.hart_frame.specs.heard.Start.{IsStart}
 use Rattle.hart_frame.specs.declared.wire.fault.FrameFault.{FrameFault}
 use Rattle.hart_frame.specs.declared.wire.fault.FrameFault.TheVariants.{Truncated}
@@ -25,10 +26,6 @@ HasFaultsAt chars place faults = (faults ≢ 0) × (byte : ℕ) × (slice_get ch
 -- All characters from a place to the end of what was heard are faultless.
 abbrev pub ComeToTheEnd : List Character → ℕ → Type 0
 ComeToTheEnd chars place = place + length (bytes_from chars place) ≡ length chars
-
--- A burst message begins with a delimiter whose bits 4 and 3 are zero, and whose bits 2 to 0 are 1.
-abbrev pub IsBurstDelimiter : ℕ → Type 0
-IsBurstDelimiter byte = (byte / 8 % 4 ≡ 0) × (byte % 8 ≡ 1)
 
 -- What stands in the way of a body at a place where a body may start. `Faulty`: a character with fault bits ends the bytes there too early.
 -- `Burst`: the bytes begin with the delimiter of a burst message. `BadDelimiter`: they begin with another byte that is no delimiter.

@@ -1,18 +1,14 @@
 -- The miss of a place, found step by step (HCF_SPEC-081; own profile). By the law `misses_are_in_the_way`, it is exactly the miss that
 -- `IsMiss` of InTheWay describes. The texts of `explain` and the sightings of a list use `miss_of`.
-use Rattle.std.specs.Prelude.{◌+◌, ◌-◌, ◌/◌, ◌%◌, ◌==◌, ◌&&◌, not, nat_le, nat_lt, if◌then◌else◌, ℕ, zero, suc, Bool, false}
+use Rattle.std.specs.Prelude.{◌+◌, ◌-◌, ◌%◌, ◌==◌, ◌&&◌, not, nat_le, nat_lt, if◌then◌else◌, ℕ, zero, suc, Bool, false}
 use Rattle.std.specs.Prelude.{List, Option, None, Some, drop, fold, is_none, length, slice_get, slice_index, take, bit_xor}
 use Rattle.std.specs.Option.{option_map_or}
 use Rattle.hart_frame.specs.heard.Character.{Character, faultless_bytes}
-use Rattle.hart_frame.specs.wire.Delimiter.{is_delimiter}
+use Rattle.hart_frame.specs.wire.Delimiter.{is_burst_delimiter, is_delimiter}
 use Rattle.hart_frame.specs.wire.Layout.{body_length, byte_count_in, byte_count_place, delimiter_in}
 use Rattle.hart_frame.specs.declared.heard.miss.Miss.{Miss}
 use Rattle.hart_frame.specs.declared.heard.miss.Miss.TheVariants.{Faulty, Burst, BadDelimiter, EndsBeforeByteCount, ShortReply, Missing}
 use Rattle.hart_frame.specs.declared.heard.miss.Miss.TheVariants.{BadCheck, OnePreamble}
-
--- The delimiter of a burst message has bits 4 and 3 zero, and 1 in bits 2 to 0.
-abbrev pub is_burst_delimiter : ℕ → Bool
-is_burst_delimiter byte = (byte / 8 % 4 == 0) && (byte % 8 == 1)
 
 -- Why a first byte is no delimiter of this profile: it is the delimiter of a burst message, or some other byte.
 abbrev pub delimiter_miss : ℕ → Miss

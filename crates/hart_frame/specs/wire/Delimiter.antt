@@ -1,5 +1,5 @@
 -- The first byte of a body (HCF_SPEC-081).
-use Rattle.std.specs.Prelude.{ℕ, ◌+◌, ◌*◌, ◌/◌, ◌%◌, ◌==◌, ◌&&◌, ◌||◌, Bool, length}
+use Rattle.std.specs.Prelude.{ℕ, ◌+◌, ◌*◌, ◌/◌, ◌%◌, ◌==◌, ◌&&◌, ◌||◌, Bool, IsTrue, length}
 use Rattle.hart_values.specs.declared.address.Address.{Address}
 use Rattle.hart_values.specs.declared.address.Address.TheVariants.{Polling, Unique}
 use Rattle.hart_frame.specs.declared.wire.kind.FrameKind.{FrameKind}
@@ -24,3 +24,15 @@ delimiter_of frame = 128 * address_type frame.address + 32 * length frame.expans
 -- A delimiter of this profile has bits 4 and 3 zero, and in bits 2 to 0 the kind of an STX or of an ACK.
 abbrev pub is_delimiter : ℕ → Bool
 is_delimiter byte = (byte / 8 % 4 == 0) && ((byte % 8 == 2) || (byte % 8 == 6))
+
+-- A byte is a delimiter of this profile.
+abbrev pub IsDelimiter : ℕ → Type 0
+IsDelimiter byte = IsTrue (is_delimiter byte)
+
+-- The delimiter of a burst message has bits 4 and 3 zero, and 1 in bits 2 to 0.
+abbrev pub is_burst_delimiter : ℕ → Bool
+is_burst_delimiter byte = (byte / 8 % 4 == 0) && (byte % 8 == 1)
+
+-- A byte is the delimiter of a burst message.
+abbrev pub IsBurstDelimiter : ℕ → Type 0
+IsBurstDelimiter byte = IsTrue (is_burst_delimiter byte)

@@ -1,14 +1,11 @@
 -- Why the bytes of a list are not decoded: the first thing that is wrong, from its first byte on (own profile).
-use Rattle.std.specs.Prelude.{◌≡◌, ℕ, ◌/◌, ◌%◌, ◌<◌, ◌≤◌, ◌⊎◌, List, length, take}
+use Rattle.std.specs.Prelude.{◌≡◌, ℕ, ◌%◌, ◌<◌, ◌≤◌, ◌⊎◌, List, length, take}
 use Rattle.hart_frame.specs.declared.wire.fault.FrameFault.{FrameFault}
 use Rattle.hart_frame.specs.declared.wire.fault.FrameFault.TheVariants.{TooShortReply, BadPreamble, BadDelimiter}
 use Rattle.hart_frame.specs.declared.wire.fault.FrameFault.TheVariants.{Truncated, BadCheck, ShortReply}
+use Rattle.hart_frame.specs.wire.Delimiter.{IsDelimiter}
 use Rattle.hart_frame.specs.wire.Layout.{delimiter_in, byte_count_place, byte_count_in, body_length}
 use Rattle.hart_frame.specs.wire.Parity.{HasEvenParity}
-
--- A delimiter of this profile has bits 4 and 3 zero, and in bits 2 to 0 the kind of an STX or of an ACK.
-abbrev pub IsDelimiter : ℕ → Type 0
-IsDelimiter byte = (byte / 8 % 4 ≡ 0) × ((byte % 8 ≡ 2) ⊎ (byte % 8 ≡ 6))
 
 -- A list begins with a delimiter of this profile.
 abbrev pub HasDelimiter : List ℕ → Type 0

@@ -1,7 +1,6 @@
 //! The first byte of a body: bit 7 the address type, bits 6 and 5 the number of expansion bytes, bits 2 to 0 the kind.
 ghost use Rattle.std.specs.Prelude.{◌≡◌, ◌≤◌, ◌+◌, ◌*◌, ◌/◌, ◌%◌, ◌⊎◌, ◌↔◌, IsSome, IfSome, IsTrue};
-ghost use Rattle.hart_frame.specs.wire.Delimiter.{delimiter_of, kind_code};
-ghost use Rattle.hart_frame.specs.wire.Refusal.{IsDelimiter};
+ghost use Rattle.hart_frame.specs.wire.Delimiter.{IsDelimiter, delimiter_of, is_burst_delimiter, kind_code};
 
 use crate::wire::layout::Layout;
 use crate::{Frame, FrameKind};
@@ -127,7 +126,7 @@ pub(crate) fn read_delimiter(byte: u8) -> Option<Delimiter>
 
 /// Returns true if the byte is the delimiter of a burst message, which is not part of this profile.
 pub(crate) fn is_burst_delimiter(byte: u8) -> bool
-    ensures { IsTrue result ↔ ((byte / 8 % 4 ≡ 0) × (byte % 8 ≡ 1)) }
+    ensures { result ≡ is_burst_delimiter byte }
 {
     byte / PHYSICAL_LAYER % 4 == 0 && byte % PHYSICAL_LAYER == BURST
 }

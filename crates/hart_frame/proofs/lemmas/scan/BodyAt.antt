@@ -22,7 +22,7 @@ use Rattle.hart_frame.specs.private.Sighting.{HasBodyMiss, KeepsHeader, Whatever
 use Rattle.hart_frame.specs.scan.Sighting.{NamesPlacesBelow, heard_with}
 use Rattle.hart_frame.specs.wire.Header.{header_in}
 use Rattle.hart_frame.specs.wire.Layout.{body_length, command_place, delimiter_in}
-use Rattle.hart_frame.specs.wire.Refusal.{IsDelimiter}
+use Rattle.hart_frame.specs.wire.Delimiter.{IsDelimiter}
 use Rattle.hart_frame.proofs.lemmas.wire.Header.{header_sure}
 use Rattle.hart_frame.proofs.lemmas.heard.Told.{cut_told, whole_told, wrong_told}
 use Rattle.hart_frame.proofs.lemmas.scan.Sighted.{heard_few}

@@ -14,7 +14,8 @@ use Rattle.hart_frame.specs.wire.Delimiter.{address_type, delimiter_of, kind_cod
 use Rattle.hart_frame.specs.wire.FrameParts.{FrameParts}
 use Rattle.hart_frame.specs.wire.Header.{HeaderParts, address_in, header_in, header_of, kind_in, master_in}
 use Rattle.hart_frame.specs.wire.Layout.{command_place, delimiter_in}
-use Rattle.hart_frame.specs.wire.Refusal.{HasDelimiter, IsDelimiter}
+use Rattle.hart_frame.specs.wire.Delimiter.{IsDelimiter}
+use Rattle.hart_frame.specs.wire.Refusal.{HasDelimiter}
 use Rattle.hart_frame.proofs.lemmas.wire.Refusal.{has_check, says}
 use Rattle.hart_frame.proofs.lemmas.wire.UnambiguousBodies.{address_type-lt, kind_code-is, length-address, spread}
 

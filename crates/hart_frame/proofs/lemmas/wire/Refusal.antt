@@ -9,7 +9,8 @@ use Rattle.hart_frame.specs.wire.Body.{BeginsWithBody}
 use Rattle.hart_frame.specs.wire.Delimiter.{delimiter_of, address_type}
 use Rattle.hart_frame.specs.wire.FrameParts.{FrameParts}
 use Rattle.hart_frame.specs.wire.Layout.{delimiter_in, byte_count_place, byte_count_in, body_length}
-use Rattle.hart_frame.specs.wire.Refusal.{HasCheckByte, IsRefusedWith, IsDelimiter}
+use Rattle.hart_frame.specs.wire.Delimiter.{IsDelimiter}
+use Rattle.hart_frame.specs.wire.Refusal.{HasCheckByte, IsRefusedWith}
 use Rattle.hart_frame.proofs.lemmas.wire.UnambiguousBodies.{address_type-lt, bodies_are_unambiguous-one_prefix, kind_code-is}
 use Rattle.hart_frame.proofs.lemmas.wire.UnambiguousBodies.{length-address, spread}
 
