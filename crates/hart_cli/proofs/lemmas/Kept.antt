@@ -5,7 +5,7 @@ use Rattle.std.proofs.lemmas.Grind.{common_steps}
 use Rattle.std.specs.Result.{IsErrAnd}
 use Rattle.hart_cli.specs.declared.stream.Failed.{Failed}
 use Rattle.hart_cli.specs.stream.Kept.{AddsText, Tells}
-use Rattle.hart_cli.specs.stream.Stream.{FailsToWrite, Stream, Writes}
+use Rattle.hart_cli.specs.stream.Stream.{FailsToWrite, Stream}
 use Rattle.hart_cli.proofs.lemmas.Writes.{FailsToWrite-longer, FailsToWrite-on, WritesAll-on}
 
 -- appending a text to the kept text adds the text, with nothing written
@@ -30,8 +30,3 @@ fails_first a b p x y fails = rw (← append_assoc) (FailsToWrite-longer a b (p 
 pub tells_failure : {T : Type 0} (old new : Stream) (before after text : List ℕ) (P : Failed → Type 0) (result : Result T Failed)
     → IsErrAnd result P → FailsToWrite old new (before ++ text) → Tells old new before after text result
 tells_failure old new before after text P result failed fails = grind (arith, common_steps)
-
--- once the kept part of a text is written, the whole text is written
-pub writes_kept : {T : Type 0} (a b c : Stream) (kept text : List ℕ) (result : Result T Failed) → AddsText a b [] kept text
-    → Writes b c kept result → Writes a c text result
-writes_kept a b c kept text result h wrote = grind (arith, common_steps, WritesAll-on, FailsToWrite-on)

@@ -45,10 +45,6 @@ pub objects_alike : (one other : List Seen)
     → ((more : List Seen) (s : Seen) → before_of (one ++ more) s ≡ before_of (other ++ more) s) → AreAlike Objects one other
 objects_alike one other same = λ date between later. lines_alike one other between later same date
 
--- what was seen before changes nothing in words
-pub words_alike : (one other : List Seen) → AreAlike Words one other
-words_alike one other = λ date between later. refl
-
 -- equal lists are alike
 pub alike_same : (style : Style) (one other : List Seen) → one ≡ other → AreAlike style one other
 alike_same style one other same = λ date between later. ap (λ xs. text_after style date (xs ++ between) later) same

@@ -1,24 +1,20 @@
 -- What is heard and told, part by part.
-use Rattle.std.proofs.Common.{◌≡◌, ◌≤◌, ◌<◌, ◌+◌, ◌-◌, ◌^◌, ℕ, Bool, false, true, List, [], ◌∷◌, ◌++◌, length, map, drop, zero, suc, refl}
+use Rattle.std.proofs.Common.{◌≡◌, ◌≤◌, ◌<◌, ◌+◌, ◌-◌, ℕ, Bool, false, true, List, [], ◌∷◌, ◌++◌, length, map, drop, zero, suc, refl}
 use Rattle.std.proofs.Common.{sym, ap, ◌∙◌, arith}
 use Rattle.std.proofs.Common.{Err, MatchResult, Ok, Result, append_assoc, append-nil, length-append, length-drop}
-use Rattle.std.proofs.lemmas.Grind.{common_steps}
-use Rattle.std.proofs.lemmas.List.{drop-append-le, drop-drop, drop_all, length-map, map-append}
-use Rattle.hart_frame.specs.declared.heard.miss.Miss.{Miss}
+use Rattle.std.proofs.lemmas.List.{drop-append-le, drop-drop, drop_all, length-map}
 use Rattle.hart_frame.specs.declared.scan.sighting.After.{After}
 use Rattle.hart_frame.specs.declared.scan.sighting.After.TheVariants.{Damaged, End, More}
-use Rattle.hart_frame.specs.declared.scan.sighting.Sighting.{Sighting}
-use Rattle.hart_frame.specs.declared.scan.sighting.Sighting.TheVariants as given
 use Rattle.hart_frame.specs.heard.Character.{Character, faultless}
 use Rattle.hart_frame.specs.heard.Sighting.{IsUndecidedSighting, Seen, SeesOn, moved_seen}
-use Rattle.hart_frame.specs.scan.Sighting.{EndsAt, NamesPlacesBelow, heard_with, is_end}
+use Rattle.hart_frame.specs.scan.Sighting.{heard_with, is_end}
 use Rattle.hart_frame.proofs.lemmas.scan.SightingLaws.{grown, onward}
 use Rattle.hart_cli.specs.declared.calls.explain.teller.Teller.{Teller}
 use Rattle.hart_cli.specs.declared.calls.explain.telling.Telling.{Telling}
 use Rattle.hart_cli.specs.declared.stream.Failed.{Failed}
 use Rattle.hart_cli.specs.explain.Dates.{date_at, date_from}
 use Rattle.hart_cli.specs.explain.LastMessages.{KeepsOwn, recalled}
-use Rattle.hart_cli.specs.explain.Telling.{FailsToHear, FailsToTell, FitsFrom, Hears, IsWaiting, TellsDecided, TellsRest, chars_after}
+use Rattle.hart_cli.specs.explain.Telling.{FailsToHear, FailsToTell, Hears, IsWaiting, TellsDecided, TellsRest, chars_after}
 use Rattle.hart_cli.specs.explain.Telling.{GoesOn, text_from, told_text}
 use Rattle.hart_cli.specs.stream.Kept.{AddsText}
 use Rattle.hart_cli.specs.stream.Stream.{FailsToWrite, Stream, Writes, WritesAll}
@@ -59,38 +55,6 @@ hears_long a b xs ended w w1 h =
     let held : length (faultless b.held) ≡ length (drop h.used (faultless a.held ++ xs)) = ap length h.held in
     let all = length-append (faultless a.held) xs in
     omega (arith, h.within, h.first, held, long_is a.held, long_is b.held, length-drop h.used (faultless a.held ++ xs), all)
-
--- the characters now held are those held before and the characters of the new bytes
-same_held : (old mid : Telling) (bytes : List ℕ) → mid.held ≡ old.held ++ bytes
-    → faultless mid.held ++ [] ≡ faultless old.held ++ faultless bytes
-same_held old mid bytes held = rw (held, append-nil, map-append) refl
-
-pub hears_more : (old mid new : Telling) (bytes : List ℕ) (ended : Bool) (w w1 : Stream) → mid.held ≡ old.held ++ bytes
-    → mid.first ≡ old.first → mid.kept ≡ old.kept → mid.dates ≡ old.dates → mid.teller ≡ old.teller → Hears mid new [] ended w w1
-    → Hears old new (faultless bytes) ended w w1
-hears_more old mid new bytes ended w w1 held first kept dates teller h =
-    let same = same_held old mid bytes held in
-    record {
-      seen = h.seen;
-      used = h.used;
-      sees = rw same at h.sees;
-      within = rw same at h.within;
-      first = rw first at h.first;
-      held = rw same at h.held;
-      dates = rw (first, dates) at h.dates;
-      adds = rw (first, kept, dates, teller) at h.adds;
-      goes_on = rw (first, teller) at h.goes_on;
-    }
-
-pub fails_more : (old mid : Telling) (bytes : List ℕ) (ended : Bool) (w w1 : Stream) → mid.held ≡ old.held ++ bytes
-    → mid.first ≡ old.first → mid.kept ≡ old.kept → mid.dates ≡ old.dates → mid.teller ≡ old.teller → FailsToHear mid [] ended w w1
-    → FailsToHear old (faultless bytes) ended w w1
-fails_more old mid bytes ended w w1 held first kept dates teller k = record {
-  seen = k.seen;
-  used = k.used;
-  sees = rw (same_held old mid bytes held) at k.sees;
-  fails = rw (first, kept, dates, teller) at k.fails;
-}
 
 -- the same was heard once the kept text is written
 pub hears_written : (old mid new : Telling) (xs : List Character) (ended : Bool) (w w1 w2 : Stream) → Hears old mid xs ended w w1
@@ -281,12 +245,6 @@ told_held old new after used w w1 told first held dated dates = (
   },
 )
 
--- a write failed in what is said of the decided sightings
-pub fails_held : (old : Telling) (after : After) (w w1 : Stream)
-    → FailsToTell (date_from old) old.first (heard_with old.held after) (is_end after) old.teller old.kept w w1
-    → FailsToHear old (chars_after after) (is_end after) w w1
-fails_held old after w w1 fails = rw (heard_is old.held after) at fails
-
 -- the sightings told so far of the held bytes and of what comes after them
 pub record ToldSoFar (date : ℕ → List ℕ) (first : ℕ) (held : List ℕ) (after : After) (used : ℕ) (teller teller_after : Teller)
     (kept kept_after : List ℕ) (writer writer_after : Stream) : Type 0 where
@@ -359,15 +317,3 @@ fails_next date first held after used to t now a b next w w1 w2 h sees fails = r
   sees = onward (heard_with held after) (is_end after) 0 used to h.seen (next ∷ []) h.sees sees;
   fails = rw (one_more t now date first h.seen next h.goes_on) at (fails_then w w1 w2 a b _ _ h.adds fails);
 }
-
--- a miss whose places are below a bound has them below each greater bound
-names_below : (count most : ℕ) (miss : Miss) → count ≤ most → NamesPlacesBelow count miss → NamesPlacesBelow most miss
-names_below count most miss few below = grind (arith, common_steps)
-
--- the places of a sighting are numbers of 64 bits
-pub fits_from : (first count used : ℕ) (sighting : Sighting) → first + count < 2 ^ 64 → used ≤ count → EndsAt count used sighting
-    → FitsFrom first sighting
-fits_from first count used (given.Message view) few within ends =
-    (omega (arith, few, within, ends.0, ends.1), omega (arith, few, within, ends.1))
-fits_from first count used (given.Missed place miss header) few within ends =
-    (omega (arith, few, within, ends.0), names_below count (2 ^ 64 - first) miss (omega (arith, few)) ends.1)

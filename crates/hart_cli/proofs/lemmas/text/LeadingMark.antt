@@ -1,13 +1,11 @@
 -- The date that begins a text with a `@`, by how many visible bytes follow.
-use Rattle.std.proofs.Common.{◌≡◌, ◌≤◌, ◌<◌, ◌+◌, ◌∙◌, ◌⊎◌, ℕ, zero, suc, All, List, [], ◌∷◌, ◌++◌, length, drop, take, get_or, refl, sym}
-use Rattle.std.proofs.Common.{ap, arith, inl, inr, length-append, length-drop, take-append-drop}
-use Rattle.std.proofs.lemmas.List.{drop-drop, drop_more, get_or-append-add, length-take-le}
+use Rattle.std.proofs.Common.{◌≡◌, ◌≤◌, ◌<◌, ◌+◌, ◌∙◌, ◌⊎◌, ℕ, zero, suc, All, List, [], ◌∷◌, ◌++◌, length, drop, take, get_or, refl}
+use Rattle.std.proofs.Common.{ap, arith, inl, inr, length-append}
+use Rattle.std.proofs.lemmas.List.{get_or-append-add}
 use Rattle.std.proofs.lemmas.List.Elements.{All-head, All-tail}
-use Rattle.hart_cli.specs.declared.text.marks.Mark.TheVariants as given
 use Rattle.hart_cli.specs.text.Heard.{BeginsWithSeparator, Date, HeardChar, IsDateWord, IsVisible, NoMarkBegins}
 use Rattle.hart_cli.specs.text.Heard.{Silence}
 use Rattle.hart_cli.specs.text.Items.{IsSeparator}
-use Rattle.hart_cli.specs.text.Marks.{HasMark}
 use Rattle.hart_cli.proofs.lemmas.text.Marks.{not_both, not_date}
 
 -- the first visible bytes of a text are those of the word that begins it before a separator
@@ -68,27 +66,3 @@ no_mark text len is all stops within wrong (HeardChar character) rest never = ne
 no_mark text len is all stops within wrong Silence rest begins = not_date text rest (drop 1 text) begins is
 no_mark text len is all stops within wrong (Date word) rest (valid, also, next) =
     no_date text word rest len also valid next all stops within wrong
-
--- a date begins a text with a `@`, 1 to 32 visible bytes and a separator
-pub has_date : (text : List ℕ) (len : ℕ) → text ≡ 64 ∷ drop 1 text → All IsVisible (take len (drop 1 text)) → 0 < len → len ≤ 32
-    → 1 + len < length text → IsSeparator (get_or text (1 + len) 0) → HasMark text (given.Date len)
-has_date text len is all some few within separates =
-    let after = drop 1 text in
-    let whole : take len after ++ drop len after ≡ after = take-append-drop len after in
-    let rest : drop len after ≡ drop (1 + len) text = drop-drop len 1 text in
-    let long : length (take len after) ≡ len = length-take-le len after (omega (arith, within, length-drop 1 text)) in (
-      record { some = omega (arith, long, some); few = omega (arith, long, few); visible = all },
-      is ∙ ap (λ xs. 64 ∷ xs) (sym whole ∙ ap (λ xs. take len after ++ xs) rest),
-      record {
-        byte = get_or text (1 + len) 0;
-        after = drop (1 + len + 1) text;
-        separates = separates;
-        text_is = drop_more text (1 + len) 0 within;
-      },
-    )
-
--- no mark begins a text that begins with another byte
-pub no_mark_at : (text : List ℕ) → (get_or text 0 0 ≡ 47 → ⊥) → (get_or text 0 0 ≡ 64 → ⊥) → NoMarkBegins text
-no_mark_at text none never (HeardChar character) rest begins = begins
-no_mark_at text none never Silence rest is = none (rw is refl)
-no_mark_at text none never (Date word) rest (valid, is, next) = never (rw is refl)

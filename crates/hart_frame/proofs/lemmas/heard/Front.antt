@@ -1,10 +1,10 @@
 -- The bytes up to the first character with fault bits.
-use Rattle.std.proofs.Common.{◌≡◌, ◌≢◌, ℕ, ◌+◌, ◌<◌, ◌≤◌, List, [], ◌∷◌, ◌++◌, length, take, drop, get_or, min, Some}
+use Rattle.std.proofs.Common.{◌≡◌, ◌≢◌, ℕ, ◌+◌, ◌<◌, ◌≤◌, List, [], ◌∷◌, ◌++◌, length, take, drop, get_or, Some}
 use Rattle.std.proofs.Common.{refl, arith, append_assoc, length-append, ◌==◌}
 use Rattle.std.proofs.lemmas.Bool.Decides.{nat_tests}
 use Rattle.std.proofs.lemmas.Grind.{common_steps}
-use Rattle.std.proofs.lemmas.List.{get_or_append_left, get_or-map, append-nil, drop_more, drop_all, length-map, length-take}
-use Rattle.std.proofs.lemmas.List.{map-append, take_at, take_all, take_min, take-append-le, take-map}
+use Rattle.std.proofs.lemmas.List.{get_or_append_left, get_or-map, drop_more, length-map, length-take}
+use Rattle.std.proofs.lemmas.List.{map-append, take_min, take-append-le, take-map}
 use Rattle.std.proofs.lemmas.List.Elements.{All-drop, All-from_get_or, All-take}
 use Rattle.std.proofs.lemmas.List.Sums.{take_while-cons}
 use Rattle.std.specs.List.{All, slice_get}
@@ -41,15 +41,6 @@ pub Front-more : (heard : List Character) (count : ℕ) (bytes : List ℕ) (c : 
     → c ≡ get_or heard count c → c.faults ≡ 0 → Front heard count bytes → Front heard (count + 1) (bytes ++ c.byte ∷ [])
 Front-more heard count bytes c within is good front =
     grind (arith, drop_more heard count c within, faultless_bytes-more, append_assoc, length-append)
-
-pub Front-end : (heard : List Character) (count most : ℕ) (bytes : List ℕ) (c : Character) → count < length heard → count < most
-    → c ≡ get_or heard count c → c.faults ≢ 0 → Front heard count bytes → bytes ≡ take most (faultless_bytes heard)
-Front-end heard count most bytes c within few is bad front =
-    grind (arith, common_steps, drop_more, faultless_bytes-end, append-nil, take_all)
-
-pub Front-all : (heard : List Character) (count most : ℕ) (bytes : List ℕ) → count ≡ min (length heard) most → Front heard count bytes
-    → bytes ≡ take most (faultless_bytes heard)
-Front-all heard count most bytes all front = grind (arith, drop_all, append-nil, take_all, take_at)
 
 -- What is heard is the run of faultless bytes at its front, as characters, and then the other characters.
 pub heard_parts : (heard : List Character)

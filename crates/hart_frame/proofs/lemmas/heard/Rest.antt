@@ -86,14 +86,10 @@ pub rest_only : (place : ℕ) (chars : List Character) (frames : List Found) →
 rest_only place chars frames are =
     let (own, is, same) = rest_all place chars (map (moved place) frames) are in rw (all_moved_one place frames own same) is
 
--- Moving frames twice moves them by the sum, and moving them by 0 leaves them as they are.
+-- Moving frames twice moves them by the sum.
 pub moved_twice : (n m : ℕ) (frames : List Found) → map (moved n) (map (moved m) frames) ≡ map (moved (n + m)) frames
 moved_twice n m [] = refl
 moved_twice n m (found ∷ frames) = grind (arith, moved_twice n m frames)
-
-pub moved_nowhere : (frames : List Found) → map (moved 0) frames ≡ frames
-moved_nowhere [] = refl
-moved_nowhere (found ∷ frames) = grind (arith, moved_nowhere frames)
 
 -- If there are frames after a move, there were frames before it.
 pub some_moved : (n : ℕ) (found : Found) (more frames : List Found) → found ∷ more ≡ map (moved n) frames

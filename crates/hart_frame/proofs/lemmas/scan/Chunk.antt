@@ -1,10 +1,9 @@
 -- How a scanner hears a chunk, at once or in parts.
-use Rattle.std.proofs.Common.{◌≡◌, ℕ, ◌+◌, ◌-◌, ◌<◌, ◌≤◌, ◌^◌, ◌⊎◌, inl, inr, false, List, [], ◌∷◌, ◌++◌, length, take, Option, None}
-use Rattle.std.proofs.Common.{Some, drop, get_or, refl, ap, subst, ◌∙◌, arith, append_assoc, length-append, length-drop}
+use Rattle.std.proofs.Common.{◌≡◌, ℕ, ◌+◌, ◌-◌, ◌<◌, ◌≤◌, ◌⊎◌, inl, inr, false, List, [], ◌∷◌, ◌++◌, length, take, Option, None}
+use Rattle.std.proofs.Common.{Some, drop, get_or, refl, ap, subst, ◌∙◌, arith, append_assoc, length-drop}
 use Rattle.std.proofs.Math.Seq.{take-add}
 use Rattle.std.proofs.lemmas.Grind.{common_steps}
 use Rattle.std.proofs.lemmas.List.{length-take, append-nil, take-map, take-take, length-map, length-take-le}
-use Rattle.std.specs.List.{slice_range}
 use Rattle.std.specs.Option.{MatchOption}
 use Rattle.hart_frame.specs.declared.scan.buffer.Buffer.{Buffer}
 use Rattle.hart_frame.specs.declared.scan.buffer.State.TheVariants.{Drained}
@@ -19,7 +18,7 @@ use Rattle.hart_frame.specs.scan.Scanner.{Scan, GivesNothing, MovesPast, hearing
 use Rattle.hart_frame.proofs.lemmas.heard.Front.{front_heard}
 use Rattle.hart_frame.proofs.lemmas.scan.Buffer.{drained_is, undecided_waiting, waits_drained}
 use Rattle.hart_frame.proofs.lemmas.scan.Decision.{holds_frame}
-use Rattle.hart_frame.proofs.lemmas.scan.Scan.{moves_hearing, moves_length, moves_then}
+use Rattle.hart_frame.proofs.lemmas.scan.Scan.{moves_hearing, moves_then}
 use Rattle.hart_frame.proofs.lemmas.scan.Undecided.{undecided_before, waits_only}
 
 -- A buffer has heard the first `taken` characters of a chunk. After fewer characters of the chunk nothing is decided.
@@ -66,12 +65,6 @@ pub hears_all : (old now : Buffer) (chunk : List Character) (n : ℕ) → IsHear
     → length chunk ≤ n → Hears (scan_of old) (scan_of now) chunk n
 hears_all old now chunk n hears sound drained ended = grind (arith, waits_drained, undecided_waiting)
 
--- Hearing `n` characters adds `n` to the number of those that were let go or are held.
-pub heard_length : (a b : Scan) (chunk : List Character) (n : ℕ) → n ≤ length chunk → MovesPast (hearing a (take n chunk)) b []
-    → b.first + length b.held ≡ a.first + length a.held + n
-heard_length a b chunk n within moves =
-    omega (arith, moves_length (hearing a (take n chunk)) b [] moves, length-append a.held (take n chunk), length-take-le n chunk within)
-
 -- A scanner that heard one character stops after it, whether a peek gave nothing or found a frame.
 seen_one : (old : Scan) (mid new : Buffer) (character : Character) (seen : Option Layout) → old.finished ≡ false
     → scan_of mid ≡ hearing old (character ∷ []) → MatchOption seen (GivesNothing (scan_of mid) (scan_of new)) (HoldsWhole mid new)
@@ -96,13 +89,6 @@ hears_first old mid new chunk character seen sound drained some is heard given =
     let before : (fewer : ℕ) → fewer < 1 → IsUndecided ((scan_of old).held ++ take fewer chunk) = λ fewer below.
     let none : fewer ≡ 0 = omega (arith, below) in rw (none, append-nil) (undecided_waiting old waiting) in
     grind arith
-
--- If there was room for a chunk, there is room for the rest of it.
-pub room_left : {X : Type 0} (old now : Buffer) (heard : List Character) (chunk : List X) (n : ℕ) → length heard ≡ length chunk
-    → IsHearing old now heard n → old.first + length (scan_of old).held + length chunk < 2 ^ 64
-    → now.first + length (scan_of now).held + length (slice_range chunk n (length chunk)) < 2 ^ 64
-room_left old now heard chunk n long hears room =
-    grind (arith, length-take-le, length-drop, heard_length (scan_of old) (scan_of now) heard n)
 
 -- A scanner that hears some characters of a prefix of a chunk hears a part of the chunk.
 part_heard : (old new : Scan) (chunk part : List Character) (count : ℕ) → part ≡ take (length part) chunk → 0 < length part
