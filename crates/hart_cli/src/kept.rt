@@ -1,6 +1,6 @@
 //! Text that is kept until it is written.
-ghost use Rattle.std.specs.Prelude.{◌+◌, ◌≤◌, [], OnOk, length};
-ghost use Rattle.hart_cli.specs.stream.Kept.{Tells};
+ghost use Rattle.std.specs.Prelude.{[], OnOk};
+ghost use Rattle.hart_cli.specs.stream.Kept.{HasRoomFor, Tells};
 
 use crate::output::write_all;
 use crate::stream::{Failed, Sink};
@@ -22,7 +22,7 @@ pub type Kept = ByteList<KEPT_LEN>;
 /// `Failed` if a write fails.
 pub fn make_room<W: Sink>(writer: &mut W, kept: &mut Kept) -> Result<(), Failed>
     ensures tells { Tells (W.stream writer.old) (W.stream writer.new) kept.old kept.new [] result }
-    ensures room { OnOk result (length kept.new + 8225 ≤ 32768) }
+    ensures room { OnOk result (HasRoomFor 8225 kept.new) }
 {
     if kept.len() > KEPT_LEN - PIECE_LEN {
         write_all(writer, kept.as_slice())?;

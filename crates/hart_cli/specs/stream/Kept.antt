@@ -1,8 +1,12 @@
 -- A text that is made piece by piece: a first part of it is written, and the rest is kept. Only private calls use these definitions (own
 -- profile).
-use Rattle.std.specs.Prelude.{◌≡◌, ◌++◌, List, ℕ, MatchResult, Result}
+use Rattle.std.specs.Prelude.{◌≡◌, ◌≤◌, ◌+◌, ◌++◌, List, ℕ, MatchResult, Result, length}
 use Rattle.hart_cli.specs.declared.stream.Failed.{Failed}
 use Rattle.hart_cli.specs.stream.Stream.{FailsToWrite, Stream, WritesAll}
+
+-- A text that is kept has at most 32,768 bytes. It has room for `count` more bytes.
+abbrev pub HasRoomFor : ℕ → List ℕ → Type 0
+HasRoomFor count text = length text + count ≤ 32768
 
 -- The text was added to the text `before` that was kept. A first part of both together was written, and the rest, `after`, is kept.
 pub record AddsText (old new : Stream) (before after text : List ℕ) : Type 0 where

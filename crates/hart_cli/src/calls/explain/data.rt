@@ -2,6 +2,7 @@
 ghost use Rattle.std.specs.Prelude.{◌≡◌, ◌++◌, ◌+◌, ◌*◌, ◌≤◌, Some, length};
 ghost use Rattle.hart_cli.specs.explain.Data.{bytes_or_none, no_reply_line, no_request_lines, not_read_line, other_data_line};
 ghost use Rattle.hart_cli.specs.explain.Data.{refused_lines, replied_lines, reply_lines, request_lines, too_few_lines};
+ghost use Rattle.hart_cli.specs.stream.Kept.{HasRoomFor};
 
 use crate::calls::explain::codes::push_code;
 use crate::calls::explain::fields::{push_fields, push_taken};
@@ -15,7 +16,7 @@ use itoa::Buffer;
 
 /// Adds what is said of the data of a request.
 pub fn push_request_data(text: &mut Kept, pairs: &Pairs, command: u8, bytes: &[u8])
-    requires room { length text.old + 6300 ≤ 32768 }
+    requires room { HasRoomFor 6300 text.old }
     requires few { length bytes.now ≤ 255 }
     ensures lines { text.new ≡ text.old ++ request_lines command bytes.now }
 {
@@ -33,7 +34,7 @@ pub fn push_request_data(text: &mut Kept, pairs: &Pairs, command: u8, bytes: &[u
 
 /// Adds what is said of data that this code refuses as a request.
 fn push_no_request(text: &mut Kept, pairs: &Pairs, command: u8, code: ResponseCode, bytes: &[u8])
-    requires room { length text.old + 6300 ≤ 32768 }
+    requires room { HasRoomFor 6300 text.old }
     requires few { length bytes.now ≤ 255 }
     ensures lines { text.new ≡ text.old ++ no_request_lines command code bytes.now }
 {
@@ -48,7 +49,7 @@ fn push_no_request(text: &mut Kept, pairs: &Pairs, command: u8, code: ResponseCo
 
 /// Adds what is said of too few data.
 fn push_too_few(text: &mut Kept, pairs: &Pairs, needed: usize, bytes: &[u8])
-    requires room { length text.old + 900 ≤ 32768 }
+    requires room { HasRoomFor 900 text.old }
     requires few { length bytes.now ≤ 255 }
     ensures lines { text.new ≡ text.old ++ too_few_lines needed bytes.now }
 {
@@ -62,7 +63,7 @@ fn push_too_few(text: &mut Kept, pairs: &Pairs, needed: usize, bytes: &[u8])
 
 /// Adds what is said of data that are read as fields, but refused with this code.
 fn push_refused(text: &mut Kept, pairs: &Pairs, command: u8, code: ResponseCode, bytes: &[u8])
-    requires room { length text.old + 6300 ≤ 32768 }
+    requires room { HasRoomFor 6300 text.old }
     requires few { length bytes.now ≤ 255 }
     ensures lines { text.new ≡ text.old ++ refused_lines command code bytes.now }
 {
@@ -75,7 +76,7 @@ fn push_refused(text: &mut Kept, pairs: &Pairs, command: u8, code: ResponseCode,
 
 /// Adds what is said of the data of a reply, which stand after its two status bytes.
 pub fn push_reply_data(text: &mut Kept, pairs: &Pairs, command: u8, payload: &[u8])
-    requires room { length text.old + 5700 ≤ 32768 }
+    requires room { HasRoomFor 5700 text.old }
     requires few { length payload.now ≤ 255 }
     ensures lines { text.new ≡ text.old ++ reply_lines command payload.now }
 {
@@ -94,7 +95,7 @@ pub fn push_reply_data(text: &mut Kept, pairs: &Pairs, command: u8, payload: &[u
 
 /// Adds what is said of data that are read as a reply.
 fn push_replied(text: &mut Kept, pairs: &Pairs, command: u8, reply: &Reply, bytes: &[u8])
-    requires room { length text.old + 5700 ≤ 32768 }
+    requires room { HasRoomFor 5700 text.old }
     requires few { length bytes.now ≤ 255 }
     ensures lines { text.new ≡ text.old ++ replied_lines command bytes.now (Some reply.now) }
 {
@@ -107,7 +108,7 @@ fn push_replied(text: &mut Kept, pairs: &Pairs, command: u8, reply: &Reply, byte
 
 /// Appends the line of the data after a response code other than 0, if there are any data.
 fn push_not_read(text: &mut Kept, pairs: &Pairs, code: ResponseCode, bytes: &[u8])
-    requires room { length text.old + 900 ≤ 32768 }
+    requires room { HasRoomFor 900 text.old }
     requires few { length bytes.now ≤ 255 }
     ensures line { text.new ≡ text.old ++ not_read_line code bytes.now }
 {
@@ -123,7 +124,7 @@ fn push_not_read(text: &mut Kept, pairs: &Pairs, code: ResponseCode, bytes: &[u8
 
 /// Adds what is said of data that are no reply.
 fn push_no_reply(text: &mut Kept, pairs: &Pairs, command: u8, bytes: &[u8])
-    requires room { length text.old + 900 ≤ 32768 }
+    requires room { HasRoomFor 900 text.old }
     requires few { length bytes.now ≤ 255 }
     ensures line { text.new ≡ text.old ++ no_reply_line command bytes.now }
 {
@@ -135,7 +136,7 @@ fn push_no_reply(text: &mut Kept, pairs: &Pairs, command: u8, bytes: &[u8])
 
 /// Adds the line of data that are no reply to a known command.
 fn push_other_data(text: &mut Kept, pairs: &Pairs, command: u8, bytes: &[u8])
-    requires room { length text.old + 900 ≤ 32768 }
+    requires room { HasRoomFor 900 text.old }
     requires few { length bytes.now ≤ 255 }
     ensures line { text.new ≡ text.old ++ other_data_line command bytes.now }
 {
@@ -148,7 +149,7 @@ fn push_other_data(text: &mut Kept, pairs: &Pairs, command: u8, bytes: &[u8])
 
 /// Adds bytes, or `none`.
 fn push_bytes_or_none(text: &mut Kept, pairs: &Pairs, bytes: &[u8])
-    requires room { length text.old + 2 * length bytes.now + 4 ≤ 32768 }
+    requires room { HasRoomFor (2 * length bytes.now + 4) text.old }
     ensures words { text.new ≡ text.old ++ bytes_or_none bytes.now }
     ensures few { length text.new ≤ length text.old + 2 * length bytes.now + 4 }
 {

@@ -2,6 +2,7 @@
 ghost use Rattle.std.specs.Prelude.{◌≡◌, ◌+◌, ◌≤◌, ◌++◌, ◌<◌, ◌^◌, [], ℕ, get_or, length};
 ghost use Rattle.hart_cli.specs.explain.Dates.{date_at, kept_word};
 ghost use Rattle.hart_cli.specs.explain.Explanation.{date_words};
+ghost use Rattle.hart_cli.specs.stream.Kept.{HasRoomFor};
 
 use crate::held::MOST_OPEN;
 use crate::kept::Kept;
@@ -46,7 +47,7 @@ impl Dates {
 
     /// Appends the date of the held character at a place, and a space, if it has a date.
     pub fn push_date(&self, text: &mut Kept, place: usize)
-        requires room { length text.old + 33 ≤ 32768 }
+        requires room { HasRoomFor 33 text.old }
         ensures date { text.new ≡ text.old ++ date_words (date_at self.now place) }
         ensures few { length text.new ≤ length text.old + 33 }
     {

@@ -128,6 +128,7 @@ pub fn every_start_outside_messages_has_one_line()
     ensures only_there { (chars : List Character) (from stop place : ℕ) (miss : Miss) (header : Option HeaderParts)
         → Contains (missed chars from stop) (Missed place miss header) → IsStart (place - from) (drop from chars) ⊎ (miss ≡ OnePreamble) }
 {
+    // This call does nothing: only its contract is needed.
     every_start_has_a_frame_or_a_miss();
 }
 
@@ -168,6 +169,7 @@ pub fn hints_of_explanations_are_right()
         ≡ take (command_place (bytes_from chars place) + 1) (drop place chars)
         → (body : HasBodyAt others place) → header ≡ header_of body.frame }
 {
+    // These calls do nothing: only their contracts are needed.
     every_start_has_a_frame_or_a_miss();
     misses_are_in_the_way();
     misses_say_what_is_wrong();

@@ -5,6 +5,7 @@ ghost use Rattle.hart_frame.specs.heard.Frames.{moved};
 ghost use Rattle.hart_frame.specs.scan.View.{found_of};
 ghost use Rattle.hart_frame.specs.wire.View.{parts_of};
 ghost use Rattle.hart_cli.specs.explain.Message.{burst_line, message_line, paragraph, payload_lines};
+ghost use Rattle.hart_cli.specs.stream.Kept.{HasRoomFor};
 
 use crate::calls::explain::data::{push_reply_data, push_request_data};
 use crate::calls::explain::status::push_status;
@@ -18,7 +19,7 @@ use itoa::Buffer;
 /// Appends the paragraph of a message. Its places are counted from `first` on.
 #[tactic(auto, unfolding(crate::specs::explain::Message::paragraph))]
 pub fn push_paragraph(text: &mut Kept, pairs: &Pairs, first: u64, found: &FoundView<'_>)
-    requires room { length text.old + 8192 ≤ 32768 }
+    requires room { HasRoomFor 8192 text.old }
     requires start { first + found.now.start < 2 ^ 64 }
     requires stop { first + found.now.stop < 2 ^ 64 }
     ensures { text.new ≡ text.old ++ paragraph (moved first (found_of found.now)) }
@@ -31,7 +32,7 @@ pub fn push_paragraph(text: &mut Kept, pairs: &Pairs, first: u64, found: &FoundV
 
 /// Adds what the payload of a message says.
 fn push_payload(text: &mut Kept, pairs: &Pairs, frame: &FrameView<'_>)
-    requires { length text.old + 7000 ≤ 32768 }
+    requires { HasRoomFor 7000 text.old }
     ensures { text.new ≡ text.old ++ payload_lines (parts_of frame.now).kind (parts_of frame.now).command (parts_of frame.now).payload }
 {
     match frame.kind() {
@@ -42,7 +43,7 @@ fn push_payload(text: &mut Kept, pairs: &Pairs, frame: &FrameView<'_>)
 
 /// Adds what the payload of a reply says.
 fn push_reply(text: &mut Kept, pairs: &Pairs, command: u8, payload: &[u8])
-    requires room { length text.old + 7000 ≤ 32768 }
+    requires room { HasRoomFor 7000 text.old }
     requires few { length payload.now ≤ 255 }
     ensures lines { text.new ≡ text.old ++ payload_lines Ack command payload.now }
 {
@@ -55,7 +56,7 @@ fn push_reply(text: &mut Kept, pairs: &Pairs, command: u8, payload: &[u8])
 
 /// Appends the line of a message. Its places are counted from `first` on.
 fn push_message_line(text: &mut Kept, pairs: &Pairs, first: u64, found: &FoundView<'_>)
-    requires room { length text.old + 220 ≤ 32768 }
+    requires room { HasRoomFor 220 text.old }
     requires start { first + found.now.start < 2 ^ 64 }
     requires stop { first + found.now.stop < 2 ^ 64 }
     ensures line { text.new ≡ text.old ++ message_line (moved first (found_of found.now)) }
@@ -79,7 +80,7 @@ fn push_message_line(text: &mut Kept, pairs: &Pairs, first: u64, found: &FoundVi
 
 /// Adds the line of a burst bit, if it is set.
 fn push_burst_line(text: &mut Kept, burst: bool)
-    requires { length text.old + 20 ≤ 32768 }
+    requires { HasRoomFor 20 text.old }
     ensures line { text.new ≡ text.old ++ burst_line burst }
     ensures few { length text.new ≤ length text.old + 20 }
 {

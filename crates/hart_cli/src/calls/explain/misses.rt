@@ -4,6 +4,7 @@ ghost use Rattle.hart_frame.specs.heard.Sighting.{miss_in_whole};
 ghost use Rattle.hart_frame.specs.scan.Sighting.{NamesPlacesBelow};
 ghost use Rattle.hart_frame.specs.wire.Header.{header_parts};
 ghost use Rattle.hart_cli.specs.explain.Misses.{byte_value, miss_line, miss_words, missing_words, seems_line};
+ghost use Rattle.hart_cli.specs.stream.Kept.{HasRoomFor};
 
 use crate::calls::explain::words::{push_header, push_hex_value, push_name};
 use crate::kept::Kept;
@@ -14,7 +15,7 @@ use itoa::Buffer;
 
 /// Appends the line of a missed place. This place and the places in its miss are counted from `first` on.
 pub fn push_miss_line(text: &mut Kept, pairs: &Pairs, first: u64, place: usize, miss: Miss)
-    requires room { length text.old + 200 ≤ 32768 }
+    requires room { HasRoomFor 200 text.old }
     requires place { first + place < 2 ^ 64 }
     requires fits { NamesPlacesBelow (2 ^ 64 - first) miss }
     ensures line { text.new ≡ text.old ++ miss_line (first + place) (miss_in_whole first miss) }
@@ -29,7 +30,7 @@ pub fn push_miss_line(text: &mut Kept, pairs: &Pairs, first: u64, place: usize, 
 
 /// Appends the line that says what a missed message seems to be, if its header was heard.
 pub fn push_seems_line(text: &mut Kept, pairs: &Pairs, header: &Option<Header>)
-    requires { length text.old + 190 ≤ 32768 }
+    requires { HasRoomFor 190 text.old }
     ensures { text.new ≡ text.old ++ seems_line (option_map header_parts header.now) }
 {
     if let Some(header) = header {
@@ -48,7 +49,7 @@ pub fn push_seems_line(text: &mut Kept, pairs: &Pairs, header: &Option<Header>)
 
 /// Appends the words of a miss. Its places are counted from `first` on.
 fn push_miss(text: &mut Kept, pairs: &Pairs, first: u64, miss: Miss)
-    requires room { length text.old + 100 ≤ 32768 }
+    requires room { HasRoomFor 100 text.old }
     requires fits { NamesPlacesBelow (2 ^ 64 - first) miss }
     ensures words { text.new ≡ text.old ++ miss_words (miss_in_whole first miss) }
     ensures few { length text.new ≤ length text.old + 100 }
@@ -81,7 +82,7 @@ fn push_miss(text: &mut Kept, pairs: &Pairs, first: u64, miss: Miss)
 
 /// Appends the words for this number of missing characters. The last of them is the check byte.
 fn push_missing(text: &mut Kept, count: usize)
-    requires { length text.old + 80 ≤ 32768 }
+    requires { HasRoomFor 80 text.old }
     ensures words { text.new ≡ text.old ++ missing_words count }
     ensures few { length text.new ≤ length text.old + 80 }
 {
@@ -96,7 +97,7 @@ fn push_missing(text: &mut Kept, count: usize)
 
 /// Adds the words for a check byte at a place, and for the check byte that would fit.
 fn push_check(text: &mut Kept, pairs: &Pairs, place: u64, byte: u8, fits: u8)
-    requires { length text.old + 70 ≤ 32768 }
+    requires { HasRoomFor 70 text.old }
     ensures words { text.new ≡ text.old ++ codes "the check byte is " ++ byte_value byte ++ codes " at " ++ decimal place
         ++ codes ", and " ++ byte_value fits ++ codes " would fit" }
     ensures few { length text.new ≤ length text.old + 70 }
@@ -112,7 +113,7 @@ fn push_check(text: &mut Kept, pairs: &Pairs, place: u64, byte: u8, fits: u8)
 
 /// Appends a byte in hex.
 fn push_byte(text: &mut Kept, pairs: &Pairs, byte: u8)
-    requires { length text.old + 4 ≤ 32768 }
+    requires { HasRoomFor 4 text.old }
     ensures value { text.new ≡ text.old ++ byte_value byte }
     ensures len { length text.new ≡ length text.old + 4 }
 {

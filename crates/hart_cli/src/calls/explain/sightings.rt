@@ -1,10 +1,11 @@
 //! What is said of a sighting.
-ghost use Rattle.std.specs.Prelude.{◌≡◌, ◌++◌, ◌+◌, ◌-◌, ◌≤◌, length};
+ghost use Rattle.std.specs.Prelude.{◌≡◌, ◌++◌, ◌+◌, ◌-◌};
 ghost use Rattle.hart_frame.specs.heard.Sighting.{moved_seen};
 ghost use Rattle.hart_frame.specs.scan.Sighting.{seen_of};
 ghost use Rattle.hart_cli.specs.explain.Dates.{date_at};
 ghost use Rattle.hart_cli.specs.explain.Explanation.{dated_text};
 ghost use Rattle.hart_cli.specs.explain.Telling.{FitsFrom};
+ghost use Rattle.hart_cli.specs.stream.Kept.{HasRoomFor};
 
 use crate::calls::explain::dates::Dates;
 use crate::calls::explain::message::push_paragraph;
@@ -21,7 +22,7 @@ pub fn push_sighting(
     first: u64,
     sighting: &Sighting<'_>,
 )
-    requires room { length text.old + 8225 ≤ 32768 }
+    requires room { HasRoomFor 8225 text.old }
     requires places { FitsFrom first sighting.now }
     ensures { text.new ≡ text.old ++ dated_text (λ place. date_at dates.now (place - first)) (moved_seen first (seen_of sighting.now)) }
 {

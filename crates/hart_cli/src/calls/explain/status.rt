@@ -3,6 +3,7 @@ ghost use Rattle.std.specs.Prelude.{◌≡◌, ◌++◌, ◌+◌, ◌≤◌, cod
 ghost use Rattle.hart_cli.specs.explain.Status.{are_short, names_words, seen, separated, set_names, status_lines};
 ghost use Rattle.hart_cli.specs.explain.Codes.{code_words};
 ghost use Rattle.hart_cli.specs.explain.Words.{said_line};
+ghost use Rattle.hart_cli.specs.stream.Kept.{HasRoomFor};
 
 use crate::calls::explain::codes::push_code;
 use crate::calls::explain::words::push_name;
@@ -61,7 +62,7 @@ type Names = ByteList<336>;
 
 /// Adds what the two status bytes of a reply to a command say.
 pub fn push_status(text: &mut Kept, command: u8, first: u8, second: u8)
-    requires { length text.old + 500 ≤ 32768 }
+    requires { HasRoomFor 500 text.old }
     ensures lines { text.new ≡ text.old ++ status_lines command first second }
     ensures few { length text.new ≤ length text.old + 500 }
 {
@@ -75,7 +76,7 @@ pub fn push_status(text: &mut Kept, command: u8, first: u8, second: u8)
 
 /// Adds to `text` the line for a response code that answers this command.
 fn push_code_line(text: &mut Kept, command: u8, code: u8)
-    requires { length text.old + 89 ≤ 32768 }
+    requires { HasRoomFor 89 text.old }
     ensures line { text.new ≡ text.old ++ said_line (codes "response code") (code_words command code) }
     ensures few { length text.new ≤ length text.old + 89 }
 {
@@ -86,7 +87,7 @@ fn push_code_line(text: &mut Kept, command: u8, code: u8)
 
 /// Adds the line of the names of the bits that are set in a byte.
 fn push_names_line(text: &mut Kept, name: &str, bits: &[NamedBit], byte: u8)
-    requires room { length text.old + 380 ≤ 32768 }
+    requires room { HasRoomFor 380 text.old }
     requires short { length name.now ≤ 20 }
     requires few { length bits.now ≤ 8 }
     requires short_names { are_short bits.now ≡ true }
@@ -100,7 +101,7 @@ fn push_names_line(text: &mut Kept, name: &str, bits: &[NamedBit], byte: u8)
 
 /// Adds the names of the bits that are set in a byte, or `none`.
 fn push_names(text: &mut Kept, bits: &[NamedBit], byte: u8)
-    requires room { length text.old + 340 ≤ 32768 }
+    requires room { HasRoomFor 340 text.old }
     requires few { length bits.now ≤ 8 }
     requires short_names { are_short bits.now ≡ true }
     ensures words { text.new ≡ text.old ++ names_words (set_names byte (map seen bits.now)) }

@@ -3,9 +3,10 @@ ghost use Rattle.std.specs.Prelude.{◌≡◌, ◌++◌, ◌+◌, ◌*◌, ◌�
 ghost use Rattle.std.specs.List.{list_all};
 ghost use Rattle.std.specs.Option.{option_map};
 ghost use Rattle.hart_values.specs.packed_text.Packing.{IsPackedSize};
-ghost use Rattle.hart_cli.specs.explain.Values.{day_words, in_parentheses, is_printable, latin_words, no_date_words, number_in, suits};
+ghost use Rattle.hart_cli.specs.explain.Values.{day_words, in_parentheses, is_printable, latin_words, number_in, suits};
 ghost use Rattle.hart_cli.specs.explain.Values.{two_digits, unpacked};
 ghost use Rattle.hart_cli.specs.explain.Values.{unit_words, value_words, variable_words, variables_words};
+ghost use Rattle.hart_cli.specs.stream.Kept.{HasRoomFor};
 
 use crate::calls::explain::words::push_hex_value;
 use crate::kept::Kept;
@@ -23,7 +24,7 @@ const MOST_CHARACTERS: usize = 32;
 
 /// Adds the value of a field.
 pub fn push_value(text: &mut Kept, pairs: &Pairs, kind: FieldKind, bytes: &[u8])
-    requires room { length text.old + 15 * length bytes.now + 60 ≤ 32768 }
+    requires room { HasRoomFor (15 * length bytes.now + 60) text.old }
     requires suits { suits kind (length bytes.now) ≡ true }
     ensures words { text.new ≡ text.old ++ value_words kind bytes.now }
     ensures few { length text.new ≤ length text.old + 15 * length bytes.now + 60 }
@@ -41,7 +42,7 @@ pub fn push_value(text: &mut Kept, pairs: &Pairs, kind: FieldKind, bytes: &[u8])
 
 /// Adds a number of one or two bytes.
 fn push_number(text: &mut Kept, bytes: &[u8])
-    requires room { length text.old + 30 ≤ 32768 }
+    requires room { HasRoomFor 30 text.old }
     requires suits { suits FieldKind.Number (length bytes.now) ≡ true }
     ensures words { text.new ≡ text.old ++ value_words FieldKind.Number bytes.now }
     ensures few { length text.new ≤ length text.old + 30 }
@@ -63,7 +64,7 @@ pub fn number_of(bytes: &[u8]) -> u16
 
 /// Appends the unit of one byte.
 fn push_unit_of(text: &mut Kept, bytes: &[u8])
-    requires room { length text.old + 60 ≤ 32768 }
+    requires room { HasRoomFor 60 text.old }
     requires suits { suits FieldKind.UnitCode (length bytes.now) ≡ true }
     ensures words { text.new ≡ text.old ++ value_words FieldKind.UnitCode bytes.now }
     ensures few { length text.new ≤ length text.old + 60 }
@@ -75,7 +76,7 @@ fn push_unit_of(text: &mut Kept, bytes: &[u8])
 /// Appends the code of a unit, and its name in parentheses, if it has one.
 #[tactic(auto, unfolding(crate::specs::explain::Values::unit_words))]
 fn push_unit(text: &mut Kept, code: u8)
-    requires { length text.old + 51 ≤ 32768 }
+    requires { HasRoomFor 51 text.old }
     ensures words { text.new ≡ text.old ++ unit_words code }
     ensures few { length text.new ≤ length text.old + 51 }
 {
@@ -85,7 +86,7 @@ fn push_unit(text: &mut Kept, code: u8)
 
 /// Appends a space and a name in parentheses, if there is a name.
 fn push_in_parentheses(text: &mut Kept, name: Option<&str>)
-    requires room { length text.old + 48 ≤ 32768 }
+    requires room { HasRoomFor 48 text.old }
     requires short { IfSome name (λ name. length name.now ≤ 45) }
     ensures words { text.new ≡ text.old ++ in_parentheses (option_map (λ name. name.now) name.entry) }
     ensures few { length text.new ≤ length text.old + 48 }
@@ -99,7 +100,7 @@ fn push_in_parentheses(text: &mut Kept, name: Option<&str>)
 
 /// Adds a packed text in double quotes.
 fn push_packed_text(text: &mut Kept, bytes: &[u8])
-    requires room { length text.old + 2 * length bytes.now + 2 ≤ 32768 }
+    requires room { HasRoomFor (2 * length bytes.now + 2) text.old }
     requires suits { suits FieldKind.PackedText (length bytes.now) ≡ true }
     ensures words { text.new ≡ text.old ++ value_words FieldKind.PackedText bytes.now }
     ensures few { length text.new ≤ length text.old + 2 * length bytes.now + 2 }
@@ -141,7 +142,7 @@ fn push_characters<const M: usize, const N: usize>(text: &mut ByteList<M>, bytes
 /// Adds a text in ISO Latin-1, or its bytes if not all of them can be printed.
 #[tactic(auto, unfolding(crate::specs::explain::Values::latin_words))]
 fn push_latin_text(text: &mut Kept, pairs: &Pairs, bytes: &[u8])
-    requires { length text.old + 2 * length bytes.now + 2 ≤ 32768 }
+    requires { HasRoomFor (2 * length bytes.now + 2) text.old }
     ensures words { text.new ≡ text.old ++ latin_words bytes.now }
     ensures few { length text.new ≤ length text.old + 2 * length bytes.now + 2 }
 {
@@ -170,7 +171,7 @@ fn is_printable(code: u8) -> bool
 
 /// Adds characters of ISO Latin-1 in UTF-8.
 fn push_in_utf8(text: &mut Kept, characters: &[u8])
-    requires { length text.old + 2 * length characters.now ≤ 32768 }
+    requires { HasRoomFor (2 * length characters.now) text.old }
     ensures characters { text.new ≡ text.old ++ encode_utf8_all characters.now }
     ensures few { length text.new ≤ length text.old + 2 * length characters.now }
 {
@@ -182,7 +183,7 @@ fn push_in_utf8(text: &mut Kept, characters: &[u8])
 
 /// Adds a date.
 fn push_date(text: &mut Kept, pairs: &Pairs, bytes: &[u8])
-    requires room { length text.old + 30 ≤ 32768 }
+    requires room { HasRoomFor 30 text.old }
     requires suits { suits FieldKind.Date (length bytes.now) ≡ true }
     ensures words { text.new ≡ text.old ++ value_words FieldKind.Date bytes.now }
     ensures few { length text.new ≤ length text.old + 30 }
@@ -225,7 +226,7 @@ fn push_two_digits<const N: usize>(text: &mut ByteList<N>, number: u8)
 
 /// Adds device variables, eight bytes each.
 fn push_variables(text: &mut Kept, pairs: &Pairs, bytes: &[u8])
-    requires { length text.old + 15 * length bytes.now ≤ 32768 }
+    requires { HasRoomFor (15 * length bytes.now) text.old }
     ensures words { text.new ≡ text.old ++ variables_words bytes.now }
     ensures few { length text.new ≤ length text.old + 15 * length bytes.now }
 {
@@ -241,7 +242,7 @@ fn push_variables(text: &mut Kept, pairs: &Pairs, bytes: &[u8])
 /// Adds a device variable.
 #[tactic(auto, unfolding(crate::specs::explain::Values::variable_words))]
 fn push_variable(text: &mut Kept, pairs: &Pairs, variable: &[u8; 8])
-    requires { length text.old + 118 ≤ 32768 }
+    requires { HasRoomFor 118 text.old }
     ensures words { text.new ≡ text.old ++ variable_words variable.now }
     ensures few { length text.new ≤ length text.old + 118 }
 {
@@ -258,7 +259,7 @@ fn push_variable(text: &mut Kept, pairs: &Pairs, variable: &[u8; 8])
 
 /// Adds a text and a number.
 fn push_counted(text: &mut Kept, name: &str, number: u8)
-    requires { length text.old + length name.now + 3 ≤ 32768 }
+    requires { HasRoomFor (length name.now + 3) text.old }
     ensures words { text.new ≡ text.old ++ name.now ++ decimal number }
     ensures few { length text.new ≤ length text.old + length name.now + 3 }
 {

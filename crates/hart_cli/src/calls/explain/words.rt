@@ -3,6 +3,7 @@ ghost use Rattle.std.specs.Prelude.{◌≡◌, ◌++◌, ◌+◌, ◌*◌, ◌�
 ghost use Rattle.std.specs.Option.{option_map};
 ghost use Rattle.hart_cli.specs.explain.Words.{bytes_line, command_words, device_words, header_words, hex_value, master_words};
 ghost use Rattle.hart_cli.specs.explain.Words.{named_number, said_line, who_words};
+ghost use Rattle.hart_cli.specs.stream.Kept.{HasRoomFor};
 
 use crate::kept::Kept;
 use crate::text::device_digits::push_device_digits;
@@ -23,7 +24,7 @@ pub fn push_header(
     address: Address,
     command: u8,
 )
-    requires { length text.old + 172 ≤ 32768 }
+    requires { HasRoomFor 172 text.old }
     ensures words { text.new ≡ text.old
         ++ header_words (record { kind = kind; master = master; address = address; command = command }) }
     ensures few { length text.new ≤ length text.old + 172 }
@@ -35,7 +36,7 @@ pub fn push_header(
 
 /// Adds the words of a command.
 fn push_command(text: &mut Kept, command: u8)
-    requires { length text.old + 80 ≤ 32768 }
+    requires { HasRoomFor 80 text.old }
     ensures words { text.new ≡ text.old ++ command_words command }
     ensures few { length text.new ≤ length text.old + 80 }
 {
@@ -45,7 +46,7 @@ fn push_command(text: &mut Kept, command: u8)
 
 /// Adds the words of who speaks to whom.
 fn push_who(text: &mut Kept, pairs: &Pairs, kind: FrameKind, master: MasterId, address: Address)
-    requires { length text.old + 90 ≤ 32768 }
+    requires { HasRoomFor 90 text.old }
     ensures words { text.new ≡ text.old ++ who_words kind master address }
     ensures few { length text.new ≤ length text.old + 90 }
 {
@@ -78,7 +79,7 @@ fn master_words(master: MasterId) -> &'static str
 
 /// Adds the words of an address. The words of a broadcast address are `broadcast`.
 fn push_device(text: &mut Kept, pairs: &Pairs, broadcast: &str, address: Address)
-    requires room { length text.old + 40 ≤ 32768 }
+    requires room { HasRoomFor 40 text.old }
     requires short { length broadcast.now ≤ 18 }
     ensures words { text.new ≡ text.old ++ device_words broadcast.now address }
     ensures few { length text.new ≤ length text.old + 40 }
@@ -101,7 +102,7 @@ fn push_device(text: &mut Kept, pairs: &Pairs, broadcast: &str, address: Address
 
 /// Adds a line of what a message says.
 pub fn push_said(text: &mut Kept, name: &str, value: &str)
-    requires { length text.old + length name.now + length value.now + 7 ≤ 32768 }
+    requires { HasRoomFor (length name.now + length value.now + 7) text.old }
     ensures line { text.new ≡ text.old ++ said_line name.now value.now }
     ensures len { length text.new ≡ length text.old + length name.now + length value.now + 7 }
 {
@@ -112,7 +113,7 @@ pub fn push_said(text: &mut Kept, name: &str, value: &str)
 
 /// Adds a line of what a message says, with bytes as its value.
 fn push_said_bytes(text: &mut Kept, pairs: &Pairs, name: &str, bytes: &[u8])
-    requires { length text.old + length name.now + 2 * length bytes.now + 9 ≤ 32768 }
+    requires { HasRoomFor (length name.now + 2 * length bytes.now + 9) text.old }
     ensures line { text.new ≡ text.old ++ said_line name.now (hex_value bytes.now) }
     ensures len { length text.new ≡ length text.old + length name.now + 2 * length bytes.now + 9 }
 {
@@ -123,7 +124,7 @@ fn push_said_bytes(text: &mut Kept, pairs: &Pairs, name: &str, bytes: &[u8])
 
 /// Adds the line of bytes, if there are any.
 pub fn push_bytes_line(text: &mut Kept, pairs: &Pairs, name: &str, bytes: &[u8])
-    requires { length text.old + length name.now + 2 * length bytes.now + 9 ≤ 32768 }
+    requires { HasRoomFor (length name.now + 2 * length bytes.now + 9) text.old }
     ensures line { text.new ≡ text.old ++ bytes_line name.now bytes.now }
     ensures few { length text.new ≤ length text.old + length name.now + 2 * length bytes.now + 9 }
 {
@@ -135,7 +136,7 @@ pub fn push_bytes_line(text: &mut Kept, pairs: &Pairs, name: &str, bytes: &[u8])
 /// Appends bytes in hex: `0x`, and two upper-case digits for each byte.
 #[tactic(auto, unfolding(crate::specs::explain::Words::hex_value))]
 pub fn push_hex_value(text: &mut Kept, pairs: &Pairs, bytes: &[u8])
-    requires { length text.old + 2 * length bytes.now + 2 ≤ 32768 }
+    requires { HasRoomFor (2 * length bytes.now + 2) text.old }
     ensures value { text.new ≡ text.old ++ hex_value bytes.now }
     ensures len { length text.new ≡ length text.old + 2 * length bytes.now + 2 }
 {
@@ -145,7 +146,7 @@ pub fn push_hex_value(text: &mut Kept, pairs: &Pairs, bytes: &[u8])
 
 /// Appends a number in decimal, and its name, if it has one.
 pub fn push_named_number(text: &mut Kept, number: u8, name: Option<&str>)
-    requires room { length text.old + 69 ≤ 32768 }
+    requires room { HasRoomFor 69 text.old }
     requires short { IfSome name (λ name. length name.now ≤ 64) }
     ensures words { text.new ≡ text.old ++ named_number number (option_map (λ name. name.now) name.entry) }
     ensures few { length text.new ≤ length text.old + 69 }
@@ -159,7 +160,7 @@ pub fn push_named_number(text: &mut Kept, number: u8, name: Option<&str>)
 
 /// Begins a line of what a message says: adds the line's name.
 pub fn push_name(text: &mut Kept, name: &str)
-    requires { length text.old + length name.now + 6 ≤ 32768 }
+    requires { HasRoomFor (length name.now + 6) text.old }
     ensures name { text.new ≡ text.old ++ codes "    " ++ name.now ++ codes ": " }
     ensures len { length text.new ≡ length text.old + length name.now + 6 }
 {

@@ -4,6 +4,7 @@ ghost use Rattle.std.specs.Prelude.{◌≡◌, ◌≤◌, ◌↔◌, ◌+◌, �
 ghost use Rattle.std.specs.Str.Lines.{strip_carriage_return};
 ghost use Rattle.hart_cli.specs.serve.Serve.{chars_room, line_room};
 ghost use Rattle.hart_cli.specs.serve.Server.{BeginsWithPart, HasNoFeed, Keeps, ServesLast, ServesPart, ServesText, most_kept};
+ghost use Rattle.hart_cli.specs.stream.Kept.{HasRoomFor};
 
 use crate::calls::serve::line::serve_line;
 use crate::input::INPUT_LIMIT;
@@ -129,7 +130,7 @@ impl Server {
         requires few { length self.old.part.items ≤ most_kept }
         requires part { self.old.part.room ≡ line_room }
         requires chars { self.old.chars.room ≡ chars_room }
-        requires room { length self.old.kept + 861 ≤ 32768 }
+        requires room { HasRoomFor 861 self.old.kept }
         ensures { ServesPart self.old self.new }
     {
         close(&mut self.part);
