@@ -18,9 +18,8 @@
 //! ```
 //!
 //! The program `hart` uses the device of [`bench`]. Use [`Identity::new`] and [`RegisterStore`] for devices of your own. No call of
-//! this crate allocates. No crate of `hart` cites these [`laws`]: `overwrites_absorb`, `frames_leave_identity_and_protection`,
-//! `cold_starts_are_shown_once`, `garbled_requests_are_decided` and `devices_are_kept_whole`. They are for whoever proves more
-//! about a device, and `devices_are_kept_whole` is also for whoever stores a device as bytes.
+//! this crate allocates. The [`laws`] are for whoever proves more about a device, and `devices_are_kept_whole` is also for whoever stores a
+//! device as bytes.
 //!
 //! The root exports the device and the types of the values that it is made from. The modules:
 //!

@@ -9,6 +9,7 @@ use Rattle.hart_commands.specs.declared.register.Register.{Register}
 use Rattle.hart_commands.specs.declared.register.Register.TheVariants.{Polling, Mode, Message, Tag, Descriptor, Date, Assembly, LongTag}
 use Rattle.hart_device.specs.declared.fault.DeviceFault.{DeviceFault}
 use Rattle.hart_device.specs.declared.fault.DeviceFault.TheVariants.{BadField, BadLength, BadVersion}
+use Rattle.hart_device.specs.Bits.{bit_if}
 use Rattle.hart_device.specs.Device.{DeviceState}
 use Rattle.hart_device.specs.Identity.{two_bytes}
 use Rattle.hart_device.specs.registers.Ranges.{standing_for}
@@ -17,7 +18,7 @@ use Rattle.hart_device.specs.registers.Ranges.{standing_for}
 -- write protected; the other bits are zero.
 abbrev pub flags_of : EachMaster Bool → Bool → ℕ
 flags_of changed protected =
-    (if changed.primary then 1 else 0) + (if changed.secondary then 2 else 0) + (if protected then 4 else 0)
+    bit_if changed.primary 1 + bit_if changed.secondary 2 + bit_if protected 4
 
 -- The registers of an image of version 1, in their order, are all registers except the long tag.
 abbrev pub registers_of_version_1 : List Register

@@ -32,7 +32,7 @@ impl RegisterStore for FieldRegisters {
     fn with(values: &RegisterValues) -> Self {
         let mut store = FieldRegisters {
             polling: [values.polling.number()],
-            mode: [values.mode as u8],
+            mode: [values.mode.byte()],
             message: [0; 24],
             tag: [0; 6],
             descriptor: [0; 12],
