@@ -90,6 +90,7 @@ pub fn bytes_that_are_not_taken_are_ignored()
     ensures two { (command : ℕ) (payload : List ℕ) (reply : Reply) (before after : List HartField) (reading : HartReading)
         → reply_reading command payload ≡ Some reply → ReplyOutcome command payload before after reading → 2 ≤ reading.taken }
 {
+    // These calls do nothing: only their contracts are needed.
     read_data_begin_as_written();
     written_payloads_are_read_again();
 }
@@ -122,6 +123,7 @@ pub fn messages_of_287_bytes_have_room()
         (old new : List ℕ) (outcome : HartOutcome) → 287 ≤ length old
         → HearOutcome identity process heard before after old new outcome → outcome.fault ≢ 12 }
 {
+    // This call does nothing: only its contract is needed.
     messages_are_short();
 }
 
@@ -168,6 +170,7 @@ pub fn calls_have_one_outcome()
         → AcceptOutcome numbers heard before after acceptance → AcceptOutcome numbers heard before other another
         → (acceptance ≡ another) × (found_in after ≡ found_in other) }
 {
+    // These calls do nothing: only their contracts are needed.
     bytes_have_one_fault();
     bytes_have_one_image_fault();
 }
