@@ -48,7 +48,14 @@ awk -v folder="$work/examples" '
 ran=0
 for command in "$work/examples"/*.command; do
     wanted=${command%.command}.text
-    (cd "$work/folder" && sh "$command") >"$work/written" 2>&1 || true
+    # An example may show a fault, so it may end with the status 1 or 2 of `hart`, but not by a signal.
+    status=0
+    (cd "$work/folder" && sh "$command") >"$work/written" 2>&1 || status=$?
+    if [ "$status" -gt 2 ]; then
+        echo "an example ended with status $status:" >&2
+        cat "$command" >&2
+        exit 1
+    fi
     if ! cmp -s "$wanted" "$work/written"; then
         echo "an example does not write what is shown below it:" >&2
         cat "$command" >&2

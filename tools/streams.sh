@@ -245,7 +245,12 @@ awk 'BEGIN { while (count++ < 400000) print "FF FF 02 80 00 00 82 FF FF 02 80 00
 ends_long() {
     text=$1
     shift
-    shown=$(ulimit -v 12000 && "$program" "$@" <"$work/long" | tail -n "$(printf '%s\n' "$text" | wc -l)")
+    (ulimit -v 12000 && "$program" "$@" <"$work/long" >"$work/explained") || {
+        echo "hart $*: failed at a long input" >&2
+        exit 1
+    }
+    shown=$(tail -n "$(printf '%s\n' "$text" | wc -l)" "$work/explained")
+    rm "$work/explained"
     if [ "$shown" != "$text" ]; then
         echo "hart $*: '$shown' at the end of a long input, but '$text' is wanted" >&2
         exit 1
