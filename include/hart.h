@@ -154,7 +154,7 @@ hart_outcome hart_command_name(uint8_t command, uint8_t *output, size_t output_l
 hart_outcome hart_field_name(bool is_reply, uint8_t command, size_t index, uint8_t *output, size_t output_len);
 
 /* Devices. Each call of hart_hear gets the identity of the device and its process values. The caller keeps the state of the device in a
- * hart_device, which can be stored as bytes. A float is four bytes, the most significant first. docs/COMMANDS.md describes each field. */
+ * hart_device, which can be stored as bytes. A float is four bytes, the most significant first. docs/COMMANDS.md names each field. */
 
 /* The identity of a device. */
 typedef struct hart_identity {
