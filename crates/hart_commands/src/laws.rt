@@ -1,6 +1,6 @@
 //! Laws: facts about the definitions, not about code. They are for the crates that use this crate.
 ghost use Rattle.std.specs.Prelude.{◌≡◌, ◌≢◌, ◌==◌, ◌||◌, ◌<◌, ◌≤◌, All, AllPairs, Contains, ◌↔◌, ◌++◌, List, ℕ, false, true, Ok, Err};
-ghost use Rattle.std.specs.Prelude.{Some, IsTrue, IsSome, drop, is_some, length, take};
+ghost use Rattle.std.specs.Prelude.{Some, IsTrue, IsSome, drop, is_some, length, slice_get, take};
 ghost use Rattle.hart_commands.specs.RequestData.{IsRequest, MayFollow, command_of, is_known, request_data, request_reading};
 ghost use Rattle.hart_commands.specs.Commands.{command_name, reply_rows, request_rows, written_by};
 ghost use Rattle.hart_commands.specs.Fields.{bytes_of, field_bytes, fields_of};
@@ -8,7 +8,7 @@ ghost use Rattle.hart_commands.specs.FieldWidths.{HasWidthOfKind};
 ghost use Rattle.hart_commands.specs.NeededData.{AreTooFew, needed_data};
 ghost use Rattle.hart_commands.specs.Parts.{content_bytes, content_parts, request_parts};
 ghost use Rattle.hart_commands.specs.RequestCode.{is_write};
-ghost use Rattle.hart_commands.specs.Registers.{AreValid, Contents, named_in, overwrite_of, overwritten, registers};
+ghost use Rattle.hart_commands.specs.Registers.{AreValid, Contents, named_in, overwrite_of, overwritten, place_of, registers};
 ghost use Rattle.hart_commands.specs.ReplyData.{IsReply, reply_payload, reply_reading};
 ghost use Rattle.hart_commands.specs.declared.register.Register.{Register};
 ghost use Rattle.hart_commands.specs.declared.request.Request.{Request};
@@ -81,6 +81,7 @@ pub fn unknown_commands_are_refused()
 pub fn all_registers_are_listed_once()
     ensures same { Register.ALL ≡ registers }
     ensures every { (register : Register) → Contains registers register }
+    ensures place { (register : Register) → slice_get registers (place_of register) ≡ Some register }
     ensures once { AllPairs (λ register other. register ≢ other) registers }
 {}
 

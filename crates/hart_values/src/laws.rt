@@ -2,7 +2,8 @@
 ghost use Rattle.std.specs.Prelude.{◌≡◌, ◌↔◌, Bool, true, false, List, ℕ};
 ghost use Rattle.hart_values.specs.address.AddressBytes.{IsAddressBytes};
 ghost use Rattle.hart_values.specs.hart_date.Calendar.{IsDateBytes, is_date};
-ghost use Rattle.hart_values.specs.packed_text.Packing.{IsPacked};
+ghost use Rattle.hart_values.specs.packed_text.Packing.{IsPacked, IsTextFault};
+ghost use Rattle.hart_values.specs.declared.fault.ValueFault.{ValueFault};
 ghost use Rattle.hart_values.specs.declared.master_id.MasterId.{MasterId};
 ghost use Rattle.hart_values.specs.declared.address.Address.{Address};
 
@@ -22,6 +23,12 @@ pub fn packed_text_and_bytes_determine_each_other()
         → IsPacked text bytes → IsPacked text others → bytes ≡ others }
     ensures one_text { (text others bytes : List ℕ)
         → IsPacked text bytes → IsPacked others bytes → text ≡ others }
+{}
+
+/// A text that is refused has one fault.
+pub fn texts_have_one_fault()
+    ensures { (characters : ℕ) (text : List ℕ) (fault other : ValueFault)
+        → IsTextFault characters text fault → IsTextFault characters text other → fault ≡ other }
 {}
 
 /// The test of a date is true exactly for the bytes of a date.

@@ -1,12 +1,12 @@
 -- The laws of requests, of replies, of fields, of registers and of overwrites, for the proofs of this crate and of the crates above
 -- it.
 use Rattle.std.proofs.Common.{arith, ◌≡◌, ◌≢◌, ℕ, AllPairs, Contains, IsSome, IsTrue, List, [], ◌∷◌, ◌++◌, Ok, Some, length, take, refl}
-use Rattle.std.proofs.Common.{lit<, rules}
+use Rattle.std.proofs.Common.{lit<, rules, slice_get}
 use Rattle.std.proofs.Common.{ap, append-nil}
 use Rattle.std.proofs.lemmas.Grind.{common_steps}
 use Rattle.hart_commands.specs.Commands.{reply_rows, request_rows, written_by}
 use Rattle.hart_commands.specs.Fields.{Field, bytes_of, field_bytes, fields_of}
-use Rattle.hart_commands.specs.Registers.{AreValid, Contents, overwrite_of, overwritten, registers}
+use Rattle.hart_commands.specs.Registers.{AreValid, Contents, overwrite_of, overwritten, place_of, registers}
 use Rattle.hart_commands.specs.ReplyData.{IsReply, content_bytes, reply_payload, reply_reading}
 use Rattle.hart_commands.specs.RequestCode.{is_write}
 use Rattle.hart_commands.specs.RequestData.{IsRequest, command_of, request_data, request_reading}
@@ -31,6 +31,16 @@ all_registers_are_listed_once-every Descriptor = (4, lit< tt, refl)
 all_registers_are_listed_once-every Date = (5, lit< tt, refl)
 all_registers_are_listed_once-every Assembly = (6, lit< tt, refl)
 all_registers_are_listed_once-every LongTag = (7, lit< tt, refl)
+
+pub all_registers_are_listed_once-place : (register : Register) → slice_get registers (place_of register) ≡ Some register
+all_registers_are_listed_once-place Polling = refl
+all_registers_are_listed_once-place Mode = refl
+all_registers_are_listed_once-place Message = refl
+all_registers_are_listed_once-place Tag = refl
+all_registers_are_listed_once-place Descriptor = refl
+all_registers_are_listed_once-place Date = refl
+all_registers_are_listed_once-place Assembly = refl
+all_registers_are_listed_once-place LongTag = refl
 
 pub all_registers_are_listed_once-once : AllPairs (λ (register other : Register). register ≢ other) registers
 all_registers_are_listed_once-once = search rules

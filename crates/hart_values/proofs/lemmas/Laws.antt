@@ -1,11 +1,12 @@
 -- The laws of addresses, of packed texts and of dates, for the proofs of this crate and of the crates above.
-use Rattle.std.proofs.Common.{◌≡◌, ◌/◌, ℕ, Bool, true, List, arith, rules}
+use Rattle.std.proofs.Common.{◌≡◌, ◌<◌, ◌/◌, ℕ, Bool, true, List, arith, rules}
 use Rattle.std.proofs.lemmas.List.{ext_get_or}
 use Rattle.hart_values.specs.address.AddressBytes.{IsAddressBytes}
 use Rattle.hart_values.specs.declared.address.Address.{Address}
 use Rattle.hart_values.specs.declared.master_id.MasterId.{MasterId}
 use Rattle.hart_values.specs.hart_date.Calendar.{IsDateBytes, is_date}
-use Rattle.hart_values.specs.packed_text.Packing.{IsPacked}
+use Rattle.hart_values.specs.declared.fault.ValueFault.{ValueFault}
+use Rattle.hart_values.specs.packed_text.Packing.{IsFirstBadCharacter, IsPacked, IsTextFault}
 
 -- Address bytes have only one reading: one master bit, one burst bit and one address.
 pub address_bytes_are_unambiguous-one_reading : (m n : MasterId) (b c : Bool) (x y : Address) (bytes : List ℕ)
@@ -30,6 +31,17 @@ pub packed_text_and_bytes_determine_each_other-one_text : (text others bytes : L
 packed_text_and_bytes_determine_each_other-one_text text others bytes p q =
     ext_get_or 0 text others (omega (arith, p.lengths, q.lengths))
     (λ i h. grind (arith, p.groups (i / 4), q.groups (i / 4), p.lengths, q.lengths, p.characters, q.characters))
+
+-- Of two first bad characters, neither can come before the other.
+one_first_bad : (text : List ℕ) (place other : ℕ) → IsFirstBadCharacter text place → IsFirstBadCharacter text other → place ≡ other
+one_first_bad text place other a b =
+    let later = λ (below : place < other). a.bad (b.least place below) in
+    let sooner = λ (below : other < place). b.bad (a.least other below) in grind (arith, later, sooner)
+
+-- A text that is refused has one fault.
+pub texts_have_one_fault : (characters : ℕ) (text : List ℕ) (fault other : ValueFault)
+    → IsTextFault characters text fault → IsTextFault characters text other → fault ≡ other
+texts_have_one_fault characters text fault other a b = grind (arith, one_first_bad text)
 
 pub dates_are_decided-date : (bytes : List ℕ) → ((is_date bytes ≡ true) → IsDateBytes bytes) × (IsDateBytes bytes → (is_date bytes ≡ true))
 dates_are_decided-date bytes = search rules
