@@ -75,7 +75,7 @@ def date_value(text, _size):
 
 
 def latin_value(text, size):
-    if BYTES.fullmatch(text):
+    if text.startswith("0x"):
         return bytes_value(text, size)
     return padded(text, size, LATIN).encode("latin-1")
 

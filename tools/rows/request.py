@@ -66,5 +66,7 @@ BAD_WORDS = (
     (["P", "37420A1B2C", "22", "long_tag=€"], "4: bad character at 0"),
     (["P", "37420A1B2C", "22", "long_tag=0x12"], "4: not 0x and 32 bytes in hex"),
     (["P", "37420A1B2C", "22", "long_tag=0x" + 255 * "4a"], "4: not 0x and 32 bytes in hex"),
-    (["P", "37420A1B2C", "22", "long_tag=0x" + 256 * "4a"], "4: too long: at most 32 characters"),
+    (["P", "37420A1B2C", "22", "long_tag=0x" + 256 * "4a"], "4: not 0x and 32 bytes in hex"),
+    (["P", "37420A1B2C", "22", "long_tag=0x414"], "4: not 0x and 32 bytes in hex"),
+    (["P", "37420A1B2C", "22", "long_tag=0x hex"], "4: not 0x and 32 bytes in hex"),
 )

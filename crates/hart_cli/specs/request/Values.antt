@@ -1,6 +1,6 @@
 -- The bytes that encode the value of a field, by the kind of the field (own profile).
 use Rattle.std.specs.Prelude.{ℕ, ℤ, ◌+◌, ◌-◌, ◌*◌, ◌/◌, ◌%◌, ◌==◌, ◌&&◌, nat_le, nat_lt, if◌then◌else◌, Bool, List, [], ◌∷◌, ◌++◌, pos}
-use Rattle.std.specs.Prelude.{codes, is_some, length, replicate, take, Result, Ok, Err, Option, None, Some}
+use Rattle.std.specs.Prelude.{codes, drop, false, length, replicate, take, Result, Ok, Err, Option, None, Some}
 use Rattle.std.specs.List.{prefix_len}
 use Rattle.std.specs.Option.{option_map_or}
 use Rattle.std.specs.Result.{result_ok}
@@ -42,10 +42,14 @@ number_or_fault size (Some number) = Ok (number_bytes size number)
 abbrev pub number_value : ℕ → List ℕ → Result (List ℕ) FieldFault
 number_value size word = number_or_fault size (number_up_to (greatest_of size) word)
 
--- Bytes are written as `0x` (the bytes 48 and 120), followed by at most 255 bytes in hex like the word DATA.
+-- Whether a word begins with `0x`, the bytes 48 and 120.
+abbrev pub is_hex : List ℕ → Bool
+is_hex (first ∷ second ∷ digits) = (first == 48) && (second == 120)
+is_hex _ = false
+
+-- Bytes are written as `0x`, followed by at most 255 bytes in hex like the word DATA.
 abbrev pub hex_of : List ℕ → Option (List ℕ)
-hex_of (first ∷ second ∷ digits) = if (first == 48) && (second == 120) then data_of digits else None
-hex_of _ = None
+hex_of word = if is_hex word then data_of (drop 2 word) else None
 
 -- The bytes that were read, if there are at least `least` and at most `most` of them, and otherwise the fault.
 abbrev pub sized : FieldFault → (least most : ℕ) → Option (List ℕ) → Result (List ℕ) FieldFault
@@ -103,10 +107,9 @@ pack (Err fault) = Err fault
 abbrev pub packed_value : ℕ → List ℕ → Result (List ℕ) FieldFault
 packed_value size word = pack (text_value (can_have PackedText) (4 * size / 3) (chars word))
 
--- The bytes of a text in ISO Latin-1 are written in hex after `0x`, or else as the characters with these codes.
+-- The bytes of a text in ISO Latin-1 are written in hex if the word begins with `0x`, and otherwise as the characters with these codes.
 abbrev pub latin_value : ℕ → List ℕ → Result (List ℕ) FieldFault
-latin_value size word =
-    if is_some (hex_of word) then bytes_value size word else text_value (can_have LatinText) size (chars word)
+latin_value size word = if is_hex word then bytes_value size word else text_value (can_have LatinText) size (chars word)
 
 -- The byte for a year, from 1900 to 2155.
 abbrev pub year_byte : ℤ → Option ℕ

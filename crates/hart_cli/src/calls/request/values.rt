@@ -4,7 +4,7 @@ ghost use Rattle.std.specs.Str.{chars};
 ghost use Rattle.hart_values.specs.hart_date.Calendar.{is_calendar_day};
 ghost use Rattle.hart_values.specs.packed_text.Packing.{IsCharacter, IsPackedSize};
 ghost use Rattle.hart_cli.specs.request.Fields.{is_writable};
-ghost use Rattle.hart_cli.specs.request.Values.{bytes_value, can_have, date_value, dated, greatest_of, hex_of, latin_value};
+ghost use Rattle.hart_cli.specs.request.Values.{bytes_value, can_have, date_value, dated, greatest_of, hex_of, is_hex, latin_value};
 ghost use Rattle.hart_cli.specs.request.Values.{number_bytes, number_up_to, number_value, packed, packed_value, padded, sized};
 ghost use Rattle.hart_cli.specs.request.Values.{text_value, value_of};
 
@@ -77,6 +77,13 @@ fn sized(
         }
         _ => Err(fault),
     }
+}
+
+/// Returns true if a word begins with `0x`.
+fn is_hex(word: &str) -> bool
+    ensures { result ≡ is_hex word.now }
+{
+    matches!(word.as_bytes(), [b'0', b'x', ..])
 }
 
 /// Returns the bytes that a word encodes in hex: `0x`, and two digits for each byte.
@@ -158,11 +165,11 @@ fn packed<const N: usize>(text: &[u8]) -> FieldBytes
     FieldBytes::from_slice(packed.as_bytes()).unwrap()
 }
 
-/// Returns the bytes of a text in ISO Latin-1, which may also be written in hex.
+/// Returns the bytes of a text in ISO Latin-1. A word that begins with `0x` is hex, so that a mistyped one is not taken for a text.
 fn latin_value(word: &str) -> Result<FieldBytes, FieldFault>
     ensures { result ≡ latin_value 32 word.now }
 {
-    if hex_bytes(word).is_some() {
+    if is_hex(word) {
         return bytes_value(32, word);
     }
     text_value(FieldKind::LatinText, MOST_BYTES, word)

@@ -22,14 +22,14 @@ use Rattle.hart_commands.proofs.lemmas.Rows.{of_known}
 use Rattle.hart_commands.specs.RequestData.{Reading, request_reading}
 use Rattle.hart_cli.specs.declared.calls.request.fault.BadField.{BadField}
 use Rattle.hart_cli.specs.declared.calls.request.fault.FieldFault.{FieldFault}
-use Rattle.hart_cli.specs.declared.calls.request.fault.FieldFault.TheVariants.{NoDate, UnknownCommand}
+use Rattle.hart_cli.specs.declared.calls.request.fault.FieldFault.TheVariants.{NoBytes, NoDate, UnknownCommand}
 use Rattle.hart_cli.specs.request.Fields.{data_of_fields, field_value, first_bad_name, is_writable, joined, payload_of, place_for, taken}
 use Rattle.hart_cli.specs.request.Fields.{taken_by}
 use Rattle.hart_cli.specs.request.Fields.{unless_bad, value_in}
 use Rattle.hart_cli.specs.request.Given.{AreGiven}
 use Rattle.hart_cli.specs.explain.Values.{date_words}
-use Rattle.hart_cli.specs.request.Values.{can_have, codes_value, date_value, dated, pack, packed, text_value, value_of}
-use Rattle.hart_cli.specs.request.Values.{year_byte}
+use Rattle.hart_cli.specs.request.Values.{bytes_value, can_have, codes_value, date_value, dated, hex_of, is_hex, latin_value, pack, packed}
+use Rattle.hart_cli.specs.request.Values.{sized, text_value, value_of, year_byte}
 use Rattle.hart_cli.proofs.calls.request.laws.fields_of_requests_are_those_given.Goals as goal
 
 -- for a row of fixed size, whether it can be written; for a row that takes all bytes that are left, whether it is the last row
@@ -77,6 +77,20 @@ either : (held : Bool) (given other : Result (List ℕ) FieldFault) (bytes : Lis
 either true given other bytes is = inl is
 either false given other bytes is = inr is
 
+-- bytes in hex are as many as their field has
+length-sized : (size : ℕ) (found : Option (List ℕ)) (bytes : List ℕ) → sized (NoBytes size) size size found ≡ Ok bytes
+    → length bytes ≡ size
+length-sized size None bytes is = absurd cc
+length-sized size (Some given) bytes is = grind (arith, common_steps, nat_tests)
+
+-- a given text in ISO Latin-1 has as many bytes as its field
+length-latin : (size : ℕ) (word bytes : List ℕ) → latin_value size word ≡ Ok bytes → length bytes ≡ size
+length-latin size word bytes is =
+    elim (either (is_hex word) (bytes_value size word) (text_value (can_have LatinText) size (chars word)) bytes is) [
+      | inl given ↦ length-sized size (hex_of word) bytes given
+      | inr given ↦ length-text (can_have LatinText) size (chars word) bytes given
+    ]
+
 -- if bytes were made of what was found, then something was found
 made_of : {T : Type 0} (make : T → Result (List ℕ) FieldFault) (found : Option T) (fault : FieldFault) (bytes : List ℕ)
     → option_map_or make found (Err fault) ≡ Ok bytes → (t : T) × (make t ≡ Ok bytes)
@@ -110,7 +124,7 @@ length-value Bytes size word bytes suits is = grind (arith, common_steps, nat_te
 length-value Number size word bytes suits is = grind (arith, common_steps, nat_tests)
 length-value UnitCode size word bytes suits is = grind (arith, common_steps, nat_tests)
 length-value PackedText size word bytes suits is = length-packed_value size (chars word) bytes suits is
-length-value LatinText size word bytes suits is = grind (arith, common_steps, nat_tests, length-text)
+length-value LatinText size word bytes suits is = length-latin size word bytes is
 length-value Date size word bytes suits is =
     let three = length-date word bytes is in let sized : size ≡ 3 = grind (arith, nat_tests) in omega (arith, three, sized)
 length-value Float size word bytes suits is = grind (arith, common_steps, nat_tests)
