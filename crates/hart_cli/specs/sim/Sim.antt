@@ -72,8 +72,8 @@ IsNeededForSimulation device input items =
     ⊎ IsNeededByNoting IsNeededByFrame (start_with device) events items
     ⊎ IsNeededByLastLines (start_with device) events items))
 
--- An input is not carried out for one of two reasons: its lines or its events have this fault, or memory was refused. The second is no
--- fault of the input, which then needs room for as many items as were refused.
+-- `simulate` returns this fault for one of two reasons: the input has it in its lines or events, or memory was refused. In the second case
+-- the input needs room for as many items as were refused.
 abbrev pub IsSimulationFault : DeviceState → List ℕ → CliFault → Type 0
 IsSimulationFault device input (Line fault) = HasLineFault device input fault
 IsSimulationFault device input (Memory none) = IsNeededForSimulation device input none.items

@@ -73,7 +73,7 @@ type Row<'a> = (Values, Asked, u8, &'a [u8], Option<&'a [u8]>);
 /// The tag PUMP-101.
 const PUMP: [u8; 6] = [0x41, 0x53, 0x50, 0xB7, 0x1C, 0x31];
 
-/// The tag of the bench device, six bytes of packed spaces, and three bytes more of them.
+/// Nine bytes of packed spaces: the tag of the bench device, which is six of them, and three more.
 const SPACES: &[u8] = &[0x82, 0x08, 0x20, 0x82, 0x08, 0x20, 0x82, 0x08, 0x20];
 
 /// The tag of the bench device without its last byte.
