@@ -22,7 +22,7 @@
 extern "C" {
 #endif
 
-/* A frame and its offsets in what was passed. You can pass a frame that a call has written to hart_encode as it is. */
+/* A frame and its offsets in what was passed. You can pass a frame to hart_encode exactly as another call has written it. */
 typedef struct hart_frame {
     uint64_t start;          /* the offset of the delimiter, from 0 */
     uint64_t stop;           /* the offset after the check byte */
@@ -81,8 +81,8 @@ typedef struct hart_search {
 
 /* Finds the next frames in bytes without faults, at most `frames_len` frames. `ended` says that no more bytes will come.
  * Returns how many bytes are used up. Pass the later bytes again, followed by new bytes. Offsets count from the first byte that is
- * passed. If `frames` has room for more frames, at most 268 bytes are not used up, and none if `ended` is true. Repeated calls find exactly
- * the frames of the whole input, however the input is divided. A buffer of 269 bytes is enough. No fault. */
+ * passed. If `frames` has room for more frames, the call leaves at most 268 bytes, and no byte if `ended` is true. Repeated calls find
+ * exactly the frames of the whole input, however the input is divided. A buffer of 269 bytes is enough. No fault. */
 hart_search hart_find_in_bytes(const uint8_t *bytes, size_t bytes_len, bool ended, hart_frame *frames, size_t frames_len);
 
 /* Like hart_find_in_bytes, for characters with fault bits. Fault: HART_BAD_FAULT_BITS, and then nothing is found or used up. */
@@ -149,7 +149,7 @@ hart_reading hart_read_reply(uint8_t command, const uint8_t *payload, size_t pay
  * Faults: HART_UNKNOWN, HART_NO_ROOM. */
 hart_outcome hart_command_name(uint8_t command, uint8_t *output, size_t output_len);
 
-/* Writes the name of the field that hart_read_reply or hart_read_request writes at `index`, without a final 0. Returns its length.
+/* Writes the name of a field, without a final 0. hart_read_reply or hart_read_request writes this field at `index`. Returns its length.
  * Faults: HART_UNKNOWN if there is no such command or field, HART_NO_ROOM. */
 hart_outcome hart_field_name(bool is_reply, uint8_t command, size_t index, uint8_t *output, size_t output_len);
 

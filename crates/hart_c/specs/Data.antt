@@ -69,7 +69,7 @@ RequestShown command bytes (Ok request) before after reading =
     IsShown 0 (request_fields command bytes (Ok request)) (length (take (length (request_data request)) bytes)) 0 0 before after reading
 RequestShown command bytes (Err code) before after reading = IsShown 0 [] 0 code 0 before after reading
 
--- Data are read as a request of their command.
+-- `hart_read_request` reads the data as a request of their command, and shows the result.
 abbrev pub RequestOutcome : ℕ → List ℕ → List HartField → List HartField → HartReading → Type 0
 RequestOutcome command bytes = RequestShown command bytes (request_reading command bytes)
 
@@ -87,12 +87,12 @@ ReplyShown command payload (Some reply) before after reading =
 ReplyShown command payload None before after reading =
     (reading ≡ record { count = 0; taken = 0; code = 0; status = 0; fault = 14 }) × (after ≡ before)
 
--- A payload is read as a reply to its command.
+-- `hart_read_reply` reads the payload as a reply to its command, and shows the result.
 abbrev pub ReplyOutcome : ℕ → List ℕ → List HartField → List HartField → HartReading → Type 0
 ReplyOutcome command payload = ReplyShown command payload (reply_reading command payload)
 
--- What is shown at an index is the field with this index. The field has the name and the kind of its row, and a width that this kind
--- allows. The shown place is right after the fields before it, and the field's bytes stand there.
+-- `shown` is the field with this index. The field has the name and the kind of its row, and a width that this kind allows. Its place
+-- is right after the fields before it, and its bytes stand there.
 pub record StandsAt (is_reply : Bool) (command first : ℕ) (fields : List Field) (bytes : List ℕ) (index : ℕ) (shown : HartField)
     : Type 0 where
   pub row : Row

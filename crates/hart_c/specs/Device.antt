@@ -20,7 +20,7 @@ use Rattle.hart_c.specs.declared.{fault.HartOutcome.HartOutcome, identity.HartId
 abbrev pub image_in : HartDevice → List ℕ
 image_in device = take device.image_len device.image
 
--- The state of a kept device with this identity: its image is an image of the state, and its cold start bits are those of the state.
+-- A kept device with this identity has this state: the kept image is an image of the state, and both have the same cold start bits.
 pub record IsKept (parts : IdentityParts) (device : HartDevice) (state : DeviceState) : Type 0 where
   pub is_identity : AreIdentityParts parts
   pub identity : state.identity ≡ parts
@@ -37,23 +37,23 @@ device_of state = record {
   secondary_cold_start = state.cold_start.secondary;
 }
 
--- The same device with write protection set or clear. Write protection is bit 2 of the flags, the last byte of the image. The bits
--- above bit 2 are clear.
+-- The same device with write protection set or clear. The flags are the last byte of the image, and their bit 2 is write protection.
+-- The bits above bit 2 become clear.
 abbrev pub with_protection : Bool → HartDevice → HartDevice
 with_protection protected device =
     let last = device.image_len - 1 in
     record device { image = slice_set device.image last (slice_index device.image last % 4 + (if protected then 4 else 0)) }
 
--- The call writes what is kept of a new device with these registers and any identity. If a register would hold invalid bytes, the
--- kept device is unchanged.
+-- The call writes what is kept of a new device with these registers, which is the same for every identity. If a register would hold
+-- invalid bytes, the kept device is unchanged.
 abbrev pub NewDeviceOutcome : HartRegisters → HartDevice → HartDevice → HartOutcome → Type 0
 NewDeviceOutcome given before after =
     Outcome (needs (AreValid (contents_of given)) (Device BadField) ∷ [])
     (λ len. (len ≡ 86) × (values : RegisterValues) × (values_of values ≡ contents_of given) × AreValid (contents_of given)
     × ((parts : IdentityParts) → after ≡ device_of (new_device parts values))) (after ≡ before) outcome_of
 
--- What a device hears: the kept device has a state, the caller passes its process, and the delivery brings the device a frame, a
--- garbled request or no message.
+-- A device hears a delivery: the kept device has a state, the passed numbers describe a process, and the delivery brings the device
+-- a frame, a garbled request or no message.
 pub record IsHearing (identity : HartIdentity) (process : HartProcess) (heard : List HartChar) (device : HartDevice) : Type 0 where
   pub state : DeviceState
   pub measured : Process

@@ -28,7 +28,7 @@ abbrev pub outcome_of : Result ℕ Fault → HartOutcome
 outcome_of (Ok len) = record { len = len; fault = 0 }
 outcome_of (Err fault) = record { len = 0; fault = number_of fault }
 
--- A check of a call: when a call passes the check, and the fault of a call that does not pass.
+-- A check says when a call passes, and with which fault the check refuses a call that does not pass.
 pub record Check : Type 1 where
   pub passes : Type 0
   pub refuses : Fault → Type 0

@@ -29,7 +29,7 @@ send_checks numbers =
     frame_checks numbers ++ needs ((request : Request) × IsAsked (frame_in numbers) request) NoRequest
     ∷ needs ((request : Request) × IsSent numbers request) WrongAddress ∷ []
 
--- If what is heard is accepted as the reply to a request, its frame is shown. Otherwise the frame that was shown before is unchanged.
+-- If a reply to the request is accepted, the frame of this reply is shown. Otherwise the frame that was shown before is unchanged.
 abbrev pub IsShownReply : MasterId → Address → Request → List Character → HartFrame → HartFrame → Option Reply → Type 0
 IsShownReply id address request chars before after None =
     ((reply : Reply) → IsAccepted id address request chars reply → ⊥) × (after ≡ before)
@@ -54,7 +54,7 @@ acceptance_of (Ok (Some reply)) = record { is_accepted = true; code = reply.code
 acceptance_of (Ok None) = record { is_accepted = false; code = 0; status = 0; fault = 0 }
 acceptance_of (Err fault) = record { is_accepted = false; code = 0; status = 0; fault = number_of fault }
 
--- Either the call returns the accepted reply, or that no reply was accepted; or it returns a fault, and the frame that was shown before is
+-- Without a fault, the result has the accepted reply, or says that no reply was accepted. With a fault, the frame that was shown before is
 -- unchanged.
 abbrev pub AcceptOutcome : HartFrame → List HartChar → HartFrame → HartFrame → HartAcceptance → Type 0
 AcceptOutcome numbers heard before after =

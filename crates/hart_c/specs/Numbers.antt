@@ -37,13 +37,13 @@ found_in frame = record { start = frame.start; stop = frame.stop; frame = frame_
 abbrev pub found_in_first : ℕ → List HartFrame → List Found
 found_in_first count frames = map found_in (take count frames)
 
--- The same numbers with another address. The numbers of the kind of address that the frame does not have are 0.
+-- The same numbers with another address. The numbers of the unused kind of address become 0.
 abbrev pub with_address : Address → HartFrame → HartFrame
 with_address (Polling number) frame = record frame { is_unique = false; polling_address = number; expanded_type = 0; device_id = 0 }
 with_address (Unique numbers) frame =
     record frame { is_unique = true; polling_address = 0; expanded_type = numbers.expanded_type; device_id = numbers.device_id }
 
--- Numbers that are shown have at most three expansion bytes. The numbers of the kind of address that the frame does not have are 0.
+-- Numbers are tidy if they have at most three expansion bytes and if the numbers of the unused kind of address are 0.
 pub record IsTidy (frame : HartFrame) : Type 0 where
   pub expansion : frame.expansion_len ≤ 3
   pub address : frame ≡ with_address (address_of frame.is_unique frame) frame

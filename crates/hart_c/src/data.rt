@@ -50,7 +50,7 @@ pub struct HartField {
 pub struct HartReading {
     /// How many fields there are. Only fields that have room in the array are shown.
     pub count: usize,
-    /// How many bytes were read. If the data are not refused, further bytes are ignored.
+    /// How many bytes were taken, status bytes included. If the data are not refused, later bytes are ignored.
     pub taken: usize,
     /// For a reply its response code; for a request the response code that refuses it, or 0.
     pub code: u8,

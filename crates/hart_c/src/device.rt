@@ -20,7 +20,7 @@ use hart_device::{Device, DeviceFault, Identity, ImageRegisters, bench};
 use hart_frame::{Frame, Message, encode};
 use hart_values::{EachMaster, MasterId};
 
-/// What the caller keeps of a device: all that it holds except its identity.
+/// What the caller keeps of a device: all that the device holds except its identity.
 #[repr(C)]
 #[derive(Clone, Copy)]
 pub struct HartDevice {

@@ -12,7 +12,7 @@ use hart_frame::{Expansion, Frame, FrameKind, Message, Payload, encode};
 use hart_values::{Address, MasterId};
 
 /// Writes a frame as a message to the front of `output`: `preambles` preamble bytes, then the body of the frame. An output of 287 bytes has
-/// room for any message. `start` and `stop` of the frame are ignored.
+/// room for any message. Ignores `start`, `stop` and the numbers of the unused kind of address.
 ///
 /// # Errors
 ///

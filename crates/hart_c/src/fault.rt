@@ -24,7 +24,7 @@ pub const HART_TRUNCATED: u8 = 4;
 /// The exclusive or of the body with its check byte is not 0.
 pub const HART_BAD_CHECK: u8 = 5;
 
-/// The delimiter of a reply with a byte count below 2.
+/// The byte count of a reply is below 2.
 pub const HART_SHORT_REPLY: u8 = 6;
 
 /// A number of an address is out of range.

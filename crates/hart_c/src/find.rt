@@ -108,7 +108,7 @@ pub extern "C" fn hart_find(heard: &[HartChar], ended: bool, frames: &mut [HartF
     found_so_far(scanner.first_held() as usize, count)
 }
 
-/// Copies characters to the front of a chunk, as many as fit, and returns their number.
+/// Copies the first characters to the front of a chunk, until no character is left or the chunk is full. Returns the number of copies.
 fn copy_front(heard: &[HartChar], chunk: &mut [Char]) -> usize
     requires { All (λ given. AreFaultBits given.faults) heard.now }
     ensures count { result ≡ min (length heard.now) (length chunk.old) }

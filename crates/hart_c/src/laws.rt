@@ -45,8 +45,8 @@ pub fn searches_give_all_frames()
         → IsSearchedSoFar heard true given (length heard) → AreFrames heard 0 given }
 {}
 
-/// What the caller keeps of a device determines exactly one state. So a device that is made from what was kept has the state in which the
-/// caller left the device.
+/// The identity of a device and what the caller keeps of it determine the state of the device. So each call continues in the state in which
+/// the previous call left the device.
 pub fn devices_are_kept()
     ensures kept { (state : DeviceState) → IsDevice state → IsKept state.identity (device_of state) state }
     ensures one_state { (parts : IdentityParts) (device : HartDevice) (state other : DeviceState)
@@ -140,9 +140,9 @@ pub fn kept_bytes_are_what_they_say()
         → IsKept parts device state → IsKept parts (with_protection on device) (record state { protected = on }) }
 {}
 
-/// A call that can fail is deterministic: for the same arguments its contract allows one result and one shown frame or written output. So
-/// with the same arguments a call has at most one fault, and no fault if it can succeed. Searches for frames are an exception: their
-/// contracts allow different numbers of used-up characters, but no frame depends on this number.
+/// If a call can fail, its contract allows only one result and one output for the same arguments. So the call has at most one fault for
+/// these arguments, and no fault if it can succeed. Searches for frames are an exception: their contracts allow different numbers of
+/// used-up characters, but no frame depends on this number.
 pub fn calls_have_one_outcome()
     ensures decode { (bytes : List ℕ) (before after other : HartFrame) (outcome another : HartOutcome)
         → DecodeOutcome bytes before after outcome → DecodeOutcome bytes before other another

@@ -97,8 +97,8 @@ fn not_accepted(fault: u8) -> HartAcceptance
     }
 }
 
-/// Returns the reply to the request that was sent. Then `reply` shows the frame of this reply. Returns `None` if what was heard is not this
-/// reply.
+/// Returns the reply to the request that was sent, and shows the frame of this reply in `reply`. Returns `None` if this reply was not
+/// heard.
 fn accept(
     request: &HartFrame,
     heard: &[HartChar],

@@ -8,7 +8,7 @@ use crate::fault::{HART_UNKNOWN, HartOutcome};
 use crate::output::{outcome_of, put};
 use hart_commands::{FieldRow, command_name, reply_rows, request_rows};
 
-/// Writes the name of a command in the standard to the front of `output`, without a final zero byte (HCF_SPEC-099).
+/// Writes the standard's name of a command to the front of `output`, without a final zero byte (HCF_SPEC-099).
 ///
 /// # Errors
 ///
@@ -21,8 +21,8 @@ pub extern "C" fn hart_command_name(command: u8, output: &mut [u8]) -> HartOutco
     write_name(command_name(command), output)
 }
 
-/// Writes the name of a field of a command to the front of `output`, without a final zero byte (HCF_SPEC-127). The index, counted
-/// from 0, is the one at which `hart_read_request` or `hart_read_reply` shows the field.
+/// Writes the name of a field of a command to the front of `output`, without a final zero byte (HCF_SPEC-127). `hart_read_request` or
+/// `hart_read_reply` shows the field at this index, counted from 0.
 ///
 /// # Errors
 ///

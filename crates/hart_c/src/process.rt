@@ -41,7 +41,7 @@ pub struct HartSensor {
 #[repr(C)]
 #[derive(Clone, Copy)]
 pub struct HartOutput {
-    /// What the loop current does at an alarm.
+    /// The code for what the loop current does at an alarm.
     pub alarm_code: u8,
     /// The code of the transfer function.
     pub transfer_function: u8,

@@ -38,8 +38,7 @@ HasImageFault (Some word) (BadHex place) = IsBadHexWord word place
 HasImageFault (Some word) (Image fault) = (image : List ℕ) × IsImageWord word image × IsImageFault image fault
 HasImageFault _ _ = ⊥
 
--- Room for the bytes of an image was refused. The room is for half as many bytes as the image's word has. This is no fault of the
--- image.
+-- Room for the bytes of an image was refused: one byte for every two bytes of the image's word. This is no fault of the image.
 abbrev pub LacksImageRoom : Option (List ℕ) → CliFault → Type 0
 LacksImageRoom (Some word) (Memory none) = none.items ≡ length word / 2
 LacksImageRoom _ _ = ⊥

@@ -27,8 +27,8 @@ pub enum CliFault {
     /// The input is longer than its limit. The limit is 2^64 - 1 bytes for `explain` and `serve`, 2^64 - 2 for a raw input, and
     /// [`INPUT_LIMIT`](crate::INPUT_LIMIT) for all other inputs.
     TooLong,
-    /// The first thing in the input that is neither a separator nor an item begins at this byte, counted from 0. In the word of an
-    /// image, the place is the word's length if that length is odd, and otherwise the place of the first byte that is no hex digit.
+    /// At this byte, counted from 0, reading the input stops: no separator and no item begins there, and for `explain` no mark. In an image
+    /// word of odd length, the place is this length. In any other image word, it is the place of the first byte that is no hex digit.
     BadHex { place: usize },
     /// The input is no script, or a script that is not carried out.
     Line(LineFault),

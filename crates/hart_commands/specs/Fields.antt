@@ -161,8 +161,7 @@ abbrev pub size_in : FieldSize → ℕ → Option ℕ
 size_in (Exactly size) left = if nat_lt left size then None else Some size
 size_in (AllBut after) left = if nat_lt after left then Some (left - after) else None
 
--- The first bytes, which are the bytes of a field of this size, and the bytes after the field. There is no result if there are too few
--- bytes.
+-- The bytes of a field of this size, which come first, and the bytes after the field. There is no result if there are too few bytes.
 abbrev pub split : FieldSize → List ℕ → Option (List ℕ × List ℕ)
 split size bytes = option_map (λ n. (take n bytes, drop n bytes)) (size_in size (length bytes))
 

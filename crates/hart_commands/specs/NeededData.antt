@@ -3,7 +3,7 @@ use Rattle.std.specs.Prelude.{ℕ, ◌≡◌, ◌<◌, List, length}
 use Rattle.std.specs.Option.{option_map_or}
 use Rattle.hart_commands.specs.Commands.{command_row}
 
--- A command needs as many data bytes as its row says, or no data if it has no row.
+-- The number of data bytes that a command needs: the number in its row, or 0 if it has no row.
 abbrev pub needed_data : ℕ → ℕ
 needed_data number = option_map_or (λ row. row.command.needed) (command_row number) 0
 

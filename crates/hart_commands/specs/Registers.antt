@@ -131,8 +131,8 @@ abbrev pub last_named : List Overwrite → Register → Option (List ℕ)
 last_named [] register = None
 last_named (overwrite ∷ later) register = option_or (last_named later register) (named_in overwrite register)
 
--- Each register holds its new bytes from the last overwrite in the list that names it, or its initial bytes if no overwrite names
--- it.
+-- Each register holds its new bytes from the last overwrite that names the register. If no overwrite in the list names the register,
+-- it holds its initial bytes.
 abbrev pub registers_of : List Overwrite → Contents → Contents
 registers_of overwrites initial =
     contents_by (λ register. unwrap_or (last_named overwrites register) (bytes_in initial register))

@@ -18,7 +18,7 @@ pub fn is_known(command: u8) -> bool
     row_for(command).is_some()
 }
 
-/// Returns the name of a command in the standard, or `None` if the command is not known (HCF_SPEC-099).
+/// Returns the standard's name of a command, or `None` if the command is not known (HCF_SPEC-099).
 pub fn command_name(command: u8) -> Option<&'static str>
     ensures { option_map (λ name. name.now) result ≡ command_name command }
 {
@@ -50,7 +50,7 @@ pub fn reply_rows(command: u8) -> &'static [FieldRow]
 }
 
 /// Returns how many data bytes a request of this command needs, or 0 if the command is not known (HCF_SPEC-127). A request with
-/// fewer bytes is refused with code 5, too few data bytes, except that Command 38 may have no data.
+/// fewer data bytes is refused with code 5. As an exception, a request of Command 38 may have no data.
 #[tactic(auto, unfolding(crate::specs::Commands::known))]
 pub fn needed_data(command: u8) -> usize
     ensures { result ≡ needed_data command }
@@ -61,7 +61,7 @@ pub fn needed_data(command: u8) -> usize
     }
 }
 
-/// Returns true if the command is a configuration write, which sets a register: 6, 17, 18, 19 or 22.
+/// Returns true if the command is a configuration write: Command 6, 17, 18, 19 or 22. A configuration write sets registers.
 #[tactic(auto, unfolding(crate::specs::Commands::known, crate::specs::Commands::written_by))]
 pub fn is_write(command: u8) -> bool
     ensures { result ≡ is_write command }

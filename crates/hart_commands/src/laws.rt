@@ -44,8 +44,8 @@ pub fn requests_have_their_command()
         → request_reading command bytes ≡ Ok request → (command_of request ≡ command) × IsRequest request }
 {}
 
-/// If data are read as a request, they begin with the request's written data, except for Command 6 without its mode. Data of Command 6
-/// without its mode are one byte, the first of the two fields that are written.
+/// Data that are read as a request begin with the data that this request writes. Command 6 without a mode is an exception: its data are one
+/// byte, the address, and the request writes the address and a mode.
 pub fn read_data_begin_as_written()
     ensures agree { (command : ℕ) (bytes : List ℕ) (request : Request) → All (λ byte. byte < 256) bytes
         → request_reading command bytes ≡ Ok request
@@ -63,7 +63,7 @@ pub fn read_data_begin_as_written()
 {}
 
 /// Data are refused with code 5 exactly if they are too few for their command. So data of at least the needed length are never refused with
-/// code 5. If bytes are added to refused data and the longer data are still too short, they are refused with code 5 too.
+/// code 5. If bytes are added to data refused with code 5, the longer data are refused with code 5 until they have the needed length.
 pub fn too_few_data_are_fewer_than_needed()
     ensures exactly { (command : ℕ) (bytes : List ℕ) → (request_reading command bytes ≡ Err 5) ↔ AreTooFew command bytes }
     ensures enough { (command : ℕ) (bytes : List ℕ) → needed_data command ≤ length bytes → request_reading command bytes ≢ Err 5 }

@@ -75,8 +75,8 @@ impl Request {
     ///
     /// # Errors
     ///
-    /// The first response code that applies and does not depend on the device: code 64 if the command is not known; code 5 if there are too
-    /// few bytes; for Command 6, code 2 for an address above 63, then code 12 for a mode above 1; for Command 18, code 9 for a bad date.
+    /// The first of these response codes that applies: code 64 if the command is not known; code 5 if there are too few bytes; for
+    /// Command 6, code 2 for an address above 63, then code 12 for a mode above 1; for Command 18, code 9 for a bad date.
     pub fn read(command: u8, bytes: &[u8]) -> Result<Self, ResponseCode>
         ensures read { result ≡ request_reading command bytes.now }
         ensures well_made { IfOk result IsRequest }

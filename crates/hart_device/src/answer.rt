@@ -28,7 +28,7 @@ const IDENTIFY: u8 = 0;
 impl<S: RegisterStore> Device<S> {
     /// Hears a delivery, which is all that was heard at once, and returns the reply. If the delivery has exactly one frame, the device
     /// receives that frame as [`Device::receive`] does. A garbled request is a request to this device that was heard with faults. If the
-    /// delivery has no frame but a garbled request, the reply has the communication faults of this request, and the device is unchanged.
+    /// delivery has a garbled request and no frame, the reply has the communication faults of this request, and the device is unchanged.
     /// For any other delivery the device is silent (`None`) and unchanged.
     ///
     /// ```rust
@@ -147,7 +147,7 @@ impl<S: RegisterStore> Device<S> {
             && !(frame.address().is_broadcast() && code != ResponseCode::SUCCESS)
     }
 
-    /// Returns true if the frame is a request without expansion bytes, and the device answers the frame's command at the frame's
+    /// Returns true if the frame is a request without expansion bytes, and the device accepts the frame's command at the frame's
     /// address.
     fn is_addressed(&self, frame: &Frame) -> bool
         ensures { result ≡ is_addressed self.now frame.now }
@@ -157,7 +157,7 @@ impl<S: RegisterStore> Device<S> {
             && self.is_paired(frame.address(), frame.command())
     }
 
-    /// Returns true if the device answers this command at this address.
+    /// Returns true if the device accepts this command at this address.
     fn is_paired(&self, address: Address, command: u8) -> bool
         ensures { result ≡ is_paired self.now address command }
     {

@@ -30,13 +30,13 @@ pub fn words_have_one_value()
     ensures items { (word : List ℕ) (xs ys : List Character) → AreItems word xs → AreItems word ys → xs ≡ ys }
 {}
 
-/// Every text is a script or has a first bad line. No text has both, two scripts or two first bad lines: see [`texts_have_one_script`].
+/// Every text has a script or a first bad line. By [`texts_have_one_script`], no text has both.
 pub fn every_text_is_a_script_or_has_a_first_bad_line()
     ensures { (text : List ℕ)
         → ((events : List LineEvent) × IsScript text events) ⊎ ((number : ℕ) × HasFirstBadLine text number) }
 {}
 
-/// A text is at most one script, and has at most one first bad line. A text that is a script has no first bad line.
+/// A text has at most one script and at most one first bad line. A text with a script has no first bad line.
 pub fn texts_have_one_script()
     ensures one_script { (text : List ℕ) (xs ys : List LineEvent) → IsScript text xs → IsScript text ys → xs ≡ ys }
     ensures one_bad_line { (text : List ℕ) (number other : ℕ)
@@ -45,8 +45,8 @@ pub fn texts_have_one_script()
         → IsScript text events → HasFirstBadLine text number → ⊥ }
 {}
 
-/// The events of a script lead to at most one last world: to one if all damage is detected, and to none if an event has undetected damage.
-/// The first leg with undetected damage, if any, is unique.
+/// A script has at most one last world. If all damage is detected, it has one. If an event has undetected damage, it has none. At most one
+/// leg is the first with undetected damage.
 pub fn scripts_have_one_last_world()
     ensures one_world { (start : Start) (events : List LineEvent) (a b : World)
         → IsLast start events a → IsLast start events b → a ≡ b }
@@ -85,7 +85,7 @@ pub fn refused_turns_change_nothing()
 {}
 
 /// In the first world of a script, the device is as it was given. The device and the outcomes of the last world keep the promises
-/// (`KeepsPromises`). The device, the process values and the requests must be well made, which every value of their types is. A script
+/// (`KeepsPromises`), if the device, the process values and the requests are well made. Every value of their types is well made. A script
 /// never fails because of detectable damage.
 pub fn scripts_keep_their_promises()
     ensures first_world { (start : Start) → start.device.counter < 2 ^ 16 → state_of start.device (first_world start) ≡ start.device }

@@ -2,7 +2,8 @@
 //!
 //! Each line of a script, unless empty or a comment, is one event: a request for a master, a turn with what is heard in its two legs, a
 //! switch of the write protection, noise, or a restart. [`read_script`] reads the events, or names the first bad line. [`run`] carries them
-//! out. It reports what was spoken, the outcome of each submission, and the device. If damage is undetected, it reports the first instead.
+//! out. It reports what was spoken, the outcome of each submission, and the device. If a leg has undetected damage, it returns a fault
+//! instead, which names the first such leg.
 //!
 //! ```rust
 //! let events = read_script(rt.alloc(), b"submit P @0 0\nturn P ok lost\n")?;
@@ -25,8 +26,8 @@
 //!
 //! - `script`: texts whose lines say events.
 //! - `line`: a device and two masters on one line.
-//! - `world`: only definitions and lemmas. They say what has happened on the line. A reader of the script knows this, but no party on the
-//!   line does.
+//! - `world`: definitions and lemmas, but no code. They describe everything that has happened on the line. A reader of the script knows
+//!   all of it. Neither the device nor a master does.
 #![tactic(auto)]
 
 mod event;

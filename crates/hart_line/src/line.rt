@@ -43,7 +43,7 @@ pub struct Line<S: RegisterStore> {
     spoken: EventFrames,
     /// The number of preamble bytes of the device's replies.
     response_preambles: u8,
-    /// The frames of an event are written here, in place, as each takes some 300 bytes.
+    /// The request and the reply of an event are written into these two fields, because each frame takes about 300 bytes.
     request: Frame,
     reply: Frame,
 }
@@ -108,7 +108,8 @@ impl<S: RegisterStore> Line<S> {
         }
     }
 
-    /// Notes in a log the spoken frames that the line keeps, up to the first that the log has no room for. Then the line keeps none.
+    /// Notes in a log the spoken frames that the line keeps. Stops at the first frame for which the log has no room. In both cases the line
+    /// keeps no frames afterwards.
     pub fn tell<L: Log>(&mut self, log: &mut L) -> Result<(), NoRoom>
         ensures line { OnOk result (self.new ≡ record self.old { spoken = [] }) }
         ensures noted { OnOk result (L.notes log.old self.old.spoken log.new) }
@@ -193,7 +194,7 @@ impl<S: RegisterStore> Line<S> {
         Ok(())
     }
 
-    /// Carries out noise: the device and both masters hear it, and both masters hear the device's answer to it without damage.
+    /// Carries out noise. The device and both masters hear it. Both masters also hear the device's answer, without damage.
     fn hear_noise(&mut self, chars: &[Char], process: &Process) -> Result<(), Leg>
         requires room { HasRoomFor (Noise chars.now ∷ []) self.old }
         ensures stepped { OnOk result (StepsOn process.now (Noise chars.now) self.old self.new) }
@@ -229,7 +230,7 @@ fn frame_if(is_there: bool, frame: &Frame) -> Option<&Frame>
     if is_there { Some(frame) } else { None }
 }
 
-/// Returns some frame, which is to be overwritten.
+/// Returns a filler for a field in which no frame was written yet.
 fn no_frame() -> Frame {
     let address = Address::polling(0).unwrap();
     Frame::request(MasterId::Primary, address, 0, Payload::new())

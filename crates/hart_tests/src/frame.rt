@@ -161,12 +161,12 @@ fn a_reply_has_two_bytes_of_payload(rt: HostRuntime) -> Result<(), Fail> {
     Ok(())
 }
 
-/// The longest body up to its payload of 255 zeros: it has expansion bytes and the broadcast address.
+/// The bytes of the longest body before its payload of 255 zeros. The body has expansion bytes and the broadcast address.
 const LONGEST_HEADER: &[u8] = &[
     0xE2, 0x80, 0x00, 0x00, 0x00, 0x00, 0x00, 0x00, 0x00, 0x00, 0xFF,
 ];
 
-/// Returns the longest message: 20 preamble bytes, and the longest body with its check byte.
+/// Returns the longest message: 20 preamble bytes, then the longest body, which ends with its check byte.
 fn longest_message() -> [u8; 287] {
     let mut message = [0; 287];
     message[..20].fill(0xFF);

@@ -1,7 +1,7 @@
-//! The lines of a text and the words of a line, found by lanes.
+//! The lines of a text and the words of a line.
 //!
-//! A text is cut into lines by [`first_line`], and a line into words by [`Words::next`]. Most lines are short: their line feed and their
-//! blanks are found at once, among 64 bytes, and kept as bits. No call of this crate allocates.
+//! [`first_line`] cuts a text into lines, and [`Words::next`] cuts a line into words. Most lines are short: one step finds the line feed
+//! and the blanks among the next 64 bytes, and keeps the blanks as bits. No call of this crate allocates.
 #![tactic(auto)]
 
 mod lines;

@@ -17,9 +17,9 @@ const MARKED: usize = 64;
 pub struct Words<'a> {
     /// What is left of the line.
     bytes: &'a [u8],
-    /// If `is_marked`, has a bit for each of these bytes, which is set if the byte is a blank.
+    /// The marks of the blanks. If `is_marked` is true, bit `k` is set exactly if byte `k` of `bytes`, counted from 0, is a blank.
     blanks: u64,
-    /// False if the line is long, or near the end of its text.
+    /// True if `blanks` has the marks. False if the line was long or began near the end of its text.
     is_marked: bool,
 }
 
@@ -34,7 +34,7 @@ impl<'a> Model for Words<'a> {
     ghost invariant = { λ words. words.is_marked ≡ true → HasBlanks words.blanks words.bytes.now };
 }
 
-/// Returns the first line of a text, and the text after its line feed if it has one.
+/// Returns the first line of a text and, if a line feed ends this line, the text after the line feed.
 #[inline(always)]
 pub fn first_line(text: &[u8]) -> (Words<'_>, Option<&[u8]>)
     ensures cut { lines_in_words text.now ≡ result.0 ∷ unwrap_or (option_map (λ rest. lines_in_words rest.now) result.1) [] }
@@ -53,7 +53,8 @@ pub fn first_line(text: &[u8]) -> (Words<'_>, Option<&[u8]>)
     }
 }
 
-/// Returns the first line of a text with its blanks marked, and the text after it, or `None` if the line is long or near the text's end.
+/// Returns the first line of a text with its blanks marked, and the text after the line feed. Returns `None` if the text has fewer than 64
+/// bytes, or if its first 64 bytes have no line feed.
 #[inline(always)]
 fn marked_line(text: &[u8]) -> Option<(Words<'_>, &[u8])>
     ensures cut { IfSome result (λ cut. lines_in_words text.now ≡ cut.0 ∷ lines_in_words cut.1.now) }
@@ -94,7 +95,7 @@ fn blanks(bytes: u8x64) -> u64
     are_blanks.to_bitmask()
 }
 
-/// Returns the words of a line, whose blanks are not marked.
+/// Returns the words of a line. The blanks of this line are not marked.
 fn unmarked(bytes: &[u8]) -> Words<'_>
     ensures { result ≡ words_of bytes.now }
 {
@@ -105,7 +106,7 @@ fn unmarked(bytes: &[u8]) -> Words<'_>
     }
 }
 
-/// Returns the part, without its last byte if that is a carriage return.
+/// Returns the part. If its last byte is a carriage return, this byte is left out.
 fn without_return(part: &[u8]) -> &[u8]
     ensures { result.now ≡ strip_carriage_return part.now }
 {
@@ -183,7 +184,7 @@ fn next_unmarked(line: &[u8]) -> Option<(&[u8], Words<'_>)>
     None
 }
 
-/// Returns the number of bytes before the first blank.
+/// Returns the number of bytes before the first blank, or the length of the line if it has no blank.
 fn len_before_blank(line: &[u8]) -> usize
     ensures place { result ≡ position_or_len is_blank line.now }
     ensures within { result ≤ length line.now }

@@ -61,8 +61,8 @@ impl Address {
         }
     }
 
-    /// Returns the bytes of the address in a message. The first byte includes the bit of this master (from or to whom the message is) and
-    /// the burst bit.
+    /// Returns the bytes of the address in a message. The first byte includes the master bit and the burst bit. `master` is the master that
+    /// sends or gets the message.
     pub fn bytes(self, master: MasterId, burst: bool) -> AddressBytes
         ensures { IsAddressBytes master burst self result }
     {

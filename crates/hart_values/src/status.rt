@@ -13,9 +13,9 @@ const FAULTS_BIT: u8 = 0x80;
 /// What the two status bytes of a reply mean (HCF_SPEC-099).
 #[derive(Clone, Copy, Debug, PartialEq, Eq)]
 pub enum Status {
-    /// The device has received the request without communication faults: a response code and the device status.
+    /// The response code and the device status. The device has received the request without communication faults.
     Code(ResponseCode, DeviceStatus),
-    /// The communication faults with which the device has received the request.
+    /// The device has received the request with these communication faults.
     Faulty(CommFaults),
 }
 

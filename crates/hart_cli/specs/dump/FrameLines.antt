@@ -32,7 +32,7 @@ abbrev pub lines_from : ℕ → List Found → List ℕ
 lines_from first frames = dump_text (map (moved first) frames)
 
 -- The lines of the decided frames in held bytes were added. The first `used` bytes are used up, and the lines take at most twelve bytes
--- for each of them. At most 268 bytes are left, in which no frame is decided, and none if nothing comes after the held bytes.
+-- for each of them. At most 268 bytes are left, and no frame in them is decided. If `ended` is true, no bytes are left.
 pub record AddsDecided (first : ℕ) (held : List ℕ) (ended : Bool) (used : ℕ) (before after : List ℕ) : Type 0 where
   pub given : List Found
   pub next : AreNext (faultless held) ended 0 given used

@@ -70,7 +70,7 @@ answered frame (last ∷ earlier) =
 abbrev pub repeats : FrameParts → List Found → ℕ
 repeats frame messages = prefix_len (λ message. same_request message.frame frame) messages
 
--- What the sightings before a sighting say of it. Only the messages of the same master count.
+-- What is known of a sighting from the sightings before it. Only the messages of the same master count.
 abbrev pub before_of : List Seen → Seen → Before
 before_of earlier (Message found) =
     let messages = messages_back found.frame.master earlier in

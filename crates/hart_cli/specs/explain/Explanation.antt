@@ -97,8 +97,8 @@ abbrev pub ComeFirst : List Heard → List Seen → Type 0
 ComeFirst heard seen =
     (more : List Heard) (all : List Seen) → AreSightingsOf (heard ++ more) all → (later : List Seen) × (all ≡ seen ++ later)
 
--- This text of what was heard, in a style, is decided: whatever is heard next, its sightings come first, and no further sighting is
--- sure to follow them.
+-- This text of what was heard, in a style, is decided. Whatever is heard next, the sightings of this text come first. No further
+-- sighting is sure to come after them.
 pub record IsDecidedIn (style : Style) (heard : List Heard) (text : List ℕ) : Type 0 where
   pub seen : List Seen
   pub first : ComeFirst heard seen

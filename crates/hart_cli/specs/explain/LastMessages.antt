@@ -15,12 +15,12 @@ LastMessages = EachMaster (Option LastMessage)
 abbrev pub found_in : LastMessage → Found
 found_in message = record { start = message.start; stop = message.start; frame = message.frame }
 
--- A kept message, and the requests before it that are the same.
+-- A kept message, and then one copy of it for each counted message before it.
 abbrev pub listed : Option LastMessage → List Found
 listed None = []
 listed (Some message) = found_in message ∷ replicate message.sent_before (found_in message)
 
--- Sightings of which the kept messages are the last ones.
+-- The kept messages of both masters, and the counted messages before them, as sightings.
 abbrev pub recalled : LastMessages → List Seen
 recalled last = map Message (listed last.primary) ++ map Message (listed last.secondary)
 

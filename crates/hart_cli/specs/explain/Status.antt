@@ -37,7 +37,7 @@ device_states =
     ∷ bit 0x01 (codes "primary variable out of limits")
     ∷ []
 
--- A bit is set in a byte if the byte and the value of the bit have a bit in common.
+-- A named bit is set in a byte if the bitwise AND of the byte and the bit's value is not 0.
 abbrev pub is_set : ℕ → NamedBit → Bool
 is_set byte bit = not (bit_and byte bit.value == 0)
 

@@ -31,8 +31,9 @@ abbrev pub FitsFrom : ℕ → Sighting → Type 0
 FitsFrom first (given.Message view) = (first + view.start < 2 ^ 64) × (first + view.stop < 2 ^ 64)
 FitsFrom first (given.Missed place miss header) = (first + place < 2 ^ 64) × NamesPlacesBelow (2 ^ 64 - first) miss
 
--- The next sighting in held bytes, and in what comes after them, is what is seen there between the places `from` and `used`. If
--- there is a sighting, `used` is beyond `from`. If there is none, all bytes that no longer decide anything stand before `used`.
+-- The next sighting from the place `from` on, in held bytes and in what comes after them. The search went up to the place `used`. If
+-- there is a sighting, `used` is beyond `from`. If there is none, at most 268 characters are left from `used` on, and they decide no
+-- sighting.
 pub record IsNextSighting (held : List ℕ) (after : After) (from : ℕ) (next : NextSighting) : Type 0 where
   pub sees : SeesOn (heard_with held after) (is_end after) from (sightings_of next.sighting) next.used
   pub within : next.used ≤ length (heard_with held after)
@@ -49,7 +50,8 @@ chars_after More = []
 chars_after (Damaged character) = character ∷ []
 chars_after End = []
 
--- Two lists of earlier sightings are alike in a style if later sightings have the same text after both, whatever comes between.
+-- Two lists of earlier sightings are alike in a style if later sightings have the same text after one list as after the other. Any
+-- sightings may stand between the list and the later sightings.
 abbrev pub AreAlike : Style → List Seen → List Seen → Type 0
 AreAlike style one other = (date : ℕ → List ℕ) (between later : List Seen)
     → text_after style date (one ++ between) later ≡ text_after style date (other ++ between) later
@@ -62,7 +64,8 @@ text_from teller date first seen = text_after teller.style date (recalled teller
 abbrev pub told_text : Teller → (ℕ → List ℕ) → Seen → List ℕ
 told_text teller date seen = text_after teller.style date (recalled teller.last) (seen ∷ [])
 
--- These sightings were told. The style is the same, and later sightings have the text that follows them.
+-- These sightings were told, and the style is unchanged. The new kept messages stand for the old kept messages and the told sightings:
+-- later sightings have the same text after both.
 pub record GoesOn (old new : Teller) (seen : List Seen) : Type 0 where
   pub style : new.style ≡ old.style
   pub alike : AreAlike old.style (recalled new.last) (recalled old.last ++ seen)
@@ -173,7 +176,8 @@ pub data HearsAll (old : Telling) : Telling → List Heard → Stream → Stream
   mark : (now new : Telling) (heard : List Heard) (mark : Heard) (w w1 w2 : Stream) → HearsAll old now heard w w1
       → HearsMark now new mark w1 w2 → HearsAll old new (heard ++ mark ∷ []) w w2
 
--- After some parts of what was heard, a write failed in what is said of the next characters, which a silence may have ended.
+-- Some parts of what was heard were told. Then a write failed within the text of the next characters. If `ended` is true, nothing comes
+-- after these characters in their stretch.
 pub record FailsInAll (old : Telling) (heard : List Heard) (writer writer_after : Stream) : Type 0 where
   pub now : Telling
   pub passed : List Heard

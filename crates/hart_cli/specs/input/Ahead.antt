@@ -25,10 +25,9 @@ abbrev pub ended_length : Option InputEnd → ℕ → ℕ
 ended_length (Some ends.Ended) read = read + 1
 ended_length end read = read
 
--- The next step depends on the rest of an input after what was decoded, and on whether that rest is open. If the input ended, an
--- empty rest means no fault, and any other rest is bad hex. If the input may go on, or went past the limit, the rest is bad hex
--- unless it is open. If it is, the call reads on, or returns `TooLong` past the limit. A failed read is the fault whatever the rest
--- is.
+-- The next step depends on the end of the input, if it came to one, and on the rest after what was decoded. If the input ended, an
+-- empty rest is no fault, and any other rest is bad hex. If a read failed, the fault is `Read` for every rest. In the other two cases, a
+-- rest that is not open is bad hex. With an open rest, the call reads on if the input may go on, and returns `TooLong` past the limit.
 abbrev pub IsNextStep : (List ℕ → Type 0) → Option InputEnd → List ℕ → ℕ → NextStep → Type 0
 IsNextStep IsOpen None rest place ReadOn = IsOpen rest
 IsNextStep IsOpen None rest place (Stop fault) = (IsOpen rest → ⊥) × (fault ≡ Some (faults.BadHex place))

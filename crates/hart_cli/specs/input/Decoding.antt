@@ -40,7 +40,7 @@ pub record AreDecodedBy {Heard : Type 0} (Reads : List ℕ → List Heard → Li
   pub reads : Reads (ended_text input ending) heard rest
   pub few : length rest ≤ most
 
--- The decoding of an input by a way to read texts, of which at most `most` bytes are read but not yet decoded.
+-- The decoding of an input by `Reads`, a way to read texts. At most `most` bytes of the input are read but not yet decoded.
 abbrev pub decoding_by : {Heard : Type 0} → (List ℕ → List Heard → List ℕ → Type 0) → (List ℕ → Type 0) → ℕ → Decoding (List Heard)
 decoding_by Reads Stops most = record {
   Has = HasHeardBy Reads Stops;

@@ -37,13 +37,13 @@ pub record ReadsBeyond (old new : Stream) (bytes : List ℕ) : Type 0 where
 abbrev pub ReadsPast : ℕ → Stream → Stream → List ℕ → Type 0
 ReadsPast limit old new text = ReadsBeyond old new text × (length text ≡ limit)
 
--- This text was read from an input with a limit before the input ended, a read failed, or the input went past the limit.
+-- This text was read from an input with a limit. After the text, the input ended, a read failed, or a byte past the limit was read.
 abbrev pub ReadsWithin : ℕ → Stream → Stream → List ℕ → InputEnd → Type 0
 ReadsWithin limit old new text Ended = ReadsWell old new text × IsAtEnd new.bytes × (length text ≤ limit)
 ReadsWithin limit old new text ReadFailed = ReadFails old new text × (length text ≤ limit)
 ReadsWithin limit old new text TooLong = ReadsPast limit old new text
 
--- This text was read from an input before the input ended, a read failed, or the input went past 1,048,576 bytes.
+-- This text was read from an input. After the text, the input ended, a read failed, or one byte more than 1,048,576 was read.
 abbrev pub Reads : Stream → Stream → List ℕ → InputEnd → Type 0
 Reads old new text end = ReadsWithin input_limit old new text end
 
@@ -52,8 +52,8 @@ pub data Ending : Type 0 where
   Left : Ending
   CameTo : (end : InputEnd) → Ending
 
--- This text was read from an input with a limit before the input came to its end or was left. If the input was left, more of it may be
--- unread, and one byte past the limit may have been read with the last bytes of the text.
+-- This text was read from an input with a limit. Then the input came to its end, or the call left the input. If the call left it, more of
+-- the input may be unread, and one byte past the limit may have been read after the text.
 abbrev pub ReadsToWithin : ℕ → Stream → Stream → List ℕ → Ending → Type 0
 ReadsToWithin limit old new text Left = (ReadsWell old new text × (length text ≤ limit)) ⊎ ReadsPast limit old new text
 ReadsToWithin limit old new text (CameTo end) = ReadsWithin limit old new text end

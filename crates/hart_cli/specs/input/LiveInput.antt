@@ -40,7 +40,8 @@ pub record IsDecidedText {Heard : Type 0} (decoding : Decoding Heard) (IsDecided
   pub reads : decoding.SoFar input heard
   pub decided : IsDecided heard text
 
--- Take the input without its last bytes. Everything that it decides was written. The last bytes are no more than one read can return.
+-- An input consists of `before` and then `last`. `last` has at most 16,384 bytes, the most that one read returns. The whole text that
+-- `before` decides was written, and perhaps more text after it.
 pub record WroteInTime (IsDecided : List ℕ → List ℕ → Type 0) (input : List ℕ) (writer writer_after : Stream) : Type 0 where
   pub before : List ℕ
   pub last : List ℕ
@@ -51,8 +52,8 @@ pub record WroteInTime (IsDecided : List ℕ → List ℕ → Type 0) (input : L
   pub more : List ℕ
   pub written : Appends writer.bytes writer_after.bytes (text ++ more)
 
--- A write failed within the text of what had been decoded by then: a prefix of that text was written, but not all of it. Nothing was
--- written late: the text decided by the input without its last bytes had been written.
+-- A write failed within the text of what had been decoded by then. A prefix of that text was written, but not all of it. Text that was
+-- decided before the last bytes of the input had been written, as `WroteInTime` says.
 pub record StopsWriting {Heard : Type 0} (decoding : Decoding Heard) (limit : ℕ) (IsText IsDecided : TextRelation Heard)
     (reader reader_after writer writer_after : Stream) : Type 0 where
   pub input : List ℕ

@@ -48,8 +48,8 @@ pub record ServesTo (device : DeviceState) (ending : Ending) (reader reader_afte
 abbrev pub IsServedSoFar : DeviceState → List ℕ → List ℕ → Type 0
 IsServedSoFar device input text = IsServed device input Left text
 
--- By the time a write failed, some first lines were read. A prefix of the device's answers to these lines was written, but not all of the
--- answers. No line was answered late: take the input without its last bytes. The answers to its whole lines had been written.
+-- A write failed within the device's answers to some first lines. A prefix of these answers was written, but not all of them. The answers
+-- to lines that were whole before the last bytes of the input had been written, as `WroteInTime` says.
 pub record StopsSaying (device : DeviceState) (reader reader_after writer writer_after : Stream) : Type 0 where
   pub input : List ℕ
   pub ending : Ending

@@ -72,8 +72,8 @@ IsNeededForSimulation device input items =
     ⊎ IsNeededByNoting IsNeededByFrame (start_with device) events items
     ⊎ IsNeededByLastLines (start_with device) events items))
 
--- `simulate` returns this fault for one of two reasons: the input has it in its lines or events, or memory was refused. In the second case
--- the input needs room for as many items as were refused.
+-- `simulate` returns this fault for one of two reasons: the input has the fault in its lines or events, or memory was refused. If
+-- memory was refused for a number of items, the input needs room for this number of items.
 abbrev pub IsSimulationFault : DeviceState → List ℕ → CliFault → Type 0
 IsSimulationFault device input (Line fault) = HasLineFault device input fault
 IsSimulationFault device input (Memory none) = IsNeededForSimulation device input none.items

@@ -8,9 +8,9 @@ use Rattle.hart_cli.specs.declared.fault.CliFault.{CliFault}
 use Rattle.hart_cli.specs.declared.fault.CliFault.TheVariants as faults
 use Rattle.hart_cli.specs.declared.input.InputEnd.TheVariants as ends
 
--- `Reads` is a way to read texts. What was heard in an input in this way stands before the fault of the input. If the input ended,
--- it reads as what was heard, or has bad hex after what was heard. If the call left the input, there is bad hex after what was
--- heard, whatever bytes follow. If a read failed, or the input went past the limit, what was heard is what is whole so far.
+-- `Reads` is a way to read texts. Read in this way, an input has this list of heard things before its fault, if any. An input that ended
+-- reads as the whole list, or has bad hex after the list. An input that the call left has bad hex after the list, whatever bytes follow.
+-- If a read failed, or the input went past the limit, the list has all things that are whole in the bytes read.
 pub data HasHeardBy {Heard : Type 0} (Reads : List ℕ → List Heard → List ℕ → Type 0) (Stops : List ℕ → Type 0) (text : List ℕ)
     : Ending → List Heard → Option CliFault → Type 0 where
   all : (heard : List Heard) → Reads (closed text) heard [] → HasHeardBy Reads Stops text (CameTo ends.Ended) heard None
@@ -27,8 +27,8 @@ pub data HasHeardBy {Heard : Type 0} (Reads : List ℕ → List Heard → List �
 abbrev pub HasChars : List ℕ → Ending → List Character → Option CliFault → Type 0
 HasChars = HasHeardBy ReadsUpTo NoPieceBegins
 
--- The only faults of an input that was read to its end are bad hex at a place, and refused memory for half as many characters as
--- the input has bytes.
+-- The only faults of an input that was read to its end are bad hex at a place, and refused memory for its characters. The refused room
+-- is for one character for every two bytes of the input.
 abbrev pub IsWholeTextFault : List ℕ → CliFault → Type 0
 IsWholeTextFault text (faults.BadHex place) = (chars : List Character) × IsBadHexAt text chars place
 IsWholeTextFault text (faults.Memory none) = none.items ≡ length text / 2

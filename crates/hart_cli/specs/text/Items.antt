@@ -50,20 +50,20 @@ pub data ReadsUpTo : List ℕ → List Character → List ℕ → Type 0 where
 abbrev pub NoPieceBegins : List ℕ → Type 0
 NoPieceBegins text = (piece : Piece) (tail : List ℕ) → BeginsWith text piece tail → ⊥
 
--- A piece begins a text once the right bytes are added to the text.
+-- Some bytes can be added to a text so that a piece begins the text.
 pub record MayBegin (text : List ℕ) : Type 0 where
   pub more : List ℕ
   pub piece : Piece
   pub tail : List ℕ
   pub begins : BeginsWith (text ++ more) piece tail
 
--- `Stops` says at which rests reading stops. A rest is open if reading does not stop there once the right bytes are added.
+-- `Stops` says at which rests reading stops. A rest is open if some bytes, added to it, make reading go on.
 pub record Opens (Stops : List ℕ → Type 0) (rest : List ℕ) : Type 0 where
   pub more : List ℕ
   pub goes_on : Stops (rest ++ more) → ⊥
 
--- `Reads` says what a text reads as up to a rest, and `Stops` at which rests reading stops. Read in this way, a text has bad hex at
--- a place if the text up to there reads as what was heard, and reading stops there, before the end of the text.
+-- `Reads` says how a text reads up to a rest, and `Stops` says at which rests reading stops. A text has bad hex at a place if it reads
+-- as what was heard up to this place, and reading stops there although the text goes on.
 pub record HasBadHexBy {Heard : Type 0} (Reads : List ℕ → List Heard → List ℕ → Type 0) (Stops : List ℕ → Type 0) (text : List ℕ)
     (heard : List Heard) (place : ℕ) : Type 0 where
   pub rest : List ℕ
@@ -72,7 +72,7 @@ pub record HasBadHexBy {Heard : Type 0} (Reads : List ℕ → List Heard → Lis
   pub more : rest ≢ []
   pub no_piece : Stops rest
 
--- A text has bad hex at a place if it reads as these characters up to there, and neither its end nor a piece is there.
+-- A text has bad hex at a place if it reads as these characters up to this place. The text does not end there, and no piece begins there.
 abbrev pub HasBadHex : List ℕ → List Character → ℕ → Type 0
 HasBadHex = HasBadHexBy ReadsUpTo NoPieceBegins
 
@@ -88,8 +88,8 @@ ReadsAs text chars = ReadsUpTo (closed text) chars []
 abbrev pub IsBadHexAt : List ℕ → List Character → ℕ → Type 0
 IsBadHexAt text chars place = HasBadHex (closed text) chars place
 
--- For now, an input that may go on reads as what was heard up to a rest, perhaps empty. Nothing whole begins that rest yet, but
--- something would if the right bytes followed.
+-- An input that may go on reads as what was heard, up to a rest, which may be empty. Reading stops at this rest. The rest is open: some
+-- further bytes would make reading go on.
 pub record ReadsSoFarBy {Heard : Type 0} (Reads : List ℕ → List Heard → List ℕ → Type 0) (Stops : List ℕ → Type 0) (text : List ℕ)
     (heard : List Heard) : Type 0 where
   pub rest : List ℕ

@@ -40,8 +40,9 @@ const RAW_LIMIT: usize = usize::MAX - 1;
 /// only seems to start, it writes why no message stands there and, if a header was heard, what the message seems to be. It writes
 /// each part as soon as that part is decided.
 ///
-/// An item `/` says that the line fell silent. What was heard before the silence is explained as ended, and no message crosses it. A
-/// `@` and a word date what follows: each message and each such place has the last date before it.
+/// A `/` says that the line fell silent. What was heard before the silence is explained as ended, and no message crosses the silence. A
+/// `@` and a word give the date of what follows. Each message, and each place where a message only seems to start, has the last date
+/// before it.
 ///
 /// It reads a portion at a time. Before each read it has written all that is decided by then, so a live line is explained while it
 /// is heard. It keeps only the characters that decide nothing yet, at most 268, and their dates. It allocates nothing.
@@ -65,9 +66,9 @@ pub fn explain<R: Source, W: Sink>(
     explain_heard(Style::Words, reader, writer)
 }
 
-/// Reads the characters that [`explain`] reads, and writes a JSON object for each part of the text of `explain`, at the moment at which
-/// `explain` writes that part. Each object is one line. For a reply it also says which request it answers, and for a request how many times
-/// in a row it has been sent.
+/// Reads the characters that [`explain`] reads. For each part of the text of `explain` it writes a JSON object as one line, at the moment
+/// at which `explain` writes that part. The object of a reply also says which request the reply answers. The object of a request also says
+/// how many times in a row the request has been sent.
 ///
 /// # Errors
 ///

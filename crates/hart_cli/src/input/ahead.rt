@@ -44,8 +44,8 @@ pub enum NextStep {
     Stop(Option<CliFault>),
 }
 
-/// Reads once, and adds the bytes that are within the `room` left of the input's limit to `ahead`. Returns how many bytes it added, and how
-/// the input ended, if this read ended it.
+/// Reads once, and adds the bytes within the input's limit to `ahead`. `room` is the number of bytes left within this limit. If the input
+/// ended, a space is added instead. Returns the number of bytes read within the limit, and how the input ended, if this read ended it.
 pub fn read_ahead<R: Source, const N: usize>(
     reader: &mut R,
     buffer: &mut [u8],
@@ -91,8 +91,8 @@ pub fn next_heard_step(end: Option<InputEnd>, rest: &[u8], read: usize) -> NextS
     step_from(end, rest, may_open(rest), read)
 }
 
-/// Returns the next step after `read` bytes of an input. `is_open` says whether `rest`, which is not decoded, may begin an item once
-/// more bytes follow.
+/// Returns the next step after `read` bytes of an input. `rest` is the part of these bytes that is not decoded. `is_open` says whether
+/// more bytes can complete an item or a mark that begins in `rest`.
 fn step_from(end: Option<InputEnd>, rest: &[u8], is_open: bool, read: usize) -> NextStep
     requires { length rest.now ≤ ended_length end read }
     ensures { IsNextStep (λ _. IsTrue is_open) end rest.now (ended_length end read - length rest.now) result }
@@ -103,7 +103,7 @@ fn step_from(end: Option<InputEnd>, rest: &[u8], is_open: bool, read: usize) -> 
         Some(InputEnd::Ended) if rest.is_empty() => NextStep::Stop(None),
         // The last byte of the rest is the space that stands for the end of the input.
         Some(InputEnd::Ended) => bad_hex(read - (rest.len() - 1)),
-        // Nothing was read, so an item may still begin with the rest, as it might before.
+        // A failed read adds no bytes. The rest was open before, so it is still open, and there is no bad hex.
         Some(InputEnd::ReadFailed) => NextStep::Stop(Some(CliFault::Read)),
         Some(InputEnd::TooLong) if is_open => NextStep::Stop(Some(CliFault::TooLong)),
         Some(InputEnd::TooLong) => bad_hex(read - rest.len()),

@@ -38,7 +38,8 @@ pub fn item_run(text: &[u8]) -> Option<ItemRun>
     }
 }
 
-/// Where the first digits of 16 spaced items stand in the lanes of the first 32 bytes and of the last 32 bytes of 48.
+/// The lanes of the first digits of 16 spaced items, which take 48 bytes. Lanes 0 to 31 have the first 32 bytes, and lanes 32 to 63 have
+/// the last 32 bytes.
 const SPACED_HIGH: [usize; LANES] = [0, 3, 6, 9, 12, 15, 18, 21, 24, 27, 30, 49, 52, 55, 58, 61];
 
 /// Where their second digits stand.

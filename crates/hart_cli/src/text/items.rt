@@ -67,7 +67,8 @@ pub fn is_separator(byte: u8) -> bool
     matches!(byte, b' ' | b'\t' | b'\r' | b'\n')
 }
 
-/// Returns true if `text` may become the beginning of a piece once more bytes follow. No piece begins it yet. Such a text is short.
+/// Returns true if `text` would begin with a piece after some bytes are added to it. No piece begins it yet. Such a text has at most 5
+/// bytes.
 pub fn may_begin(text: &[u8]) -> bool
     requires { NoPieceBegins text.now }
     ensures may { IsTrue result ↔ MayBegin text.now }

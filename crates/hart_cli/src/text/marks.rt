@@ -64,8 +64,8 @@ fn is_visible(byte: u8) -> bool
     (b'!'..=b'~').contains(&byte)
 }
 
-/// Returns true if `text` may become the beginning of a piece or a mark once more bytes follow. None begins it yet. Such a text is
-/// short.
+/// Returns true if `text` would begin with a piece or a mark after some bytes are added to it. Neither begins it yet. Such a text has at
+/// most 33 bytes.
 pub fn may_open(text: &[u8]) -> bool
     requires { NothingBegins text.now }
     ensures may { IsTrue result ↔ Opens NothingBegins text.now }

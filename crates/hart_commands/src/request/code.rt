@@ -6,8 +6,8 @@ use crate::{Request, is_write};
 use hart_values::ResponseCode;
 
 /// Returns the response code of a request of this command. `reading` is the result of [`Request::read`]; `protected` and `counter` are the
-/// device's write protection and configuration change counter. The first of these applies: code 64 or 5 of `reading`; code 7 for a write to
-/// a protected device; any other code of `reading`; code 9 for a wrong counter; code 0.
+/// device's write protection and configuration change counter. The result is the first of these codes that applies: code 64 or 5 of
+/// `reading`; code 7 for a write to a protected device; any other code of `reading`; code 9 for a wrong counter; code 0.
 pub fn request_code(
     command: u8,
     reading: &Result<Request, ResponseCode>,
@@ -29,7 +29,7 @@ pub fn request_code(
     }
 }
 
-/// Returns the code that refuses the data. If the data are good, returns the code that depends on the counter.
+/// Returns the code with which the data are refused. If the data are good, returns code 9 for a wrong counter, and otherwise code 0.
 fn data_code(reading: &Result<Request, ResponseCode>, counter: u16) -> ResponseCode
     ensures { result ≡ data_code reading.now counter }
 {

@@ -61,7 +61,7 @@ output_content output protected = record {
   channel_flags = output.channel_flags;
 }
 
--- The content of a reply with code 0 from a device in this state. Each request has a row.
+-- The content of the reply to each request, with code 0, from a device in this state.
 abbrev pub reply_content : DeviceState → Process → Request → ReplyContent
 reply_content state process asked.Identify = reply_identity state process
 reply_content state process asked.ReadPrimary = replied.Primary (unit_value process.first)

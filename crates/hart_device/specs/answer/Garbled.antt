@@ -58,9 +58,9 @@ asking_master identity (delimiter ∷ others) =
     then Some (if nat_lt (slice_index address 0) 128 then Secondary else Primary) else None
 asking_master identity [] = None
 
--- After its first six characters, a garbled request has a command, a byte count, as many payload characters as the byte count says,
--- and a check byte. Each of these may have any faults. The command is taken as it was heard. The communication faults are those of
--- all characters of the request.
+-- After its first six characters, a garbled request has a command, a byte count, the number of payload characters that the byte count
+-- gives, and a check byte. Each of these may have any faults. The command is taken as it was heard. The communication faults are those
+-- of all characters of the request.
 abbrev pub garbled_after : List Character → List Character → MasterId → Option GarbledRequest
 garbled_after chars (command ∷ byte_count ∷ after) master =
     if nat_lt byte_count.byte (length after) then Some (record {

@@ -65,8 +65,8 @@ fn garbled_at(identity: &Identity, chars: &[Char]) -> Option<GarbledRequest>
     })
 }
 
-/// Returns the master that sent a request to the device with this identity. The six characters are the delimiter and the address of this
-/// request. Returns `None` if they are anything else.
+/// Reads the first six characters of a request, and returns the master that sent it. The characters must have no faults, and be the
+/// delimiter and the unique address of the device with this identity. Otherwise the result is `None`.
 fn asking_master(identity: &Identity, head: &[Char]) -> Option<MasterId>
     ensures { result ≡ asking_master identity.now head.now }
 {

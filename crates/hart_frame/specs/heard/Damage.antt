@@ -43,8 +43,8 @@ pub record Replaces (bytes body : List ℕ) : Type 0 where
   pub same_byte_count : byte_count_in bytes ≡ byte_count_in body
   pub bytes_fit : All (λ byte. byte < 256) bytes
 
--- Check damage: every character is heard without faults, but other bytes that replace the body are heard in its place. The parity of these
--- bytes is not even, so their exclusive or is not zero.
+-- Check damage: bytes that replace the body are heard in its place, and every character is heard without faults. The parity of these bytes
+-- is not even, so their exclusive or is not zero.
 abbrev pub IsCheckDamage : FrameParts → ℕ → List Character → Type 0
 IsCheckDamage frame preambles chars = IsDamage frame preambles chars (λ left body. (bytes : List ℕ) × Replaces bytes body
     × (chars ≡ faultless (replicate left 255 ++ bytes)) × (HasEvenParity bytes → ⊥))

@@ -48,8 +48,8 @@ seen_miss chars place =
 abbrev pub header_at : List Character → ℕ → Option HeaderParts
 header_at chars place = header_in (bytes_from chars place)
 
--- If a miss is seen at a place, the list has just this place, its miss and the header that is heard there. Otherwise the list is empty.
--- Characters before `from`, the end of the last message, do not count.
+-- The list of the miss that is seen at a place, with the header that is heard there. It is empty if no miss is seen there. Characters
+-- before `from`, the end of the last message, do not count.
 abbrev pub missed_at : List Character → ℕ → ℕ → List Seen
 missed_at chars from place =
     option_map_or (λ miss. Missed place (miss_in_whole from miss) (header_at chars place) ∷ [])

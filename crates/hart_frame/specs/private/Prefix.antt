@@ -22,7 +22,7 @@ pub record IsWholeBody (layout : Layout) (bytes : List ℕ) : Type 0 where
   pub even : HasEvenParity bytes
   pub fits : All (λ byte. byte < 256) bytes
 
--- Bytes reach their check byte, but the byte that stands there, `byte`, is not the byte that fits, `fits`.
+-- Bytes reach their check byte, the last of the first `len` bytes. It is `byte`, but the byte that fits is `fits`.
 pub record HasBadCheck (bytes : List ℕ) (len byte fits : ℕ) : Type 0 where
   pub checked : HasCheckByte bytes
   pub whole : len ≡ body_length bytes

@@ -17,7 +17,7 @@ pub record IsOpenFrom (bytes : List ℕ) (from : ℕ) : Type 0 where
   pub none : NoneBegin bytes from place
   pub may : MayBegin (drop place bytes)
 
--- Take a prefix that has at least `seen` bytes, but fewer than `count`. It decides nothing from `from` on.
+-- Each prefix of at least `seen` but fewer than `count` bytes decides nothing from `from` on.
 abbrev pub IsOpenBefore : List ℕ → ℕ → ℕ → ℕ → Type 0
 IsOpenBefore bytes from seen count = (fewer : ℕ) → seen ≤ fewer → fewer < count → IsOpenFrom (take fewer bytes) from
 
@@ -68,7 +68,7 @@ HasPair bytes place = (place + 3 ≤ length bytes) × (slice_index bytes place �
 abbrev pub HasNoPair : List ℕ → ℕ → ℕ → Type 0
 HasNoPair bytes from to = (place : ℕ) → from ≤ place → place < to → HasPair bytes place → ⊥
 
--- The next pair from a place on is the first that stands there.
+-- The next pair from a place on is the first pair that stands at or after this place.
 pub record IsNextPair (bytes : List ℕ) (from start : ℕ) : Type 0 where
   pub after : from ≤ start
   pub pair : HasPair bytes start

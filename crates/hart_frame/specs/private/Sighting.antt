@@ -60,7 +60,7 @@ KeepsHeader bytes start chars = header_at chars start ≡ header_in (drop start 
 abbrev pub stands_alone : List Character → ℕ → Bool
 stands_alone chars start = is_none (body_miss start (drop start chars)) && not (two_begin_in_body chars start)
 
--- The characters that follow the bytes decide whether a body stands alone at a place.
+-- Some characters after the bytes let a body stand alone at a place, and other characters do not.
 pub record MayStandAlone (bytes : List ℕ) (start : ℕ) : Type 0 where
   pub one : List Character
   pub alone : stands_alone (faultless bytes ++ one) start ≡ true

@@ -5,8 +5,7 @@ use Rattle.hart_frame.specs.scan.Scanner.{Scan, Ends, Gives, MovesPast, Waits, f
 use Rattle.hart_frame.specs.declared.heard.found.Found.{Found}
 
 -- A history has the characters that were pushed to a scanner since it was new, the scanner's state now, and the frames that it gave. Each
--- step is a call in which the scanner heard a character, a part of a chunk of characters or bytes, or the finish; or in which it gave a
--- frame, or no frame for now.
+-- step is one call. In it the scanner heard a character, a part of a chunk or the finish, or it gave a frame or no frame for now.
 pub data IsHistory : List Character → Scan → List Found → Type 0 where
   begin : IsHistory [] new_scan []
   push : (past : List Character) (scan : Scan) (given : List Found) (character : Character) → IsHistory past scan given

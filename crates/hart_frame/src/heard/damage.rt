@@ -19,8 +19,7 @@ pub fn damaged_messages_have_no_other_frame()
         → AreFrames chars 0 [] }
 {}
 
-/// Shows each kind of damage by example: a request that is heard with this kind of damage, and requests that are heard with damage of
-/// another kind.
+/// Shows each kind of damage by example: characters that are a request with this kind of damage, and characters that are not.
 pub fn damage_by_example()
     ensures marked { IsMarkedDamage identity_request 5 faulty_address }
     ensures not_marked { IsMarkedDamage identity_request 5 other_address → ⊥ }

@@ -28,7 +28,7 @@ use crate::{Body, Char};
 pub enum Miss {
     /// The character at this place has these fault bits.
     Faulty { place: usize, faults: u8 },
-    /// The first byte is the delimiter of a burst message, which is not read.
+    /// The first byte is the delimiter of a burst message. Burst messages are not read.
     Burst,
     /// The first byte is `byte`, which is neither a delimiter of this profile nor that of a burst message.
     BadDelimiter { byte: u8 },
@@ -45,7 +45,8 @@ pub enum Miss {
     OnePreamble,
 }
 
-/// Returns why no frame stands where a message seems to start, or `None` if a frame stands there or no message seems to start.
+/// Returns why no frame stands at `start`, if a message seems to start there. Returns `None` if a frame stands there, or if no message
+/// seems to start there.
 ///
 /// Where a body may start (see [`is_start`](crate::is_start)), the miss is the first of these that applies:
 ///
@@ -125,7 +126,7 @@ fn delimiter_miss(byte: u8) -> Miss
     Miss::BadDelimiter { byte }
 }
 
-/// Returns the miss of bytes that may become a body, if no bytes follow. The miss says that `missing` bytes are missing or, for `None`,
+/// Returns the miss of bytes that end too early for a body, if nothing follows them. `Some` gives the number of missing bytes. `None` says
 /// that the bytes end before the byte count.
 pub(crate) fn cut_miss(missing: Option<usize>) -> Miss
     ensures { result ≡ cut_miss missing }
@@ -136,7 +137,8 @@ pub(crate) fn cut_miss(missing: Option<usize>) -> Miss
     }
 }
 
-/// Returns the miss for the character with fault bits after the first `count` characters, or `at_end` if no character follows them.
+/// Returns the miss that names the character after the first `count` characters and its fault bits, or `at_end` if there is no such
+/// character.
 fn faulty_or(heard: &[Char], count: usize, start: usize, at_end: Miss) -> Miss
     requires within { start + length heard.now < 2 ^ 64 }
     ensures { result ≡ faulty_or (slice_get heard.now count) (start + count) at_end }
@@ -204,9 +206,9 @@ pub fn misses_say_what_is_wrong()
         → HasFrameAt (insert chars start (record { byte = 255; faults = 0 })) (start + 1) }
 {}
 
-/// Where a body may start, the miss corresponds to the fault of the bytes from there to the first character with fault bits. So misses are
-/// found in the order of the faults of [`decode`](crate::decode). At any place, a miss corresponds to no fault if the bytes from there
-/// begin with a body.
+/// Take the bytes from a place where a body may start to the first character with fault bits. The miss of that place corresponds to the
+/// fault of these bytes. So misses are found in the order of the faults of [`decode`](crate::decode). If the bytes from any place begin
+/// with a body, a miss of that place corresponds to no fault.
 pub fn misses_are_faults()
     ensures refused { (start : ℕ) (chars : List Character) (miss : Miss) → All (λ character. character.byte < 256) chars
         → IsStart start chars → miss_of chars start ≡ Some miss
@@ -216,9 +218,9 @@ pub fn misses_are_faults()
         → BeginsWithBody (faultless_bytes (drop start chars)) frame len → fault_of miss ≡ None }
 {}
 
-/// `miss_of`, which goes step by step, finds exactly the misses that `IsMiss` describes, and a place has at most one miss. Where a body may
-/// start, the miss is exactly what stands in the way there. Anywhere else there is a miss only where a whole body stands after a single
-/// preamble byte.
+/// `miss_of` goes step by step, and finds exactly the misses that `IsMiss` describes. A place has at most one miss. Where a body may start,
+/// the miss is exactly what stands in the way there. Anywhere else there is a miss only where a whole body stands after a single preamble
+/// byte.
 pub fn misses_are_in_the_way()
     ensures found { (start : ℕ) (chars : List Character) (miss : Miss) → All (λ character. character.byte < 256) chars
         → (miss_of chars start ≡ Some miss) ↔ IsMiss chars start miss }

@@ -34,9 +34,9 @@ pub(crate) struct Buffer {
 /// What a scanner knows of what it holds.
 #[derive(Clone, Copy)]
 pub(crate) enum State {
-    /// Nothing is decided before the next character.
+    /// What is held decides nothing until another character or the end comes.
     Drained,
-    /// Something was heard or let go, and since then nobody has looked at what is held.
+    /// A character or the end came, or bytes were let go. What is held has not been searched since then.
     Busy,
     /// What is held begins with a frame that has this layout.
     Stands(Layout),
@@ -104,7 +104,7 @@ impl Buffer {
         }
     }
 
-    /// Returns true if nothing is decided before the next character.
+    /// Returns true if what is held decides nothing until another character or the end comes.
     pub(crate) fn is_drained(&self) -> bool
         ensures { IsTrue result ↔ (self.now.state ≡ Drained) }
     {
@@ -186,8 +186,7 @@ impl Buffer {
         }
     }
 
-    /// Appends the bytes of the chunk to the held bytes, keeps the bytes from `place` up to `stop`, and lets go of the bytes before
-    /// `place`.
+    /// Joins the held bytes and the chunk. Holds only the joined bytes from `place` up to `stop`, and lets go of the bytes before `place`.
     pub(crate) fn keep(&mut self, chunk: &[u8], place: usize, stop: usize)
         requires stored { IsStored self.old }
         requires clear { self.old.damaged ≡ None }

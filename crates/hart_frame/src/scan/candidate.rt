@@ -8,7 +8,7 @@ use crate::wire::prefix::{Prefix, prefix_of};
 /// How bytes begin.
 #[derive(Clone, Copy)]
 pub(crate) enum Candidate {
-    /// The bytes begin with no frame, whatever follows them. The first ones, this many, prove that; fewer do not.
+    /// The bytes begin with no frame, whatever follows them. The number says how many bytes at the front are needed to prove this.
     Never(usize),
     /// The bytes may still become a frame.
     Open,

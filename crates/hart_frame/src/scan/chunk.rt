@@ -68,8 +68,8 @@ impl Buffer {
         search(joined.as_slice(), 0, held.len() + 1)
     }
 
-    /// Hears as many bytes of `part` as `found` needed, and returns how many. `found` is the result of a search of the held bytes
-    /// and `part`.
+    /// Takes the result `found` of a search of the held bytes followed by `part`. Hears the bytes of `part` up to the last byte that the
+    /// search needed. Returns how many bytes it heard.
     #[inline(always)]
     fn settle(&mut self, part: &[u8], found: SearchResult) -> usize
         requires sound { IsSound self.old }

@@ -10,7 +10,7 @@ use crate::scan::search::{SearchResult, search_to_end};
 use crate::wire::layout::Layout;
 
 impl Buffer {
-    /// Returns where the next decided frame lies, and lets go of its characters.
+    /// Returns where the body of the next frame lies, and lets go of the frame's characters. Returns `None` if no frame is decided.
     pub(crate) fn next(&mut self) -> Option<Span>
         requires sound { IsSound self.old }
         ensures sound { IsSound self.new }
@@ -33,7 +33,7 @@ impl Buffer {
         }
     }
 
-    /// Drops the bytes at which no frame begins, and returns what [`Buffer::peek`] returns.
+    /// Drops the bytes before the first place at which a frame begins or may still begin. Returns what [`Buffer::peek`] returns.
     fn decide(&mut self) -> Option<Layout>
         requires sound { IsSound self.old }
         requires busy { self.old.state ≡ Busy }
@@ -70,7 +70,7 @@ impl Buffer {
         None
     }
 
-    /// Returns what is found in the held bytes. If no byte can follow the held bytes, no frame begins at an open place.
+    /// Searches the held bytes for a frame. If no byte can follow them, no frame begins at a place where more bytes would be needed.
     fn search_held(&self) -> SearchResult
         requires sound { IsSound self.now }
         ensures { IsHeldSearched self.now result }

@@ -14,7 +14,7 @@ ghost use Rattle.hart_frame.specs.declared.heard.found.Found.{Found};
 use crate::scan::buffer::{Buffer, Span};
 use crate::{Char, Found};
 
-/// Whether a delivery has exactly one frame. A delivery is what is heard at once.
+/// Whether a delivery has no frame, one frame or several frames. A delivery is what is heard at once.
 #[derive(Debug, Drop, PartialEq, Eq)]
 pub enum LoneFrame {
     /// The delivery has no frame.
@@ -27,8 +27,8 @@ pub enum LoneFrame {
 
 /// Returns the first frame of what was heard from the place `from` on, or `None` if no frame stands there.
 ///
-/// A frame stands where two faultless preamble bytes `FF`, at or after that place, are followed by its body in faultless characters. Of
-/// several frames, the frame with the least start is returned. To find all frames of a list, begin with `from` 0, and continue from the
+/// A frame stands where two faultless preamble bytes `FF` stand at or after `from`, and its body follows directly in faultless characters.
+/// Of several frames, the frame with the least start is returned. To find all frames of a list, begin with `from` 0, and continue from the
 /// `stop` of each frame that is found.
 ///
 /// ```rust
@@ -53,7 +53,7 @@ pub fn first_frame(chars: &[Char], from: usize) -> Option<Found>
     })
 }
 
-/// Returns whether a delivery has no frame, one or several; if it has exactly one, that frame is copied and returned.
+/// Returns whether a delivery has no frame, one frame or several frames. If it has exactly one, returns a copy of that frame.
 pub fn lone_frame(delivery: &[Char]) -> LoneFrame
     ensures lone { IsLone delivery.now result }
     ensures only { (frames : List Found) → AreFrames delivery.now 0 frames → result ≡ lone_of frames }
@@ -68,7 +68,7 @@ pub fn lone_frame(delivery: &[Char]) -> LoneFrame
     LoneFrame::Alone(found_at(&buffer, span))
 }
 
-/// Returns whether a frame stands in a list.
+/// Returns true if a frame stands in a list.
 fn has_frame(chars: &[Char]) -> bool
     ensures some { IsTrue result → (found : Found) × IsFirst found chars.now 0 }
     ensures none { result ≡ false → HasNoFrame chars.now 0 }
@@ -77,7 +77,8 @@ fn has_frame(chars: &[Char]) -> bool
     first_span(&mut buffer, chars).is_some()
 }
 
-/// Pushes a list to a new buffer, and returns where the body of the list's first frame then lies in the buffer.
+/// Pushes a list to a new buffer until its first frame is decided. Returns where the body of that frame lies in the buffer, or `None` if
+/// the list has no frame.
 fn first_span(buffer: &mut Buffer, chars: &[Char]) -> Option<Span>
     requires sound { IsSound buffer.old }
     requires is_new { scan_of buffer.old ≡ new_scan }

@@ -8,7 +8,7 @@ ghost use Rattle.hart_frame.specs.declared.heard.found.Found.{Found};
 use crate::scan::search::search_to_end;
 use crate::{FoundView, FrameView};
 
-/// What stands next in bytes.
+/// The next frame in bytes, and the place from which to continue.
 #[derive(Drop)]
 pub struct NextInBytes<'a> {
     /// The next frame and its places in the bytes, or `None` if no frame is decided yet, or no frame is left.
@@ -17,8 +17,8 @@ pub struct NextInBytes<'a> {
     pub used: usize,
 }
 
-/// Returns the next frame in bytes that were heard without faults; nothing is copied. Its two preamble bytes stand at or after
-/// `from`, which is at most the number of bytes. If `ended` is true, nothing comes after the bytes.
+/// Returns the next frame in bytes that were heard without faults. Copies nothing. The two preamble bytes of the frame stand at or after
+/// `from`. `from` must be at most the number of bytes. If `ended` is true, nothing comes after the bytes.
 ///
 /// Continue from [`NextInBytes::used`] to get the frame after the returned frame. If no frame is returned and `ended` is true, no frame is
 /// left. If no frame is returned and `ended` is false, the bytes from `used` on, at most 268, may begin a frame together with what comes

@@ -6,8 +6,8 @@ use std::marker::Model;
 
 /// Finds the frames of what is heard, character by character, and lends a view of each as soon as it is decided.
 ///
-/// A scanner holds at most 269 characters, the two preamble bytes and the body of the longest frame, and allocates no memory. While
-/// it waits for more it holds at most 268, since the longest frame is decided by its last character.
+/// A scanner allocates no memory. It holds at most 269 characters: two preamble bytes and the longest body. While it waits for more
+/// characters, it holds at most 268, because the last character of the longest frame decides that frame.
 ///
 /// ```rust
 /// let mut scanner = Scanner::new();
@@ -51,8 +51,8 @@ impl Scanner {
         }
     }
 
-    /// Hears one more character. The scanner must be drained, and fewer than 2^64 - 1 characters may have been pushed to it so far.
-    /// It then holds at most 269 characters.
+    /// Hears one more character. The scanner must be drained, and must have heard fewer than 2^64 - 1 characters so far. Afterwards it
+    /// holds at most 269 characters.
     pub fn push(&mut self, character: Char)
         requires drained { IsTrue self.old.drained }
         requires room { self.old.first + length self.old.held < 2 ^ 64 - 1 }

@@ -11,7 +11,7 @@ use std::simd::prelude::*;
 /// The number of places that are looked at together for a pair.
 const LANES: usize = 16;
 
-/// The number of bytes that are looked at for this: a pair has three.
+/// The number of bytes that are needed to look for a pair at [`LANES`] places. A pair has 3 bytes.
 const LOOKED_AT: usize = LANES + 2;
 
 /// What a search of bytes finds.
@@ -19,13 +19,13 @@ const LOOKED_AT: usize = LANES + 2;
 pub(crate) struct SearchResult {
     /// No frame begins before this place.
     pub(crate) place: usize,
-    /// How many bytes were needed to decide this.
+    /// How many bytes at the front the search needed for its result.
     pub(crate) decided: usize,
     /// The layout of the frame that begins at `place`. If this is `None`, the bytes from `place` on may still begin a frame.
     pub(crate) layout: Option<Layout>,
 }
 
-/// Searches from `from` for a frame. The prefixes shorter than `seen` are known to be undecided.
+/// Searches for a frame from the place `from` on. The caller knows already that a prefix of fewer than `seen` bytes decides nothing.
 pub(crate) fn search(bytes: &[u8], from: usize, seen: usize) -> SearchResult
     requires order { from ≤ seen }
     requires within { seen ≤ length bytes.now }
@@ -53,8 +53,8 @@ pub(crate) fn search(bytes: &[u8], from: usize, seen: usize) -> SearchResult
     open_at(bytes, bytes.len() - last_preambles(&bytes[place..]))
 }
 
-/// Searches from `from` for a frame. If `ended` is true, nothing can follow the bytes, so a place at which a frame might still
-/// begin has none.
+/// Searches for a frame from the place `from` on. If `ended` is true, nothing can follow the bytes. The search then goes on after a place
+/// at which a frame could begin only with more bytes.
 pub(crate) fn search_to_end(bytes: &[u8], from: usize, ended: bool) -> SearchResult
     requires { from ≤ length bytes.now }
     ensures { IsSearchedToEnd bytes.now from ended result }
@@ -98,7 +98,7 @@ fn next_pair(bytes: &[u8], from: usize) -> Option<usize>
     pair_near_end(bytes, from)
 }
 
-/// Returns the first of [`LANES`] places at which a pair stands.
+/// Looks at the [`LANES`] places from `place` on. Returns the first of them at which a pair stands, or `None` if there is none.
 #[inline(always)]
 fn first_pair(bytes: &[u8], place: usize) -> Option<usize>
     requires { place + LOOKED_AT ≤ length bytes.now }
@@ -115,7 +115,7 @@ fn first_pair(bytes: &[u8], place: usize) -> Option<usize>
     Some(place + pairs.trailing_zeros() as usize)
 }
 
-/// Like [`next_pair`], by one place after another, for fewer bytes than [`first_pair`] looks at.
+/// Finds the same pair as [`next_pair`], but looks at one place after another. It serves for fewer bytes than [`first_pair`] needs.
 fn pair_near_end(bytes: &[u8], from: usize) -> Option<usize>
     requires { from ≤ length bytes.now }
     ensures { MatchOption result (HasNoPair bytes.now from (length bytes.now)) (IsNextPair bytes.now from) }

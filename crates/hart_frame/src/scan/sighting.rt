@@ -150,7 +150,7 @@ pub(crate) enum Standing {
     Nothing,
     /// What stands there is not decided yet. All characters before the place in this field are used.
     Open(usize),
-    /// A message, by the layout of its body.
+    /// A message, whose body has this layout.
     Message(Layout),
     /// A miss.
     Missed(Miss),
@@ -232,8 +232,8 @@ fn lone_body(bytes: &[u8], after: &After, start: usize, stop: usize) -> Standing
     Standing::Missed(Miss::OnePreamble)
 }
 
-/// Returns true if these bytes may still become a body in which no two preamble bytes in a row begin. The bytes lack `missing` bytes of a
-/// body.
+/// Returns true if more bytes can make these bytes a body in which no two preamble bytes in a row begin. `missing` is the number of bytes
+/// that the body still lacks, or `None` if the bytes end before the byte count.
 fn can_stand_alone(bytes: &[u8], missing: Option<usize>) -> bool
     requires { IsPrefix bytes.now (Cut missing) }
     ensures may { IsTrue result → MayStandAlone bytes.now 0 }
@@ -268,8 +268,8 @@ fn has_two_preambles(bytes: &[u8]) -> bool
     false
 }
 
-/// Returns the place up to which the bytes are used, if nothing is seen in them and no place in them is open. A character with fault bits
-/// that follows is used too. If more may follow, the preamble bytes at the end, at most two, are not used.
+/// Returns the place up to which the bytes are used, if nothing is seen in them and no place in them is open. If a character with fault
+/// bits follows the bytes, it is used too. If more may follow, the preamble bytes at the end, at most two, are not used.
 fn passed(bytes: &[u8], after: &After, from: usize) -> usize
     requires within { from ≤ length bytes.now }
     requires places { length bytes.now < 2 ^ 64 - 1 }
@@ -291,7 +291,8 @@ fn passed(bytes: &[u8], after: &After, from: usize) -> usize
     }
 }
 
-/// Finds the next place after `from` where a character that is no preamble byte follows a preamble byte.
+/// Finds the next place after `from` where a sighting may stand, or `None` if there is none. A preamble byte stands right before such a
+/// place, and a character that is no preamble byte stands at it.
 fn next_asked(bytes: &[u8], after: &After, from: usize) -> Option<usize>
     requires within { from ≤ length bytes.now }
     ensures { IsNextAsked bytes.now after.now from result }

@@ -18,8 +18,8 @@ const ACK: u8 = 0x06;
 
 const BURST: u8 = 0x01;
 
-/// The bits in which all delimiters of this profile are alike: those of the physical layer, and those of the kind but for the one
-/// in which an STX and an ACK differ.
+/// The bits that are the same in all delimiters of this profile: bits 4 and 3, the physical layer, and bits 1 and 0 of the kind. Bit 2 is
+/// left out, because an STX and an ACK differ in it.
 const ALIKE: u8 = 0x1B;
 
 /// The delimiter of a request to a unique address, without expansion bytes.
@@ -28,7 +28,7 @@ pub const UNIQUE_REQUEST: u8 = 0x82;
 // The prover refuses any other value.
 const _: () = prove!(UNIQUE_REQUEST == 0x82);
 
-/// The place of the command after [`UNIQUE_REQUEST`]: the five address bytes stand between the two.
+/// The place of the command in a body that begins with [`UNIQUE_REQUEST`]: after this delimiter and five address bytes.
 pub const UNIQUE_COMMAND_PLACE: usize = 6;
 
 /// What a delimiter says of the bytes after it.
@@ -102,7 +102,7 @@ pub(crate) fn delimiter_byte(frame: &Frame) -> u8
     address_type + EXPANSION_BYTE * frame.expansion().len() as u8 + kind
 }
 
-/// Returns what the byte says as a delimiter, or `None` if it is no delimiter of this profile.
+/// Reads the byte as a delimiter. Returns `None` if it is no delimiter of this profile.
 pub(crate) fn read_delimiter(byte: u8) -> Option<Delimiter>
     ensures known { IsSome result ↔ IsDelimiter byte }
     ensures kind { IfSome result (λ delimiter. kind_code delimiter.kind ≡ byte % 8) }

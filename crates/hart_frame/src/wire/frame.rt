@@ -189,7 +189,7 @@ impl Frame {
         body
     }
 
-    /// Writes the frame's body in place. What `output` held is replaced.
+    /// Writes the frame's body to `output`, and replaces what `output` held.
     pub fn write_body(&self, output: &mut Body)
         ensures { IsBody self.now output.new }
     {

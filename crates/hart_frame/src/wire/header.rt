@@ -48,7 +48,8 @@ impl Header {
         self.command
     }
 
-    /// Reads the header with which the bytes begin, if they begin with a delimiter of this profile and reach the command.
+    /// Reads the header with which the bytes begin. Returns `None` if they do not begin with a delimiter of this profile or end before the
+    /// command.
     #[tactic(auto, unfolding(crate::specs::wire::Header::header_in))]
     pub(crate) fn read(bytes: &[u8]) -> Option<Header>
         ensures { option_map header_parts result ≡ header_in bytes.now }

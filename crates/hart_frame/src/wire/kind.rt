@@ -1,4 +1,4 @@
-/// What a frame is for (HCF_SPEC-081).
+/// Whether a frame is a request or a reply (HCF_SPEC-081).
 #[derive(Clone, Copy, Debug, PartialEq, Eq)]
 pub enum FrameKind {
     /// A master's request to a device.

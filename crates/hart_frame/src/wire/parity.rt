@@ -17,8 +17,8 @@ pub fn check_byte(bytes: &[u8]) -> u8
     fold_few(lanes.reduce_xor(), &bytes[whole..])
 }
 
-/// Returns the check byte of the first `len` bytes. The last few of them are read together with the bytes after them, if there are
-/// enough.
+/// Returns the check byte of the first `len` bytes. If `bytes` is long enough, the last block is read as sixteen bytes, and its bytes from
+/// `len` on count as zeros.
 #[inline(always)]
 pub(crate) fn front_check(bytes: &[u8], len: usize) -> u8
     requires { len ≤ length bytes.now }

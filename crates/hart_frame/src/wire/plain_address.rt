@@ -1,5 +1,5 @@
-//! Addresses as plain numbers. A view holds them in this form, because a field of a view may not have a type that contracts see as another
-//! value (its model).
+//! Addresses as plain numbers. A view holds its address in this form, because no field of a view may have a type with a model. A model is
+//! another value that contracts see in place of the value itself.
 ghost use Rattle.std.specs.Prelude.{◌≡◌};
 ghost use Rattle.hart_frame.specs.private.Address.{IsInRange, address_of};
 

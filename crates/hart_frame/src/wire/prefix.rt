@@ -1,4 +1,4 @@
-//! How bytes begin as a body. No other module reads that.
+//! Whether bytes begin with a body, may still become one, or never become one. Only this module decides that.
 ghost use Rattle.std.specs.Prelude.{◌≡◌};
 ghost use Rattle.hart_frame.specs.private.Prefix.{IsPrefix, fault_in, shown_by};
 
@@ -10,9 +10,10 @@ use crate::wire::parity::front_check;
 /// How bytes begin.
 #[derive(Clone, Copy)]
 pub(crate) enum Prefix {
-    /// The bytes begin with a whole body, by this layout.
+    /// The bytes begin with a whole body, which has this layout.
     Whole(Layout),
-    /// The bytes may still become a body. If they reach the byte count, this is how many bytes are missing.
+    /// The bytes end too early for a body, but more bytes may complete it. `Some` gives the number of missing bytes. `None` says that the
+    /// bytes end before the byte count.
     Cut(Option<usize>),
     /// The bytes never become a body, whatever follows them.
     Wrong(Wrong),
@@ -23,14 +24,14 @@ pub(crate) enum Prefix {
 pub(crate) enum Wrong {
     /// The first byte is no delimiter of this profile.
     BadDelimiter { byte: u8 },
-    /// The last of the first `len` bytes is the byte count of a reply, below 2.
+    /// A reply has this byte count, which is below 2. The byte count is the last of the first `len` bytes.
     ShortReply { len: usize, byte_count: u8 },
-    /// The last of the first `len` bytes, `byte`, stands in the place of the check byte, and `fits` would fit there.
+    /// The body has `len` bytes. Its check byte is `byte`, but the byte that would fit is `fits`.
     BadCheck { len: usize, byte: u8, fits: u8 },
 }
 
 impl Wrong {
-    /// Returns how many bytes were needed to decide this.
+    /// Returns how many bytes at the front are needed to decide what is wrong.
     pub(crate) fn shown_by(self) -> usize
         ensures { result ≡ shown_by self }
     {
@@ -53,7 +54,7 @@ impl Wrong {
     }
 }
 
-/// Reads how the bytes begin.
+/// Returns whether the bytes begin with a body, may still become one, or never become one.
 pub(crate) fn prefix_of(bytes: &[u8]) -> Prefix
     ensures { IsPrefix bytes.now result }
 {

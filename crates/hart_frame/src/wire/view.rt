@@ -104,7 +104,7 @@ impl FrameView<'_> {
 impl<'a> FrameView<'a> {
     ghost use Rattle.hart_frame.specs.wire.View.{parts_of};
 
-    /// Returns the frame whose parts stand in the bytes where this layout says.
+    /// Returns a view of the frame whose body is `bytes` and has this layout.
     pub(crate) fn view_in(layout: Layout, bytes: &'a [u8]) -> FrameView<'a>
         requires body { IsWholeBody layout bytes.now }
         ensures { IsBody (parts_of result) bytes.now }

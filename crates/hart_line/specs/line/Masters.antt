@@ -16,7 +16,7 @@ abbrev pub hand_of : Option InHand → Hand
 hand_of None = Empty
 hand_of (Some held) = ToSend (record { address = held.address; request = held.request; sendings = held.sendings })
 
--- A submitter's master has this id, this retry limit and this hand. If a request is held, the submitter's place is its number.
+-- A submitter's master has this id, this retry limit and this hand. If a request is held, `place` is the number of its submission.
 pub record IsSubmitter (id : MasterId) (retries : ℕ) (hand : Hand) (held : Option InHand) (submitter : Submitter) : Type 0 where
   pub reply_limit : ℕ
   pub master_is : submitter.master ≡ record { id = id; retries = retries; reply_limit = reply_limit; hand = hand }
@@ -42,7 +42,8 @@ AreInTurn Primary retries hands masters =
 AreInTurn Secondary retries hands masters =
     Awaits Secondary retries.secondary hands.secondary masters.secondary × Holds Primary retries.primary hands.primary masters.primary
 
--- If a submission is not refused, its request is in the master's hand, not yet sent, and unfinished. A refused one changes no hand.
+-- A submission that is not refused puts its request into the hand, not yet sent, and its outcome is unfinished. A refused submission does
+-- not change the hand, and its outcome is the refusal.
 abbrev pub Submits : Option InHand → ℕ → Address → Request → Option MasterFault → Outcome → (Option InHand → Type 0) → Type 0
 Submits held place address request None outcome Left = (outcome ≡ Unfinished 0)
     × Left (Some (record { submission = place; address = address; request = request; sendings = 0 }))
@@ -62,7 +63,7 @@ outcomes_after_turn retries None accepted outcomes = outcomes
 outcomes_after_turn retries (Some held) accepted outcomes =
     slice_set outcomes held.submission (outcome_of retries (held.sendings + 1) accepted)
 
--- A master's turn ends. The master accepts what came back as the reply, or nothing. The request in its hand, if any, gets its outcome.
+-- A master's turn ends. The master accepts a reply that came back, or accepts nothing. The request in its hand, if any, gets its outcome.
 pub record Concludes (who : MasterId) (retries : ℕ) (hand : Option InHand) (returned : Option FrameParts)
     (outcomes outcomes' : List Outcome) (Left : Option InHand → Type 0) : Type 0 where
   pub accepted : Option Reply

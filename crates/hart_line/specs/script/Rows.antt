@@ -1,4 +1,4 @@
--- What the lines of a script say (own profile): a row for each kind of event.
+-- What the lines of a script say (own profile): the words that write each kind of event.
 use Rattle.std.specs.Prelude.{◌≡◌, ◌⊎◌, ℕ, ◌+◌, ◌++◌, ◌/◌, ◌<◌, Any, Bool, true, false, not, nat_eq, List, [], ◌∷◌, codes, drop, filter}
 use Rattle.std.specs.Prelude.{if◌then◌else◌}
 use Rattle.std.specs.Str.{bytes_eq}
@@ -27,16 +27,16 @@ request_of command payload = do
   bytes ← payload_of payload
   result_ok (request_reading number bytes)
 
--- The word of a leg is `ok` if the leg is clean, and `lost` if it is lost. Otherwise the word consists of items, end to end, of the
--- characters heard.
+-- The word of a leg is `ok` if the leg is clean, and `lost` if it is lost. Otherwise the word consists of the items of the characters that
+-- are heard, end to end.
 abbrev pub IsLegWord : List ℕ → Heard → Type 0
 IsLegWord word Clean = word ≡ codes "ok"
 IsLegWord word Lost = word ≡ codes "lost"
 IsLegWord word (Chars chars) = IsItemsWord word chars
 
--- The words of a line say an event. Each kind of event has its row. After `submit` come WHO, ADDRESS, COMMAND and perhaps DATA. After
--- `turn` come WHO, UP and DOWN; the last two say what is heard in the two legs. After `protect` comes `on` or `off`. After `noise` come the
--- items heard. `restart` stands alone.
+-- The words of a line say an event. After `submit` come WHO, ADDRESS, COMMAND and perhaps DATA. After `turn` come WHO, UP and DOWN. UP and
+-- DOWN say what is heard in the two legs. After `protect` comes `on` or `off`. After `noise` comes one word, with the items of the
+-- characters that are heard. After `restart` comes nothing.
 abbrev pub Says : List (List ℕ) → LineEvent → Type 0
 Says words (Submit who address request) = (master to command : List ℕ) × (payload : List (List ℕ))
     × (words ≡ codes "submit" ∷ master ∷ to ∷ command ∷ payload)
@@ -81,7 +81,7 @@ item_words [] = []
 item_words (kind ∷ words) =
     if bytes_eq kind (codes "turn") then drop 1 words else if bytes_eq kind (codes "noise") then words else []
 
--- Words need room for the characters of one of these words. The room is half as many characters as this word has bytes, and at least one.
+-- Words need room for this number of characters. It is half the number of bytes of one of these words, and at least 1.
 abbrev pub IsNeededByWords : List (List ℕ) → ℕ → Type 0
 IsNeededByWords words items = (0 < items) × Any (λ word. items ≡ length word / 2) words
 

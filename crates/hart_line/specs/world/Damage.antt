@@ -19,20 +19,21 @@ AreHeard Clean (Some said) chars =
 AreHeard Lost sent chars = chars ≡ []
 AreHeard (Chars given) sent chars = chars ≡ given
 
--- The damage of what was heard is detected in two cases. If no frame was heard, nothing arrives. If only the frame that was sent was heard,
--- this frame arrives. So if nothing was sent, any frame that is heard is undetected damage.
+-- The damage of what was heard is detected in two cases. In the first case no frame was heard, and nothing arrives. In the second case
+-- exactly one frame was heard, it is the sent frame, and it arrives. So if nothing was sent, any frame that is heard is undetected damage.
 abbrev pub IsDetected : Option FrameParts → List Found → Option FrameParts → Type 0
 IsDetected sent [] arrived = arrived ≡ None
 IsDetected sent (found ∷ []) arrived = (sent ≡ Some found.frame) × (arrived ≡ sent)
 IsDetected sent (found ∷ other ∷ more) arrived = ⊥
 
--- What arrives, which is a frame or nothing. `sent` was sent, these characters were heard, and their damage is detected.
+-- `sent` was sent, these characters were heard, and their damage is detected. `arrived` is what arrives: a frame or nothing.
 pub record ArrivesAmong (chars : List Character) (sent arrived : Option FrameParts) : Type 0 where
   pub frames : List Found
   pub are_frames : AreFrames chars 0 frames
   pub detected : IsDetected sent frames arrived
 
--- What the device is brought. `sent` was sent, these characters were heard, and their damage is detected. A frame that is brought was sent.
+-- `sent` was sent, the device heard these characters, and their damage is detected. `brought` is what the characters bring the device. If
+-- they bring a frame, it is the sent frame.
 pub record ReachesAmong (identity : IdentityParts) (chars : List Character) (sent : Option FrameParts) (brought : Brought) : Type 0 where
   pub frame : Option FrameParts
   pub arrives : ArrivesAmong chars sent frame

@@ -48,7 +48,8 @@ pub record KeepsPromises (start : Start) (events : List LineEvent) (device : Dev
   pub at_most_once_a_sending : (world : World) → IsLast start events world → (number : ℕ)
       → times_executed number world.executions ≤ sendings_in (slice_get outcomes number)
   -- If a master's configuration-changed bit is clear after the script, nothing was written since this master's last Command 38 with code 0.
-  -- The counter and the registers are still as they were in the turn of that command. A counter that it named is still the counter.
+  -- The counter and the registers are as they were before the turn of that command. If the command
+  -- named a counter, the device's counter still has this value.
   pub no_change_unseen : (who : MasterId) (before : World) (given : Option ℕ) → IsLastReset start events who before given
       → of_master who device.changed ≡ false → IfSome given (λ counter. device.counter ≡ counter)
       × (device.counter ≡ (state_of start.device before).counter) × (device.contents ≡ (state_of start.device before).contents)

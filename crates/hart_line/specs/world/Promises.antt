@@ -15,7 +15,7 @@ use Rattle.hart_master.specs.Master.{MasterState}
 use Rattle.hart_line.specs.world.Step.{LeadsTo, Step, effect_on, executions_after, spoken_request}
 use Rattle.hart_line.specs.world.World.{InHand, Start, World, first_world, state_of}
 
--- A script starts with a device, the process values that the device is handed, and how often each master retries at most.
+-- A script starts with a device, the process values that are passed to the device, and the retry limit of each master.
 abbrev pub start_from : DeviceState → Process → MasterState → MasterState → Start
 start_from device process primary secondary = record {
   device = device;

@@ -82,7 +82,8 @@ Accepts who (Some held) None accepted = accepted ≡ None
 Accepts who (Some held) (Some frame) None = (reply : Reply) → IsReplyTo who held.address held.request frame reply → ⊥
 Accepts who (Some held) (Some frame) (Some reply) = IsReplyTo who held.address held.request frame reply
 
--- A request is answered by the accepted reply. Otherwise it is given up if sent more than `retries` times, and unfinished if not.
+-- A request is answered if a reply is accepted. Without an accepted reply, it is given up if it was sent more than `retries` times, and is
+-- unfinished otherwise.
 abbrev pub outcome_of : (retries sendings : ℕ) → Option Reply → Outcome
 outcome_of retries sendings (Some reply) = Answered reply sendings
 outcome_of retries sendings None = if nat_le sendings retries then Unfinished sendings else NoReply sendings

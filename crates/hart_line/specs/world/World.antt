@@ -30,7 +30,7 @@ pub record World : Type 0 where
   pub outcomes : List Outcome
   pub spoken : List SpokenFrame
 
--- A script starts with a device, the process values that the device is handed, and how often each master retries at most.
+-- A script starts with a device, the process values that are passed to the device, and the retry limit of each master.
 pub record Start : Type 0 where
   pub device : DeviceState
   pub process : Process

@@ -13,9 +13,9 @@ use hart_frame::{Char, Frame, LoneFrame, lone_frame};
 #[derive(Clone, Copy)]
 pub struct Undetected;
 
-/// Returns the frame that arrives in a leg, if any. It is always the one that was sent.
+/// Returns the frame that arrives in a leg, if any. No other frame arrives than the frame that was sent.
 ///
-/// A clean leg is not searched for frames: a message has its own frame and no other.
+/// A clean leg is not searched for frames, because a message has only its own frame.
 #[tactic(auto, using(crate::proofs::lemmas::line::Leg::message_arrives, crate::proofs::lemmas::line::Leg::nothing_arrives))]
 pub fn arrived_in<'a>(
     heard: &Heard,
@@ -33,7 +33,7 @@ pub fn arrived_in<'a>(
     }
 }
 
-/// Returns the frame that arrives among characters, if any. It is always the one that was sent.
+/// Returns the frame that arrives among characters, if any. No other frame arrives than the frame that was sent.
 pub fn arrived_among<'a>(
     chars: &[Char],
     sent: Option<&'a Frame>,

@@ -19,13 +19,14 @@ use hart_device::{Device, Process, RegisterStore};
 use hart_master::Master;
 use std::alloc::Global;
 
-/// Carries out a script as [`run`](crate::run) does. After each event, notes in the log the frames spoken in it, and keeps none of them.
+/// Carries out a script as [`run`](crate::run) does. After each event, notes the frames of this event in the log, and keeps none of them.
 ///
 /// # Errors
 ///
-/// [`LineFault::Memory`] if room was refused: before the first event, for an outcome of each submission; or after an event, if the
-/// log has no room for a frame that was spoken in it. [`LineFault::Undetected`] as [`run`](crate::run) gives it, if no room was
-/// refused before; all that was spoken before the event that it names has been noted then. Only the fault is returned.
+/// [`LineFault::Memory`] if room was refused. Before the first event, room for an outcome of each submission may be refused. After an
+/// event, the log may have no room for a frame that was spoken in this event. [`LineFault::Undetected`] for the same leg as in
+/// [`run`](crate::run), if no room was refused before. Everything spoken before the event of this leg has then been noted. Only the
+/// fault is returned.
 pub fn run_logged<S: RegisterStore + Drop, L: Log>(
     alloc: Global,
     device: Device<S>,
@@ -37,14 +38,15 @@ pub fn run_logged<S: RegisterStore + Drop, L: Log>(
 ) -> Result<Ending<S>, LineFault>
     requires primary { (primary.id ≡ Primary) × (primary.hand ≡ Empty) }
     requires secondary { (secondary.id ≡ Secondary) × (secondary.hand ≡ Empty) }
-    // The script has a last world; device, outcomes and what was noted are that world's.
+    // The script has a last world. The device, the outcomes and the noted frames are those of this world.
     ensures led { let start = start_from device process.now primary secondary in IfOk result (λ ending.
         (spoken : List Spoken) × Led start events.now ending.device ending.outcomes spoken × L.notes log.old spoken log.new) }
     // The script and what is returned keep the promises that are made of every script.
     ensures promises { IfOk result (λ ending.
         KeepsPromises (start_from device process.now primary secondary) events.now ending.device ending.outcomes) }
-    // A fault names the first leg with undetected damage, and what was spoken before the event of this leg has been noted; or the number of
-    // outcomes for which there is no room, and nothing has been noted; or the room that is missing to note a spoken frame.
+    // There are three faults. The first names the first leg with undetected damage. What was spoken before the event of this leg has then
+    // been noted. The second has the number of outcomes for which there is no room. Nothing has then been noted. The third has the room
+    // that is missing to note a spoken frame.
     ensures fault { let start = start_from device process.now primary secondary in
         IfErr result (IsLoggedFault L.needs (λ spoken. L.notes log.old spoken log.new) start events.now) }
     // A clean or lost leg never stops a script, nor does a leg in which the message sent is heard with marked or check damage.

@@ -1,4 +1,4 @@
-//! The two masters of a line. Each has the index, in the list of outcomes, of its request in hand.
+//! The two masters of a line. For its request in hand, each also has a place: the index of the request's outcome.
 ghost use Rattle.std.specs.Prelude.{◌≡◌, ℕ, Option, None, Some, MatchOption, length};
 ghost use Rattle.std.specs.Option.{option_copied};
 ghost use Rattle.hart_line.specs.Types.{Reply, MasterId, EachMaster};
@@ -18,7 +18,7 @@ use hart_values::{Address, MasterId};
 /// How many character times pass at the end of a turn: enough to end every wait.
 const TURN_TIME: u8 = 255;
 
-/// A master, and the index of its request in hand in the list of outcomes.
+/// A master. If it has a request in hand, `place` is the index of the outcome of this request.
 #[derive(Drop)]
 pub struct Submitter {
     pub master: Master,
@@ -26,7 +26,7 @@ pub struct Submitter {
 }
 
 impl Submitter {
-    /// Submits a request, whose outcome will have this index, and returns its outcome so far.
+    /// Submits a request and returns its outcome so far. The outcome will have the index `place`.
     fn submit(&mut self, place: usize, address: Address, request: &Request) -> Outcome
         ensures submits { (id : MasterId) (retries : ℕ) (held : Option InHand) → Holds id retries held self.old
             → Submits held place address request.now (submission_fault held address request.now) result
@@ -42,7 +42,8 @@ impl Submitter {
         }
     }
 
-    /// Sends the request in hand, if there is one, and awaits the reply. Writes the request's frame over `frame`.
+    /// Sends the request in hand, if there is one, and awaits the reply. Writes the request's frame over `frame`. Returns true if a request
+    /// was sent.
     fn send(&mut self, frame: &mut Frame) -> bool
         ensures { (id : MasterId) (retries : ℕ) (held : Option InHand) → Holds id retries held self.old
             → (frame_if result frame.new ≡ frame_of (sent_by id held)) × Awaits id retries held self.new }
@@ -104,7 +105,7 @@ pub struct Masters {
 }
 
 impl Masters {
-    /// Submits a request to a master. The outcome will have this index. Returns the outcome so far.
+    /// Submits a request to a master and returns its outcome so far. The outcome will have the index `place`.
     pub fn submit(
         &mut self,
         who: MasterId,
@@ -124,7 +125,8 @@ impl Masters {
         }
     }
 
-    /// Lets a master send the request in its hand, if there is one, and await the reply. Writes the request's frame over `frame`.
+    /// Lets a master send the request in its hand, if there is one, and await the reply. Writes the request's frame over `frame`. Returns
+    /// true if a request was sent.
     pub fn send(&mut self, who: MasterId, frame: &mut Frame) -> bool
         ensures { (retries : EachMaster ℕ) (hands : EachMaster (Option InHand)) → AreHeld retries hands self.old
             → (frame_if result frame.new ≡ frame_of (sent_by who (of_master who hands))) × AreInTurn who retries hands self.new }

@@ -13,7 +13,7 @@ pub fn room_for_outcomes(alloc: Global, events: &[LineEvent]) -> Result<Filling<
     Filling::with_room(alloc, submissions(events))
 }
 
-/// Reserves room for the greatest number of frames that are spoken in these events. If it is refused, the error has this number.
+/// Reserves room for the greatest number of frames that can be spoken in these events. If the room is refused, the error has this number.
 pub fn room_for_all_spoken(alloc: Global, events: &[LineEvent]) -> Result<Filling<Spoken>, NoRoom>
     ensures empty { IfOk result (λ spoken. spoken ≡ record { items = []; room = most_spoken events.now }) }
     ensures refused { IfErr result (λ none. IsNeededBy events.now none.items) }
@@ -32,7 +32,7 @@ fn submissions(events: &[LineEvent]) -> usize
         .count()
 }
 
-/// Returns how many frames are spoken in these events at most: two in each turn, and one at each noise.
+/// Returns the greatest number of frames that can be spoken in these events: two in each turn, and one at each noise.
 fn most_spoken(events: &[LineEvent]) -> usize
     ensures { result ≡ most_spoken events.now }
 {

@@ -18,16 +18,18 @@ use std::alloc::Global;
 /// Carries out a script: what the masters ask, and what each side hears.
 ///
 /// In a turn the master sends the request in its hand, if there is one. The device hears the characters of the leg up, and answers.
-/// Both masters hear those of the leg down; a master that still awaits its reply after that stops waiting. All three hear noise,
-/// and both masters hear the device's answer to it without damage. A restart sets both cold start bits of the device.
+/// Both masters hear the characters of the leg down. If the master still awaits its reply after that, it stops waiting. The device and both
+/// masters hear noise. Both masters also hear the device's answer to noise, without damage. A restart sets both cold start bits of the
+/// device.
 ///
 /// The masters are the primary and the secondary one, with no request in hand. The device is handed the values of `process`.
 ///
 /// # Errors
 ///
-/// [`LineFault::Memory`] if room was refused. Before the first event it is reserved for an outcome of each submission, for two spoken
-/// frames of each turn and for one of each noise. Otherwise [`LineFault::Undetected`], with the number of the event, counted from 0, for
-/// the first leg in which a frame was heard that was not the one sent, or several frames were heard. Only the fault is returned.
+/// [`LineFault::Memory`] if room was refused. Before the first event, room is reserved for an outcome of each submission, for two spoken
+/// frames of each turn and for one spoken frame of each noise. Otherwise [`LineFault::Undetected`] for the first leg with undetected
+/// damage: a frame was heard that was not sent in this leg, or several frames were heard. The fault has the number of the event, counted
+/// from 0. Only the fault is returned.
 pub fn run<S: RegisterStore + Drop>(
     alloc: Global,
     device: Device<S>,
@@ -38,7 +40,7 @@ pub fn run<S: RegisterStore + Drop>(
 ) -> Result<Report<S>, LineFault>
     requires primary { (primary.id ≡ Primary) × (primary.hand ≡ Empty) }
     requires secondary { (secondary.id ≡ Secondary) × (secondary.hand ≡ Empty) }
-    // The script has a last world; device, outcomes and what was spoken are that world's.
+    // The script has a last world. The device, the outcomes and the spoken frames are those of this world.
     ensures led { IfOk result (λ report.
         Led (start_from device process.now primary secondary) events.now report.device report.outcomes report.spoken) }
     // The script and what is returned keep the promises that are made of every script.

@@ -45,7 +45,7 @@ pub fn leading_item(text: &[u8]) -> Option<LeadingItem>
     Some(LeadingItem { char, len: 5 })
 }
 
-/// Returns the same item as [`leading_item`] and appends its character. Looks up the digits of an item without fault bits in the table.
+/// Returns the same item as [`leading_item`] and appends its character. If the item has no fault bits, its digits are read with the table.
 #[inline(always)]
 #[tactic(auto, using(crate::proofs::lemmas::script::Items::begins_as_plain))]
 fn push_item(digits: &Digits, text: &[u8], chars: &mut Filling<Char>) -> Option<LeadingItem>
@@ -53,7 +53,7 @@ fn push_item(digits: &Digits, text: &[u8], chars: &mut Filling<Char>) -> Option<
     ensures { MatchOption result (NoItemBegins text.now × (chars.new ≡ chars.old)) (λ lead. BeginsAsItem text.now lead.char lead.len
         × (chars.new ≡ record chars.old { items = chars.old.items ++ lead.char ∷ [] })) }
 {
-    // Each branch appends for itself: after a join, LLVM puts each character together again from its two bytes.
+    // Each branch has its own `push`. With one `push` after both branches, LLVM would build each character again from its two bytes.
     if gives_faults(text) {
         let lead = leading_item(text)?;
         chars.push(lead.char);
@@ -74,7 +74,7 @@ fn gives_faults(text: &[u8]) -> bool
     text.len() > 2 && text[2] == b'!'
 }
 
-/// Returns the characters of a nonempty word of items end to end. Reserves room for half as many characters as the word has bytes.
+/// Reads a word that is not empty and consists of items, end to end. Reserves room for one character for every two bytes of the word.
 pub(crate) fn read_items(alloc: Global, digits: &Digits, word: &[u8]) -> Result<CharList, RowFault>
     ensures { ReadsWords (word.now ∷ []) (IsItemsWord word.now) result }
 {
@@ -96,7 +96,7 @@ pub(crate) fn read_items(alloc: Global, digits: &Digits, word: &[u8]) -> Result<
     Ok(CharList::new(chars.finish()))
 }
 
-/// Returns the byte that two hex digits write.
+/// Returns the byte that two hex digits write, or `None` if one of them is no hex digit.
 fn byte_of_digits(high: u8, low: u8) -> Option<u8>
     ensures { MatchOption result (AreDigits high low → ⊥) (λ byte. AreDigits high low × (byte ≡ byte_of high low)) }
 {

@@ -1,4 +1,4 @@
-//! The rows of the table of events, and lines that say no event.
+//! Reads the lines of a script: the event of a line, or the reason why there is none.
 ghost use Rattle.std.specs.Prelude.{◌≡◌, ◌≢◌, [], ◌∷◌, codes, drop, length, IfErr, MatchOption, OnOk};
 ghost use Rattle.hart_line.specs.script.Rows.{AddsLine, IsLegWord, IsLineFault, ReadsWords, Says, item_words, request_of};
 ghost use Rattle.hart_line.specs.script.Words.{Finds};
@@ -14,14 +14,14 @@ use std::alloc::Global;
 /// Why no event was read from a line.
 #[derive(Clone, Copy)]
 pub enum RowFault {
-    /// The words of the line fit no row.
+    /// The words of the line say no event.
     Bad,
     /// Memory was refused, for this number of items.
     Memory(NoRoom),
 }
 
-/// Reads the line with this number, and appends its event to `events` unless the line is empty or a comment. Any other line that says
-/// no event is bad. Memory may be refused for the event, or for half as many characters as one of the words with items has bytes.
+/// Reads the line with this number, and appends its event to `events`. An empty line and a comment add nothing. Any other line that says
+/// no event is bad. Memory may be refused for the event, or for the characters of a word of items: one for every two bytes of the word.
 pub fn read_line(
     alloc: Global,
     digits: &Digits,
@@ -132,7 +132,7 @@ fn read_leg(alloc: Global, digits: &Digits, word: &[u8]) -> Result<Heard, RowFau
     }
 }
 
-/// Reads the one word after `protect`, `on` or `off`, or returns `None` for anything else.
+/// Reads the word after `protect`, which is `on` or `off`. Returns `None` for anything else.
 fn read_protect(rest: Words<'_>) -> Option<LineEvent>
     ensures { Finds (Says (codes "protect" ∷ rest.entry)) result }
 {

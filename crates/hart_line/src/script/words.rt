@@ -92,7 +92,7 @@ pub fn read_data(word: &[u8]) -> Option<Payload>
     Payload::from_slice(decode_data(word, &mut room)?)
 }
 
-/// Like [`read_data`], but writes the bytes into `room`, and returns them.
+/// Reads DATA as [`read_data`] does, but writes the bytes into `room` and returns them from there.
 pub fn decode_data<'a>(word: &[u8], room: &'a mut [u8; 255]) -> Option<&'a [u8]>
     ensures { MatchOption result (HasNoValue (IsDataWord word.now)) (λ bytes. IsDataWord word.now bytes.now) }
 {

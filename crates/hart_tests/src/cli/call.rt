@@ -28,7 +28,7 @@ pub struct Named<'a> {
     pub preambles: u8,
 }
 
-/// A call, with what it is given besides its streams.
+/// A call and its arguments. The streams of the call are not included.
 #[derive(Clone, Copy)]
 pub enum Call<'a> {
     Dump,

@@ -155,8 +155,8 @@ fn is_met_with_fault_bits(exchange: &Exchange, place: usize, byte: u8) -> Result
     Ok(met)
 }
 
-/// Whether a request has the effect that it must have in two cases: it ends before a place, or it has there another character than this
-/// byte.
+/// Whether a request has the effect that it must have with each damage at a place: the request ends before the place, has another byte
+/// there, or has fault bits there.
 fn is_met_with_damage(exchange: &Exchange, place: usize, byte: u8) -> Result<bool, Fail> {
     let cut = is_silent_before(exchange, place)?;
     let other = is_met_with_other_bytes(exchange, place, byte)?;
@@ -206,7 +206,7 @@ const IDENTIFY: &[u8] = &[0x02, 0x80, 0x00, 0x00, 0x82];
 /// payload.
 const FALSE_START: &[u8] = &[0xFF, 0xFF, 0x82, 0xB7, 0x42, 0x0A, 0x1B, 0x2C, 0x13, 0xFF];
 
-/// The longest body up to its payload of 255 bytes: it has expansion bytes and the broadcast address.
+/// The bytes of the longest body before its payload of 255 bytes. The body has expansion bytes and the broadcast address.
 const LONGEST: &[u8] = &[
     0xE2, 0x80, 0x00, 0x00, 0x00, 0x00, 0x00, 0x00, 0x00, 0x00, 0xFF,
 ];

@@ -1,4 +1,4 @@
-//! Images of both versions: which images are refused, and what devices do that start from an accepted image.
+//! Images of both versions: which images are refused, and what a device does after it starts from an accepted image.
 use super::*;
 
 /// An image of version 1 of a new bench device.

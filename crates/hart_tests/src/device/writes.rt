@@ -3,8 +3,8 @@ use super::addresses::{Asked, request_to};
 use super::*;
 use hart_commands::Register;
 
-/// A command and its data, and the payload of the reply. The counter, and whether each master's configuration-changed bit is set, are those
-/// after the reply.
+/// A command and its data, and the payload of the reply. Then the counter after the reply, and whether each master's configuration-changed
+/// bit is set after the reply.
 struct Step<'a> {
     command: u8,
     data: &'a [u8],

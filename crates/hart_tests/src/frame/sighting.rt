@@ -187,7 +187,7 @@ pub fn next_of(bytes: &[u8], after: After, from: usize) -> Option<NextSighting<'
 }
 
 impl Hearing {
-    /// Adds the sightings that the kept bytes and what comes after them decide, and drops the bytes that are used.
+    /// Adds the sightings that are decided by the kept bytes and by what comes after them. Drops the used bytes.
     fn see(&mut self, alloc: Global, after: After) -> Result<(), Fail> {
         let mut used = 0;
         for _ in 0..=self.kept.len() {

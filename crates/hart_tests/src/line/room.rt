@@ -160,7 +160,7 @@ fn send_by_each(rt: &impl Abort, alloc: Global, command: &str, legs: &str) -> Re
     Ok(())
 }
 
-/// Whether a script with so many copies of the growing part is carried out in full.
+/// Whether a script with `times` copies of the growing part is carried out in full.
 fn is_carried_out(alloc: Global, growing: &Growing, times: usize) -> Result<bool, Fail> {
     let text = text_of(alloc, growing.prefix, growing.part, times, growing.suffix)?;
     let (outcomes, spoken) = lens_of(alloc, text.as_str())?;

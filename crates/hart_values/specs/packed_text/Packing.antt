@@ -16,7 +16,7 @@ abbrev pub IsPackedGroup : (w x y z a b c : ℕ) → Type 0
 IsPackedGroup w x y z a b c =
     65536 * a + 256 * b + c ≡ 262144 * (w % 64) + 4096 * (x % 64) + 64 * (y % 64) + z % 64
 
--- Group number `place`, counted from 0, is packed: the four characters from `4 * place` in the text are the three bytes from `3 * place`.
+-- Group number `place`, counted from 0, is packed: the three bytes from `3 * place` hold the four characters from `4 * place` in the text.
 abbrev pub IsPackedAt : List ℕ → List ℕ → ℕ → Type 0
 IsPackedAt text bytes place =
     IsPackedGroup

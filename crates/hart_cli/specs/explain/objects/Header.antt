@@ -21,7 +21,7 @@ abbrev pub master_name : MasterId → List ℕ
 master_name Primary = codes "primary"
 master_name Secondary = codes "secondary"
 
--- The master that sends a frame or to which it is sent, and the word of the address as in `hart dump`.
+-- The master that sends or receives a frame, and the word of the frame's address as in `hart dump`.
 abbrev pub ends_members : MasterId → Address → List Named
 ends_members master address =
     named "master" (string (master_name master)) ∷ named "address" (string (address_word address)) ∷ []

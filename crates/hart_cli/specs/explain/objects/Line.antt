@@ -13,7 +13,7 @@ abbrev pub time_members : List ℕ → List Named
 time_members [] = []
 time_members (byte ∷ word) = named "time" (string (byte ∷ word)) ∷ []
 
--- A sighting is an object: a message or a miss, with the date of its place, and for a message what the messages before it say of it.
+-- A sighting is an object: a message or a miss, with the date of its place. A message also has what is known from the messages before it.
 abbrev pub data_of : List ℕ → Before → Seen → Data
 data_of date before (Message found) =
     object_of (named "type" (word "message") ∷ time_members date ++ message_members before found)

@@ -66,7 +66,7 @@ member_words named = quoted named.name ++ 58 ∷ compact_text named.value
 unfoldable pub further_member : Named → List ℕ
 further_member named = 44 ∷ member_words named
 
--- Each of these members of an object is a further one.
+-- The text of further members of an object: each has a comma before it.
 abbrev pub further_members : List Named → List ℕ
 further_members members = flat_map further_member members
 
@@ -74,7 +74,7 @@ further_members members = flat_map further_member members
 abbrev pub joined_members : List Named → List ℕ
 joined_members members = join_by member_words (44 ∷ []) members
 
--- These members end an object: they are further ones if others stand before them.
+-- The text of the last members of an object. If `later` is true, other members stand before them, so each has a comma before it.
 abbrev pub members_after : Bool → List Named → List ℕ
 members_after later members = cond later (further_members members) (joined_members members)
 

@@ -3,8 +3,8 @@ use Rattle.std.specs.Prelude.{◌≡◌, ℕ, true, false, List, ◌++◌}
 use Rattle.hart_cli.specs.stream.Stream.{FailsToWrite, Stream, WritesAll}
 use Rattle.hart_cli.specs.declared.calls.explain.objects.page.Page.{Page}
 
--- A page that was begun on a stream was given this text, which begins with the text that was kept before. A first part of it was
--- written and the rest is kept, or a write failed after a prefix of it.
+-- A page was begun on a stream, and was given this text, which begins with the text kept at that time. Either a first part of the text
+-- was written and the rest is kept, or a write failed after a prefix of the text was written.
 pub record Holds {W : Type 0} (stream : W → Stream) (before : Stream) (page : Page W) (given : List ℕ) : Type 0 where
   pub written : List ℕ
   pub going : page.failed ≡ false → WritesAll before (stream page.writer.now) written × (written ++ page.kept.now ≡ given)

@@ -16,8 +16,8 @@ use hart_frame::{Char, next_in_bytes};
 use hart_line::Digits;
 use hart_values::ByteList;
 
-/// The greatest number of bytes of lines that are kept: 12 for each character that a frame takes up. At most 268 characters are
-/// held. The bytes read ahead are at most 16,389, and have at most one character for every two bytes.
+/// The greatest number of bytes of kept lines: 12 for each character of a frame. At most 268 characters are held. At most 16,389 bytes
+/// are read ahead, and every two of them make at most one character.
 const TEXT_LINES_LEN: usize = 101_550;
 
 /// Lines that are not yet written.
@@ -77,7 +77,7 @@ impl FrameLines {
         }
     }
 
-    /// Hears bytes without faults. If no others are held, they are searched where they lie.
+    /// Hears bytes without faults. If no bytes are held, the new bytes are searched in place.
     fn hear_bytes(&mut self, bytes: &[u8])
         requires waiting { IsWaiting self.old.held }
         requires few { length bytes.now ≤ 8192 }

@@ -27,7 +27,7 @@ pub struct LastMessage {
 /// The last message of each master.
 pub type LastMessages = EachMaster<Option<LastMessage>>;
 
-/// What the messages before a sighting say of it if they say nothing.
+/// The value for a miss and for a master's first message: no request is answered, and the message is sent for the first time.
 const NOTHING_BEFORE: Before = Before {
     answers: None,
     sending: 1,
@@ -92,7 +92,7 @@ fn before_frame(last: &Option<LastMessage>, frame: &Frame) -> Before
     }
 }
 
-/// Returns the start of a message if a frame right after it answers it: if it is a request with the frame's address and command.
+/// Returns the start of `message` if `message` is a request with the frame's address and command. The frame then answers this request.
 fn answered(message: &LastMessage, frame: &Frame) -> Option<u64>
     ensures { result ≡ answered frame.now (listed (Some message.now)) }
 {
@@ -103,7 +103,8 @@ fn answered(message: &LastMessage, frame: &Frame) -> Option<u64>
     }
 }
 
-/// Returns how often a frame has been sent by now if a message stands right before it.
+/// Returns how many times in a row a request has been sent, this frame included. `message` is its master's last message before the
+/// frame. Returns 1 if the two are not the same request.
 fn sending(message: &LastMessage, frame: &Frame) -> u64
     requires { message.now.sent_before < 2 ^ 64 - 2 }
     ensures { result ≡ 1 + repeats frame.now (listed (Some message.now)) }

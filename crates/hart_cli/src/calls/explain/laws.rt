@@ -68,9 +68,9 @@ pub fn json_lines_grow()
         → (rest : List ℕ) × (whole ≡ told ++ rest) }
 {}
 
-/// `hart explain` and `hart explain --json` tell the same. For an input read equally far they return the same fault, if any, and they
-/// tell the same sightings in the same order, with the same dates: each has one text in the explanation, and one JSON line. What is
-/// decided at any moment are the same sightings, too.
+/// `hart explain` and `hart explain --json` tell the same. For an input read equally far they return the same fault, if any. They tell
+/// the same sightings in the same order, with the same dates. Each sighting has one text in the explanation, and one JSON line. At any
+/// moment, the same sightings are decided for both.
 pub fn json_tells_what_explain_tells()
     ensures items { (input : List ℕ) (ending : Ending) (f g : Option CliFault) (text lines : List ℕ)
         → IsExplanation input ending f text → IsJson input ending g lines
@@ -101,10 +101,10 @@ pub fn explanations_name_the_messages_of_dump()
 /// An explanation consists of what is said of the places before the first message, that message's paragraph after the date of its
 /// place, and the explanation of what follows. After the last message, the explanation is what is said of the places up to the end.
 ///
-/// A gap between messages has one line for each place where the definition has a miss, in the order of the places. A second line
-/// follows that line exactly if a header is heard at the place. Let the tail be the characters from the end of the last message on. Each
-/// place of the gap where a body may start in the tail has a line. Any other place has a line only if just one preamble byte stands
-/// before it.
+/// A gap between messages has one line for each place where the definition has a miss, in the order of the places. If a header is heard
+/// at such a place, and only then, a second line follows. Let the tail be the characters from the end of the last message on. Each place
+/// of the gap where a body may start in the tail has a line. If any other place has a line, the line says that only one `FF` stands
+/// before the place.
 pub fn every_start_outside_messages_has_one_line()
     ensures by_message { (date : ℕ → List ℕ) (chars : List Character) (from : ℕ) (found : Found) (later : List Found)
         → explanation date (sightings chars from (found ∷ later))
@@ -134,13 +134,13 @@ pub fn every_start_outside_messages_has_one_line()
 
 /// Each line of a gap names what really stands in the way, at its real place.
 ///
-/// Let the tail be the characters from the end of the last message on. Where a body may start in the tail, the line's reason is in the
-/// way in the whole input. If the byte that would fit replaces the check byte, a frame stands at the line's place and ends with that
-/// byte. A character that a line names as damaged has exactly the fault bits that the line says. If the missing characters follow,
-/// which are any bytes and then their check byte, a frame stands at the line's place and ends with the check byte. If a line says that
-/// only one `FF` stands before its place, just one stands right before that place in the tail. A whole body stands at that place, and
-/// ends before two `FF` in a row begin. If the characters from the place up to the command stay and any others follow them, a body that
-/// stands at the place has the header that the second line says.
+/// Let the tail be the characters from the end of the last message on. At a place where a body may start in the tail, the line's reason
+/// is in the way in the whole input, too. If a line names a check byte that would fit, put this byte in place of the check byte that was
+/// heard: a frame then stands at the line's place and ends with this byte. A character that a line names as damaged has exactly the fault
+/// bits that the line says. If a line counts missing characters, let any bytes and then the right check byte follow: a frame then stands
+/// at the line's place and ends with this check byte. If a line says that only one `FF` stands before its place, exactly one stands right
+/// before this place in the tail. A whole body stands there, and no two `FF` in a row begin in it. A second line stays right if the
+/// characters after the command are replaced: a body at the place then has the header that the second line says.
 pub fn hints_of_explanations_are_right()
     ensures in_the_way { (chars : List Character) (from stop place : ℕ) (miss : Miss) (header : Option HeaderParts)
         → All (λ character. character.byte < 256) chars

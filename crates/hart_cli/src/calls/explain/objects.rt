@@ -26,7 +26,7 @@ mod problems;
 mod status;
 mod values;
 
-/// What the messages before a message say of it.
+/// What is known of a message from the messages before it.
 #[derive(Clone, Copy)]
 pub struct Before {
     /// Where the request that a reply answers starts, if it is the last message of its master before the reply.

@@ -38,7 +38,7 @@ pub struct Telling {
     pub dates: Dates,
     /// The text that is not yet written.
     pub kept: Kept,
-    /// How what is heard is told.
+    /// The style in which sightings are told, and the last messages.
     pub teller: Teller,
 }
 
@@ -362,8 +362,8 @@ fn tell_decided<W: Sink>(
     }
 }
 
-/// Returns the next sighting from the place `from` on, in held bytes and in what comes after them. Each arm makes the value of
-/// `after` anew, since the prover follows no copy of an enum that holds a character.
+/// Returns the next sighting from the place `from` on, in held bytes and in what comes after them. The prover cannot follow a copy of an
+/// enum that holds a character. So each arm builds the value of `after` again.
 fn next_after<'a>(held: &'a [u8], after: &After, from: usize) -> NextSighting<'a>
     requires within { from ≤ length (heard_with held.now after.now) }
     requires valid { AfterIsValid after.now }

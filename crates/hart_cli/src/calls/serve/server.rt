@@ -68,7 +68,8 @@ impl Server {
         })
     }
 
-    /// Serves the lines that `more`, the next bytes of an input, completes. Writes the device's answers to them, and keeps the rest.
+    /// Adds `more`, the next bytes of an input, to the kept part. Serves the lines that are whole now, and writes the answers.
+    /// Keeps the rest.
     ///
     /// # Errors
     ///
@@ -86,7 +87,7 @@ impl Server {
         Ok(())
     }
 
-    /// Serves the lines that `more`, the next bytes of an input, completes. Keeps the rest.
+    /// Adds `more`, the next bytes of an input, to the kept part. Serves the lines that are whole now, and keeps the rest.
     ///
     /// # Errors
     ///
@@ -107,7 +108,7 @@ impl Server {
         Ok(())
     }
 
-    /// Serves the last line, which has no line feed, unless it is empty, and writes the device's answer to it.
+    /// Serves the last line of an input, if it is not empty, and writes the device's answer. This line has no line feed.
     ///
     /// # Errors
     ///

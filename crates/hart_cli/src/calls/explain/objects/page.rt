@@ -1,4 +1,4 @@
-//! Text on its way to a writer, after the text that is kept for this writer already.
+//! A page: text for a writer, which is added to the kept text, and written when there is no room to keep it.
 ghost use Rattle.std.specs.Prelude.{◌≡◌, ◌<◌, ◌≤◌, ◌/◌, ◌%◌, ◌++◌, [], ◌∷◌, ℕ, List, decimal, length};
 ghost use Rattle.std.specs.Bool.{OnTrue};
 ghost use Rattle.std.specs.Char.{digit_char};
