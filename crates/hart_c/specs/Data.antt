@@ -62,8 +62,8 @@ abbrev pub request_fields : ℕ → List ℕ → Reading → List Field
 request_fields command bytes (Ok request) = fields_of (request_rows command) (take (length (request_data request)) bytes)
 request_fields command bytes (Err code) = []
 
--- If a request is read, its fields are shown and the result has the number of bytes taken. If it is refused, the result has only
--- the code.
+-- If the data are read as a request, its fields are shown, and the result has the number of bytes taken. If the data are refused, no
+-- field is shown, and the result has only the code.
 abbrev pub RequestShown : ℕ → List ℕ → Reading → List HartField → List HartField → HartReading → Type 0
 RequestShown command bytes (Ok request) before after reading =
     IsShown 0 (request_fields command bytes (Ok request)) (length (take (length (request_data request)) bytes)) 0 0 before after reading

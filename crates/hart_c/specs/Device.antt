@@ -20,7 +20,8 @@ use Rattle.hart_c.specs.declared.{fault.HartOutcome.HartOutcome, identity.HartId
 abbrev pub image_in : HartDevice → List ℕ
 image_in device = take device.image_len device.image
 
--- A kept device with this identity has this state: the kept image is an image of the state, and both have the same cold start bits.
+-- A kept device with this identity has this state: the kept image is an image of the state, and the kept device and the state have the
+-- same cold start bits.
 pub record IsKept (parts : IdentityParts) (device : HartDevice) (state : DeviceState) : Type 0 where
   pub is_identity : AreIdentityParts parts
   pub identity : state.identity ≡ parts

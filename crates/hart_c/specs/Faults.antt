@@ -6,7 +6,7 @@ use Rattle.hart_c.specs.declared.fault.Fault.TheVariants.{BadAddress, BadFaultBi
 use Rattle.hart_c.specs.declared.fault.Fault.TheVariants.{Device, Frame, NoRoom, TooLong}
 use Rattle.hart_c.specs.declared.{fault.Fault.Fault, fault.HartOutcome.HartOutcome}
 
--- The numbers of all faults. The faults of frames have the same numbers as in hart_frame.
+-- The number in C of each `Fault`. The faults of frames have the same numbers as in hart_frame.
 abbrev pub number_of : Fault → ℕ
 number_of (Frame fault) = frame_fault_number fault
 number_of BadAddress = 10
@@ -23,7 +23,7 @@ number_of TooLong = 22
 number_of NoRequest = 23
 number_of WrongAddress = 24
 
--- Without a fault, the result has the number of bytes that were written. With a fault, it has the number of the fault.
+-- Without a fault, the result has the number of bytes that were written or read. With a fault, the result has the number of the fault.
 abbrev pub outcome_of : Result ℕ Fault → HartOutcome
 outcome_of (Ok len) = record { len = len; fault = 0 }
 outcome_of (Err fault) = record { len = 0; fault = number_of fault }

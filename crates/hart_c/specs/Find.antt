@@ -31,14 +31,15 @@ pub record Finds (chars : List Character) (ended : Bool) (before after : List Ha
 abbrev pub char_of : HartChar → Character
 char_of given = record { byte = given.byte; faults = given.faults }
 
--- If the `faults` of all characters are fault bits only, the next frames are shown. Otherwise the fault is 13, and nothing is
--- found, used up or shown.
+-- If the `faults` of all characters are fault bits only, the next frames are shown. Otherwise the fault is 13, the other numbers of
+-- the result are 0, and the frames that were shown before are unchanged.
 abbrev pub SearchOutcome : List HartChar → Bool → List HartFrame → List HartFrame → HartSearch → Type 0
 SearchOutcome heard ended before after search =
     (HaveFaultBits heard × Finds (map char_of heard) ended before after search)
     ⊎ ((HaveFaultBits heard → ⊥) × (search ≡ record { used = 0; count = 0; fault = number_of BadFaultBits }) × (after ≡ before))
 
--- What was heard so far, whether it ended, which frames were found in it, and how much is used up. Each search updates all four.
+-- The characters heard so far, whether the input has ended, the frames found so far, and how many characters are used up. Each search
+-- updates all four.
 pub data IsSearchedSoFar : List Character → Bool → List Found → ℕ → Type 0 where
   begin : IsSearchedSoFar [] false [] 0
   search : (heard piece : List Character) (before ended : Bool) (given found : List Found) (used further : ℕ)

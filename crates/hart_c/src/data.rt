@@ -56,7 +56,7 @@ pub struct HartReading {
     pub code: u8,
     /// For a reply its device status; for a request 0.
     pub status: u8,
-    /// 0, or why nothing was read.
+    /// The number of the fault, or 0 if there is no fault.
     pub fault: u8,
 }
 
@@ -100,7 +100,8 @@ pub extern "C" fn hart_read_request(
 /// # Errors
 ///
 /// [`HART_NO_REPLY`] if the payload is no reply to this command: if it has fewer than two bytes, if bit 7 of the first byte is set, if the
-/// command is not known, or if the code is 0 and the data are no content of the command. Nothing is then shown.
+/// command is not known, or if the code is 0 and the data are no content of the command. All numbers of the result except the fault
+/// are then 0, and `fields` is unchanged.
 #[unsafe(no_mangle)]
 pub extern "C" fn hart_read_reply(
     command: u8,

@@ -11,7 +11,7 @@ use hart_frame::decode;
 /// # Errors
 ///
 /// The first of these that holds, checked from the first byte on: a bad delimiter, an end before the byte count, a short reply, an end
-/// before the check byte, a bad check byte (HCF_SPEC-081). The frame is then unchanged.
+/// before the check byte, a bad check byte (HCF_SPEC-081). `frame` is then unchanged.
 #[unsafe(no_mangle)]
 pub extern "C" fn hart_decode(bytes: &[u8], frame: &mut HartFrame) -> HartOutcome
     ensures { DecodeOutcome bytes.now frame.old frame.new result }

@@ -54,7 +54,7 @@ pub extern "C" fn hart_new_device(registers: &HartRegisters, device: &mut HartDe
     outcome_of(Ok(usize::from(device.image_len)))
 }
 
-/// Records that the device was without power: sets both masters' cold start bits. Nothing else changes.
+/// Records that the device was without power: sets both masters' cold start bits. The image stays the same.
 #[unsafe(no_mangle)]
 pub extern "C" fn hart_restart(device: &mut HartDevice)
     ensures set { device.new ≡ record device.old { primary_cold_start = true; secondary_cold_start = true } }
@@ -71,7 +71,7 @@ pub extern "C" fn hart_restart(device: &mut HartDevice)
 /// # Errors
 ///
 /// The first of these that holds: a fault of the identity, a fault of the kept device, a process without dynamic variables or with
-/// more than four, a fault of the characters, or no room for the reply. Nothing is then carried out or written.
+/// more than four, a fault of the characters, or no room for the reply. `device` and `reply` are then unchanged.
 #[unsafe(no_mangle)]
 pub extern "C" fn hart_hear(
     identity: &HartIdentity,

@@ -43,7 +43,7 @@ fn write_message(frame: &HartFrame, preambles: u8, output: &mut [u8]) -> Result<
     put(message.as_slice(), output)
 }
 
-/// Returns the frame that these numbers describe.
+/// Returns the frame that these numbers describe, or the fault of the first check that the numbers fail.
 pub(crate) fn frame_of(frame: &HartFrame) -> Result<Frame, Fault>
     ensures same { IfOk result (λ made. made ≡ frame_in frame.now) }
     ensures frame { IfOk result (λ made. IsFrame frame.now) }

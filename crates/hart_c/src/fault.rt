@@ -1,4 +1,4 @@
-//! Why a call wrote nothing, as numbers for C.
+//! The faults of calls, as numbers for C.
 ghost use Rattle.std.specs.Prelude.{◌≡◌};
 ghost use Rattle.hart_frame.specs.wire.FaultNumbers.{frame_fault_number};
 ghost use Rattle.hart_c.specs.Faults.{number_of};
@@ -72,17 +72,17 @@ pub const HART_NO_REQUEST: u8 = 23;
 /// A request that may not be sent to this address.
 pub const HART_WRONG_ADDRESS: u8 = 24;
 
-/// How many bytes were written or read, or why the call did nothing.
+/// The result of a call: how many bytes were written or read, or the fault.
 #[repr(C)]
 #[derive(Clone, Copy)]
 pub struct HartOutcome {
     /// How many bytes were written or read; 0 if there is a fault.
     pub len: usize,
-    /// 0, or why nothing was done.
+    /// The number of the fault, or 0 if there is no fault.
     pub fault: u8,
 }
 
-/// Why a call wrote nothing.
+/// The fault of a call.
 #[derive(Clone, Copy)]
 pub(crate) enum Fault {
     /// The fault of a frame, of a number of preamble bytes, or of bytes that were to be read.

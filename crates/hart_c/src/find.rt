@@ -23,7 +23,7 @@ pub struct HartSearch {
     pub used: usize,
     /// How many frames were found.
     pub count: usize,
-    /// 0, or why nothing was done.
+    /// The number of the fault, or 0 if there is no fault.
     pub fault: u8,
 }
 
@@ -37,8 +37,8 @@ pub struct HartChar {
     pub faults: u8,
 }
 
-/// Finds the next frames in bytes that were heard without faults. Finds as many frames as `frames` has room for. Returns how many bytes are
-/// used up. `ended` is true if no more bytes come.
+/// Finds the next frames in bytes that were heard without faults, and stops when `frames` is full. Returns how many bytes are used up and
+/// how many frames were found. `ended` is true if no more bytes come.
 #[unsafe(no_mangle)]
 pub extern "C" fn hart_find_in_bytes(
     bytes: &[u8],
@@ -76,7 +76,8 @@ fn found_so_far(used: usize, count: usize) -> HartSearch
 ///
 /// # Errors
 ///
-/// [`HART_BAD_FAULT_BITS`] if the `faults` of a character have a bit that is no fault bit. Nothing is then found, used up or shown.
+/// [`HART_BAD_FAULT_BITS`] if the `faults` of a character have a bit that is no fault bit. Then `used` and `count` are 0, and `frames` is
+/// unchanged.
 #[unsafe(no_mangle)]
 pub extern "C" fn hart_find(heard: &[HartChar], ended: bool, frames: &mut [HartFrame]) -> HartSearch
     ensures { SearchOutcome heard.now ended frames.old frames.new result }

@@ -27,7 +27,8 @@ impl Delivery {
     }
 }
 
-/// Returns the delivery of these characters.
+/// Returns the delivery of these characters. Returns a fault if a character has a bit that is no fault bit, or if there are more than
+/// 1,024 characters.
 pub(crate) fn delivery_of(heard: &[HartChar]) -> Result<Delivery, Fault>
     ensures same { IfOk result (λ delivery. take delivery.len delivery.chars ≡ map char_of heard.now) }
     ensures accepted { IfOk result (λ delivery. AllPass (heard_checks heard.now)) }

@@ -22,13 +22,13 @@ use hart_values::Address;
 #[repr(C)]
 #[derive(Clone, Copy)]
 pub struct HartAcceptance {
-    /// Whether the reply to the request was heard.
+    /// Whether a reply to the request was accepted.
     pub is_accepted: bool,
-    /// The response code of the reply, where 0 is success; also 0 if no reply was heard.
+    /// The response code of the accepted reply, where 0 is success; also 0 if no reply was accepted.
     pub code: u8,
-    /// The device status of the reply; 0 if no reply was heard.
+    /// The device status of the accepted reply; 0 if no reply was accepted.
     pub status: u8,
-    /// 0, or why nothing was done.
+    /// The number of the fault, or 0 if there is no fault.
     pub fault: u8,
 }
 
@@ -97,8 +97,8 @@ fn not_accepted(fault: u8) -> HartAcceptance
     }
 }
 
-/// Returns the reply to the request that was sent, and shows the frame of this reply in `reply`. Returns `None` if this reply was not
-/// heard.
+/// Returns the reply that a master with this request accepts, and shows the frame of this reply in `reply`. Returns `None` if the master
+/// accepts no reply.
 fn accept(
     request: &HartFrame,
     heard: &[HartChar],
@@ -128,8 +128,8 @@ fn sent(request: &HartFrame) -> Result<Master, Fault>
 {
     let frame = frame_of(request)?;
     let asked = asked_by(&frame)?;
-    // Retries and reply limit do not matter: the caller decides how often and how long to wait, and calls only when something was
-    // heard.
+    // The numbers of retries and the reply limit do not matter. The caller decides how often to send and how long to wait, and calls only
+    // when characters were heard.
     let mut master = Master::new(frame.master(), 0, 1).unwrap();
     if master.submit(frame.address(), asked).is_err() {
         return Err(Fault::WrongAddress);
@@ -138,7 +138,7 @@ fn sent(request: &HartFrame) -> Result<Master, Fault>
     Ok(master)
 }
 
-/// Returns the request that a master sends with this frame.
+/// Returns the request that a master sends with this frame, or the fault `NoRequest` if the frame is no request of a master.
 fn asked_by(frame: &Frame) -> Result<Request, Fault>
     ensures asked { IfOk result (IsAsked frame.now) }
     ensures refused { IfErr result (λ fault. (fault ≡ Fault.NoRequest) × ((request : Request) → IsAsked frame.now request → ⊥)) }

@@ -52,7 +52,7 @@ fn rows_for(is_reply: bool, command: u8) -> &'static [FieldRow]
     }
 }
 
-/// Writes a name at the front of `output`, if there is one and it fits.
+/// Writes a name to the front of `output`. Returns a fault if there is no name, or if the name does not fit.
 fn write_name(name: Option<&'static str>, output: &mut [u8]) -> HartOutcome
     ensures { NameOutcome (option_map (λ text. text.now) name.entry) output.old output.new result }
 {

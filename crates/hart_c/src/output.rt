@@ -4,7 +4,7 @@ ghost use Rattle.hart_c.specs.Faults.{outcome_of};
 
 use crate::fault::{Fault, HART_OK, HartOutcome};
 
-/// Writes bytes to the front of `output`, and returns their number.
+/// Writes bytes to the front of `output`, and returns their number, or the fault `NoRoom` if `output` is too short.
 pub(crate) fn put(bytes: &[u8], output: &mut [u8]) -> Result<usize, Fault>
     ensures written { IfOk result (λ len. (len ≡ length bytes.now) × (output.new ≡ bytes.now ++ drop len output.old)) }
     ensures refused { IfErr result (λ fault. (fault ≡ Fault.NoRoom) × (length output.old < length bytes.now)) }
@@ -17,7 +17,7 @@ pub(crate) fn put(bytes: &[u8], output: &mut [u8]) -> Result<usize, Fault>
     Ok(bytes.len())
 }
 
-/// Returns how many bytes were written, or the fault, as numbers for C.
+/// Returns the result of a call as numbers for C: a number of bytes, or the fault.
 pub(crate) fn outcome_of(written: Result<usize, Fault>) -> HartOutcome
     ensures { result ≡ outcome_of written }
 {

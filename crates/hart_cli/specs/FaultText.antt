@@ -21,7 +21,7 @@ text_before_reason (Memory none) = codes "out of memory"
 text_before_reason (BadWord number) = codes "bad word " ++ decimal number
 text_before_reason (BadField bad) = codes "bad word " ++ decimal bad.number ++ codes ": "
 
--- The text of the reason why a word of `hart request` is bad. No other fault has a reason.
+-- The text of the reason of a `BadField`. For any other fault, the text is empty.
 abbrev pub reason_of : CliFault → List ℕ
 reason_of (BadField bad) = reason_text bad.fault
 reason_of _ = []
@@ -34,7 +34,7 @@ fault_text fault = text_before_reason fault ++ reason_of fault
 abbrev pub fault_line : CliFault → List ℕ
 fault_line fault = fault_text fault ++ 10 ∷ []
 
--- The fault of a call whose script has a fault. Refused memory stays refused memory. Undetected damage and a bad line stand in a `Line`.
+-- The fault that a call returns for a fault of its script: `Memory` for refused memory, and `Line` for undetected damage or a bad line.
 abbrev pub call_fault : LineFault → CliFault
 call_fault (line_faults.Memory none) = Memory none
 call_fault (line_faults.Undetected event leg) = Line (line_faults.Undetected event leg)

@@ -27,16 +27,17 @@ pub enum CliFault {
     /// The input is longer than its limit. The limit is 2^64 - 1 bytes for `explain` and `serve`, 2^64 - 2 for a raw input, and
     /// [`INPUT_LIMIT`](crate::INPUT_LIMIT) for all other inputs.
     TooLong,
-    /// At this byte, counted from 0, reading the input stops: no separator and no item begins there, and for `explain` no mark. In an image
-    /// word of odd length, the place is this length. In any other image word, it is the place of the first byte that is no hex digit.
+    /// The input has bad hex at this place, counted from 0. No separator and no item begins at this place, and in an input of `explain` no
+    /// mark. In an image word of odd length, the place is the word's length. In any other image word, it is the place of the first byte
+    /// that is no hex digit.
     BadHex { place: usize },
-    /// The input is no script, or a script that is not carried out.
+    /// A line of the script is bad, or a leg of the script has undetected damage.
     Line(LineFault),
     /// No device can start from this image.
     Image(DeviceFault),
     /// Memory was refused, for this number of items.
     Memory(NoRoom),
-    /// This word of a message to send is bad: 1 is WHO, 2 ADDRESS, 3 COMMAND and 4 DATA.
+    /// This word of `hart encode` or `hart request` is bad: 1 is WHO, 2 ADDRESS, 3 COMMAND and 4 DATA. `hart request` has no DATA.
     BadWord { number: u8 },
     /// The words of a request do not give the fields of its command.
     BadField(BadField),
@@ -62,8 +63,8 @@ impl CliFault {
         }
     }
 
-    /// Returns the text of the fault and a line feed. This allocates nothing, so that refused memory can be reported. The text is
-    /// pushed part by part, since no contract of `write!` says that it succeeds.
+    /// Returns the text of the fault and a line feed. The function allocates nothing, so that it can report refused memory. It pushes the
+    /// text part by part, since no contract says that `write!` succeeds.
     pub fn text_line(self) -> ArrayString<LONGEST_LINE>
         ensures { result.bytes ≡ fault_line self }
     {
@@ -96,7 +97,7 @@ impl CliFault {
         }
     }
 
-    /// Returns the reason why a word of `hart request` is bad; no other fault has a reason.
+    /// Returns the reason of a [`CliFault::BadField`]. For any other fault, returns the reason that has no text.
     fn reason(self) -> Reason
         ensures { reasoned result ≡ reason_of self }
     {
@@ -146,7 +147,8 @@ impl fmt::Display for CliFault {
 impl From<Failed> for CliFault {
     ghost from_gives = { λ _ e. e ≡ Write };
 
-    /// Reports a failed write as [`CliFault::Write`]. A failed read does not come here, because it is an end of the input.
+    /// Reports a failed write as [`CliFault::Write`]. No call converts a failed read in this way: a failed read is reported as
+    /// [`CliFault::Read`].
     fn from(_failed: Failed) -> CliFault {
         CliFault::Write
     }

@@ -16,7 +16,7 @@ use std::marker::Model;
 /// The word of an image, if a call was given an image.
 #[derive(Drop)]
 pub struct ImageWord<'a> {
-    /// The image in hex, two digits for each byte.
+    /// The image in hex, two digits for each byte, or `None` if the call was given no image.
     pub word: Option<&'a str>,
 }
 

@@ -22,7 +22,7 @@ pub const PORTION_LEN: usize = 16_384;
 /// How an input came to its end.
 #[derive(Clone, Copy, PartialEq, Eq)]
 pub enum InputEnd {
-    /// There was nothing more to read.
+    /// A read returned 0 bytes, because no bytes were left.
     Ended,
     /// A read failed.
     ReadFailed,
@@ -43,7 +43,7 @@ impl InputEnd {
     }
 }
 
-/// The result of one read: the bytes at the beginning of the read's buffer, and how the input ended, if this read ended it.
+/// The result of one read: how many bytes at the beginning of the buffer are within the limit, and how the input ended, if it did.
 #[derive(Clone, Copy)]
 pub struct Portion {
     /// The number of bytes that are still within the limit.

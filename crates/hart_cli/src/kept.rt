@@ -15,7 +15,7 @@ const PIECE_LEN: usize = 8_225;
 /// Text that is not yet written.
 pub type Kept = ByteList<KEPT_LEN>;
 
-/// Writes what is kept, unless there is room for one more piece.
+/// Writes and drops the kept text if it leaves no room for one more piece.
 ///
 /// # Errors
 ///

@@ -20,8 +20,8 @@ pub trait Source {
     ///
     /// # Errors
     ///
-    /// `Failed` if the read failed. No byte is lost then, and the count of failures rises by one, up to 2^64 - 1. It does not change at any
-    /// other time.
+    /// `Failed` if the read failed. A failed read loses no byte and raises the count of failures by one, up to 2^64 - 1. Any other read
+    /// leaves this count as it was.
     fn read(&mut self, buffer: &mut [u8]) -> Result<usize, Failed>
         ensures bound { ReadsAtMost result buffer.new }
         ensures bytes { ReadConsumes (stream self.old).bytes (stream self.new).bytes result buffer.new }
@@ -37,8 +37,8 @@ pub trait Sink {
     ///
     /// # Errors
     ///
-    /// `Failed` if the write failed. Nothing is written then, and the count of failures rises by one, up to 2^64 - 1. It does not change at
-    /// any other time.
+    /// `Failed` if the write failed. A failed write writes no byte and raises the count of failures by one, up to 2^64 - 1. Any other write
+    /// leaves this count as it was.
     fn write(&mut self, bytes: &[u8]) -> Result<usize, Failed>
         ensures bound { WritesAtMost result bytes.now }
         ensures progress { IfOk result (λ taken. 0 < length bytes.now → 0 < taken) }

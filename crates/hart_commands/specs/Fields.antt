@@ -155,8 +155,8 @@ long_tag = field "long tag" (Exactly 32) LatinText ∷ []
 abbrev pub counter : List Row
 counter = field "configuration change counter" (Exactly 2) Number ∷ []
 
--- How many of the `left` bytes a field takes. A field of exact size takes this number of bytes, if there are enough. A field of `AllBut
--- after` takes all bytes except the last `after` bytes, if there are more than `after` bytes.
+-- How many of the `left` bytes a field takes. `Exactly size` takes `size` bytes, and `AllBut after` takes all bytes except the
+-- last `after` bytes. The result is `None` if fewer than `size` bytes, or not more than `after` bytes, are left.
 abbrev pub size_in : FieldSize → ℕ → Option ℕ
 size_in (Exactly size) left = if nat_lt left size then None else Some size
 size_in (AllBut after) left = if nat_lt after left then Some (left - after) else None

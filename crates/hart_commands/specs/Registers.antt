@@ -102,8 +102,8 @@ AreValid contents = (register : Register) → IsValidIn register (bytes_in conte
 abbrev pub Overwrite : Type 0
 Overwrite = Request
 
--- The part for a register. If the register is the first in the list of registers, its part is the first in the list of parts, and
--- so on.
+-- The part for a register: it has the same place in the list of parts as the register in the list of registers. The result is `None` if
+-- the register is not in its list, or if no part has that place.
 abbrev pub part_for : Register → List Register → List (List ℕ) → Option (List ℕ)
 part_for register (first ∷ registers) (part ∷ parts) =
     if place_of first == place_of register then Some part else part_for register registers parts

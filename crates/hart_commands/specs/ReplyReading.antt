@@ -33,8 +33,7 @@ dynamic_reading bytes =
 abbrev pub polling_of : List ℕ → ReplyContent
 polling_of bytes = Polling (slice_index bytes 0) (slice_index bytes 1)
 
--- The data hold an extended device status, one to eight groups of eight bytes, and then a time stamp of four bytes, and nothing
--- else.
+-- The data hold an extended device status, one to eight groups of eight bytes, and then a time stamp of four bytes. No byte may follow.
 abbrev pub variables_reading : List ℕ → Option ReplyContent
 variables_reading bytes =
     let groups = (length bytes - 5) / 8 in

@@ -151,7 +151,7 @@ pub fn fields_are_all_of_the_data()
 {}
 
 /// The kind of a field limits its number of bytes: 4 for a float, 3 for a date, 1 or 2 for a number, 6, 12 or 24 for a packed text,
-/// and 8 for each device variable. This is true for the fields of any request data and of any payload that is read as a reply.
+/// and 8 for each device variable. These numbers hold for the fields of any request data and of any payload that is read as a reply.
 pub fn fields_have_the_width_of_their_kind()
     ensures request { (command : ℕ) (bytes : List ℕ) → All HasWidthOfKind (fields_of (request_rows command) bytes) }
     ensures reply { (command : ℕ) (payload : List ℕ) (reply : Reply) → reply_reading command payload ≡ Some reply

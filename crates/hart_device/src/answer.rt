@@ -65,10 +65,10 @@ impl<S: RegisterStore> Device<S> {
         Some(request.reply(&self.identity))
     }
 
-    /// Receives a frame and returns the reply, or `None` if the device is silent. A frame without a reply changes nothing.
+    /// Receives a frame and returns the reply, or `None` if the device is silent. A frame without a reply does not change the device.
     ///
-    /// The reply describes the state after the command. Whatever its response code, the reply shows the master's cold start bit and
-    /// clears this bit. A command with a code other than 0 changes nothing else.
+    /// The reply describes the state after the command. Whatever its response code, the reply shows the master's cold start bit and clears
+    /// this bit. A command with a code other than 0 changes only this bit.
     pub fn receive(&mut self, frame: &Frame, process: &Process) -> Option<Frame>
         ensures answer { result ≡ answer_of self.old process.now frame.now }
         ensures state { self.new ≡ state_after self.old frame.now }

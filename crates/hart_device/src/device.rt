@@ -104,7 +104,8 @@ impl<S: RegisterStore> Device<S> {
         *self.cold_start.get(master)
     }
 
-    /// Sets the cold start bits. They are clear in a device that was made from an image. Nothing else changes.
+    /// Sets the cold start bits, and leaves the rest of the device unchanged. [`Device::from_image`] makes a device with clear cold start
+    /// bits.
     pub fn restore_cold_start(&mut self, cold_start: EachMaster<bool>)
         ensures { self.new ≡ record self.old { cold_start = cold_start } }
     {

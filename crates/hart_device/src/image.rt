@@ -96,7 +96,7 @@ impl<S: RegisterStore> Device<S> {
     }
 }
 
-/// Reads an image of either version.
+/// Reads an image of version 1 or 2. The errors are those of [`Device::from_image`].
 fn read_image(image: &[u8]) -> Result<ImageParts, DeviceFault>
     ensures kept { IfOk result (λ parts. (identity : IdentityParts) → IsImageOf (state_with identity parts) image.now) }
     ensures refused { IfErr result (IsImageFault image.now) }

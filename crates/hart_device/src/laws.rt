@@ -150,7 +150,7 @@ pub fn frames_leave_identity_and_protection()
 {}
 
 /// If a configuration write is answered with code 0, the device executes the overwrite of this write: it sets the write's registers to
-/// their new bytes. Nothing else executes an overwrite, and every executed overwrite is well made.
+/// their new bytes. No other frame executes an overwrite, and every executed overwrite is well made.
 pub fn writes_execute_their_overwrite()
     ensures executes { (state : DeviceState) (frame : FrameParts) (request : Request) (overwrite : Overwrite)
         → is_answered state frame ≡ true → code_of state frame ≡ 0
@@ -164,7 +164,7 @@ pub fn writes_execute_their_overwrite()
         → effect_of state frame ≡ Executes overwrite → IsRequest overwrite }
 {}
 
-/// If Command 38 is answered with code 0, it resets the configuration-changed bit of its master. Nothing else resets this bit. A counter
+/// If Command 38 is answered with code 0, it resets the configuration-changed bit of its master. No other frame resets this bit. A counter
 /// that such a command names is equal to the device's counter.
 pub fn resets_name_this_counter()
     ensures resets { (state : DeviceState) (frame : FrameParts) (counter : Option ℕ)
@@ -197,7 +197,7 @@ pub fn registers_of_lists()
         → Contains later overwrite → registers_of (overwrite ∷ later) initial ≡ registers_of later initial }
 {}
 
-/// An image has no fault.
+/// Bytes that are an image of some state have no image fault.
 pub fn images_have_no_fault()
     ensures { (state : DeviceState) (image : List ℕ) (fault : DeviceFault)
         → IsImageOf state image → IsImageFault image fault → ⊥ }

@@ -1,4 +1,4 @@
-//! Laws about the definitions alone, for readers and for the crates above.
+//! Laws that follow from the definitions, for readers and for the crates that use this crate.
 //!
 //! - Of frames and bytes: [`bodies_are_unambiguous`], [`headers_are_those_of_frames`], [`bytes_have_one_fault`],
 //!   [`messages_are_short`], [`truncated_bytes_can_become_a_body`], [`open_places_can_begin_a_frame`], [`frames_are_unambiguous`],
@@ -41,7 +41,8 @@ pub use crate::scan::streamed::{
     held_frames_are_given, scanners_move_past_the_next_frames,
 };
 
-/// Bodies are unambiguous: at most one prefix of a list of bytes is a body, and it is the body of one frame only.
+/// Bodies are unambiguous. At most one prefix of a list of bytes is a body. A body belongs to only one frame, and a frame has only one
+/// body. A body stays the body of its frame, whatever bytes follow it.
 pub fn bodies_are_unambiguous()
     ensures one_frame { (f g : FrameParts) (bytes : List ℕ) → IsBody f bytes → IsBody g bytes → f ≡ g }
     ensures one_body { (f : FrameParts) (bytes others : List ℕ) → IsBody f bytes → IsBody f others → bytes ≡ others }
@@ -78,7 +79,8 @@ pub fn bytes_have_one_fault()
         → BeginsWithBody bytes frame len → IsRefusedWith bytes fault → ⊥ }
 {}
 
-/// Bytes are refused as truncated exactly if they do not begin with a body, but can be continued so that they do.
+/// Bytes are refused as truncated in exactly one case: they do not begin with a body, but bytes can be appended so that the whole begins
+/// with a body.
 pub fn truncated_bytes_can_become_a_body()
     ensures { (bytes : List ℕ) → All (λ byte. byte < 256) bytes
         → IsTruncated bytes ↔ (CanBecomeBody bytes × HasNoBody bytes) }
@@ -103,8 +105,8 @@ pub fn every_list_has_frames()
     ensures { (chars : List Character) (from : ℕ) → (frames : List Found) × AreFrames chars from frames }
 {}
 
-/// If a message with at least two preamble bytes is heard without faults, its own frame is the only frame that is heard. An empty list of
-/// characters has no frame.
+/// If a message with at least two preamble bytes is heard without faults, exactly one frame is heard: the frame of the message. An empty
+/// list of characters has no frame.
 pub fn messages_have_their_frame_alone()
     ensures message { (frame : FrameParts) (preambles : ℕ) (bytes : List ℕ) → 2 ≤ preambles → IsMessage frame preambles bytes
         → AreFrames (faultless bytes) 0 (record { start = preambles; stop = length bytes; frame = frame } ∷ []) }

@@ -164,8 +164,8 @@ impl<S: RegisterStore> Line<S> {
         self.outcomes.push(outcome);
     }
 
-    /// Carries out a turn of a master. The master sends the request in its hand. The device hears the characters of the leg up and
-    /// answers. Both masters hear the characters of the leg down.
+    /// Carries out a turn of a master. The master sends the request in its hand. The device hears the characters of the leg up and answers.
+    /// Both masters hear the characters of the leg down. Returns the leg as the error if its damage is undetected.
     fn turn(
         &mut self,
         who: MasterId,
@@ -194,7 +194,8 @@ impl<S: RegisterStore> Line<S> {
         Ok(())
     }
 
-    /// Carries out noise. The device and both masters hear it. Both masters also hear the device's answer, without damage.
+    /// Carries out noise. The device and both masters hear the noise. Both masters also hear the device's answer, without damage. Returns
+    /// [`Leg::Noise`] as the error if the damage of the noise is undetected.
     fn hear_noise(&mut self, chars: &[Char], process: &Process) -> Result<(), Leg>
         requires room { HasRoomFor (Noise chars.now ∷ []) self.old }
         ensures stepped { OnOk result (StepsOn process.now (Noise chars.now) self.old self.new) }

@@ -4,7 +4,7 @@ ghost use Rattle.hart_line.specs.Filling.{AreSmall};
 
 use std::alloc::Global;
 
-/// Memory that the allocator refused. Only [`reserved`] and [`make_room`] make this value, and nothing changes its number of items.
+/// Memory that the allocator refused. Only [`reserved`] and [`make_room`] make this value. Its number of items never changes.
 #[derive(Clone, Copy, Debug, PartialEq, Eq)]
 pub struct NoRoom {
     items: usize,

@@ -3,7 +3,7 @@ ghost use Rattle.std.specs.Prelude.{◌≡◌};
 use hart_frame::Char;
 use std::marker::Model;
 
-/// A list. Contracts see only its items. Of a `Vec` they would also see the capacity.
+/// A list. In contracts, a `PlainList` is only its items, without the capacity of a `Vec`.
 #[derive(Debug, Drop)]
 pub struct PlainList<T> {
     items: Vec<T>,

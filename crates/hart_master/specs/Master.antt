@@ -60,7 +60,8 @@ frame_sent id (ToSend transaction) =
     Some (request_parts id transaction.address (command_of transaction.request) (request_data transaction.request))
 frame_sent id (Awaiting transaction time) = None
 
--- When a request is sent, its number of sendings grows by one, and its reply is awaited from then on.
+-- When the request that is due is sent, its number of sendings grows by one, and its reply is awaited from then on. If no request is due,
+-- the hand is unchanged.
 abbrev pub hand_sent : Hand → Hand
 hand_sent Empty = Empty
 hand_sent (ToSend transaction) = Awaiting (record transaction { sendings = transaction.sendings + 1 }) 0
@@ -97,8 +98,8 @@ hand_heard hand (NoReply sendings) = hand
 abbrev pub time_ticked : ℕ → ℕ → ℕ
 time_ticked time character_times = min (time + character_times) 255
 
--- While the time is below the reply limit, the reply is still awaited. When the time reaches the limit, the request is due again if it was
--- sent at most `retries` times so far; otherwise the event is `NoReply`.
+-- If no reply is awaited, or the time is still below the reply limit, the event is `Nothing`. When the time reaches the limit, the event is
+-- `Retry` if the request was sent at most `retries` times so far, and otherwise `NoReply`.
 abbrev pub event_ticked : (retries reply_limit : ℕ) → Hand → ℕ → MasterEvent
 event_ticked retries reply_limit Empty character_times = Nothing
 event_ticked retries reply_limit (ToSend transaction) character_times = Nothing
@@ -107,8 +108,8 @@ event_ticked retries reply_limit (Awaiting transaction time) character_times =
     else if nat_le transaction.sendings retries then Retry
     else NoReply transaction.sendings
 
--- If the event is `Nothing`, the wait goes on with the new time. After `Retry` the request stays in hand, to be sent again. After `NoReply`
--- it is dropped.
+-- If no reply is awaited, the hand is unchanged. Otherwise the event of `event_ticked` decides. After `Nothing` the wait goes on with the
+-- new time. After `Retry` the request stays in hand, to be sent again. After `NoReply` the request is dropped.
 abbrev pub hand_ticked : (retries reply_limit : ℕ) → Hand → ℕ → Hand
 hand_ticked retries reply_limit Empty character_times = Empty
 hand_ticked retries reply_limit (ToSend transaction) character_times = ToSend transaction

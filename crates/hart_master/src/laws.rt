@@ -21,8 +21,8 @@ pub fn replies_are_decided()
         ⊎ ((reply : Reply) → IsReplyTo id address request frame reply → ⊥) }
 {}
 
-/// A delivery (all that was heard at once) is either accepted as exactly one reply, or not accepted. The frames of the delivery
-/// decide this.
+/// A delivery (all that was heard at once) is either accepted as exactly one reply, or not accepted. A delivery without frames is not
+/// accepted. A delivery with one frame is accepted only if this frame is the reply.
 pub fn acceptance_is_decided()
     ensures one_reply { (id : MasterId) (address : Address) (request : Request) (delivery : List Character) (r s : Reply)
         → IsAccepted id address request delivery r → IsAccepted id address request delivery s → r ≡ s }

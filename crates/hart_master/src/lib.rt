@@ -1,8 +1,8 @@
 //! A master of a HART line: it holds at most one request (the request in hand), sends this request one or more times, and accepts
 //! the reply (HCF_SPEC-081).
 //!
-//! A [`Master`] does no input or output. Its caller submits a request, sends the frame that [`Master::send`] returns, and then
-//! passes in what it hears, or how long nothing was heard.
+//! A [`Master`] does no input or output. Its caller submits a request, sends the frame that [`Master::send`] returns, and then passes in
+//! the characters that were heard, or how long no characters were heard.
 //!
 //! ```rust
 //! let mut master = Master::new(MasterId::Primary, 1, 33)?;

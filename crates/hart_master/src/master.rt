@@ -117,9 +117,9 @@ impl Master {
         Err(Rejected { fault, request })
     }
 
-    /// Returns the frame of the request in hand if this request is due to be sent. From then on the master awaits the reply. The
-    /// frame is an STX of this master with the burst bit clear, no expansion bytes and the data of the request. If nothing is due,
-    /// the result is `None` and nothing changes.
+    /// Returns the frame of the request in hand if this request is due to be sent. From then on the master awaits the reply. The frame is
+    /// an STX of this master with the burst bit clear, no expansion bytes and the data of the request. If no request is due, the result is
+    /// `None` and the master is unchanged.
     pub fn send(&mut self) -> Option<Frame>
         ensures frame { result ≡ frame_sent self.old.id self.old.hand }
         ensures state { self.new ≡ record self.old { hand = hand_sent self.old.hand } }
@@ -180,8 +180,8 @@ impl Master {
         }
     }
 
-    /// Hears a delivery. If the delivery has exactly one frame, the master receives that frame as [`Master::receive`] does.
-    /// Otherwise the result is [`MasterEvent::Nothing`], and nothing changes.
+    /// Hears a delivery. If the delivery has exactly one frame, the master receives that frame as [`Master::receive`] does. Otherwise the
+    /// result is [`MasterEvent::Nothing`], and the master is unchanged.
     pub fn hear(&mut self, delivery: &[Char]) -> MasterEvent
         ensures event { IsHeard self.old.hand (DeliveryBrings self.old.id self.old.hand delivery.now) result }
         ensures state { self.new ≡ record self.old { hand = hand_heard self.old.hand result } }
@@ -200,8 +200,8 @@ impl Master {
         }
     }
 
-    /// Receives a frame. If the frame is the awaited reply, returns the reply and the number of sendings, and drops the request.
-    /// Otherwise the result is [`MasterEvent::Nothing`], and nothing changes.
+    /// Receives a frame. If the frame is the awaited reply, returns the reply and the number of sendings, and drops the request. Otherwise
+    /// the result is [`MasterEvent::Nothing`], and the master is unchanged.
     ///
     /// A reply is an ACK without expansion bytes. It has this master's bit and the request's address and command, and
     /// [`Reply::read`](hart_commands::Reply::read) accepts its payload. Its burst bit is ignored.

@@ -68,8 +68,8 @@ fn request_is(command: u8, bytes: &[u8], want: Result<&[u8], u8>) -> bool {
     }
 }
 
-/// Whether a payload is read as wanted. If `want` is a number, it holds a reply, and writing this reply gives the first `want` bytes of the
-/// payload. If `want` is `None`, it holds no reply.
+/// Whether a payload is read as wanted. If `want` is a number, the payload must hold a reply, and writing this reply must give the first
+/// `want` bytes of the payload. If `want` is `None`, the payload must hold no reply.
 fn reply_is(command: u8, payload: &[u8], want: Option<usize>) -> bool {
     let Some(reply) = Reply::read(command, payload) else {
         return want.is_none();

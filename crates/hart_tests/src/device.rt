@@ -115,8 +115,8 @@ fn is_unknown(command: u8) -> bool {
     Request::read(command, &[]).err() == Some(ResponseCode::COMMAND_NOT_IMPLEMENTED)
 }
 
-/// Whether a bench device refuses a command as not implemented exactly if it is unknown. The device is protected if the number of
-/// the command is even.
+/// Whether a bench device refuses a command as not implemented exactly if the command is unknown. The device is protected if the
+/// number of the command is even.
 fn is_met_by_number(command: u8) -> Result<bool, Fail> {
     let mut device = bench_device();
     device.protect(command % 2 == 0);

@@ -47,7 +47,7 @@ fn faults_have_numbers_and_texts(rt: HostRuntime) -> Result<(), Fail> {
         hold(&rt, fault.number() == *number, "the number of row", row);
         hold_ok(&rt, has_text(rt.alloc(), fault, text), "row", row);
     }
-    // No allocation can be as large as this.
+    // No allocation can have `usize::MAX` bytes.
     let none = reserved::<u8>(rt.alloc(), usize::MAX).err().ok_or("room")?;
     assert!(rt; none.items() == usize::MAX);
     let fault = LineFault::Memory(none);
@@ -159,7 +159,7 @@ fn is_read_as(alloc: Global, text: &[u8], want: Result<&str, usize>) -> Result<b
     })
 }
 
-/// Submits this command without data. Returns whether the line is read if the command needs no data, and is a bad line otherwise.
+/// Whether a line that submits this command without data is read if the command needs no data, and is refused as a bad line otherwise.
 fn is_read_if_asked(alloc: Global, command: u8) -> Result<bool, Fail> {
     let text = format!(in alloc; "submit P 37420A1B2C {command}")?;
     let want = if Request::read(command, &[]).is_ok() {

@@ -31,7 +31,8 @@ pub fn has_text(alloc: Global, value: &impl Display, text: &str) -> Result<bool,
     Ok(written.as_str() == text)
 }
 
-/// Returns the character whose fault bits are the high byte of `both` and whose byte is the low byte of `both`.
+/// Returns the character whose fault bits are the high byte of `both` and whose byte is the low byte of `both`. Returns `None` if the high
+/// byte has a bit that is no fault bit.
 pub fn char_of(both: u16) -> Option<Char> {
     let [faults, byte] = both.to_be_bytes();
     Char::new(byte, faults)

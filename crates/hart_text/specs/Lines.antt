@@ -9,7 +9,7 @@ use Rattle.std.specs.Str.Lines.{strip_carriage_return}
 abbrev pub lines_of : List ℕ → List (List ℕ)
 lines_of text = map strip_carriage_return (slice_split (λ byte. byte == 10) text)
 
--- The text after the first line feed.
+-- The text after the first line feed, or the empty text if there is no line feed.
 abbrev pub after_line_feed : List ℕ → List ℕ
 after_line_feed text = drop (position_or_len (λ byte. byte == 10) text + 1) text
 

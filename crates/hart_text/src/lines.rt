@@ -106,7 +106,7 @@ fn unmarked(bytes: &[u8]) -> Words<'_>
     }
 }
 
-/// Returns the part. If its last byte is a carriage return, this byte is left out.
+/// Returns the part without its last byte if this byte is a carriage return, and otherwise the whole part.
 fn without_return(part: &[u8]) -> &[u8]
     ensures { result.now ≡ strip_carriage_return part.now }
 {
@@ -142,7 +142,7 @@ impl<'a> Words<'a> {
     }
 }
 
-/// Returns the first word of a line whose blanks are marked, and the words after it.
+/// Returns the first word of a line whose blanks are marked and the words after it, or `None` if the line has no word.
 #[inline(always)]
 fn next_marked(line: &[u8], blanks: u64) -> Option<(&[u8], Words<'_>)>
     requires { HasBlanks blanks line.now }
@@ -168,7 +168,7 @@ fn next_marked(line: &[u8], blanks: u64) -> Option<(&[u8], Words<'_>)>
     ))
 }
 
-/// Returns the first word of a line, and the words after it.
+/// Returns the first word of a line and the words after it, or `None` if the line has no word.
 #[inline(never)]
 fn next_unmarked(line: &[u8]) -> Option<(&[u8], Words<'_>)>
     ensures { MatchOption result (words_of line.now ≡ []) (λ taken. words_of line.now ≡ (taken.0).now ∷ taken.1) }

@@ -60,7 +60,7 @@ abbrev pub asks_for : FrameParts → FrameParts → Bool
 asks_for request frame =
     is_request request.kind && same_address request.address frame.address && (request.command == frame.command)
 
--- The start of the message right before a frame, if this message is a request with the frame's address and command.
+-- The start of the message right before a frame, if this message is a request with the frame's address and command; otherwise `None`.
 abbrev pub answered : FrameParts → List Found → Option ℕ
 answered frame [] = None
 answered frame (last ∷ earlier) =

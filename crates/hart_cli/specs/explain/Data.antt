@@ -37,7 +37,8 @@ refused_lines command code bytes =
     let fields = fields_of (request_rows command) bytes in
     field_lines fields ++ said_line (codes "refused") (code_words command code) ++ ignored_line (drop (length (bytes_of fields)) bytes)
 
--- Code 64 refuses data of an unknown command, and code 5 refuses too few data.
+-- The lines for the refused data of a request: `data_line` at code 64, for an unknown command; `too_few_lines` at code 5, for too few
+-- data; and `refused_lines` at any other code.
 abbrev pub no_request_lines : ℕ → ℕ → List ℕ → List ℕ
 no_request_lines command code bytes =
     if code == 64 then data_line bytes
@@ -63,7 +64,7 @@ abbrev pub other_data_line : ℕ → List ℕ → List ℕ
 other_data_line command bytes =
     said_line (codes "data that are no reply to Command " ++ decimal command) (bytes_or_none bytes)
 
--- Data that are no reply have the line above if the command is known. Otherwise they are shown in hex, if there are any.
+-- Data that are no reply have their `other_data_line` if the command is known. Otherwise they have their `data_line`.
 abbrev pub no_reply_line : ℕ → List ℕ → List ℕ
 no_reply_line command bytes = if is_some (command_name command) then other_data_line command bytes else data_line bytes
 

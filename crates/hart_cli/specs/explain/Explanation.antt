@@ -44,7 +44,7 @@ dated_text date seen = date_words (date (seen_place seen)) ++ seen_text seen
 abbrev pub explanation : (ℕ → List ℕ) → List Seen → List ℕ
 explanation date seen = flat_map (dated_text date) seen
 
--- Nothing has a date.
+-- The date of every place is empty, since no date was heard.
 abbrev pub undated : ℕ → List ℕ
 undated place = []
 

@@ -162,7 +162,8 @@ pub record HearsDate (old new : Telling) (word : List ℕ) : Type 0 where
   pub earlier : (place : ℕ) → old.first ≤ place → place < old.first + length old.held → date_from new place ≡ date_from old place
   pub later : (place : ℕ) → old.first + length old.held ≤ place → date_from new place ≡ word
 
--- A mark was heard. After a silence all that is held is told. A date is the date of what comes next.
+-- A mark was heard. At a silence, all held characters are told, and no character is held any more. A date is the date of the characters
+-- that come next.
 abbrev pub HearsMark : Telling → Telling → Heard → Stream → Stream → Type 0
 HearsMark old new (HeardChar character) writer writer_after = ⊥
 HearsMark old new Silence writer writer_after = Hears old new [] true writer writer_after × (new.held ≡ [])

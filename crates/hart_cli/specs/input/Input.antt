@@ -82,7 +82,7 @@ fault_of_end Ended = None
 fault_of_end ReadFailed = Some faults.Read
 fault_of_end TooLong = Some faults.TooLong
 
--- The input came to this end, or was left.
+-- The input came to this end. With `None`, the call left the input.
 abbrev pub ending_of : Option InputEnd → Ending
 ending_of None = Left
 ending_of (Some end) = CameTo end

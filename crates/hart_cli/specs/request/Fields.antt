@@ -64,7 +64,7 @@ first_bad_name rows earlier [] = None
 first_bad_name rows earlier (word ∷ words) =
     option_or (option_map (bad_at (length earlier)) (name_fault rows earlier word)) (first_bad_name rows (earlier ++ word ∷ []) words)
 
--- The place of the first word that gives a value to the field of a row, or the number of words.
+-- The place of the first word that gives a value to the field of a row. If there is no such word, the place is the number of words.
 abbrev pub place_for : List (List ℕ) → Row → ℕ
 place_for words row = position_or_len (is_for row) words
 
@@ -117,7 +117,7 @@ abbrev pub unless_bad : Option BadField → Result (List ℕ) BadField → Resul
 unless_bad (Some bad) given = Err bad
 unless_bad None given = given
 
--- The data that words give for a request of a command, if the command is known.
+-- The data that words give for a request of a command, or the first fault. If the command is unknown, the third word, COMMAND, is bad.
 abbrev pub payload_of : ℕ → List (List ℕ) → Result (List ℕ) BadField
 payload_of command words =
     let rows = request_rows command in

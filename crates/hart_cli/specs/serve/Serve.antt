@@ -36,7 +36,7 @@ pub record IsServed (device : DeviceState) (input : List ℕ) (ending : Ending) 
   pub after : DeviceState
   pub serves : Serves device lines after text
 
--- An input was read up to its end, and all of the device's answers to its lines were written.
+-- An input was read and came to this ending. All of the device's answers to the lines that count for this ending were written.
 pub record ServesTo (device : DeviceState) (ending : Ending) (reader reader_after writer writer_after : Stream) : Type 0 where
   pub input : List ℕ
   pub reads : ReadsToWithin stream_limit reader reader_after input ending
@@ -78,8 +78,9 @@ pub record LacksLineRoom (none : NoRoom) (reader reader_after writer writer_afte
   pub unread : reader_after ≡ reader
   pub unwritten : writer_after ≡ writer
 
--- At `Ok`, a call served its whole input. If a read failed, or the input was longer than the limit, the call served the whole lines before
--- that. If a write failed, it wrote a prefix of the device's answers to the lines. If room for a line was refused, it wrote nothing.
+-- At `Ok`, a call served its whole input. If a read failed, or the input was longer than the limit, the call served the whole lines that
+-- it had read by then. If a write failed, the call wrote a prefix of the device's answers. If room for a line was refused, the call read
+-- nothing and wrote nothing.
 abbrev pub ServedOutcome : DeviceState → OutcomeRelation
 ServedOutcome device reader reader_after writer writer_after (Ok done) =
     ServesTo device (CameTo Ended) reader reader_after writer writer_after

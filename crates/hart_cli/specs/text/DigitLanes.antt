@@ -18,7 +18,8 @@ pub record AreDigitLanes (bytes values : List ℕ) (mask : ℕ) : Type 0 where
   pub value : (lane : ℕ) → lane < 16 → IsTrue (is_hex_digit (get_or bytes lane 0))
       → get_or values lane 0 ≡ hex_value (get_or bytes lane 0)
 
--- Sixteen pairs of bytes are read as hex digits: a mask says which of the pairs are digits, and those write their bytes.
+-- Sixteen pairs of bytes are read as hex digits: a mask says which of the pairs are digits. Each pair of digits has its byte
+-- in `bytes`.
 pub record ArePairLanes (high low bytes : List ℕ) (mask : ℕ) : Type 0 where
   pub long : length bytes ≡ 16
   pub digits : IsMask mask (λ lane. AreDigits (get_or high lane 0) (get_or low lane 0))
@@ -29,7 +30,7 @@ pub record ArePairLanes (high low bytes : List ℕ) (mask : ℕ) : Type 0 where
 abbrev pub AreSeparatorLanes : List ℕ → ℕ → Type 0
 AreSeparatorLanes bytes mask = IsMask mask (λ lane. IsSeparator (get_or bytes lane 0))
 
--- The first lanes of a mask are set, and the next of the sixteen lanes is not.
+-- The first `count` of the sixteen lanes are set in a mask. The next lane, if there is one, is not set.
 pub record AreLeading (mask count : ℕ) : Type 0 where
   pub few : count ≤ 16
   pub set : (lane : ℕ) → lane < count → bit_at mask lane ≡ 1

@@ -28,7 +28,7 @@ stretches (HeardChar character ∷ heard) = after_chars (character ∷ []) (stre
 stretches (Silence ∷ heard) = [] ∷ stretches heard
 stretches (Date word ∷ heard) = stretches heard
 
--- A byte is visible if it is one from `!` to `~`, so no space.
+-- A byte is visible if it is a character from `!` to `~`. A space is not visible.
 abbrev pub IsVisible : ℕ → Type 0
 IsVisible byte = (33 ≤ byte) × (byte ≤ 126)
 

@@ -20,8 +20,8 @@ mod text;
 
 /// Reads the characters heard on a HART line as hex items. Writes a line of text for each frame, as soon as the frame is decided.
 ///
-/// It reads a portion at a time. Before each read it has written the lines of all frames decided by then, so a live line is dumped
-/// while it is heard, up to the limit of an input. It allocates nothing.
+/// The call reads a portion at a time. Before each read it has written the lines of all frames decided by then. So a live HART line is
+/// dumped while it is heard, up to the limit of an input. The call allocates nothing.
 ///
 /// # Errors
 ///

@@ -44,8 +44,9 @@ const RAW_LIMIT: usize = usize::MAX - 1;
 /// `@` and a word give the date of what follows. Each message, and each place where a message only seems to start, has the last date
 /// before it.
 ///
-/// It reads a portion at a time. Before each read it has written all that is decided by then, so a live line is explained while it
-/// is heard. It keeps only the characters that decide nothing yet, at most 268, and their dates. It allocates nothing.
+/// The call reads a portion at a time. Before each read it has written all that is decided by then, so a live HART line is explained
+/// while it is heard. From one read to the next it keeps at most 268 characters that decide nothing yet, and their dates. It allocates
+/// nothing.
 ///
 /// # Errors
 ///

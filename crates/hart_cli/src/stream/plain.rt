@@ -8,7 +8,8 @@ use std::io::{Read, Write};
 
 /// A reader or writer of the standard library, with a count of its failures.
 ///
-/// Each error is a failure, even an interruption, and so is a write that takes no byte. Nothing is retried.
+/// Each error counts as a failure, even an interruption. A write of 1 or more bytes that takes none of them also counts as a failure.
+/// No read and no write is tried again.
 #[derive(Drop)]
 pub struct Plain<T> {
     inner: T,

@@ -15,7 +15,8 @@ pub const CHUNK_LEN: usize = 8192;
 /// The bytes of faultless characters.
 pub type Chunk = ByteList<CHUNK_LEN>;
 
-/// Reads the leading pieces of a text that have no fault bits into an empty chunk of any size, and returns the place after them.
+/// Reads pieces without fault bits from the beginning of a text into an empty chunk of any size. Stops at the first other piece, or if
+/// the chunk may have no room for more. Returns the place after the pieces that were read.
 pub fn read_chunk<const N: usize>(digits: &Digits, text: &[u8], chunk: &mut ByteList<N>) -> usize
     requires { chunk.old ≡ [] }
     ensures within { result ≤ length text.now }
@@ -58,7 +59,7 @@ fn push_run<const N: usize>(chunk: &mut ByteList<N>, run: &ItemRun)
     ensures { chunk.new ≡ chunk.old ++ take run.now.count run.now.bytes }
 {
     if run.count == RUN_LEN {
-        // Their number is known here, so they are copied without a loop.
+        // The number of items is known here, so their bytes are copied without a loop.
         chunk.extend_from_slice(&run.bytes);
     } else {
         chunk.extend_from_slice(&run.bytes[..run.count]);

@@ -12,7 +12,7 @@ pub const RUN_LEN: usize = LANES;
 /// Items without fault bits that begin a text.
 #[derive(Clone, Copy)]
 pub struct ItemRun {
-    /// The bytes of the items, and then others.
+    /// The bytes of the items, and then bytes that mean nothing.
     pub bytes: [u8; RUN_LEN],
     /// The number of items, at least one.
     pub count: usize,

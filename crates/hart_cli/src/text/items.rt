@@ -8,7 +8,7 @@ use hart_line::{Digits, leading_item};
 /// What a piece means, and its length.
 #[derive(Drop)]
 pub struct LeadingPiece {
-    /// The character of an item; a separator has none.
+    /// The character of an item, or `None` for a separator.
     pub char: Option<Char>,
     /// The number of its bytes.
     pub len: usize,
@@ -27,7 +27,8 @@ pub fn next_piece(digits: &Digits, text: &[u8]) -> Option<LeadingPiece>
     leading_piece(text)
 }
 
-/// Returns the character of the item that begins a text, if a byte other than `!` follows its two digits.
+/// Returns the character of the item that begins a text, if a byte other than `!` follows the two digits of the item. Returns `None` for
+/// any other text.
 fn plain_char(digits: &Digits, text: &[u8]) -> Option<Char>
     ensures { IfSome result (λ char. BeginsAs text.now (Some char) 2) }
 {
@@ -67,8 +68,8 @@ pub fn is_separator(byte: u8) -> bool
     matches!(byte, b' ' | b'\t' | b'\r' | b'\n')
 }
 
-/// Returns true if `text` would begin with a piece after some bytes are added to it. No piece begins it yet. Such a text has at most 5
-/// bytes.
+/// Returns true if some bytes can be added to the end of `text` so that it begins with a piece. `text` itself begins with no piece. If
+/// the result is true, `text` has at most 5 bytes.
 pub fn may_begin(text: &[u8]) -> bool
     requires { NoPieceBegins text.now }
     ensures may { IsTrue result ↔ MayBegin text.now }

@@ -64,8 +64,8 @@ fn is_visible(byte: u8) -> bool
     (b'!'..=b'~').contains(&byte)
 }
 
-/// Returns true if `text` would begin with a piece or a mark after some bytes are added to it. Neither begins it yet. Such a text has at
-/// most 33 bytes.
+/// Returns true if some bytes can be added to the end of `text` so that it begins with a piece or a mark. `text` itself begins with
+/// neither. If the result is true, `text` has at most 33 bytes.
 pub fn may_open(text: &[u8]) -> bool
     requires { NothingBegins text.now }
     ensures may { IsTrue result ↔ Opens NothingBegins text.now }

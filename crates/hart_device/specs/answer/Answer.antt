@@ -102,7 +102,7 @@ after_refusal state frame = record state {
   cold_start = if is_answered state frame then with_master frame.master false state.cold_start else state.cold_start;
 }
 
--- The content of a reply with code 0 to this request. If the data were refused, there is no content.
+-- The content of a reply with code 0 to this request. If the data were refused, the content is `Refused`.
 abbrev pub asked_content : DeviceState → Process → Reading → ReplyContent
 asked_content state process (Ok request) = reply_content state process request
 asked_content state process (Err code) = Refused
@@ -118,7 +118,7 @@ reply_of state process frame = record {
       if code_of state frame == 0 then asked_content (after_command state frame) process (reading_of frame) else Refused;
 }
 
--- The device's answer to a frame: silence, or an ACK with its reply.
+-- The device's answer to a frame: an ACK with the device's reply, or `None` if the frame is not answered.
 abbrev pub answer_of : DeviceState → Process → FrameParts → Option FrameParts
 answer_of state process frame =
     if is_answered state frame then Some (reply_parts frame (reply_payload (reply_of state process frame))) else None

@@ -56,7 +56,7 @@ fn variable_reading(process: &Process, code: u8) -> VariableReading
     }
 }
 
-/// Finds the variable of a code.
+/// Returns the variable of a code, or [`MISSING`] if the process has no variable for this code.
 fn variable_of_code(process: &Process, code: u8) -> ProcessVariable
     ensures { result ≡ variable_of_code process.now code }
 {

@@ -19,7 +19,8 @@ pub data Seen : Type 0 where
   Message : (found : Found) → Seen
   Missed : (place : ℕ) (miss : Miss) (header : Option HeaderParts) → Seen
 
--- A miss whose place was counted from the place `from` of a list, now with its place counted in the whole list.
+-- A miss names a place counted from the place `from` of a list. This is the same miss with that place counted in the whole list. A miss
+-- that names no place stays unchanged.
 abbrev pub miss_in_whole : ℕ → Miss → Miss
 miss_in_whole from (Faulty place faults) = Faulty (from + place) faults
 miss_in_whole from (BadCheck place byte fits) = BadCheck (from + place) byte fits

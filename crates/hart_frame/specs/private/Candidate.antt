@@ -15,7 +15,7 @@ abbrev pub BeginWithNone : List Character → Type 0
 BeginWithNone chars = (frame : FrameParts) (body : List ℕ) (rest : List Character) → IsBody frame body
     → chars ≡ faultless (255 ∷ 255 ∷ body) ++ rest → ⊥
 
--- What follows cannot belong to a frame: it is empty, or begins with a character with faults.
+-- A list of characters cannot continue a frame if it is empty, or if it begins with a character with faults.
 abbrev pub NothingFollows : List Character → Type 0
 NothingFollows chars = (chars ≡ []) ⊎ ((first : Character) × (rest : List Character) × (chars ≡ first ∷ rest) × (first.faults ≢ 0))
 

@@ -38,8 +38,8 @@ abbrev pub NoneBeginHeld : Buffer → ℕ → Type 0
 NoneBeginHeld b count = (place : ℕ) → place < count → (more : List Character) → (IsTrue b.finished → more ≡ [])
     → BeginWithNone (faultless (drop place (held_bytes b)) ++ (option_to_list b.damaged ++ more))
 
--- The held bytes from a place on decide nothing: either no bytes are held from there on, or these bytes may begin a frame and more bytes
--- can follow.
+-- The held bytes from a place on decide no frame in two cases. Either no bytes are held from there on, or these bytes, at most 268, may
+-- begin a frame and more bytes can follow.
 abbrev pub IsHeldOpen : Buffer → ℕ → Type 0
 IsHeldOpen b place = (length (held_bytes b) ≡ place)
     ⊎ ((length (held_bytes b) ≤ place + 268) × MayBegin (drop place (held_bytes b)) × (b.damaged ≡ None) × (b.finished ≡ false))

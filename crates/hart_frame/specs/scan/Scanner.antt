@@ -66,6 +66,6 @@ pub record Ends (old new : Scan) : Type 0 where
 abbrev pub GivesNothing : Scan → Scan → Type 0
 GivesNothing old new = Waits old new ⊎ Ends old new
 
--- A call gives the next frame, as a view, or nothing for now.
+-- A call gives a view of the next frame, or no frame. It gives no frame if none is decided yet, or if none is left after the finish.
 abbrev pub GivesNextOrNothing : Scan → Scan → Option FoundView → Type 0
 GivesNextOrNothing old new given = MatchOption given (GivesNothing old new) (λ view. Gives old new (found_of view))

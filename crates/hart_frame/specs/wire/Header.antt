@@ -12,7 +12,7 @@ use Rattle.hart_frame.specs.wire.Delimiter.{is_delimiter}
 use Rattle.hart_frame.specs.wire.FrameParts.{FrameParts}
 use Rattle.hart_frame.specs.wire.Layout.{command_place, delimiter_in}
 
--- A header says who sends a frame to whom, and which command it is about.
+-- A header has the kind, the master, the address and the command of a frame.
 pub record HeaderParts : Type 0 where
   pub kind : FrameKind
   pub master : MasterId
@@ -23,7 +23,7 @@ pub record HeaderParts : Type 0 where
 abbrev pub header_of : FrameParts → HeaderParts
 header_of frame = record { kind = frame.kind; master = frame.master; address = frame.address; command = frame.command }
 
--- The kind of a frame, by bits 2 to 0 of its delimiter: an ACK or an STX.
+-- The kind of a frame is ACK if bits 2 to 0 of its delimiter are 6, and STX otherwise.
 abbrev pub kind_in : List ℕ → FrameKind
 kind_in bytes = if delimiter_in bytes % 8 == 6 then Ack else Stx
 

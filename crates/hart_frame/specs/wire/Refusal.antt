@@ -23,7 +23,8 @@ HasGoodByteCount bytes = HasByteCount bytes × ((delimiter_in bytes % 8 ≡ 2) �
 abbrev pub HasCheckByte : List ℕ → Type 0
 HasCheckByte bytes = HasGoodByteCount bytes × (body_length bytes ≤ length bytes)
 
--- A list ends too early in two cases: it is empty, or it ends before its byte count or its check byte and nothing before its end is wrong.
+-- A list is truncated in three cases. It is empty, it begins with a delimiter and lacks the byte count, or it has a good byte count and
+-- lacks the check byte.
 abbrev pub IsTruncated : List ℕ → Type 0
 IsTruncated bytes = (length bytes ≡ 0)
     ⊎ (HasDelimiter bytes × (length bytes ≤ byte_count_place bytes))

@@ -9,8 +9,8 @@ const OTHER_BITS: u8 = !0x72;
 
 /// A received character: a byte, and the faults that the receiver noticed at it (HCF_SPEC-081).
 ///
-/// The fault bits are hex 40 vertical parity, 20 overrun, 10 framing and 02 buffer overflow. A character without any of
-/// them is faultless.
+/// The fault bits are `0x40` for vertical parity, `0x20` for overrun, `0x10` for framing and `0x02` for buffer overflow. A character is
+/// faultless if none of these bits is set.
 #[derive(Clone, Copy, Debug, PartialEq, Eq)]
 pub struct Char {
     byte: u8,
@@ -72,7 +72,8 @@ pub fn are_faultless(chars: &[Char]) -> bool
     chars.iter().all(|character| character.is_faultless())
 }
 
-/// Returns the bytes of the characters before the first character with faults, but at most the first `N` bytes.
+/// Returns the bytes of the characters before the first character with faults, or of all characters if none has faults. Returns at most the
+/// first `N` of these bytes.
 pub(crate) fn faultless_front<const N: usize>(chars: &[Char]) -> ByteList<N>
     ensures { result ≡ take N (faultless_bytes chars.now) }
 {

@@ -1,4 +1,4 @@
-//! Laws about damage that can be detected, from the definitions alone, for the crates above.
+//! Laws about damage that can be detected. They follow from the definitions alone, and serve the crates that use this crate.
 ghost use Rattle.std.specs.Prelude.{◌⊎◌, List, ℕ, [], ◌∷◌, length};
 ghost use Rattle.hart_frame.specs.heard.Character.{Character};
 ghost use Rattle.hart_frame.specs.heard.Damage.{IsCheckDamage, IsMarkedDamage};

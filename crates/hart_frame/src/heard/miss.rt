@@ -26,7 +26,7 @@ use crate::{Body, Char};
 /// Why no frame stands at a place of what was heard. Places are counted from 0, the place of the first character.
 #[derive(Clone, Copy, Debug, PartialEq, Eq)]
 pub enum Miss {
-    /// The character at this place has these fault bits.
+    /// The character at `place` has the fault bits `faults`, and the bytes before this character end too early for a body.
     Faulty { place: usize, faults: u8 },
     /// The first byte is the delimiter of a burst message. Burst messages are not read.
     Burst,
@@ -56,8 +56,8 @@ pub enum Miss {
 /// - The characters end before the end of the check byte.
 /// - The check byte does not fit.
 ///
-/// If a character with fault bits comes too early to decide which of these applies, the miss is that character. A whole body after a single
-/// faultless `FF` is a [`Miss::OnePreamble`].
+/// If a character with fault bits comes too early to decide which of these applies, the miss is a [`Miss::Faulty`] for that character. A
+/// whole body after a single faultless `FF` is a [`Miss::OnePreamble`].
 ///
 /// The function looks at no more than 267 characters from `start` on, the length of the longest body.
 ///
@@ -126,8 +126,8 @@ fn delimiter_miss(byte: u8) -> Miss
     Miss::BadDelimiter { byte }
 }
 
-/// Returns the miss of bytes that end too early for a body, if nothing follows them. `Some` gives the number of missing bytes. `None` says
-/// that the bytes end before the byte count.
+/// Returns the miss of bytes that end too early for a body, with no character after them. `missing` is the number of missing bytes, or
+/// `None` if the bytes end before the byte count.
 pub(crate) fn cut_miss(missing: Option<usize>) -> Miss
     ensures { result ≡ cut_miss missing }
 {
@@ -172,7 +172,7 @@ fn follows_preamble(chars: &[Char], place: usize) -> bool
     before.byte() == PREAMBLE && before.is_faultless()
 }
 
-/// Where a body may start, there is either a frame or a miss, and not both. Anywhere else the only miss is [`Miss::OnePreamble`],
+/// A place where a body may start has a frame or a miss. No place has both. At all other places, the only miss is [`Miss::OnePreamble`],
 /// for a whole body after a single preamble byte.
 pub fn every_start_has_a_frame_or_a_miss()
     ensures one { (place : ℕ) (chars : List Character) → All (λ character. character.byte < 256) chars → IsStart place chars
@@ -187,8 +187,8 @@ pub fn every_start_has_a_frame_or_a_miss()
 /// `BadCheck`: if the byte that fits replaces the byte at the named place, a frame stands at the start and ends with that byte. `Faulty`:
 /// the character at the named place has the named fault bits. If a faultless character replaces this character, the miss no longer names
 /// the place as faulty. `Missing`: append any `count - 1` bytes, and then the check byte of all bytes from the start on. A frame then
-/// stands at the start and ends with that check byte. `OnePreamble`: if another faultless `FF` is inserted before the single `FF`, a frame
-/// stands after the two.
+/// stands at the start and ends with that check byte. `OnePreamble`: if another faultless `FF` is inserted right after the single `FF`, a
+/// frame stands right after both `FF`.
 pub fn misses_say_what_is_wrong()
     ensures bad_check { (start place byte fits : ℕ) (chars : List Character) → All (λ character. character.byte < 256) chars
         → miss_of chars start ≡ Some (BadCheck place byte fits)
@@ -206,9 +206,9 @@ pub fn misses_say_what_is_wrong()
         → HasFrameAt (insert chars start (record { byte = 255; faults = 0 })) (start + 1) }
 {}
 
-/// Take the bytes from a place where a body may start to the first character with fault bits. The miss of that place corresponds to the
-/// fault of these bytes. So misses are found in the order of the faults of [`decode`](crate::decode). If the bytes from any place begin
-/// with a body, a miss of that place corresponds to no fault.
+/// The bytes of a place are the bytes from this place up to the first character with fault bits. Where a body may start, the miss
+/// corresponds to the fault with which [`decode`](crate::decode) refuses the bytes of the place. So misses are found in the order of the
+/// faults of `decode`. If the bytes of any place begin with a body, a miss of this place corresponds to no fault.
 pub fn misses_are_faults()
     ensures refused { (start : ℕ) (chars : List Character) (miss : Miss) → All (λ character. character.byte < 256) chars
         → IsStart start chars → miss_of chars start ≡ Some miss

@@ -30,7 +30,7 @@ pub fn is_start(chars: &[Char], place: usize) -> bool
     is_start_within(chars, place)
 }
 
-/// Like [`is_start`], with the bounds already checked.
+/// Does the same as [`is_start`] for a place that is at least 2 and below the number of characters.
 fn is_start_within(chars: &[Char], place: usize) -> bool
     requires after_two { 2 ≤ place }
     requires within { place < length chars.now }

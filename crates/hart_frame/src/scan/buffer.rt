@@ -31,14 +31,14 @@ pub(crate) struct Buffer {
     pub(crate) finished: bool,
 }
 
-/// What a scanner knows of what it holds.
+/// What a buffer knows of the characters that it holds.
 #[derive(Clone, Copy)]
 pub(crate) enum State {
-    /// What is held decides nothing until another character or the end comes.
+    /// The held characters decide no frame until another character or the end comes.
     Drained,
     /// A character or the end came, or bytes were let go. What is held has not been searched since then.
     Busy,
-    /// What is held begins with a frame that has this layout.
+    /// The held bytes begin with two preamble bytes and a body of this layout.
     Stands(Layout),
 }
 
@@ -104,7 +104,7 @@ impl Buffer {
         }
     }
 
-    /// Returns true if what is held decides nothing until another character or the end comes.
+    /// Returns true if the held characters decide no frame until another character or the end comes.
     pub(crate) fn is_drained(&self) -> bool
         ensures { IsTrue result ↔ (self.now.state ≡ Drained) }
     {
@@ -121,7 +121,7 @@ impl Buffer {
         self.first + self.held().len() as u64 + damaged
     }
 
-    /// Returns true if no byte can follow what is held.
+    /// Returns true if no byte can follow the held bytes: the buffer is finished, or holds a character with faults.
     pub(crate) fn is_ended(&self) -> bool
         ensures { IsTrue result ↔ IsEnded self.now }
     {

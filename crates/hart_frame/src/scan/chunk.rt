@@ -37,7 +37,8 @@ impl Buffer {
         taken
     }
 
-    /// Hears the first bytes of a chunk, and returns how many it heard. If no byte is held, the chunk is searched without a copy.
+    /// Hears at least one byte at the front of a chunk, and none after the first byte that decides a frame. Returns how many bytes it
+    /// heard. If no byte is held, the chunk is searched without a copy.
     fn push_part(&mut self, chunk: &[u8]) -> usize
         requires sound { IsSound self.old }
         requires drained { self.old.state ≡ Drained }

@@ -1,4 +1,4 @@
-//! What is decided of the characters that a scanner holds.
+//! Decides whether a frame begins in the characters that a scanner holds.
 ghost use Rattle.std.specs.Prelude.{◌≡◌, MatchOption};
 ghost use Rattle.hart_frame.specs.private.Buffer.{IsSound, scan_of};
 ghost use Rattle.hart_frame.specs.private.Decision.{GivesSpan, HoldsWhole, IsHeldSearched};
@@ -10,7 +10,8 @@ use crate::scan::search::{SearchResult, search_to_end};
 use crate::wire::layout::Layout;
 
 impl Buffer {
-    /// Returns where the body of the next frame lies, and lets go of the frame's characters. Returns `None` if no frame is decided.
+    /// Returns where the body of the next frame lies, and lets go of the frame's characters. Returns `None` if no frame is decided yet, or
+    /// if no frame is left after the finish.
     pub(crate) fn next(&mut self) -> Option<Span>
         requires sound { IsSound self.old }
         ensures sound { IsSound self.new }
@@ -20,7 +21,8 @@ impl Buffer {
         Some(self.release(layout))
     }
 
-    /// Returns the layout of the frame at the front of the held bytes, or `None` if no frame is decided yet.
+    /// Returns the layout of the next frame, which then stands at the front of the held bytes. Returns `None` if no frame is decided yet,
+    /// or if no frame is left after the finish.
     pub(crate) fn peek(&mut self) -> Option<Layout>
         requires sound { IsSound self.old }
         ensures sound { IsSound self.new }
@@ -70,7 +72,8 @@ impl Buffer {
         None
     }
 
-    /// Searches the held bytes for a frame. If no byte can follow them, no frame begins at a place where more bytes would be needed.
+    /// Searches the held bytes for a frame. If no byte can follow the held bytes, the search skips each place at which a frame could begin
+    /// only with more bytes.
     fn search_held(&self) -> SearchResult
         requires sound { IsSound self.now }
         ensures { IsHeldSearched self.now result }

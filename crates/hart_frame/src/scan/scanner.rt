@@ -4,7 +4,7 @@ use crate::scan::buffer::Buffer;
 use crate::{Char, FoundView};
 use std::marker::Model;
 
-/// Finds the frames of what is heard, character by character, and lends a view of each as soon as it is decided.
+/// Finds frames while their characters are heard, and lends a view of each frame as soon as the frame is decided.
 ///
 /// A scanner allocates no memory. It holds at most 269 characters: two preamble bytes and the longest body. While it waits for more
 /// characters, it holds at most 268, because the last character of the longest frame decides that frame.
@@ -100,8 +100,8 @@ impl Scanner {
         self.buffer.push_chars(chunk)
     }
 
-    /// Returns the next frame that is decided, or `None` if there is none for now. After the finish, `None` means that no frame is
-    /// left; the scanner is then new, and places begin at 0 again.
+    /// Returns the next frame, or `None` if no frame is decided yet. After the finish, `None` means that no frame is left. The scanner is
+    /// then new, and its places begin at 0 again.
     pub fn take(&mut self) -> Option<FoundView<'_>>
         // The view borrows the scanner. So this clause is about `after`, the scanner once the view is dropped: GivesNextOrNothing self.old
         // after result.
@@ -112,7 +112,8 @@ impl Scanner {
         Some(self.buffer.found(span))
     }
 
-    /// Returns true if no frame can come before the next character or the finish. At most 268 characters are then held.
+    /// Returns true if the scanner is drained: it has no frame to give before it hears the next character or the finish. A drained scanner
+    /// holds at most 268 characters.
     pub fn is_drained(&self) -> bool
         ensures drained { result ≡ self.now.drained }
         ensures waiting { IsTrue self.now.drained → (self.now.finished ≡ false) × IsUndecided self.now.held }
@@ -121,7 +122,8 @@ impl Scanner {
         self.buffer.is_drained()
     }
 
-    /// Tells the scanner that nothing more is heard. The next calls of [`Scanner::take`] decide what it holds.
+    /// Tells the scanner that no more characters come. The next calls of [`Scanner::take`] return the frames that are left in the held
+    /// characters, and then `None`.
     pub fn finish(&mut self)
         ensures { self.new ≡ finishing self.old }
     {

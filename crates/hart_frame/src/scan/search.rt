@@ -21,11 +21,12 @@ pub(crate) struct SearchResult {
     pub(crate) place: usize,
     /// How many bytes at the front the search needed for its result.
     pub(crate) decided: usize,
-    /// The layout of the frame that begins at `place`. If this is `None`, the bytes from `place` on may still begin a frame.
+    /// The layout of the frame that begins at `place`, or `None` if no frame is found. If more bytes can follow, the bytes from `place`
+    /// on may then still begin a frame.
     pub(crate) layout: Option<Layout>,
 }
 
-/// Searches for a frame from the place `from` on. The caller knows already that a prefix of fewer than `seen` bytes decides nothing.
+/// Searches for a frame from the place `from` on. The caller already knows that no prefix of fewer than `seen` bytes decides a frame.
 pub(crate) fn search(bytes: &[u8], from: usize, seen: usize) -> SearchResult
     requires order { from ≤ seen }
     requires within { seen ≤ length bytes.now }
@@ -66,7 +67,7 @@ pub(crate) fn search_to_end(bytes: &[u8], from: usize, ended: bool) -> SearchRes
     found
 }
 
-/// Returns the result if a frame may still begin at `place`.
+/// Returns the result of a search that decides no frame, because a frame may still begin at `place`.
 fn open_at(bytes: &[u8], place: usize) -> SearchResult
     ensures { result ≡ record { place = place; decided = length bytes.now; layout = None } }
 {
@@ -77,8 +78,8 @@ fn open_at(bytes: &[u8], place: usize) -> SearchResult
     }
 }
 
-/// Returns the first place from `from` on at which a pair stands, or `None` if there is none. A pair is two preamble bytes and then
-/// another byte.
+/// Returns the first place from `from` on at which a pair stands, or `None` if no pair stands there. A pair is two preamble bytes and then
+/// a byte that is no preamble byte.
 #[inline(always)]
 fn next_pair(bytes: &[u8], from: usize) -> Option<usize>
     requires { from ≤ length bytes.now }

@@ -40,8 +40,8 @@ pub enum After {
 pub enum Sighting<'a> {
     /// A message. Its frame is borrowed from the bytes in which it was found.
     Message(FoundView<'a>),
-    /// Why no frame stands at this place. The header is that of the faultless bytes from this place on. These bytes have a header if they
-    /// begin with a delimiter of this profile and reach the command.
+    /// Why no frame stands at this place. `header` is the header at the front of the faultless bytes from this place on. It is `None` if
+    /// these bytes do not begin with a delimiter of this profile, or if they end before the command.
     Missed {
         place: usize,
         miss: Miss,
@@ -268,8 +268,8 @@ fn has_two_preambles(bytes: &[u8]) -> bool
     false
 }
 
-/// Returns the place up to which the bytes are used, if nothing is seen in them and no place in them is open. If a character with fault
-/// bits follows the bytes, it is used too. If more may follow, the preamble bytes at the end, at most two, are not used.
+/// Returns the place up to which bytes without a sighting and without an open place are used. For [`After::Damaged`], the character with
+/// fault bits is used too. For [`After::More`], the preamble bytes at the end, at most two, are not used.
 fn passed(bytes: &[u8], after: &After, from: usize) -> usize
     requires within { from ≤ length bytes.now }
     requires places { length bytes.now < 2 ^ 64 - 1 }

@@ -3,10 +3,10 @@ ghost use Rattle.hart_frame.specs.wire.FaultNumbers.{frame_fault_number};
 
 use thiserror::Error;
 
-/// Why a frame was not made, not sent or not found in bytes.
+/// Why a frame was not made, not encoded as a message, or not decoded from bytes.
 #[derive(Clone, Copy, Debug, PartialEq, Eq, Error)]
 pub enum FrameFault {
-    /// An ACK whose payload is shorter than its two status bytes.
+    /// The payload of an ACK has fewer than 2 bytes, too few for its two status bytes.
     #[error("reply too short")]
     TooShortReply,
     /// A number of preamble bytes outside 5 to 20.

@@ -135,7 +135,7 @@ impl Frame {
         self.kind
     }
 
-    /// Returns the master that sends the frame, or to which it is sent.
+    /// Returns the master: the sender of a request, or the receiver of a reply.
     pub fn master(&self) -> MasterId
         ensures { result ≡ self.now.master }
     {

@@ -7,7 +7,7 @@ use crate::wire::delimiter::read_delimiter;
 use crate::wire::plain_address::{PlainAddress, address_of_plain, plain_of};
 use hart_values::{Address, MasterId};
 
-/// The header of a frame: who sends it to whom, and which command it is about.
+/// The header of a frame: its kind, its master, its address and its command.
 #[derive(Clone, Copy)]
 pub struct Header {
     kind: FrameKind,
@@ -27,7 +27,7 @@ impl Header {
         self.kind
     }
 
-    /// Returns the master that sends the frame, or to which it is sent.
+    /// Returns the master: the sender of a request, or the receiver of a reply.
     pub fn master(&self) -> MasterId
         ensures { result ≡ (header_parts self.now).master }
     {
@@ -48,8 +48,8 @@ impl Header {
         self.command
     }
 
-    /// Reads the header with which the bytes begin. Returns `None` if they do not begin with a delimiter of this profile or end before the
-    /// command.
+    /// Reads the header at the front of the bytes. Returns `None` if the first byte is no delimiter of this profile, or if the bytes end
+    /// before the command.
     #[tactic(auto, unfolding(crate::specs::wire::Header::header_in))]
     pub(crate) fn read(bytes: &[u8]) -> Option<Header>
         ensures { option_map header_parts result ≡ header_in bytes.now }

@@ -91,7 +91,7 @@ fn push_checked_part<const N: usize>(frame: &Frame, output: &mut ByteList<N>)
     output.extend_from_slice(frame.payload());
 }
 
-/// Appends the frame's expansion bytes. Most frames have none, and then nothing is copied.
+/// Appends the frame's expansion bytes. Most frames have no expansion bytes, and then no copy is made.
 #[inline(always)]
 fn push_expansion<const N: usize>(frame: &Frame, output: &mut ByteList<N>)
     requires { length output.old + 3 ≤ N }

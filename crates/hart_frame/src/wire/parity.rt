@@ -8,7 +8,7 @@ const PLACES: [u8; 16] = [0, 1, 2, 3, 4, 5, 6, 7, 8, 9, 10, 11, 12, 13, 14, 15];
 
 /// Returns the check byte of some bytes: their exclusive or (HCF_SPEC-081).
 ///
-/// Once the check byte is appended, each bit is set in an even number of the bytes. So the check byte of a whole body is 0.
+/// Once the check byte is appended, each bit is set in an even number of the bytes. So this function returns 0 for a whole body.
 pub fn check_byte(bytes: &[u8]) -> u8
     ensures { IsCheckByte bytes.now result }
 {
@@ -17,8 +17,8 @@ pub fn check_byte(bytes: &[u8]) -> u8
     fold_few(lanes.reduce_xor(), &bytes[whole..])
 }
 
-/// Returns the check byte of the first `len` bytes. If `bytes` is long enough, the last block is read as sixteen bytes, and its bytes from
-/// `len` on count as zeros.
+/// Returns the check byte of the first `len` bytes. The last block of these bytes may have fewer than 16 bytes. If `bytes` has 16 bytes
+/// from the start of this block on, all 16 are read at once, and the bytes from the place `len` on count as zeros.
 #[inline(always)]
 pub(crate) fn front_check(bytes: &[u8], len: usize) -> u8
     requires { len ≤ length bytes.now }
@@ -56,7 +56,7 @@ fn front_lanes(block: &[u8; 16], count: usize) -> u8x16
     kept.select(u8x16::from_array(*block), u8x16::splat(0))
 }
 
-/// Returns the exclusive or of `check` and a few bytes, four at a time.
+/// Returns the exclusive or of `check` and all of `bytes`. Reads four bytes at a time.
 fn fold_few(check: u8, bytes: &[u8]) -> u8
     ensures { result ≡ fold bit_xor check bytes.now }
 {

@@ -5,7 +5,7 @@ ghost use Rattle.hart_frame.specs.private.Address.{IsInRange, address_of};
 
 use hart_values::Address;
 
-/// An address by its numbers.
+/// The numbers of an address: a polling address, or an expanded device type and a device id.
 #[derive(Clone, Copy)]
 pub(crate) enum PlainAddress {
     Polling(u8),

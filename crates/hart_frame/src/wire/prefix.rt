@@ -1,4 +1,4 @@
-//! Whether bytes begin with a body, may still become one, or never become one. Only this module decides that.
+//! Decides, for all modules, whether bytes begin with a body, may still become a body, or never become a body.
 ghost use Rattle.std.specs.Prelude.{◌≡◌};
 ghost use Rattle.hart_frame.specs.private.Prefix.{IsPrefix, fault_in, shown_by};
 
@@ -42,7 +42,7 @@ impl Wrong {
         }
     }
 
-    /// Returns the fault of these bytes.
+    /// Returns the fault with which `decode` refuses such bytes.
     pub(crate) fn fault(self) -> FrameFault
         ensures { result ≡ fault_in self }
     {

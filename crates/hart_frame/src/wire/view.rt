@@ -9,7 +9,7 @@ use crate::wire::plain_address::{PlainAddress, address_of_plain, plain_of};
 use crate::{Expansion, Frame, FrameKind, Payload};
 use hart_values::{Address, MasterId};
 
-/// A frame whose expansion bytes and payload are borrowed from where it was found: a scanner, or bytes in memory.
+/// A frame that borrows its expansion bytes and its payload from a scanner, or from bytes in memory.
 #[derive(Drop)]
 pub struct FrameView<'a> {
     kind: FrameKind,
@@ -36,7 +36,7 @@ impl FrameView<'_> {
         self.kind
     }
 
-    /// Returns the master that sends the frame, or to which it is sent.
+    /// Returns the master: the sender of a request, or the receiver of a reply.
     pub fn master(&self) -> MasterId
         ensures { result ≡ (parts_of self.now).master }
     {
@@ -81,7 +81,7 @@ impl FrameView<'_> {
         self.payload
     }
 
-    /// Returns the same frame, with its bytes copied.
+    /// Returns the same frame with its own copy of the expansion bytes and the payload.
     pub fn to_frame(&self) -> Frame
         ensures { result ≡ parts_of self.now }
     {

@@ -22,7 +22,7 @@ pub record IsSubmitter (id : MasterId) (retries : ℕ) (hand : Hand) (held : Opt
   pub master_is : submitter.master ≡ record { id = id; retries = retries; reply_limit = reply_limit; hand = hand }
   pub place_is : IfSome held (λ request. submitter.place ≡ request.submission)
 
--- A master has this request in its hand, or nothing if there is no request.
+-- A master has this request in its hand, to be sent. If there is no request, the hand is empty.
 abbrev pub Holds : MasterId → ℕ → Option InHand → Submitter → Type 0
 Holds id retries held submitter = IsSubmitter id retries (hand_of held) held submitter
 

@@ -14,7 +14,8 @@ use Rattle.hart_line.specs.script.Words.{◌>>=◌, HasNoValue, IsAddressWord, I
 use Rattle.hart_line.specs.declared.script.rows.RowFault.{RowFault}
 use Rattle.hart_line.specs.declared.script.rows.RowFault.TheVariants as rows
 
--- The data of the words after COMMAND: no word means no bytes, one word is DATA, and more words are an error.
+-- The data of the words after COMMAND. No word means no bytes, and one word is DATA. The result is `None` if this word is not DATA, or if
+-- there are more words.
 abbrev pub payload_of : List (List ℕ) → Option (List ℕ)
 payload_of [] = Some []
 payload_of (word ∷ []) = data_of word
@@ -81,7 +82,8 @@ item_words [] = []
 item_words (kind ∷ words) =
     if bytes_eq kind (codes "turn") then drop 1 words else if bytes_eq kind (codes "noise") then words else []
 
--- Words need room for this number of characters. It is half the number of bytes of one of these words, and at least 1.
+-- Words need room for this number of characters. The number is at least 1, and is half the number of bytes of one of these words, rounded
+-- down.
 abbrev pub IsNeededByWords : List (List ℕ) → ℕ → Type 0
 IsNeededByWords words items = (0 < items) × Any (λ word. items ≡ length word / 2) words
 

@@ -17,7 +17,7 @@ infixl 10 ◌>>=◌
 abbrev pub ◌>>=◌ : {A B : Type 0} → Option A → (A → Option B) → Option B
 read >>= next = option_and_then next read
 
--- A word means the value beside it in a table of words, or nothing if the word is not in the table.
+-- The value beside a word in a table of words, or `None` if the word is not in the table.
 abbrev pub named_in : {T : Type 0} → List (List ℕ × T) → List ℕ → Option T
 named_in {T} table word = lookup (λ name. bytes_eq word name) table
 
@@ -25,7 +25,8 @@ named_in {T} table word = lookup (λ name. bytes_eq word name) table
 abbrev pub who_of : List ℕ → Option MasterId
 who_of word = named_in ((codes "P", Primary) ∷ (codes "S", Secondary) ∷ []) word
 
--- A number up to `greatest` is written in decimal, in at least one and at most `most_digits` digits.
+-- The number that a word writes in decimal. The result is `None` unless the word has 1 to `most_digits` digits and the number is at most
+-- `greatest`.
 abbrev pub decimal_of : (most_digits greatest : ℕ) → List ℕ → Option ℕ
 decimal_of most_digits greatest word =
     if all_ascii_digits word && nat_le 1 (length word) && nat_le (length word) most_digits && nat_le (digits_value 10 word) greatest

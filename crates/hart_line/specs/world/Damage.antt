@@ -32,8 +32,8 @@ pub record ArrivesAmong (chars : List Character) (sent arrived : Option FramePar
   pub are_frames : AreFrames chars 0 frames
   pub detected : IsDetected sent frames arrived
 
--- `sent` was sent, the device heard these characters, and their damage is detected. `brought` is what the characters bring the device. If
--- they bring a frame, it is the sent frame.
+-- `sent` was sent, the device heard these characters, and their damage is detected. `brought` is what the characters bring the device: the
+-- sent frame, a garbled request, or no message.
 pub record ReachesAmong (identity : IdentityParts) (chars : List Character) (sent : Option FrameParts) (brought : Brought) : Type 0 where
   pub frame : Option FrameParts
   pub arrives : ArrivesAmong chars sent frame

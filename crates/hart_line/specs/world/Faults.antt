@@ -9,8 +9,8 @@ use Rattle.hart_line.specs.world.Step.{IsLast, LeadsTo, sent_back, sent_by}
 use Rattle.hart_line.specs.world.World.{Start, World}
 use Rattle.hart_line.specs.declared.fault.Leg.TheVariants as legs
 
--- What is heard in a leg of an event, and what was sent in it. In the leg up of a turn, a master sends the request in its hand. In
--- the leg down, the device answers what the leg up brought it. At noise nothing is sent. No other event has a leg.
+-- What is heard in a leg of an event, and what was sent in it. In the leg up of a turn, a master sends the request in its hand. In the leg
+-- down, the device sends its answer to what the leg up brought the device. At noise nothing is sent. No other event has a leg.
 abbrev pub HeardIn : Start → World → LineEvent → Leg → Heard → Option SpokenFrame → Type 0
 HeardIn start world (Turn who up down) legs.Up heard sent = (heard ≡ up) × (sent ≡ sent_by who (of_master who world.hands))
 HeardIn start world (Turn who up down) legs.Down heard sent = (heard ≡ down) × (brought : Brought)

@@ -31,9 +31,9 @@ pub record KeepsPromises (start : Start) (events : List LineEvent) (device : Dev
       → refused.turn.suffix ≡ [] → device ≡ after_refusal (state_of start.device before) refused.frame
   pub refused_turns_change_nothing : (before next : World) (refused : IsRefusedByDevice start events before next)
       → state_of start.device next ≡ after_refusal (state_of start.device before) refused.frame
-  -- If a write arrives in a turn and the device answers it with code 0, the request in hand is executed, even if the answer is not
-  -- heard. Nothing else is ever executed. So a write whose accepted reply has code 0 was executed in the turn of that reply. A
-  -- submission was executed at most as often as it was sent, and never if it was refused.
+  -- If a write arrives in a turn and the device answers it with code 0, the request in hand is executed, even if the answer is not heard.
+  -- No other write is ever executed. So a write whose accepted reply has code 0 was executed in the turn of that reply. A submission was
+  -- executed at most as often as it was sent, and never if it was refused.
   pub unrefused_writes_are_executed : (before next : World) (who : MasterId) (up down : Heard)
       (turn : IsStepOf start (first_world start) events before (Turn who up down) next)
       → IsUnrefusedWrite (state_of start.device before) turn.step.brought → IsExecutedFromHand start events who before next
@@ -47,9 +47,9 @@ pub record KeepsPromises (start : Start) (events : List LineEvent) (device : Dev
       → IsExecutedInItsTurn start events number request reply sendings
   pub at_most_once_a_sending : (world : World) → IsLast start events world → (number : ℕ)
       → times_executed number world.executions ≤ sendings_in (slice_get outcomes number)
-  -- If a master's configuration-changed bit is clear after the script, nothing was written since this master's last Command 38 with code 0.
-  -- The counter and the registers are as they were before the turn of that command. If the command
-  -- named a counter, the device's counter still has this value.
+  -- If a master's configuration-changed bit is clear after the script, no write was executed after this master's last Command 38 with code
+  -- 0. The counter and the registers are as they were before the turn of that command. If that command named a counter, the device's
+  -- counter still has the named value.
   pub no_change_unseen : (who : MasterId) (before : World) (given : Option ℕ) → IsLastReset start events who before given
       → of_master who device.changed ≡ false → IfSome given (λ counter. device.counter ≡ counter)
       × (device.counter ≡ (state_of start.device before).counter) × (device.contents ≡ (state_of start.device before).contents)

@@ -25,6 +25,7 @@ most_spoken events = 2 * count_by is_turn events + count_by is_noise events
 abbrev pub IsNeededForOutcomes : List LineEvent → ℕ → Type 0
 IsNeededForOutcomes events items = (0 < items) × (items ≡ count_by is_submission events)
 
--- If spoken frames are kept, events need room for their outcomes, and room for the greatest number of frames that can be spoken in them.
+-- If spoken frames are kept, events need room for this number of items in one of two lists. One list is for their outcomes. The other is
+-- for the greatest number of frames that can be spoken in the events.
 abbrev pub IsNeededBy : List LineEvent → ℕ → Type 0
 IsNeededBy events items = IsNeededForOutcomes events items ⊎ (0 < items) × (items ≡ most_spoken events)

@@ -55,9 +55,9 @@ pub record IsWellMadeStart (start : Start) : Type 0 where
   pub process : IsProcess start.process
 
 -- An accepted reply is the device's answer in the turn in which its request was last sent. The request in hand, with its address, is the
--- request that was submitted to this turn's master under this number. It was sent for the last time, and arrived. The device's answer came
--- back and was accepted as this reply, with the device's code, status and data. The effect of the request entered the executions, and the
--- request left the hand.
+-- request that was submitted to this turn's master under this number. In this turn the request was sent for the last time, and arrived at
+-- the device. The device's answer came back and was accepted as this reply, with the device's code, status and data. The effect of the
+-- request entered the executions, and the request left the hand.
 pub record AnswersLastSending (start : Start) (events : List LineEvent) (number : ℕ) (reply : Reply) (sendings : ℕ) : Type 0 where
   pub before : World
   pub next : World
@@ -89,7 +89,7 @@ requests_of events = map (λ submission. submission.request) (submissions_of eve
 abbrev pub AreWellMade : List LineEvent → Type 0
 AreWellMade events = All IsRequest (requests_of events)
 
--- The number of times that a submission was sent, as its outcome says. It is 0 for a refused submission, and for one that does not exist.
+-- The number of times that a submission was sent, as its outcome says. The number is 0 if the submission was refused or does not exist.
 abbrev pub sendings_in : Option Outcome → ℕ
 sendings_in (Some (Answered reply sendings)) = sendings
 sendings_in (Some (NoReply sendings)) = sendings
@@ -105,8 +105,8 @@ pub record IsExecutedInItsTurn (start : Start) (events : List LineEvent) (number
   pub overwrites : overwrite_of request ≡ Some overwrite
   pub executed : answered.next.executions ≡ answered.before.executions ++ record { submission = number; overwrite = overwrite } ∷ []
 
--- What an event brought the device: for a turn, what the leg up of the turn brought. Any other event counts as bringing no message, because
--- it cannot bring a frame. Noise may bring a garbled request, but such a request has no effect.
+-- What an event brought the device: for a turn, what the leg up of the turn brought. Any other event counts as no message, because only a
+-- turn can bring the device a frame. Noise may bring a garbled request, but such a request has no effect.
 abbrev pub brought_in_step : (start : Start) (before : World) (event : LineEvent) (next : World) → Step start before event next → Brought
 brought_in_step start before (Turn who up down) next step = step.brought
 brought_in_step start before event next step = NoMessage
@@ -142,8 +142,8 @@ abbrev pub HasNoReset : Start → World → List LineEvent → MasterId → Type
 HasNoReset start from events who = (before next : World) (up down : Heard)
     (turn : IsStepOf start from events before (Turn who up down) next) → effect_on (state_of start.device before) turn.step.brought ≢ Resets
 
--- The last turn of a script in which a Command 38 of this master was executed with code 0. `before` is the world before that turn, and
--- `given` is the counter that the command named, if any.
+-- In a turn of the script, a Command 38 of this master was executed with code 0, and no later turn of this master resets the master's
+-- configuration-changed bit. `before` is the world before that turn, and `given` is the counter that the command named, if any.
 pub record IsLastReset (start : Start) (events : List LineEvent) (who : MasterId) (before : World) (given : Option ℕ) : Type 0 where
   pub next : World
   pub up : Heard

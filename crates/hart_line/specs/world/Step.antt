@@ -68,22 +68,22 @@ abbrev pub marks_after : Effect → MasterId → ℕ → EachMaster (Option ℕ)
 marks_after Resets who count marks = with_master who (Some count) marks
 marks_after effect who count marks = marks
 
--- If a frame is answered in a master's turn, the reply shows this master's cold start bit and clears it, whatever its response
--- code. Anything else leaves both masters' bits as they are: a frame that is not answered, a garbled request, or no message.
+-- If a frame is answered in a master's turn, the reply shows this master's cold start bit and clears it, whatever its response code. A
+-- frame that is not answered, a garbled request and no message leave both masters' bits unchanged.
 abbrev pub cold_start_after : DeviceState → MasterId → Brought → EachMaster Bool
 cold_start_after state who (OneFrame frame) = if is_answered state frame then with_master who false state.cold_start else state.cold_start
 cold_start_after state who brought = state.cold_start
 
--- A master accepts a frame that comes back if it is a reply to the request in hand. It accepts nothing if the frame is no such
--- reply, if nothing comes back, or if nothing is in hand.
+-- A master accepts a frame that comes back if it is a reply to the request in hand. The master accepts no reply (`None`) if the frame is
+-- not such a reply, if no frame comes back, or if no request is in hand.
 abbrev pub Accepts : MasterId → Option InHand → Option FrameParts → Option Reply → Type 0
 Accepts who None returned accepted = accepted ≡ None
 Accepts who (Some held) None accepted = accepted ≡ None
 Accepts who (Some held) (Some frame) None = (reply : Reply) → IsReplyTo who held.address held.request frame reply → ⊥
 Accepts who (Some held) (Some frame) (Some reply) = IsReplyTo who held.address held.request frame reply
 
--- A request is answered if a reply is accepted. Without an accepted reply, it is given up if it was sent more than `retries` times, and is
--- unfinished otherwise.
+-- A request is answered if a reply is accepted. Without an accepted reply, the request is given up if it was sent more than `retries`
+-- times. Otherwise the request is unfinished.
 abbrev pub outcome_of : (retries sendings : ℕ) → Option Reply → Outcome
 outcome_of retries sendings (Some reply) = Answered reply sendings
 outcome_of retries sendings None = if nat_le sendings retries then Unfinished sendings else NoReply sendings
@@ -93,7 +93,7 @@ abbrev pub hand_left : InHand → Outcome → Option InHand
 hand_left held (Unfinished sendings) = Some (record held { sendings = sendings })
 hand_left held outcome = None
 
--- If the device answers what it was brought, the answer is spoken. Nothing else changes.
+-- If the device answers what it was brought, the answer is added to what was spoken. The rest of the world is unchanged.
 abbrev pub replied : Start → World → Brought → World
 replied start world brought = record world { spoken = world.spoken ++ option_to_list (sent_back start world brought) }
 
@@ -134,8 +134,8 @@ pub record IsNoise (start : Start) (world : World) (chars : List Character) (nex
   pub next_is : next ≡ replied start world brought
 
 -- An event leads from a world to the next world. A submission that has a fault is refused with this fault. A switch of protection changes
--- nothing but the protection. A restart of the device sets both masters' cold start bits and nothing else, so what the masters have in hand
--- stays. A turn or noise with undetected damage leads to no next world.
+-- only the protection. A restart of the device only sets both masters' cold start bits, so the masters keep what they have in hand. A turn
+-- or noise with undetected damage leads to no next world.
 abbrev pub Step : Start → World → LineEvent → World → Type 0
 Step start world (Submit who address request) next =
     next ≡ submitted world who address request (submission_fault (of_master who world.hands) address request)

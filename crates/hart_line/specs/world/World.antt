@@ -58,9 +58,9 @@ abbrev pub is_changed : Bool → Option ℕ → ℕ → Bool
 is_changed initially None count = initially || nat_lt 0 count
 is_changed initially (Some mark) count = nat_lt mark count
 
--- The device in a world. Each register holds the bytes of the newest execution that names it, or its initial bytes if none does. The
--- counter has grown by the number of executions, with 0 after 65535. Each configuration-changed bit is as its master's mark says.
--- Protection and the cold start bits are those of the world. The identity stays.
+-- The device in a world. Each register holds the bytes of the newest execution that names this register. A register that no execution names
+-- holds its initial bytes. The counter has grown by the number of executions, with 0 after 65535. Each configuration-changed bit is as its
+-- master's mark says. Protection and the cold start bits are those of the world. The identity stays.
 abbrev pub state_of : DeviceState → World → DeviceState
 state_of initial world = record initial {
   contents = registers_of (overwrites_of world.executions) initial.contents;

@@ -8,7 +8,8 @@ use crate::{NoRoom, Party, Spoken};
 use hart_frame::{Body, Frame};
 use std::marker::Model;
 
-/// The frames that are spoken in one event: at most two, a request and a reply. They lie in the value itself: nothing is allocated.
+/// The frames that are spoken in one event: at most two, a request and a reply. The frames are stored in the value itself, without
+/// allocation.
 ///
 /// Contracts see the list of these frames.
 #[derive(Drop)]

@@ -13,7 +13,8 @@ use hart_frame::{Char, Frame, LoneFrame, lone_frame};
 #[derive(Clone, Copy)]
 pub struct Undetected;
 
-/// Returns the frame that arrives in a leg, if any. No other frame arrives than the frame that was sent.
+/// Returns the frame that was sent if it arrives in the leg, or `None` if no frame arrives. Returns [`Undetected`] as the error if another
+/// frame or several frames are heard.
 ///
 /// A clean leg is not searched for frames, because a message has only its own frame.
 #[tactic(auto, using(crate::proofs::lemmas::line::Leg::message_arrives, crate::proofs::lemmas::line::Leg::nothing_arrives))]
@@ -33,7 +34,8 @@ pub fn arrived_in<'a>(
     }
 }
 
-/// Returns the frame that arrives among characters, if any. No other frame arrives than the frame that was sent.
+/// Returns the frame that was sent if it arrives among the characters, or `None` if they have no frame. Returns [`Undetected`] as the error
+/// if they have another frame or several frames.
 pub fn arrived_among<'a>(
     chars: &[Char],
     sent: Option<&'a Frame>,
@@ -48,7 +50,8 @@ pub fn arrived_among<'a>(
     }
 }
 
-/// Lets the device hear the leg `up`, in which `sent` was sent. Returns true if the device answers; the answer is then in `reply`.
+/// Lets the device hear the leg `up`, in which `sent` was sent. Returns true if the device answers, with the answer in `reply`. Returns
+/// [`Undetected`] as the error if the damage of the leg is undetected.
 #[tactic(auto, using(crate::proofs::lemmas::line::Leg::nothing_reaches))]
 pub fn answer_in<S: RegisterStore>(
     device: &mut Device<S>,
@@ -72,7 +75,8 @@ pub fn answer_in<S: RegisterStore>(
     }
 }
 
-/// Lets the device hear these characters. Returns true if the device answers; the answer is then in `reply`.
+/// Lets the device hear these characters, when `sent` was sent. Returns true if the device answers, with the answer in `reply`. Returns
+/// [`Undetected`] as the error if the damage of the characters is undetected.
 #[tactic(auto, using(crate::proofs::lemmas::line::Leg::answered_among))]
 pub fn answer_among<S: RegisterStore>(
     device: &mut Device<S>,

@@ -16,7 +16,7 @@ pub trait Log {
     ///
     /// # Errors
     ///
-    /// [`NoRoom`] if memory for the frame was refused. It is not known then what the log keeps.
+    /// [`NoRoom`] if memory for the frame was refused. After this error, the contract does not say what the log keeps.
     fn note(&mut self, spoken: &Spoken) -> Result<(), NoRoom>
         ensures noted { OnOk result (notes self.old (spoken.now ∷ []) self.new) }
         ensures refused { IfErr result (λ none. (0 < none.items) × needs spoken.now none.items) };

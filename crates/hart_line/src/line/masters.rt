@@ -51,7 +51,8 @@ impl Submitter {
         self.master.send_into(frame)
     }
 
-    /// Hears the frame that comes back, if any. Returns the outcome of the request in hand if the frame answers that request.
+    /// Hears the frame that comes back, if any. Returns the outcome of the request in hand if the frame is the awaited reply, and otherwise
+    /// `None`.
     fn hear(&mut self, returned: Option<&Frame>) -> Option<Outcome>
         ensures awaited { (id : MasterId) (retries : ℕ) (held : Option InHand) → Awaits id retries held self.old
             → MatchOption result (Accepts id held (option_copied returned.entry) None × Awaits id retries held self.new)

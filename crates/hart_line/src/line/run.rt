@@ -17,10 +17,10 @@ use std::alloc::Global;
 
 /// Carries out a script: what the masters ask, and what each side hears.
 ///
-/// In a turn the master sends the request in its hand, if there is one. The device hears the characters of the leg up, and answers.
-/// Both masters hear the characters of the leg down. If the master still awaits its reply after that, it stops waiting. The device and both
-/// masters hear noise. Both masters also hear the device's answer to noise, without damage. A restart sets both cold start bits of the
-/// device.
+/// In a turn the master sends the request in its hand, if there is one. The device hears the characters of the leg up, and answers. Both
+/// masters hear the characters of the leg down. If the master of the turn then still awaits a reply, this master stops waiting. The device
+/// and both masters hear noise. Both masters also hear the device's answer to noise, without damage. A restart sets both cold start bits of
+/// the device.
 ///
 /// The masters are the primary and the secondary one, with no request in hand. The device is handed the values of `process`.
 ///

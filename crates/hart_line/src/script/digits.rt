@@ -9,7 +9,7 @@ use std::marker::Model;
 /// Stands in the table for a byte that is no hex digit.
 const NO_DIGIT: u8 = 255;
 
-/// The value of each hex digit. The library is asked for it only once.
+/// The value of each byte as a hex digit. The library is asked for each value only once, when the table is built.
 #[derive(Drop)]
 pub struct Digits {
     values: [u8; 256],

@@ -45,7 +45,8 @@ pub fn leading_item(text: &[u8]) -> Option<LeadingItem>
     Some(LeadingItem { char, len: 5 })
 }
 
-/// Returns the same item as [`leading_item`] and appends its character. If the item has no fault bits, its digits are read with the table.
+/// Returns the same item as [`leading_item`], and appends its character to `chars`. Without an item, returns `None` and appends no
+/// character. If the item has no fault bits, its digits are read with the table.
 #[inline(always)]
 #[tactic(auto, using(crate::proofs::lemmas::script::Items::begins_as_plain))]
 fn push_item(digits: &Digits, text: &[u8], chars: &mut Filling<Char>) -> Option<LeadingItem>
@@ -74,7 +75,8 @@ fn gives_faults(text: &[u8]) -> bool
     text.len() > 2 && text[2] == b'!'
 }
 
-/// Reads a word that is not empty and consists of items, end to end. Reserves room for one character for every two bytes of the word.
+/// Reads a word that is not empty and consists of items, end to end. Reserves room for one character for every two bytes of the word. If
+/// this room is refused, the error is [`RowFault::Memory`]. Otherwise a word of any other form has the error [`RowFault::Bad`].
 pub(crate) fn read_items(alloc: Global, digits: &Digits, word: &[u8]) -> Result<CharList, RowFault>
     ensures { ReadsWords (word.now ∷ []) (IsItemsWord word.now) result }
 {

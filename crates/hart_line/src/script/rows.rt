@@ -81,7 +81,8 @@ fn read_submit(rest: Words<'_>) -> Option<LineEvent>
     })
 }
 
-/// Reads COMMAND and the words after it as a request: no word means no data, and one word is DATA. Returns `None` for anything else.
+/// Reads COMMAND and the words after COMMAND as a request: no word means no data, and one word is DATA. Returns `None` if the words write
+/// no request.
 fn read_request(command: &[u8], rest: Words<'_>) -> Option<Request>
     ensures { result ≡ request_of command.now rest.entry }
 {

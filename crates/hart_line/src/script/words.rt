@@ -32,7 +32,7 @@ pub fn read_address(word: &[u8]) -> Option<Address>
     Some(Address::Unique(read_device(word)?))
 }
 
-/// Reads a polling address, written as `@` and one or two digits.
+/// Reads a polling address up to 63, written as `@` and one or two digits. Returns `None` for any other word.
 fn read_polling_address(word: &[u8]) -> Option<PollingAddress>
     ensures { result ≡ polling_of word.now }
 {
@@ -42,7 +42,7 @@ fn read_polling_address(word: &[u8]) -> Option<PollingAddress>
     PollingAddress::new(read_decimal(digits, 2)?).ok()
 }
 
-/// Reads the unique address of a device, written in ten hex digits.
+/// Reads the unique address of a device, written in ten hex digits. Returns `None` for any other word.
 fn read_device(word: &[u8]) -> Option<UniqueAddress>
     ensures { result ≡ device_of word.now }
 {
@@ -60,7 +60,7 @@ pub fn read_command(word: &[u8]) -> Option<u8>
     read_decimal(word, 3)
 }
 
-/// Reads a decimal number up to 255 in at most `most_digits` digits, which are two or three.
+/// Reads a decimal number up to 255 in one to `most_digits` digits. `most_digits` is 2 or 3. Returns `None` for any other word.
 fn read_decimal(word: &[u8], most_digits: usize) -> Option<u8>
     requires { (2 ≤ most_digits) × (most_digits ≤ 3) }
     ensures { result ≡ decimal_of most_digits 255 word.now }

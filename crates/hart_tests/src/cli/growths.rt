@@ -1,7 +1,7 @@
 //! Makes each call once, by its name, and prints what the call returned.
 //!
-//! `tools/refused-growths.sh` runs this test again and again, and refuses a different allocation (a growth) each time. So nothing but the
-//! calls may allocate here: inputs are constants, and texts go into an array.
+//! `tools/refused-growths.sh` runs this test again and again, and refuses a different allocation (a growth) each time. So only the calls
+//! may allocate here: inputs are constants, and texts go into an array.
 
 use super::call::{Call, Named, Words};
 use super::images::NEW;

@@ -205,7 +205,7 @@ type Order<'a> = (
     &'a str,
 );
 
-/// A line is written as soon as it is decided, and nothing is read after a fault or the end.
+/// Each call writes a line as soon as the line is decided, and makes no read after a fault or after the end of its input.
 const ORDERS: &[Order] = &[
     (
         Call::Dump,

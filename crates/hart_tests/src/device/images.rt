@@ -25,7 +25,7 @@ const LONG_TAG: usize = 51;
 /// The place in an image of version 2 where the counter and the flags begin.
 pub(super) const ENDING: usize = 83;
 
-/// Returns an image with these bytes from a place on.
+/// Returns an image with these bytes from a place on, or the same image if the bytes do not fit there.
 pub(super) fn image_with<const N: usize>(image: [u8; N], place: usize, bytes: &[u8]) -> [u8; N] {
     let mut changed = image;
     write_from(&mut changed, place, bytes);
@@ -41,7 +41,7 @@ fn write_from(image: &mut [u8], place: usize, bytes: &[u8]) {
     }
 }
 
-/// Returns the fault with which bytes are refused as an image.
+/// Returns the fault with which bytes are refused as an image, or `None` if the bytes are an image.
 pub(super) fn image_fault(image: &[u8]) -> Option<DeviceFault> {
     Device::<ImageRegisters>::from_image(bench::identity(), image).err()
 }

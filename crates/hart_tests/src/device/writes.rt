@@ -23,7 +23,7 @@ const LONG_TAG: &[u8] = &[
     0xFF, 0xFF,
 ];
 
-/// What the primary master asks of the device, step by step, once its counter has gone round to 0.
+/// What the primary master asks of the device, step by step, after the device's counter has gone round to 0.
 const STEPS: &[Step] = &[
     Step {
         command: 19,
@@ -98,7 +98,7 @@ fn takes(device: &mut Device<FieldRegisters>, step: &Step) -> Result<bool, Fail>
     )
 }
 
-/// Whether a device is silent when a command goes to all devices with the long tag that this device had before.
+/// Whether a device is silent to a broadcast command with the long tag that the device had before its writes.
 fn is_silent_to_former(device: &mut Device<FieldRegisters>, command: u8) -> Result<bool, Fail> {
     let former = request_to(Asked::All, MasterId::Primary, command, &[0x20; 32])?;
     Ok(device.receive(&former, &bench::process()).is_none())

@@ -82,7 +82,7 @@ const HEADERS: &[Row] = &[
     ),
 ];
 
-/// Whether a header says this.
+/// Whether a header has this kind, these address bytes and this command.
 fn says(header: &Header, (kind, address, command): &Said) -> bool {
     let bytes = header.address().bytes(header.master(), false);
     header.kind() == *kind && bytes.as_slice() == *address && header.command() == *command

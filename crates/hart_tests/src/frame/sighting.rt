@@ -187,7 +187,8 @@ pub fn next_of(bytes: &[u8], after: After, from: usize) -> Option<NextSighting<'
 }
 
 impl Hearing {
-    /// Adds the sightings that are decided by the kept bytes and by what comes after them. Drops the used bytes.
+    /// Adds the sightings that are decided by the kept bytes and by what comes after them, and drops the used bytes. Fails if more
+    /// characters may come and more than 268 bytes stay.
     fn see(&mut self, alloc: Global, after: After) -> Result<(), Fail> {
         let mut used = 0;
         for _ in 0..=self.kept.len() {
@@ -236,8 +237,8 @@ fn heard(alloc: Global, chars: &[Char], ended: bool, size: usize) -> Result<Vec<
     Ok(hearing.seen)
 }
 
-/// Returns what is seen of the whole list: its messages, and the misses in each gap. A miss is found from the gap and what follows it,
-/// without what comes before.
+/// Returns what is seen of the whole list: its messages, and the misses in each gap. Finds a miss only from the characters after
+/// the previous message. Leaves out a miss with one preamble byte if `is_crossed` is true for its place.
 fn of_whole(alloc: Global, chars: &[Char]) -> Result<Vec<Seen>, Fail> {
     let mut seen = Vec::new(alloc);
     let mut from = 0;

@@ -130,8 +130,8 @@ fn push_part(chars: &mut Vec<Char>, part: &[u16]) -> Result<(), Fail> {
     Ok(())
 }
 
-/// Takes the frames that are ready. Returns where the last of these frames stops, if they are the next frames of the whole list
-/// after `from`.
+/// Takes the frames that are ready. Returns where the last of these frames stops, or `from` if no frame is ready. Returns `None` if
+/// the taken frames are not the next frames of the whole list after `from`.
 fn taken(scanner: &mut Scanner, chars: &[Char], from: usize) -> Option<usize> {
     let mut stop = from;
     for _ in 0..=chars.len() {

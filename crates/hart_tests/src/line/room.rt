@@ -228,7 +228,7 @@ fn every_command_has_room(rt: HostRuntime) -> Result<(), Fail> {
     Ok(())
 }
 
-/// Numbers of items for which no script above needs room. There must be room for each number of items.
+/// More numbers of items, for which the scripts above need no room. `reserved` must find room for each number.
 const ROOMS: &[usize] = &[1, 31, 7_777, 1_048_577];
 
 #[test]

@@ -38,8 +38,8 @@ pub record IsFirstBadCharacter (text : List ℕ) (place : ℕ) : Type 0 where
   pub bad : ¬ IsCharacter (slice_index text place)
   pub least : (k : ℕ) → k < place → IsCharacter (slice_index text k)
 
--- A text is refused with `WrongLength` if it does not have `characters` characters. Otherwise, it is refused for its first bad
--- character, if it has one. It is never refused for anything else.
+-- A text is refused with `WrongLength` if it does not have `characters` characters. Otherwise, it is refused with `BadCharacter` if it
+-- has a bad character, and the fault has the place of the first one. No other fault is possible.
 abbrev pub IsTextFault : ℕ → List ℕ → ValueFault → Type 0
 IsTextFault characters text WrongLength = length text ≢ characters
 IsTextFault characters text (BadCharacter place) = (length text ≡ characters) × IsFirstBadCharacter text place

@@ -27,7 +27,7 @@ impl Model for UniqueAddress {
 }
 
 impl UniqueAddress {
-    /// Returns the unique address with this expanded device type and this device id.
+    /// Returns the unique address with this device id and with the lower 14 bits of this expanded device type.
     ///
     /// # Errors
     ///

@@ -21,7 +21,7 @@ fn is_character(code: u8) -> bool
     matches!(code, FIRST_CHARACTER..=LAST_CHARACTER)
 }
 
-/// Finds the place of the first byte that is no character of packed text.
+/// Returns the place of the first byte that is no character of packed text, or `None` if all bytes are such characters.
 pub(crate) fn first_bad_character(text: &[u8]) -> Option<usize>
     ensures { MatchOption result (All IsCharacter text.now) (IsFirstBadCharacter text.now) }
 {

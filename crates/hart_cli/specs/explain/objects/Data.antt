@@ -53,7 +53,8 @@ refused_members command code bytes =
     let fields = fields_of (request_rows command) bytes in
     said_members fields (drop (length (bytes_of fields)) bytes) (refused command code)
 
--- Code 64 refuses data of an unknown command, which is no problem of the data. Code 5 refuses too few data.
+-- The members for refused data. Code 64 means an unknown command, which is no problem of the data. Code 5 means too few data. Any other
+-- code has the `refused_members`.
 abbrev pub no_request_members : (command code : ℕ) → List ℕ → List Named
 no_request_members command code bytes =
     if code == 64 then unread_members null
@@ -73,7 +74,7 @@ request_members command bytes = named "data" (hex bytes) ∷ read_members comman
 abbrev pub no_reply_members : ℕ → List Named
 no_reply_members command = unread_members (if is_some (command_name command) then no_reply else null)
 
--- Data after a response code other than 0 are not read. No data are no problem.
+-- Data after a response code other than 0 are not read, which is a problem. If there are no data, the problem is null.
 abbrev pub not_read_members : ℕ → List ℕ → List Named
 not_read_members code [] = unread_members null
 not_read_members code (byte ∷ bytes) = unread_members (not_read code)

@@ -8,7 +8,7 @@ use Rattle.hart_cli.specs.explain.objects.Members.{Named, named, object_of, word
 use Rattle.hart_cli.specs.explain.objects.Message.{message_members}
 use Rattle.hart_cli.specs.explain.objects.Misses.{miss_members}
 
--- A date has a member with its word. No date has none.
+-- A date has a member with its word. Without a date, there is no member.
 abbrev pub time_members : List ℕ → List Named
 time_members [] = []
 time_members (byte ∷ word) = named "time" (string (byte ∷ word)) ∷ []

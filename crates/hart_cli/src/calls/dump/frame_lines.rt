@@ -93,7 +93,7 @@ impl FrameLines {
         }
     }
 
-    /// Hears bytes without faults while none are held, and holds only those that are undecided.
+    /// Hears bytes without faults while no bytes are held. Of the new bytes, holds only those that are undecided.
     fn hear_in_place(&mut self, bytes: &[u8])
         requires empty { self.old.held ≡ [] }
         requires room { HasRoomFor (length bytes.now) self.old }
@@ -121,7 +121,7 @@ impl FrameLines {
         self.let_go(used);
     }
 
-    /// Hears the character of a piece, if the piece means one.
+    /// Hears the character of a piece. A separator has no character, and changes nothing.
     fn hear_char(&mut self, char: Option<Char>)
         requires waiting { IsWaiting self.old.held }
         requires room { HasRoomFor (length (option_to_list char)) self.old }
@@ -149,7 +149,7 @@ impl FrameLines {
         self.first += used as u64 + 1;
     }
 
-    /// Keeps a line for each frame in the held characters, after which nothing comes.
+    /// Keeps a line for each frame in the held characters. No character comes after the held ones.
     pub fn finish(&mut self)
         requires waiting { IsWaiting self.old.held }
         requires none_kept { self.old.lines ≡ [] }

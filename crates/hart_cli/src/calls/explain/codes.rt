@@ -16,7 +16,7 @@ pub fn push_code(text: &mut Kept, command: u8, code: u8)
     push_named_number(text, code, code_name(command, code));
 }
 
-/// Returns the name of a response code of a command, if it has one.
+/// Returns the name of a command's response code, or `None` if the code has no name.
 pub fn code_name(command: u8, code: u8) -> Option<&'static str>
     ensures name { option_map (λ name. name.now) result ≡ code_name command code }
     ensures short { IfSome result (λ name. length name.now ≤ 64) }

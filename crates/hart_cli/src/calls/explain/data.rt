@@ -32,7 +32,7 @@ pub fn push_request_data(text: &mut Kept, pairs: &Pairs, command: u8, bytes: &[u
     }
 }
 
-/// Adds what is said of data that this code refuses as a request.
+/// Adds what is said of the data of a request. A device refuses these data with this code.
 fn push_no_request(text: &mut Kept, pairs: &Pairs, command: u8, code: ResponseCode, bytes: &[u8])
     requires room { HasRoomFor 6300 text.old }
     requires few { length bytes.now ≤ 255 }

@@ -17,7 +17,7 @@ pub type Date = [u8; DATE_LEN + 1];
 pub struct Dates {
     /// The dates of the first held characters.
     pub held: ArrayVec<Date, MOST_OPEN>,
-    /// The date of the later characters, and of those that come next.
+    /// The date of the other held characters, and of the characters that come next.
     pub last: Date,
 }
 
@@ -33,7 +33,7 @@ impl Dates {
         }
     }
 
-    /// Hears a date: it is that of the characters that come next.
+    /// Hears a date, which becomes the date of the characters that come next.
     pub fn hear(&mut self, word: &[u8])
         requires { length word.now ≤ 32 }
         ensures held { self.new.held ≡ self.old.held }

@@ -92,7 +92,7 @@ fn before_frame(last: &Option<LastMessage>, frame: &Frame) -> Before
     }
 }
 
-/// Returns the start of `message` if `message` is a request with the frame's address and command. The frame then answers this request.
+/// Returns the start of `message` if `message` is a request with the frame's address and command, and otherwise `None`.
 fn answered(message: &LastMessage, frame: &Frame) -> Option<u64>
     ensures { result ≡ answered frame.now (listed (Some message.now)) }
 {

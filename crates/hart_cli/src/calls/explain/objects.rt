@@ -29,7 +29,8 @@ mod values;
 /// What is known of a message from the messages before it.
 #[derive(Clone, Copy)]
 pub struct Before {
-    /// Where the request that a reply answers starts, if it is the last message of its master before the reply.
+    /// The start of the last message of the same master, if that message is a request with the same address and command; otherwise
+    /// `None`. A reply answers this request.
     pub answers: Option<u64>,
     /// How many times a request has been sent in a row.
     pub sending: u64,

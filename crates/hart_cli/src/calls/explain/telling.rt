@@ -233,7 +233,7 @@ impl Telling {
         self.tell_held(writer, After::More)
     }
 
-    /// Hears the character of a piece, if the piece means one.
+    /// Hears the character of a piece. A separator has no character, and changes nothing.
     ///
     /// # Errors
     ///

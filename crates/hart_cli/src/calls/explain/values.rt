@@ -139,7 +139,7 @@ fn push_characters<const M: usize, const N: usize>(text: &mut ByteList<M>, bytes
     text.extend_from_slice(characters);
 }
 
-/// Adds a text in ISO Latin-1, or its bytes if not all of them can be printed.
+/// Adds a text in ISO Latin-1, or its bytes in hex if not all of its characters can be printed.
 #[tactic(auto, unfolding(crate::specs::explain::Values::latin_words))]
 fn push_latin_text(text: &mut Kept, pairs: &Pairs, bytes: &[u8])
     requires { HasRoomFor (2 * length bytes.now + 2) text.old }

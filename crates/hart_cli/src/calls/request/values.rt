@@ -15,7 +15,7 @@ use hart_line::read_data;
 use hart_values::{ByteList, PackedText, Payload};
 use jiff::civil::Date;
 
-/// The years that a date can have.
+/// The first year that a date can have.
 const FIRST_YEAR: i16 = 1900;
 
 const LAST_YEAR: i16 = 2155;
@@ -61,7 +61,7 @@ fn bytes_value(size: u8, word: &str) -> Result<FieldBytes, FieldFault>
     )
 }
 
-/// Returns the bytes that were read, if there are at least `least` and at most `most` of them.
+/// Returns the bytes that were read, if there are at least `least` and at most `most` of them, and otherwise the fault.
 fn sized(
     read: Option<Payload>,
     least: usize,
@@ -165,7 +165,8 @@ fn packed<const N: usize>(text: &[u8]) -> FieldBytes
     FieldBytes::from_slice(packed.as_bytes()).unwrap()
 }
 
-/// Returns the bytes of a text in ISO Latin-1. A word that begins with `0x` is hex, so that a mistyped one is not taken for a text.
+/// Returns the bytes of a text in ISO Latin-1. A word that begins with `0x` is always read as hex, so that a mistyped hex word is not taken
+/// for a text.
 fn latin_value(word: &str) -> Result<FieldBytes, FieldFault>
     ensures { result ≡ latin_value 32 word.now }
 {

@@ -49,7 +49,7 @@ impl Server {
     ///
     /// # Errors
     ///
-    /// [`NoRoom`] if it was refused.
+    /// [`NoRoom`] if this room was refused.
     pub fn new(alloc: Global, device: Device<ImageRegisters>) -> Result<Server, NoRoom>
         ensures device { IfOk result (λ server. server.device ≡ device) }
         ensures keeps { IfOk result (λ server. Keeps server []) }

@@ -100,7 +100,7 @@ impl Log for SimText {
 ///
 /// # Errors
 ///
-/// [`NoRoom`] if there is no room for them. The text is as it was.
+/// [`NoRoom`] if there is no room for the bytes. In this case the text does not change.
 fn push_bytes(text: &mut Filling<u8>, bytes: &[u8]) -> Result<(), NoRoom>
     ensures text { OnOk result (text.new.items ≡ text.old.items ++ bytes.now) }
     ensures kept { OnErr result (text.new ≡ text.old) }

@@ -1,4 +1,4 @@
-//! Frames that are built in the memory of another frame, so that no frame is moved.
+//! Functions that write a new frame over an old frame, so that no frame is moved in memory.
 ghost use Rattle.std.specs.Prelude.{◌≡◌, ◌≤◌, length};
 ghost use Rattle.hart_frame.specs.wire.FrameParts.{reply_parts, request_parts};
 

@@ -32,7 +32,7 @@ pub fn push_request<W: Sink>(page: &mut Page<'_, W>, command: u8, bytes: &[u8])
     }
 }
 
-/// Adds the members of data that this code refuses as a request.
+/// Adds the members of the data of a request. A device refuses these data with this code.
 fn push_no_request<W: Sink>(page: &mut Page<'_, W>, command: u8, code: ResponseCode, bytes: &[u8])
     ensures { Adds W.stream page.old page.new (further_members (no_request_members command code bytes.now)) }
 {

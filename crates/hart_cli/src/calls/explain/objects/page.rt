@@ -187,7 +187,7 @@ impl<'a, W: Sink> Page<'a, W> {
         self.kept.clear();
     }
 
-    /// Writes bytes at once, if nothing is kept.
+    /// Writes bytes without keeping them, unless a write has failed. No text is kept before this call.
     #[inline(never)]
     fn write_now(&mut self, bytes: &[u8])
         requires { self.old.kept.now ≡ [] }
@@ -198,7 +198,7 @@ impl<'a, W: Sink> Page<'a, W> {
         }
     }
 
-    /// Returns whether all writes succeeded.
+    /// Returns `Ok` if all writes succeeded.
     ///
     /// # Errors
     ///

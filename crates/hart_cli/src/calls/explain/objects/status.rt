@@ -69,8 +69,8 @@ fn push_set_names<W: Sink>(page: &mut Page<'_, W>, bits: &[NamedBit], byte: u8)
     }
 }
 
-/// Adds the name of a bit as a string if the bit is set in a byte, after a comma if names stand before. Returns whether names stand
-/// before what comes next.
+/// Adds the name of a bit as a string if the bit is set in a byte. If `later` is true, earlier names were added, so a comma stands before
+/// the name. Returns true if the list has a name by now.
 fn push_set_name<W: Sink>(page: &mut Page<'_, W>, bit: &NamedBit, byte: u8, later: bool) -> bool
     ensures name { Adds W.stream page.old page.new (if is_set byte (seen bit.now) then comma_if later ++ quoted bit.now.name.now else []) }
     ensures later { result ≡ (later || is_set byte (seen bit.now)) }
