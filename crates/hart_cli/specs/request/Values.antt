@@ -43,13 +43,13 @@ abbrev pub number_value : ℕ → List ℕ → Result (List ℕ) FieldFault
 number_value size word = number_or_fault size (number_up_to (greatest_of size) word)
 
 -- Whether a word begins with `0x`, the bytes 48 and 120.
-abbrev pub is_hex : List ℕ → Bool
-is_hex (first ∷ second ∷ digits) = (first == 48) && (second == 120)
-is_hex _ = false
+abbrev pub has_hex_prefix : List ℕ → Bool
+has_hex_prefix (first ∷ second ∷ digits) = (first == 48) && (second == 120)
+has_hex_prefix _ = false
 
 -- Bytes are written as `0x`, followed by at most 255 bytes in hex like the word DATA.
 abbrev pub hex_of : List ℕ → Option (List ℕ)
-hex_of word = if is_hex word then data_of (drop 2 word) else None
+hex_of word = if has_hex_prefix word then data_of (drop 2 word) else None
 
 -- The bytes that were read, if there are at least `least` and at most `most` of them, and otherwise the fault.
 abbrev pub sized : FieldFault → (least most : ℕ) → Option (List ℕ) → Result (List ℕ) FieldFault
@@ -109,7 +109,7 @@ packed_value size word = pack (text_value (can_have PackedText) (4 * size / 3) (
 
 -- The bytes of a text in ISO Latin-1 are written in hex if the word begins with `0x`, and otherwise as the characters with these codes.
 abbrev pub latin_value : ℕ → List ℕ → Result (List ℕ) FieldFault
-latin_value size word = if is_hex word then bytes_value size word else text_value (can_have LatinText) size (chars word)
+latin_value size word = if has_hex_prefix word then bytes_value size word else text_value (can_have LatinText) size (chars word)
 
 -- The byte for a year, from 1900 to 2155.
 abbrev pub year_byte : ℤ → Option ℕ

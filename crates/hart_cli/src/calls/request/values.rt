@@ -4,7 +4,7 @@ ghost use Rattle.std.specs.Str.{chars};
 ghost use Rattle.hart_values.specs.hart_date.Calendar.{is_calendar_day};
 ghost use Rattle.hart_values.specs.packed_text.Packing.{IsCharacter, IsPackedSize};
 ghost use Rattle.hart_cli.specs.request.Fields.{is_writable};
-ghost use Rattle.hart_cli.specs.request.Values.{bytes_value, can_have, date_value, dated, greatest_of, hex_of, is_hex, latin_value};
+ghost use Rattle.hart_cli.specs.request.Values.{bytes_value, can_have, date_value, dated, greatest_of, hex_of, has_hex_prefix, latin_value};
 ghost use Rattle.hart_cli.specs.request.Values.{number_bytes, number_up_to, number_value, packed, packed_value, padded, sized};
 ghost use Rattle.hart_cli.specs.request.Values.{text_value, value_of};
 
@@ -80,8 +80,8 @@ fn sized(
 }
 
 /// Returns true if a word begins with `0x`.
-fn is_hex(word: &str) -> bool
-    ensures { result ≡ is_hex word.now }
+fn has_hex_prefix(word: &str) -> bool
+    ensures { result ≡ has_hex_prefix word.now }
 {
     matches!(word.as_bytes(), [b'0', b'x', ..])
 }
@@ -90,10 +90,10 @@ fn is_hex(word: &str) -> bool
 fn hex_bytes(word: &str) -> Option<Payload>
     ensures { result ≡ hex_of word.now }
 {
-    match word.as_bytes() {
-        [b'0', b'x', digits @ ..] => read_data(digits),
-        _ => None,
+    if !has_hex_prefix(word) {
+        return None;
     }
+    read_data(&word.as_bytes()[2..])
 }
 
 /// Returns the bytes of a number of one byte or two.
@@ -170,7 +170,7 @@ fn packed<const N: usize>(text: &[u8]) -> FieldBytes
 fn latin_value(word: &str) -> Result<FieldBytes, FieldFault>
     ensures { result ≡ latin_value 32 word.now }
 {
-    if is_hex(word) {
+    if has_hex_prefix(word) {
         return bytes_value(32, word);
     }
     text_value(FieldKind::LatinText, MOST_BYTES, word)

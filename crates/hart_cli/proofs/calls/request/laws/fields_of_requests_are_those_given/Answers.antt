@@ -28,8 +28,8 @@ use Rattle.hart_cli.specs.request.Fields.{taken_by}
 use Rattle.hart_cli.specs.request.Fields.{unless_bad, value_in}
 use Rattle.hart_cli.specs.request.Given.{AreGiven}
 use Rattle.hart_cli.specs.explain.Values.{date_words}
-use Rattle.hart_cli.specs.request.Values.{bytes_value, can_have, codes_value, date_value, dated, hex_of, is_hex, latin_value, pack, packed}
-use Rattle.hart_cli.specs.request.Values.{sized, text_value, value_of, year_byte}
+use Rattle.hart_cli.specs.request.Values.{bytes_value, can_have, codes_value, date_value, dated, has_hex_prefix, hex_of}
+use Rattle.hart_cli.specs.request.Values.{latin_value, pack, packed, sized, text_value, value_of, year_byte}
 use Rattle.hart_cli.proofs.calls.request.laws.fields_of_requests_are_those_given.Goals as goal
 
 -- for a row of fixed size, whether it can be written; for a row that takes all bytes that are left, whether it is the last row
@@ -77,7 +77,7 @@ either : (held : Bool) (given other : Result (List ℕ) FieldFault) (bytes : Lis
 either true given other bytes is = inl is
 either false given other bytes is = inr is
 
--- bytes in hex are as many as their field has
+-- the bytes of a value in hex are as many as the bytes of its field
 length-sized : (size : ℕ) (found : Option (List ℕ)) (bytes : List ℕ) → sized (NoBytes size) size size found ≡ Ok bytes
     → length bytes ≡ size
 length-sized size None bytes is = absurd cc
@@ -86,7 +86,7 @@ length-sized size (Some given) bytes is = grind (arith, common_steps, nat_tests)
 -- a given text in ISO Latin-1 has as many bytes as its field
 length-latin : (size : ℕ) (word bytes : List ℕ) → latin_value size word ≡ Ok bytes → length bytes ≡ size
 length-latin size word bytes is =
-    elim (either (is_hex word) (bytes_value size word) (text_value (can_have LatinText) size (chars word)) bytes is) [
+    elim (either (has_hex_prefix word) (bytes_value size word) (text_value (can_have LatinText) size (chars word)) bytes is) [
       | inl given ↦ length-sized size (hex_of word) bytes given
       | inr given ↦ length-text (can_have LatinText) size (chars word) bytes given
     ]
