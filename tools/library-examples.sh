@@ -124,7 +124,8 @@ request, Command 19, write final assembly number, code 0
     final assembly number: 01 23 45
 FIELDS
 $cc -std=c11 $strict -Iinclude examples/c/fields.c "$work/libhart.a" -o "$work/fields_c"
-printf '%s' FFFF86B7420A1B2C010700002041C80000E1 FFFFE28000000000AABBCC0B01FF4A FFFF82B7420A1B2C13030123453D | xxd -r -p >"$work/replies_heard"
+printf '%s' FFFF86B7420A1B2C010700002041C80000E1 FFFFE28000000000AABBCC0B01FF4A FFFF82B7420A1B2C13030123453D |
+    xxd -r -p >"$work/replies_heard"
 "$work/fields_c" <"$work/replies_heard" >"$work/fields_written"
 cmp "$work/fields" "$work/fields_written"
 if "$cxx" --version >"$work/said" 2>&1; then

@@ -1,5 +1,6 @@
 -- The lines of a text, and the words of a line (own profile).
-use Rattle.std.specs.Prelude.{◌≡◌, ◌<◌, ℕ, Bool, true, false, ◌==◌, ◌||◌, ◌+◌, List, [], ◌∷◌, drop, filter, get_or, length, map, if◌then◌else◌}
+use Rattle.std.specs.Prelude.{◌≡◌, ◌<◌, ℕ, Bool, true, false, ◌==◌, ◌||◌, ◌+◌, List, [], ◌∷◌, drop, filter, get_or, length}
+use Rattle.std.specs.Prelude.{map, if◌then◌else◌}
 use Rattle.std.specs.Int.{bit_at}
 use Rattle.std.specs.List.{position_or_len, slice_split}
 use Rattle.std.specs.Str.Lines.{strip_carriage_return}

@@ -19,8 +19,8 @@ pub record IsLookedAt (bytes : List ℕ) (first : ℕ) (ended : Bool) (found : S
       (λ layout. IsWhole layout (drop found.place bytes))
 
 -- A search from `from` on finds a place that is `IsLookedAt` from `first` on, if no frame begins from `first` up to `from`.
-pub looked_from : (bytes : List ℕ) (first from : ℕ) (ended : Bool) (found : SearchResult) → first ≤ from → NoneBeginThen bytes ended first from
-    → IsSearched bytes from from found → IsLookedAt bytes first ended found
+pub looked_from : (bytes : List ℕ) (first from : ℕ) (ended : Bool) (found : SearchResult) → first ≤ from
+    → NoneBeginThen bytes ended first from → IsSearched bytes from from found → IsLookedAt bytes first ended found
 looked_from bytes first from ended found after before is =
     let all = rw (take-length bytes) at
     (none_more bytes found.decided (length bytes) from found.place is.order is.within (omega arith) is.none) in

@@ -1,6 +1,7 @@
 -- Lines say at most one list of events, and lines that say events include no bad line.
-use Rattle.hart_line.proofs.Common.{◌≡◌, ◌<◌, ◌⊎◌, ℕ, List, [], ◌∷◌, Some, Err, ap, arith, codes, drop, subst, sym, refl, take, pred, length}
-use Rattle.hart_line.proofs.Common.{get_or, common_steps, AllZip, slice_get, Heard, Chars, Clean, Lost, LineEvent, Noise, Turn, Character}
+use Rattle.hart_line.proofs.Common.{◌≡◌, ◌<◌, ◌⊎◌, ℕ, List, [], ◌∷◌, Some, Err, ap, arith, codes, drop, subst, sym, refl, take}
+use Rattle.hart_line.proofs.Common.{pred, length, get_or, common_steps, AllZip, slice_get, Heard, Chars, Clean, Lost, LineEvent, Noise}
+use Rattle.hart_line.proofs.Common.{Turn, Character}
 use Rattle.hart_line.proofs.Common.{RowFault, AreItems, IsItemsWord, AreEvents, HasFirstBadLine, IsBadLine, IsLegWord, IsScript, ReadsWords}
 use Rattle.hart_line.proofs.Common.{Says, lines_in_words, HasNoValue}
 use Rattle.hart_line.specs.declared.script.rows.RowFault.TheVariants.{Bad, Memory}
@@ -94,7 +95,8 @@ pub fault_of_word : {A B : Type 0} (words : List (List ℕ)) (k : ℕ) (word : L
 fault_of_word words k word Bad IsPart IsWhole short here none reads = none reads
 fault_of_word words k word (Memory room) IsPart IsWhole short here none reads = grind arith
 
--- Take a word after the first word of a row. If the row says nothing when this word says nothing, the word's fault is the row's fault.
+-- Take a word of a row, after the row's name and `skip` further words that never need room. If the row says nothing when this word says
+-- nothing, the word's fault is the row's fault.
 pub fault_in_row : {A : Type 0} (row : List ℕ) (words given : List (List ℕ)) (skip k : ℕ) (word : List ℕ) (fault : RowFault)
     (IsPart : A → Type 0) → words ≡ given → k < length (drop skip given) → get_or (drop skip given) k word ≡ word
     → (HasNoValue IsPart → HasNoValue (Says (row ∷ given))) → ReadsWords (word ∷ []) IsPart (Err fault)

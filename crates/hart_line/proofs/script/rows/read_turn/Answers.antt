@@ -12,4 +12,5 @@ pub returns-in_err-read_leg-2 : goal.returns-in_err-read_leg-2
 returns-in_err-read_leg-2 c =
     let refused = err_from_is_err_and c.from_residual-in_err-read_leg-2.result c.from_residual-in_err-read_leg-2.ensures.1 in
     rw (refused.1, refused.2)
-    (fault_in_row (codes "turn") _ _ 1 1 _ _ _ c.in-Some.ensures (omega arith) refl (no_turn _ _ _ _ (inr refl)) c.in_err-read_leg-2.ensures)
+    (fault_in_row (codes "turn") _ _ 1 1 _ _ _ c.in-Some.ensures (omega arith) refl (no_turn _ _ _ _ (inr refl))
+        c.in_err-read_leg-2.ensures)
