@@ -20,8 +20,8 @@ use Rattle.hart_c.specs.declared.{fault.HartOutcome.HartOutcome, identity.HartId
 abbrev pub image_in : HartDevice → List ℕ
 image_in device = take device.image_len device.image
 
--- A kept device with this identity has this state: the kept image is an image of the state, and the kept device and the state have the
--- same cold start bits.
+-- A kept device with this identity has this state: `image_len` is at most 86, the kept image is an image of the state, and the kept device
+-- and the state have the same cold start bits.
 pub record IsKept (parts : IdentityParts) (device : HartDevice) (state : DeviceState) : Type 0 where
   pub is_identity : AreIdentityParts parts
   pub identity : state.identity ≡ parts
@@ -45,16 +45,16 @@ with_protection protected device =
     let last = device.image_len - 1 in
     record device { image = slice_set device.image last (slice_index device.image last % 4 + (if protected then 4 else 0)) }
 
--- The call writes what is kept of a new device with these registers, which is the same for every identity. If a register would hold
--- invalid bytes, the kept device is unchanged.
+-- The call writes what is kept of a new device with these registers. What is kept does not depend on the device's identity. If a register
+-- would hold invalid bytes, the kept device is unchanged.
 abbrev pub NewDeviceOutcome : HartRegisters → HartDevice → HartDevice → HartOutcome → Type 0
 NewDeviceOutcome given before after =
     Outcome (needs (AreValid (contents_of given)) (Device BadField) ∷ [])
     (λ len. (len ≡ 86) × (values : RegisterValues) × (values_of values ≡ contents_of given) × AreValid (contents_of given)
     × ((parts : IdentityParts) → after ≡ device_of (new_device parts values))) (after ≡ before) outcome_of
 
--- A device hears a delivery: the kept device has a state, the passed numbers describe a process, and the delivery brings the device
--- a frame, a garbled request or no message.
+-- A device hears a delivery: the kept device has a state, the passed numbers describe a process, the delivery passes its checks, and it
+-- brings the device a frame, a garbled request or no message.
 pub record IsHearing (identity : HartIdentity) (process : HartProcess) (heard : List HartChar) (device : HartDevice) : Type 0 where
   pub state : DeviceState
   pub measured : Process

@@ -109,7 +109,7 @@ pub extern "C" fn hart_find(heard: &[HartChar], ended: bool, frames: &mut [HartF
     found_so_far(scanner.first_held() as usize, count)
 }
 
-/// Copies the first characters to the front of a chunk, until no character is left or the chunk is full. Returns the number of copies.
+/// Copies the first characters to the front of a chunk, until no character is left or the chunk is full. Returns how many it copied.
 fn copy_front(heard: &[HartChar], chunk: &mut [Char]) -> usize
     requires { All (λ given. AreFaultBits given.faults) heard.now }
     ensures count { result ≡ min (length heard.now) (length chunk.old) }

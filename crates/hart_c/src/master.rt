@@ -128,7 +128,7 @@ fn sent(request: &HartFrame) -> Result<Master, Fault>
 {
     let frame = frame_of(request)?;
     let asked = asked_by(&frame)?;
-    // The numbers of retries and the reply limit do not matter. The caller decides how often to send and how long to wait, and calls only
+    // The number of retries and the reply limit do not matter. The caller decides how often to send and how long to wait, and calls only
     // when characters were heard.
     let mut master = Master::new(frame.master(), 0, 1).unwrap();
     if master.submit(frame.address(), asked).is_err() {

@@ -44,8 +44,8 @@ unfoldable pub replied : List Row → Replied → List ℕ → Option ReplyConte
 replied fields (Saying content) bytes = saying (total fields) content bytes
 replied fields (SaidBy reading) bytes = reading bytes
 
--- A command has a number and a name, the fields of its request data, the number of request data bytes that it needs, the fields of its
--- reply data, and registers. The reply fields are for code 0. A write sets each register to one field of its request data, in order.
+-- A command has a number, a name, the fields of its request data, the number of request data bytes that it needs, the fields of its reply
+-- data with code 0, and the registers that it writes. A write sets each of them to one field of its request data, in the same order.
 pub record Command : Type 0 where
   pub number : ℕ
   pub name : List ℕ

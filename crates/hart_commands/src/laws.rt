@@ -44,8 +44,8 @@ pub fn requests_have_their_command()
         → request_reading command bytes ≡ Ok request → (command_of request ≡ command) × IsRequest request }
 {}
 
-/// Data that are read as a request begin with the data that this request writes. Command 6 without a mode is an exception: its data are one
-/// byte, the address, and the request writes the address and a mode.
+/// Data that are read as a request begin with the written data of this request. Command 6 without a mode is an exception: its data are one
+/// byte, the address, and its written data are the address and a mode.
 pub fn read_data_begin_as_written()
     ensures agree { (command : ℕ) (bytes : List ℕ) (request : Request) → All (λ byte. byte < 256) bytes
         → request_reading command bytes ≡ Ok request
@@ -77,7 +77,7 @@ pub fn unknown_commands_are_refused()
         → (request_reading command bytes ≡ Err 64) ↔ (is_known command ≡ false) }
 {}
 
-/// `Register::ALL` lists every register exactly once.
+/// `Register::ALL` lists every register exactly once, each at its `place_of`.
 pub fn all_registers_are_listed_once()
     ensures same { Register.ALL ≡ registers }
     ensures every { (register : Register) → Contains registers register }

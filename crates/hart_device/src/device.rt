@@ -104,8 +104,8 @@ impl<S: RegisterStore> Device<S> {
         *self.cold_start.get(master)
     }
 
-    /// Sets the cold start bits, and leaves the rest of the device unchanged. [`Device::from_image`] makes a device with clear cold start
-    /// bits.
+    /// Gives the cold start bits the values of `cold_start`, and leaves the rest of the device unchanged. [`Device::from_image`] makes a
+    /// device with clear cold start bits.
     pub fn restore_cold_start(&mut self, cold_start: EachMaster<bool>)
         ensures { self.new ≡ record self.old { cold_start = cold_start } }
     {

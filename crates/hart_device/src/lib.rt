@@ -18,7 +18,8 @@
 //! ```
 //!
 //! The program `hart` uses the device of [`bench`]. Use [`Identity::new`] and [`RegisterStore`] for devices of your own. No call of
-//! this crate allocates. Use the [`laws`] to prove more about a device. If you store a device as bytes, use `devices_are_kept_whole`.
+//! this crate allocates. Use the [`laws`] to prove more about a device. If you store a device as bytes, use the law
+//! `devices_are_kept_whole`.
 //!
 //! The root exports the device and the types of the values that it is made from. The modules:
 //!

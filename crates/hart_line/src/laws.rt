@@ -45,8 +45,8 @@ pub fn texts_have_one_script()
         → IsScript text events → HasFirstBadLine text number → ⊥ }
 {}
 
-/// A script has at most one last world. If all damage is detected, it has one. If an event has undetected damage, it has none. At most one
-/// leg is the first with undetected damage.
+/// A script has at most one last world. If all damage is detected, it has one. If an event has undetected damage, it has none. All faults
+/// for undetected damage in a script name the same event and the same leg.
 pub fn scripts_have_one_last_world()
     ensures one_world { (start : Start) (events : List LineEvent) (a b : World)
         → IsLast start events a → IsLast start events b → a ≡ b }

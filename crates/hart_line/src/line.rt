@@ -108,8 +108,8 @@ impl<S: RegisterStore> Line<S> {
         }
     }
 
-    /// Notes in a log the spoken frames that the line keeps. Stops at the first frame for which the log has no room. In both cases the line
-    /// keeps no frames afterwards.
+    /// Notes in a log the spoken frames that the line keeps. Stops at the first frame for which the log has no room. Afterwards the line
+    /// keeps no frames, even if the log had no room.
     pub fn tell<L: Log>(&mut self, log: &mut L) -> Result<(), NoRoom>
         ensures line { OnOk result (self.new ≡ record self.old { spoken = [] }) }
         ensures noted { OnOk result (L.notes log.old self.old.spoken log.new) }
@@ -164,8 +164,8 @@ impl<S: RegisterStore> Line<S> {
         self.outcomes.push(outcome);
     }
 
-    /// Carries out a turn of a master. The master sends the request in its hand. The device hears the characters of the leg up and answers.
-    /// Both masters hear the characters of the leg down. Returns the leg as the error if its damage is undetected.
+    /// Carries out a turn of a master. The master sends the request in its hand, if there is one. The device hears the characters of the
+    /// leg up and answers. Both masters hear the characters of the leg down. Returns the first leg with undetected damage as the error.
     fn turn(
         &mut self,
         who: MasterId,

@@ -159,7 +159,8 @@ fn is_read_as(alloc: Global, text: &[u8], want: Result<&str, usize>) -> Result<b
     })
 }
 
-/// Whether a line that submits this command without data is read if the command needs no data, and is refused as a bad line otherwise.
+/// Whether a line that submits this command without data is read if a request of the command may have no data, and is refused as a bad
+/// line otherwise.
 fn is_read_if_asked(alloc: Global, command: u8) -> Result<bool, Fail> {
     let text = format!(in alloc; "submit P 37420A1B2C {command}")?;
     let want = if Request::read(command, &[]).is_ok() {

@@ -17,7 +17,8 @@ const MARKED: usize = 64;
 pub struct Words<'a> {
     /// What is left of the line.
     bytes: &'a [u8],
-    /// The marks of the blanks. If `is_marked` is true, bit `k` is set exactly if byte `k` of `bytes`, counted from 0, is a blank.
+    /// The marks of the blanks. If `is_marked` is true, the bit of each byte of `bytes` is set exactly if the byte is a blank. Bit 0
+    /// belongs to the first byte. The bits after that of the last byte mean nothing.
     blanks: u64,
     /// True if `blanks` has the marks. False if the line was long or began near the end of its text.
     is_marked: bool,

@@ -25,7 +25,7 @@ pub fn packed_text_and_bytes_determine_each_other()
         → IsPacked text bytes → IsPacked others bytes → text ≡ others }
 {}
 
-/// A text that is refused has one fault.
+/// A text is refused with at most one fault.
 pub fn texts_have_one_fault()
     ensures { (characters : ℕ) (text : List ℕ) (fault other : ValueFault)
         → IsTextFault characters text fault → IsTextFault characters text other → fault ≡ other }

@@ -68,7 +68,8 @@ other_data_line command bytes =
 abbrev pub no_reply_line : ℕ → List ℕ → List ℕ
 no_reply_line command bytes = if is_some (command_name command) then other_data_line command bytes else data_line bytes
 
--- If the response code is 0, the bytes of the reply's content are taken from the data. With another code, no data are read.
+-- Data that are no reply have their `no_reply_line`. If the response code is 0, the bytes of the reply's content are taken from the data.
+-- With another code, no data are read.
 abbrev pub replied_lines : ℕ → List ℕ → Option Reply → List ℕ
 replied_lines command bytes None = no_reply_line command bytes
 replied_lines command bytes (Some reply) =

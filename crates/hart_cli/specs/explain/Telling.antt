@@ -33,7 +33,7 @@ FitsFrom first (given.Missed place miss header) = (first + place < 2 ^ 64) × Na
 
 -- The next sighting from the place `from` on, in held bytes and in what comes after them. The search went up to the place `used`. If
 -- there is a sighting, `used` is beyond `from`. If there is none, at most 268 characters are left from `used` on, and they decide no
--- sighting.
+-- sighting. None of them are left unless `after` is `More`.
 pub record IsNextSighting (held : List ℕ) (after : After) (from : ℕ) (next : NextSighting) : Type 0 where
   pub sees : SeesOn (heard_with held after) (is_end after) from (sightings_of next.sighting) next.used
   pub within : next.used ≤ length (heard_with held after)
@@ -162,8 +162,8 @@ pub record HearsDate (old new : Telling) (word : List ℕ) : Type 0 where
   pub earlier : (place : ℕ) → old.first ≤ place → place < old.first + length old.held → date_from new place ≡ date_from old place
   pub later : (place : ℕ) → old.first + length old.held ≤ place → date_from new place ≡ word
 
--- A mark was heard. At a silence, all held characters are told, and no character is held any more. A date is the date of the characters
--- that come next.
+-- A mark was heard. If it is a silence, all held characters were told, and none is held any more. If it is a date, it is the date of the
+-- characters that come next, and nothing was written.
 abbrev pub HearsMark : Telling → Telling → Heard → Stream → Stream → Type 0
 HearsMark old new (HeardChar character) writer writer_after = ⊥
 HearsMark old new Silence writer writer_after = Hears old new [] true writer writer_after × (new.held ≡ [])

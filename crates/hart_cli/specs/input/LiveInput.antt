@@ -52,8 +52,8 @@ pub record WroteInTime (IsDecided : List ℕ → List ℕ → Type 0) (input : L
   pub more : List ℕ
   pub written : Appends writer.bytes writer_after.bytes (text ++ more)
 
--- A write failed within the text of what had been decoded by then. A prefix of that text was written, but not all of it. Text that was
--- decided before the last bytes of the input had been written, as `WroteInTime` says.
+-- A write failed within the text of what had been decoded by then. A prefix of that text was written, but not all of it. No text was late:
+-- the text that the input without its last bytes decides was written, as `WroteInTime` says.
 pub record StopsWriting {Heard : Type 0} (decoding : Decoding Heard) (limit : ℕ) (IsText IsDecided : TextRelation Heard)
     (reader reader_after writer writer_after : Stream) : Type 0 where
   pub input : List ℕ

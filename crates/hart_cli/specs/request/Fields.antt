@@ -117,7 +117,8 @@ abbrev pub unless_bad : Option BadField → Result (List ℕ) BadField → Resul
 unless_bad (Some bad) given = Err bad
 unless_bad None given = given
 
--- The data that words give for a request of a command, or the first fault. If the command is unknown, the third word, COMMAND, is bad.
+-- The data that words give for a request of a command, or a fault. The fault is an unknown command (the third word, COMMAND), or else the
+-- first bad name, or else the fault of the first field without a good value, or else the command's refusal of the data.
 abbrev pub payload_of : ℕ → List (List ℕ) → Result (List ℕ) BadField
 payload_of command words =
     let rows = request_rows command in

@@ -36,7 +36,7 @@ pub record IsServed (device : DeviceState) (input : List ℕ) (ending : Ending) 
   pub after : DeviceState
   pub serves : Serves device lines after text
 
--- An input was read and came to this ending. All of the device's answers to the lines that count for this ending were written.
+-- An input was read to this ending, and the device's answers to all lines that `HasLines` gives for this ending were written.
 pub record ServesTo (device : DeviceState) (ending : Ending) (reader reader_after writer writer_after : Stream) : Type 0 where
   pub input : List ℕ
   pub reads : ReadsToWithin stream_limit reader reader_after input ending
@@ -48,8 +48,8 @@ pub record ServesTo (device : DeviceState) (ending : Ending) (reader reader_afte
 abbrev pub IsServedSoFar : DeviceState → List ℕ → List ℕ → Type 0
 IsServedSoFar device input text = IsServed device input Left text
 
--- A write failed within the device's answers to some first lines. A prefix of these answers was written, but not all of them. The answers
--- to lines that were whole before the last bytes of the input had been written, as `WroteInTime` says.
+-- A write failed within the device's answers to some first lines. A prefix of these answers was written, but not all of them. No answer was
+-- late: the answers to the whole lines of the input without its last bytes were written, as `WroteInTime` says.
 pub record StopsSaying (device : DeviceState) (reader reader_after writer writer_after : Stream) : Type 0 where
   pub input : List ℕ
   pub ending : Ending
@@ -79,8 +79,8 @@ pub record LacksLineRoom (none : NoRoom) (reader reader_after writer writer_afte
   pub unwritten : writer_after ≡ writer
 
 -- At `Ok`, a call served its whole input. If a read failed, or the input was longer than the limit, the call served the whole lines that
--- it had read by then. If a write failed, the call wrote a prefix of the device's answers. If room for a line was refused, the call read
--- nothing and wrote nothing.
+-- it had read by then. If a write failed, the call wrote a prefix of the device's answers. If memory was refused, the call read nothing
+-- and wrote nothing.
 abbrev pub ServedOutcome : DeviceState → OutcomeRelation
 ServedOutcome device reader reader_after writer writer_after (Ok done) =
     ServesTo device (CameTo Ended) reader reader_after writer writer_after

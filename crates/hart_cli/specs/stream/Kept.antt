@@ -4,7 +4,7 @@ use Rattle.std.specs.Prelude.{◌≡◌, ◌≤◌, ◌+◌, ◌++◌, List, ℕ
 use Rattle.hart_cli.specs.declared.stream.Failed.{Failed}
 use Rattle.hart_cli.specs.stream.Stream.{FailsToWrite, Stream, WritesAll}
 
--- A text that is kept has at most 32,768 bytes. It has room for `count` more bytes.
+-- A kept text has room for `count` more bytes: together with them it has at most 32,768 bytes.
 abbrev pub HasRoomFor : ℕ → List ℕ → Type 0
 HasRoomFor count text = length text + count ≤ 32768
 

@@ -30,7 +30,7 @@ pub record ArePairLanes (high low bytes : List ℕ) (mask : ℕ) : Type 0 where
 abbrev pub AreSeparatorLanes : List ℕ → ℕ → Type 0
 AreSeparatorLanes bytes mask = IsMask mask (λ lane. IsSeparator (get_or bytes lane 0))
 
--- The first `count` of the sixteen lanes are set in a mask. The next lane, if there is one, is not set.
+-- The first `count` of the sixteen lanes are set in a mask, and the bit of the mask right after them is not set.
 pub record AreLeading (mask count : ℕ) : Type 0 where
   pub few : count ≤ 16
   pub set : (lane : ℕ) → lane < count → bit_at mask lane ≡ 1

@@ -72,7 +72,7 @@ pub record HasBadHexBy {Heard : Type 0} (Reads : List ℕ → List Heard → Lis
   pub more : rest ≢ []
   pub no_piece : Stops rest
 
--- A text has bad hex at a place if it reads as these characters up to this place. The text does not end there, and no piece begins there.
+-- A text has bad hex at a place if it reads as these characters up to this place, it does not end there, and no piece begins there.
 abbrev pub HasBadHex : List ℕ → List Character → ℕ → Type 0
 HasBadHex = HasBadHexBy ReadsUpTo NoPieceBegins
 

@@ -33,7 +33,7 @@ pub const DONE: u8 = 0;
 /// The status of a call that ended with a fault.
 pub const FAULT: u8 = 1;
 
-/// The status if the words name no call, ask for help or the version, or cannot be read.
+/// The status if the words name no call, ask for help or the version, or are not read because memory was refused.
 pub const NO_CALL: u8 = 2;
 
 /// Makes the call that the words after the program's name ask for, and returns the program's status.

@@ -44,8 +44,9 @@ pub enum NextStep {
     Stop(Option<CliFault>),
 }
 
-/// Reads once, and adds the bytes within the input's limit to `ahead`. `room` is the number of bytes left within this limit. If the input
-/// ended, a space is added instead. Returns the number of bytes read within the limit, and how the input ended, if this read ended it.
+/// Reads once, and adds the bytes within the input's limit to `ahead`. `room` is the number of bytes left within this limit. If no bytes
+/// were left to read, adds a space instead. Returns the number of bytes read within the limit, and how the input ended, if this read
+/// ended it.
 pub fn read_ahead<R: Source, const N: usize>(
     reader: &mut R,
     buffer: &mut [u8],
@@ -92,7 +93,7 @@ pub fn next_heard_step(end: Option<InputEnd>, rest: &[u8], read: usize) -> NextS
 }
 
 /// Returns the next step after `read` bytes of an input. `rest` is the part of these bytes that is not decoded. `is_open` says whether
-/// more bytes can complete an item or a mark that begins in `rest`.
+/// `rest` can begin with a piece or a mark once more bytes are added to its end.
 fn step_from(end: Option<InputEnd>, rest: &[u8], is_open: bool, read: usize) -> NextStep
     requires { length rest.now ≤ ended_length end read }
     ensures { IsNextStep (λ _. IsTrue is_open) end rest.now (ended_length end read - length rest.now) result }

@@ -15,7 +15,7 @@ pub const CHUNK_LEN: usize = 8192;
 /// The bytes of faultless characters.
 pub type Chunk = ByteList<CHUNK_LEN>;
 
-/// Reads pieces without fault bits from the beginning of a text into an empty chunk of any size. Stops at the first other piece, or if
+/// Reads pieces without fault bits from the beginning of a text into an empty chunk of any size. Stops where no such piece begins, or if
 /// the chunk may have no room for more. Returns the place after the pieces that were read.
 pub fn read_chunk<const N: usize>(digits: &Digits, text: &[u8], chunk: &mut ByteList<N>) -> usize
     requires { chunk.old ≡ [] }

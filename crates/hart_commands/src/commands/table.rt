@@ -3,7 +3,8 @@ use crate::FieldSize::{AllBut, Exactly};
 use crate::{FieldKind, FieldRow, Register};
 
 /// A command: its number and name, the fields of its request data, the number of request data bytes that it needs, the fields of its reply
-/// data, and its registers. The reply fields are for code 0. A write sets each register to one field of its request data, in order.
+/// data, and the registers that it writes. The reply fields are for code 0. A write sets each of its registers to one field of its request
+/// data, in the same order.
 pub struct Command {
     pub number: u8,
     pub name: &'static str,

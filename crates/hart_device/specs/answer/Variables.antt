@@ -25,7 +25,8 @@ missing_variable = record {
   status = 0x30;
 }
 
--- The place of a dynamic variable, 0 to 3, for a code: 0 to 3 or 246 to 249. Any other code has no place (`None`).
+-- The place of the dynamic variable with this code. The codes 0 to 3, and also 246 to 249, have the places 0 to 3. Any other code has no
+-- place (`None`).
 abbrev pub place_of : ℕ → Option ℕ
 place_of code =
     if nat_lt code 4 then Some code

@@ -19,8 +19,8 @@ pub data Seen : Type 0 where
   Message : (found : Found) → Seen
   Missed : (place : ℕ) (miss : Miss) (header : Option HeaderParts) → Seen
 
--- A miss names a place counted from the place `from` of a list. This is the same miss with that place counted in the whole list. A miss
--- that names no place stays unchanged.
+-- The same miss, with the place that it names counted in the whole list, and no longer from the place `from` of the list. A miss that names
+-- no place is unchanged.
 abbrev pub miss_in_whole : ℕ → Miss → Miss
 miss_in_whole from (Faulty place faults) = Faulty (from + place) faults
 miss_in_whole from (BadCheck place byte fits) = BadCheck (from + place) byte fits

@@ -172,8 +172,8 @@ fn follows_preamble(chars: &[Char], place: usize) -> bool
     before.byte() == PREAMBLE && before.is_faultless()
 }
 
-/// A place where a body may start has a frame or a miss. No place has both. At all other places, the only miss is [`Miss::OnePreamble`],
-/// for a whole body after a single preamble byte.
+/// A place where a body may start has a frame or a miss. No place has both. At a place where no body may start, the only possible miss is
+/// [`Miss::OnePreamble`], for a whole body after a single preamble byte.
 pub fn every_start_has_a_frame_or_a_miss()
     ensures one { (place : ℕ) (chars : List Character) → All (λ character. character.byte < 256) chars → IsStart place chars
         → HasFrameAt chars place ⊎ IsSome (miss_of chars place) }
@@ -206,9 +206,9 @@ pub fn misses_say_what_is_wrong()
         → HasFrameAt (insert chars start (record { byte = 255; faults = 0 })) (start + 1) }
 {}
 
-/// The bytes of a place are the bytes from this place up to the first character with fault bits. Where a body may start, the miss
-/// corresponds to the fault with which [`decode`](crate::decode) refuses the bytes of the place. So misses are found in the order of the
-/// faults of `decode`. If the bytes of any place begin with a body, a miss of this place corresponds to no fault.
+/// The bytes of a place are the bytes from this place on, up to the end or to the first character with fault bits, which is left out. Where
+/// a body may start, the miss corresponds to the fault with which [`decode`](crate::decode) refuses the bytes of the place. So misses are
+/// found in the order of the faults of `decode`. If the bytes of a place begin with a body, a miss of this place corresponds to no fault.
 pub fn misses_are_faults()
     ensures refused { (start : ℕ) (chars : List Character) (miss : Miss) → All (λ character. character.byte < 256) chars
         → IsStart start chars → miss_of chars start ≡ Some miss

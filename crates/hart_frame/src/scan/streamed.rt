@@ -46,8 +46,8 @@ pub fn held_frames_are_given()
 {}
 
 /// A scanner holds what was pushed from its first held place on. The first frames of all that is pushed are the frames that the scanner
-/// gave. The later frames stand in what it holds, followed by whatever is still to come. All places are counted in all that is pushed. So a
-/// caller that keeps only what is held, at most 269 characters, has all frames that are left.
+/// gave. The later frames are those of the held characters together with whatever is still to come. All places are counted in all that is
+/// pushed. So a caller that keeps only what is held, at most 269 characters, has all frames that are left.
 pub fn held_characters_have_the_later_frames()
     ensures within { (past : List Character) (scan : Scan) (given : List Found) → IsHistory past scan given
         → scan.first ≤ length past }

@@ -1,4 +1,4 @@
-//! Decides, for all modules, whether bytes begin with a body, may still become a body, or never become a body.
+//! Decides whether bytes begin with a body, may still become a body, or never become a body. No other module of this crate decides this.
 ghost use Rattle.std.specs.Prelude.{◌≡◌};
 ghost use Rattle.hart_frame.specs.private.Prefix.{IsPrefix, fault_in, shown_by};
 
@@ -26,7 +26,7 @@ pub(crate) enum Wrong {
     BadDelimiter { byte: u8 },
     /// A reply has this byte count, which is below 2. The byte count is the last of the first `len` bytes.
     ShortReply { len: usize, byte_count: u8 },
-    /// The body has `len` bytes. Its check byte is `byte`, but the byte that would fit is `fits`.
+    /// The last of the first `len` bytes stands in the place of the check byte. It is `byte`, but the byte that would fit is `fits`.
     BadCheck { len: usize, byte: u8, fits: u8 },
 }
 

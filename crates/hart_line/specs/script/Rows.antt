@@ -14,8 +14,8 @@ use Rattle.hart_line.specs.script.Words.{◌>>=◌, HasNoValue, IsAddressWord, I
 use Rattle.hart_line.specs.declared.script.rows.RowFault.{RowFault}
 use Rattle.hart_line.specs.declared.script.rows.RowFault.TheVariants as rows
 
--- The data of the words after COMMAND. No word means no bytes, and one word is DATA. The result is `None` if this word is not DATA, or if
--- there are more words.
+-- The data of the words after COMMAND. No word means no bytes, and a single word means the bytes that it writes as DATA. The result is
+-- `None` if the single word is not DATA, or if there are more words.
 abbrev pub payload_of : List (List ℕ) → Option (List ℕ)
 payload_of [] = Some []
 payload_of (word ∷ []) = data_of word
@@ -76,7 +76,8 @@ pub record HasFirstBadLine (text : List ℕ) (number : ℕ) : Type 0 where
   pub bad : IsBadLine words
   pub good : AreEvents (take before (lines_in_words text)) events
 
--- The words of a line that may hold items: UP and DOWN of a turn, or the word after `noise`.
+-- The words of a line that may hold items: all words after WHO if the line begins with `turn`, and all words after `noise` if it begins
+-- with `noise`. Any other line has no such words.
 abbrev pub item_words : List (List ℕ) → List (List ℕ)
 item_words [] = []
 item_words (kind ∷ words) =
@@ -87,7 +88,7 @@ item_words (kind ∷ words) =
 abbrev pub IsNeededByWords : List (List ℕ) → ℕ → Type 0
 IsNeededByWords words items = (0 < items) × Any (λ word. items ≡ length word / 2) words
 
--- A line that is not skipped needs room for the one event that it says, or for the characters of one of its words with items.
+-- A line that is not skipped needs room for the one event that it says, or for the characters of one of its `item_words`.
 abbrev pub IsNeededByLine : List (List ℕ) → ℕ → Type 0
 IsNeededByLine words items =
     (is_skipped words ≡ false) × (((event : LineEvent) × Says words event × (items ≡ 1)) ⊎ IsNeededByWords (item_words words) items)
@@ -104,7 +105,8 @@ IsScriptFault text (Undetected number leg) = ⊥
 
 -- Only private calls use the definitions from here on. They describe the result of reading one line.
 
--- The result of reading words: a value that the words say; `Bad`, if they say no value; or `Memory`, if memory was refused.
+-- The result of reading: a value for which `IsSaid` holds; `Bad`, if there is no such value; or `Memory`, if room that `words` need was
+-- refused. `words` are only those words that may hold items.
 abbrev pub ReadsWords : {T : Type 0} → List (List ℕ) → (T → Type 0) → Result T RowFault → Type 0
 ReadsWords {T} words IsSaid (Ok value) = IsSaid value
 ReadsWords {T} words IsSaid (Err rows.Bad) = HasNoValue IsSaid

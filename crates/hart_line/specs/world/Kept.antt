@@ -47,9 +47,8 @@ pub record KeepsPromises (start : Start) (events : List LineEvent) (device : Dev
       → IsExecutedInItsTurn start events number request reply sendings
   pub at_most_once_a_sending : (world : World) → IsLast start events world → (number : ℕ)
       → times_executed number world.executions ≤ sendings_in (slice_get outcomes number)
-  -- If a master's configuration-changed bit is clear after the script, no write was executed after this master's last Command 38 with code
-  -- 0. The counter and the registers are as they were before the turn of that command. If that command named a counter, the device's
-  -- counter still has the named value.
+  -- If a master's configuration-changed bit is clear after the script, the counter and the registers are as they were before the turn of
+  -- this master's last Command 38 with code 0. If that command named a counter, the device's counter still has the named value.
   pub no_change_unseen : (who : MasterId) (before : World) (given : Option ℕ) → IsLastReset start events who before given
       → of_master who device.changed ≡ false → IfSome given (λ counter. device.counter ≡ counter)
       × (device.counter ≡ (state_of start.device before).counter) × (device.contents ≡ (state_of start.device before).contents)

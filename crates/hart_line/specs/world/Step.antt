@@ -68,8 +68,8 @@ abbrev pub marks_after : Effect → MasterId → ℕ → EachMaster (Option ℕ)
 marks_after Resets who count marks = with_master who (Some count) marks
 marks_after effect who count marks = marks
 
--- If a frame is answered in a master's turn, the reply shows this master's cold start bit and clears it, whatever its response code. A
--- frame that is not answered, a garbled request and no message leave both masters' bits unchanged.
+-- If a frame is answered in a master's turn, the reply shows this master's cold start bit and clears it, whatever its response code. If no
+-- frame is answered, both masters' bits are unchanged, even if a garbled request is answered.
 abbrev pub cold_start_after : DeviceState → MasterId → Brought → EachMaster Bool
 cold_start_after state who (OneFrame frame) = if is_answered state frame then with_master who false state.cold_start else state.cold_start
 cold_start_after state who brought = state.cold_start

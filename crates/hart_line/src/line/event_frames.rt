@@ -60,8 +60,8 @@ impl EventFrames {
         }
     }
 
-    /// Notes these frames in a log, in order. Stops at the first frame for which the log has no room. In both cases no frame is kept
-    /// afterwards.
+    /// Notes these frames in a log, in order. Stops at the first frame for which the log has no room. Afterwards no frame is kept, even if
+    /// the log had no room.
     pub fn note_in<L: Log>(&mut self, log: &mut L) -> Result<(), NoRoom>
         ensures noted { OnOk result (L.notes log.old self.old log.new) }
         ensures refused { IfErr result (λ none. (0 < none.items) × Any (λ said. L.needs said none.items) self.old) }

@@ -44,9 +44,9 @@ pub fn run_logged<S: RegisterStore + Drop, L: Log>(
     // The script and what is returned keep the promises that are made of every script.
     ensures promises { IfOk result (λ ending.
         KeepsPromises (start_from device process.now primary secondary) events.now ending.device ending.outcomes) }
-    // There are three faults. The first names the first leg with undetected damage. What was spoken before the event of this leg has then
-    // been noted. The second has the number of outcomes for which there is no room. Nothing has then been noted. The third has the room
-    // that is missing to note a spoken frame.
+    // A fault has one of three reasons. A leg has undetected damage: the fault names the first such leg, and what was spoken before the
+    // event of this leg has been noted. There is no room for the outcomes: the fault has their number, and nothing has been noted. There is
+    // no room to note a spoken frame: the fault has the room that is missing.
     ensures fault { let start = start_from device process.now primary secondary in
         IfErr result (IsLoggedFault L.needs (λ spoken. L.notes log.old spoken log.new) start events.now) }
     // A clean or lost leg never stops a script, nor does a leg in which the message sent is heard with marked or check damage.

@@ -79,7 +79,8 @@ abbrev pub not_read_members : ℕ → List ℕ → List Named
 not_read_members code [] = unread_members null
 not_read_members code (byte ∷ bytes) = unread_members (not_read code)
 
--- If the response code is 0, the bytes of the reply's content are taken from the data. With another code, no data are read.
+-- Data that are no reply have the `no_reply_members`. If the response code is 0, the bytes of the reply's content are taken from the data.
+-- With another code, no data are read.
 abbrev pub replied_members : ℕ → List ℕ → Option Reply → List Named
 replied_members command bytes None = no_reply_members command
 replied_members command bytes (Some reply) =

@@ -103,8 +103,8 @@ fn answered(message: &LastMessage, frame: &Frame) -> Option<u64>
     }
 }
 
-/// Returns how many times in a row a request has been sent, this frame included. `message` is its master's last message before the
-/// frame. Returns 1 if the two are not the same request.
+/// Returns how many times in a row a request has been sent, `frame` included. `message` is the last message of the same master before
+/// `frame`. Returns 1 if `message` and `frame` are not the same request.
 fn sending(message: &LastMessage, frame: &Frame) -> u64
     requires { message.now.sent_before < 2 ^ 64 - 2 }
     ensures { result ≡ 1 + repeats frame.now (listed (Some message.now)) }

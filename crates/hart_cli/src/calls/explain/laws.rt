@@ -102,9 +102,9 @@ pub fn explanations_name_the_messages_of_dump()
 /// place, and the explanation of what follows. After the last message, the explanation is what is said of the places up to the end.
 ///
 /// A gap between messages has one line for each place where the definition has a miss, in the order of the places. If a header is heard
-/// at such a place, and only then, a second line follows. Let the tail be the characters from the end of the last message on. Each place
-/// of the gap where a body may start in the tail has a line. If any other place has a line, the line says that only one `FF` stands
-/// before the place.
+/// at such a place, and only then, a second line follows. Let the tail be the characters from the beginning of the gap on. Each place of
+/// the gap where a body may start in the tail has a line. If any other place of the gap has a line, the line says that only one `FF`
+/// stands before the place.
 pub fn every_start_outside_messages_has_one_line()
     ensures by_message { (date : ℕ → List ℕ) (chars : List Character) (from : ℕ) (found : Found) (later : List Found)
         → explanation date (sightings chars from (found ∷ later))
@@ -134,13 +134,14 @@ pub fn every_start_outside_messages_has_one_line()
 
 /// Each line of a gap names what really stands in the way, at its real place.
 ///
-/// Let the tail be the characters from the end of the last message on. At a place where a body may start in the tail, the line's reason
-/// is in the way in the whole input, too. If a line names a check byte that would fit, put this byte in place of the check byte that was
+/// Let the tail be the characters from the beginning of the gap on. At a place where a body may start in the tail, the line's reason is
+/// in the way in the whole input, too. If a line names a check byte that would fit, put this byte in place of the check byte that was
 /// heard: a frame then stands at the line's place and ends with this byte. A character that a line names as damaged has exactly the fault
-/// bits that the line says. If a line counts missing characters, let any bytes and then the right check byte follow: a frame then stands
-/// at the line's place and ends with this check byte. If a line says that only one `FF` stands before its place, exactly one stands right
-/// before this place in the tail. A whole body stands there, and no two `FF` in a row begin in it. A second line stays right if the
-/// characters after the command are replaced: a body at the place then has the header that the second line says.
+/// bits that the line says. If a line counts missing characters, let this number of characters follow: any bytes, and last the right check
+/// byte. A frame then stands at the line's place and ends with this check byte. If a line says that only one `FF` stands before its place,
+/// exactly one stands right before this place in the tail. A whole body stands at this place, and no two `FF` in a row begin in the body.
+/// A second line stays right if the characters after the command are replaced: a body at the place then has the header that the second
+/// line says.
 pub fn hints_of_explanations_are_right()
     ensures in_the_way { (chars : List Character) (from stop place : ℕ) (miss : Miss) (header : Option HeaderParts)
         → All (λ character. character.byte < 256) chars

@@ -27,7 +27,7 @@ pub enum FieldFault {
     UnknownField,
     /// An earlier word gives the same field.
     GivenTwice,
-    /// No word gives a value to a field of this command. `field` is the place of the field in the command's requests, counted from 0.
+    /// No word gives a value to this field of the command. `field` is the place of the field in the command's requests, counted from 0.
     Missing { command: u8, field: usize },
     /// The field cannot have the character at this place of the text, counted from 0.
     BadCharacter { place: usize },

@@ -1,4 +1,5 @@
-//! A page: text for a writer, which is added to the kept text, and written when there is no room to keep it.
+//! A page: text for a writer. Text is added to the kept text. If there is no room to keep it, the kept text is written first. Text that is
+//! too long to be kept is then written at once.
 ghost use Rattle.std.specs.Prelude.{◌≡◌, ◌<◌, ◌≤◌, ◌/◌, ◌%◌, ◌++◌, [], ◌∷◌, ℕ, List, decimal, length};
 ghost use Rattle.std.specs.Bool.{OnTrue};
 ghost use Rattle.std.specs.Char.{digit_char};
