@@ -87,7 +87,8 @@ fn row_for(command: u8) -> Option<&'static Command>
     find_row(TABLE, command)
 }
 
-/// Returns the first row with this command number, or `None` if no row has it.
+/// Returns the first row with this command number, or `None` if no row has it. The rows are an argument so that the
+/// proof has a name for them.
 fn find_row(rows: &'static [Command], command: u8) -> Option<&'static Command>
     ensures { option_map (λ row. seen_command row.now) result ≡ find (λ row. row.number == command) (map seen_command rows.now) }
 {

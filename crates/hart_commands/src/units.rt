@@ -209,7 +209,7 @@ fn row_of(code: u8) -> Option<&'static UnitRow>
     find_unit(UNITS, code)
 }
 
-/// Returns the first row with this code, or `None` if no row has it.
+/// Returns the first row with this code, or `None` if no row has it. The rows are an argument so that the proof has a name for them.
 fn find_unit(rows: &'static [UnitRow], code: u8) -> Option<&'static UnitRow>
     ensures { option_map (λ row. seen_unit row.now) result ≡ find (λ row. row.code == code) (map seen_unit rows.now) }
 {
