@@ -18,7 +18,8 @@ pub use Rattle.hart_line.specs.line.Masters.{AreHeld, Concludes, Submits, hand_o
 pub use Rattle.hart_line.specs.script.Items.{AreDigits, AreItems, BeginsAsItem, BeginsWithItem, EndsBefore, Faulty, IsItemsWord}
 pub use Rattle.hart_line.specs.script.Items.{IsValidItem, Item, NoItemBegins, Plain, byte_of, item_meaning, item_spelling}
 pub use Rattle.hart_line.specs.script.Rows.{AreEvents, HasFirstBadLine, IsBadLine, IsLegWord, IsScript, IsScriptFault}
-pub use Rattle.hart_line.specs.script.Rows.{AddsLine, IsLineFault, ReadsWords, Says, is_skipped, lines_in_words, request_of}
+pub use Rattle.hart_line.specs.script.Rows.{AddsLine, IsLineFault, IsNeededByItems, IsNeededByLeg, IsNeededByWords, ReadsWords, Says}
+pub use Rattle.hart_line.specs.script.Rows.{is_skipped, lines_in_words, request_of}
 pub use Rattle.hart_line.specs.script.Words.{Finds, HasNoValue, address_of, who_of}
 pub use Rattle.hart_line.specs.world.Damage.{AreHeard, Arrives, ArrivesAmong, IsDetectable, IsDetected, IsUndetected, Reaches, ReachesAmong}
 pub use Rattle.hart_line.specs.world.Executions.{has_execution_of, last_executions, times_executed}

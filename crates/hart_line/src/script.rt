@@ -18,8 +18,8 @@ pub mod words;
 /// # Errors
 ///
 /// [`LineFault::BadLine`] with the number of the first bad line, counted from 1. A bad line says no event, and is neither empty nor a
-/// comment. [`LineFault::Memory`] if room was refused: for the event of a line, or for the characters of one of its words of items. Such a
-/// word needs room for one character for every two of its bytes.
+/// comment. [`LineFault::Memory`] if room was refused: for the event of a line, or for the characters of a noise or of a leg other than
+/// `ok` and `lost`, one for every two bytes of the word.
 pub fn read_script(alloc: Global, text: &[u8]) -> Result<Vec<LineEvent>, LineFault>
     ensures events { IfOk result (λ events. IsScript text.now events.items) }
     ensures fault { IfErr result (IsScriptFault text.now) }

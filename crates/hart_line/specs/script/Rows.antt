@@ -1,7 +1,5 @@
 -- What the lines of a script say (own profile): the words that write each kind of event.
-use Rattle.std.specs.Prelude.{◌≡◌, ◌⊎◌, ℕ, ◌+◌, ◌++◌, ◌/◌, ◌<◌, Any, Bool, true, false, not, nat_eq, List, [], ◌∷◌, codes, drop, filter}
-use Rattle.std.specs.Prelude.{if◌then◌else◌}
-use Rattle.std.specs.Str.{bytes_eq}
+use Rattle.std.specs.Prelude.{◌≡◌, ◌≢◌, ◌⊎◌, ℕ, ◌+◌, ◌++◌, ◌/◌, ◌<◌, Any, Bool, true, false, not, nat_eq, List, [], ◌∷◌, codes, filter}
 use Rattle.std.specs.Prelude.{length, slice_get, take, Option, None, Some, Result, Ok, Err}
 use Rattle.std.specs.List.{AllZip, starts_with}
 use Rattle.std.specs.Result.{result_ok}
@@ -76,22 +74,25 @@ pub record HasFirstBadLine (text : List ℕ) (number : ℕ) : Type 0 where
   pub bad : IsBadLine words
   pub good : AreEvents (take before (lines_in_words text)) events
 
--- The words of a line that may hold items: all words after WHO if the line begins with `turn`, and all words after `noise` if it begins
--- with `noise`. Any other line has no such words.
-abbrev pub item_words : List (List ℕ) → List (List ℕ)
-item_words [] = []
-item_words (kind ∷ words) =
-    if bytes_eq kind (codes "turn") then drop 1 words else if bytes_eq kind (codes "noise") then words else []
+-- A word of items needs room for this number of characters: half as many as the word has bytes, rounded down. The number is at least 1.
+abbrev pub IsNeededByItems : List ℕ → ℕ → Type 0
+IsNeededByItems word items = (0 < items) × (items ≡ length word / 2)
 
--- Words need room for this number of characters. The number is at least 1, and is half the number of bytes of one of these words, rounded
--- down.
+-- The word of a leg needs room as a word of items does, unless it is `ok` or `lost`.
+abbrev pub IsNeededByLeg : List ℕ → ℕ → Type 0
+IsNeededByLeg word items = (word ≢ codes "ok") × (word ≢ codes "lost") × IsNeededByItems word items
+
+-- The words of a line need room for a leg if they are `turn` and three words, and for items if they are `noise` and one word. Any other
+-- words need no room.
 abbrev pub IsNeededByWords : List (List ℕ) → ℕ → Type 0
-IsNeededByWords words items = (0 < items) × Any (λ word. items ≡ length word / 2) words
+IsNeededByWords (kind ∷ who ∷ up ∷ down ∷ []) items = (kind ≡ codes "turn") × (IsNeededByLeg up items ⊎ IsNeededByLeg down items)
+IsNeededByWords (kind ∷ word ∷ []) items = (kind ≡ codes "noise") × IsNeededByItems word items
+IsNeededByWords words items = ⊥
 
--- A line that is not skipped needs room for the one event that it says, or for the characters of one of its `item_words`.
+-- A line that is not skipped needs room for the one event that it says, or the room that its words need.
 abbrev pub IsNeededByLine : List (List ℕ) → ℕ → Type 0
 IsNeededByLine words items =
-    (is_skipped words ≡ false) × (((event : LineEvent) × Says words event × (items ≡ 1)) ⊎ IsNeededByWords (item_words words) items)
+    (is_skipped words ≡ false) × (((event : LineEvent) × Says words event × (items ≡ 1)) ⊎ IsNeededByWords words items)
 
 -- A text needs room for this number of items if one of its lines needs it.
 abbrev pub IsNeededByText : List ℕ → ℕ → Type 0
@@ -105,12 +106,12 @@ IsScriptFault text (Undetected number leg) = ⊥
 
 -- Only private calls use the definitions from here on. They describe the result of reading one line.
 
--- The result of reading: a value for which `IsSaid` holds; `Bad`, if there is no such value; or `Memory`, if room that `words` need was
--- refused. `words` are only those words that may hold items.
-abbrev pub ReadsWords : {T : Type 0} → List (List ℕ) → (T → Type 0) → Result T RowFault → Type 0
-ReadsWords {T} words IsSaid (Ok value) = IsSaid value
-ReadsWords {T} words IsSaid (Err rows.Bad) = HasNoValue IsSaid
-ReadsWords {T} words IsSaid (Err (rows.Memory room)) = IsNeededByWords words room.items
+-- The result of reading: a value for which `IsSaid` holds; `Bad`, if there is no such value; or `Memory`, if room was refused for a number
+-- of items for which `IsNeeded` holds.
+abbrev pub ReadsWords : {T : Type 0} → (ℕ → Type 0) → (T → Type 0) → Result T RowFault → Type 0
+ReadsWords {T} IsNeeded IsSaid (Ok value) = IsSaid value
+ReadsWords {T} IsNeeded IsSaid (Err rows.Bad) = HasNoValue IsSaid
+ReadsWords {T} IsNeeded IsSaid (Err (rows.Memory room)) = IsNeeded room.items
 
 -- A line adds the event that it says to these events, or none if it is skipped.
 abbrev pub AddsLine : List (List ℕ) → List LineEvent → List LineEvent → Type 0

@@ -1,7 +1,7 @@
 //! Hex items. Each means one received character.
 ghost use Rattle.std.specs.Prelude.{◌≡◌, ◌↔◌, ◌≤◌, ◌<◌, [], ◌∷◌, ◌++◌, IsTrue, MatchOption, length, slice_index};
 ghost use Rattle.hart_line.specs.script.Items.{AreDigits, BeginsAsItem, byte_of, IsItemsWord, NoItemBegins};
-ghost use Rattle.hart_line.specs.script.Rows.{ReadsWords};
+ghost use Rattle.hart_line.specs.script.Rows.{IsNeededByItems, ReadsWords};
 
 use crate::script::digits::Digits;
 use crate::script::rows::RowFault;
@@ -78,7 +78,7 @@ fn gives_faults(text: &[u8]) -> bool
 /// Reads a word that is not empty and consists of items, end to end. Reserves room for one character for every two bytes of the word. If
 /// this room is refused, the error is [`RowFault::Memory`]. Otherwise a word of any other form has the error [`RowFault::Bad`].
 pub(crate) fn read_items(alloc: Global, digits: &Digits, word: &[u8]) -> Result<CharList, RowFault>
-    ensures { ReadsWords (word.now ∷ []) (IsItemsWord word.now) result }
+    ensures { ReadsWords (IsNeededByItems word.now) (IsItemsWord word.now) result }
 {
     if word.is_empty() {
         return Err(RowFault::Bad);

@@ -1,6 +1,7 @@
 //! Reads the lines of a script: the event of a line, or the reason why there is none.
-ghost use Rattle.std.specs.Prelude.{◌≡◌, ◌≢◌, [], ◌∷◌, codes, drop, length, IfErr, MatchOption, OnOk};
-ghost use Rattle.hart_line.specs.script.Rows.{AddsLine, IsLegWord, IsLineFault, ReadsWords, Says, item_words, request_of};
+ghost use Rattle.std.specs.Prelude.{◌≡◌, ◌≢◌, [], ◌∷◌, codes, length, IfErr, MatchOption, OnOk};
+ghost use Rattle.hart_line.specs.script.Rows.{AddsLine, IsLegWord, IsLineFault, IsNeededByLeg, IsNeededByWords, ReadsWords, Says};
+ghost use Rattle.hart_line.specs.script.Rows.{request_of};
 ghost use Rattle.hart_line.specs.script.Words.{Finds};
 
 use crate::script::digits::Digits;
@@ -55,7 +56,7 @@ fn read_event(
     first: &[u8],
     rest: Words<'_>,
 ) -> Result<LineEvent, RowFault>
-    ensures { ReadsWords (item_words (first.now ∷ rest.entry)) (Says (first.now ∷ rest.entry)) result }
+    ensures { ReadsWords (IsNeededByWords (first.now ∷ rest.entry)) (Says (first.now ∷ rest.entry)) result }
 {
     match first {
         b"submit" => read_submit(rest).ok_or(RowFault::Bad),
@@ -100,7 +101,7 @@ fn read_request(command: &[u8], rest: Words<'_>) -> Option<Request>
 
 /// Reads the three words after `turn`: WHO, UP and DOWN.
 fn read_turn(alloc: Global, digits: &Digits, rest: Words<'_>) -> Result<LineEvent, RowFault>
-    ensures { ReadsWords (drop 1 rest.entry) (Says (codes "turn" ∷ rest.entry)) result }
+    ensures { ReadsWords (IsNeededByWords (codes "turn" ∷ rest.entry)) (Says (codes "turn" ∷ rest.entry)) result }
 {
     let Some((who, up, down)) = three_words(rest) else {
         return Err(RowFault::Bad);
@@ -124,7 +125,7 @@ fn three_words<'a>(line: Words<'a>) -> Option<(&'a [u8], &'a [u8], &'a [u8])>
 
 /// Reads the word of a leg: `ok`, `lost`, or the items of the characters that are heard.
 fn read_leg(alloc: Global, digits: &Digits, word: &[u8]) -> Result<Heard, RowFault>
-    ensures { ReadsWords (word.now ∷ []) (IsLegWord word.now) result }
+    ensures { ReadsWords (IsNeededByLeg word.now) (IsLegWord word.now) result }
 {
     match word {
         b"ok" => Ok(Heard::Clean),
@@ -146,7 +147,7 @@ fn read_protect(rest: Words<'_>) -> Option<LineEvent>
 
 /// Reads the one word after `noise`: the items of the characters that are heard.
 fn read_noise(alloc: Global, digits: &Digits, rest: Words<'_>) -> Result<LineEvent, RowFault>
-    ensures { ReadsWords rest.entry (Says (codes "noise" ∷ rest.entry)) result }
+    ensures { ReadsWords (IsNeededByWords (codes "noise" ∷ rest.entry)) (Says (codes "noise" ∷ rest.entry)) result }
 {
     let Some(items) = rest.only() else {
         return Err(RowFault::Bad);

@@ -1,9 +1,8 @@
 -- Lines say at most one list of events, and lines that say events include no bad line.
-use Rattle.hart_line.proofs.Common.{◌≡◌, ◌<◌, ◌⊎◌, ℕ, List, [], ◌∷◌, Some, Err, ap, arith, codes, drop, subst, sym, refl, take}
-use Rattle.hart_line.proofs.Common.{pred, length, get_or, common_steps, AllZip, slice_get, Heard, Chars, Clean, Lost, LineEvent, Noise}
-use Rattle.hart_line.proofs.Common.{Turn, Character}
+use Rattle.hart_line.proofs.Common.{◌≡◌, ◌<◌, ◌⊎◌, ℕ, List, [], ◌∷◌, Some, Err, ap, arith, codes, sym, refl, take}
+use Rattle.hart_line.proofs.Common.{pred, common_steps, AllZip, slice_get, Heard, Chars, Clean, Lost, LineEvent, Noise, Turn, Character}
 use Rattle.hart_line.proofs.Common.{RowFault, AreItems, IsItemsWord, AreEvents, HasFirstBadLine, IsBadLine, IsLegWord, IsScript, ReadsWords}
-use Rattle.hart_line.proofs.Common.{Says, lines_in_words, HasNoValue}
+use Rattle.hart_line.proofs.Common.{Says, lines_in_words, HasNoValue, IsNeededByItems, IsNeededByLeg, IsNeededByWords}
 use Rattle.hart_line.specs.declared.script.rows.RowFault.TheVariants.{Bad, Memory}
 use Rattle.hart_line.proofs.lemmas.script.Items.{items_begin_with_digit, words_have_one_value-items}
 
@@ -88,19 +87,22 @@ no_noise word none (Noise chars) said = let same : said.0 ≡ word = grind arith
 no_noise word none event said = grind arith
 
 -- FAULTS OF WORDS
--- If words say nothing when one certain word of them says nothing, a fault of that word is a fault of the words.
-pub fault_of_word : {A B : Type 0} (words : List (List ℕ)) (k : ℕ) (word : List ℕ) (fault : RowFault) (IsPart : A → Type 0)
-    (IsWhole : B → Type 0) → k < length words → get_or words k word ≡ word → (HasNoValue IsPart → HasNoValue IsWhole)
-    → ReadsWords (word ∷ []) IsPart (Err fault) → ReadsWords words IsWhole (Err fault)
-fault_of_word words k word Bad IsPart IsWhole short here none reads = none reads
-fault_of_word words k word (Memory room) IsPart IsWhole short here none reads = grind arith
+-- A fault of a word of items is a fault of the same word of a leg, if this is neither `ok` nor `lost`.
+pub fault_of_leg : (word : List ℕ) (fault : RowFault) → (word ≡ codes "ok" → ⊥) × (word ≡ codes "lost" → ⊥)
+    → ReadsWords (IsNeededByItems word) (IsItemsWord word) (Err fault) → ReadsWords (IsNeededByLeg word) (IsLegWord word) (Err fault)
+fault_of_leg word Bad other none = no_leg word other none
+fault_of_leg word (Memory room) other needed = (other.0, other.1, needed)
 
--- Take a word of a row, after the row's name and `skip` further words that never need room. If the row says nothing when this word says
--- nothing, the word's fault is the row's fault.
-pub fault_in_row : {A : Type 0} (row : List ℕ) (words given : List (List ℕ)) (skip k : ℕ) (word : List ℕ) (fault : RowFault)
-    (IsPart : A → Type 0) → words ≡ given → k < length (drop skip given) → get_or (drop skip given) k word ≡ word
-    → (HasNoValue IsPart → HasNoValue (Says (row ∷ given))) → ReadsWords (word ∷ []) IsPart (Err fault)
-    → ReadsWords (drop skip words) (Says (row ∷ words)) (Err fault)
-fault_in_row row words given skip k word fault IsPart are short here none reads =
-    subst (λ (all : List (List ℕ)). ReadsWords (drop skip all) (Says (row ∷ all)) (Err fault)) (sym are)
-    (fault_of_word (drop skip given) k word fault IsPart _ short here none reads)
+-- A fault of one of the two legs of a turn is a fault of the turn.
+pub fault_of_turn : (words : List (List ℕ)) (who up down leg : List ℕ) (fault : RowFault) → words ≡ who ∷ up ∷ down ∷ []
+    → (leg ≡ up) ⊎ (leg ≡ down) → ReadsWords (IsNeededByLeg leg) (IsLegWord leg) (Err fault)
+    → ReadsWords (IsNeededByWords (codes "turn" ∷ words)) (Says (codes "turn" ∷ words)) (Err fault)
+fault_of_turn words who up down leg Bad are one none = rw are (no_turn who up down leg one none)
+fault_of_turn words who up down leg (Memory room) are one needed = grind arith
+
+-- A fault of the word after `noise` is a fault of the noise.
+pub fault_of_noise : (words : List (List ℕ)) (word : List ℕ) (fault : RowFault) → words ≡ word ∷ []
+    → ReadsWords (IsNeededByItems word) (IsItemsWord word) (Err fault)
+    → ReadsWords (IsNeededByWords (codes "noise" ∷ words)) (Says (codes "noise" ∷ words)) (Err fault)
+fault_of_noise words word Bad are none = rw are (no_noise word none)
+fault_of_noise words word (Memory room) are needed = rw are (refl, needed)
