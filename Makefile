@@ -4,7 +4,7 @@
 #   make quick                builds ./hart-unproved within two minutes, with nothing proved
 #   make check                runs every proof and test and tries each wrong body; its last line counts what passed and failed
 #   make test                 proves every crate and runs every test and script, without the wrong bodies
-#   make mistakes             tries the wrong bodies of crates/NAME/mistakes in batches
+#   make mistakes             tries the wrong bodies of crates/NAME/mistakes in batches, but for those refused before and unchanged since
 #   make mistakes-table       tries all wrong bodies, and writes the table of docs/WRONG_BODIES.md
 #   make definitions          tries the wrong definitions, after a change to a definition; not part of make check
 #   make refused-growths      refuses each allocation of ./hart and of each call in turn

@@ -1,14 +1,15 @@
 #!/usr/bin/env python3
 """Tries wrong bodies in batches: each has to be refused at a goal of the function that it changes.
 
-Usage: tools/mistakes.py [--gate FOLDER] [--table] [CRATE | MISTAKE ..]
+Usage: tools/mistakes.py [--gate FOLDER] [--table] [--anew] [CRATE | MISTAKE ..]
        tools/mistakes.py [--definitions] --can-fail
        tools/mistakes.py --definitions [--untried] [--table] [CRATE | FILE.DEFINITION ..]
 
 Without names it tries all of `crates/NAME/mistakes/`, and then holds the table of docs/WRONG_BODIES.md against what it saw.
 `--table` tries those of `must-fail/` too, which the gate tries one by one, and writes the table. `--gate` is for a run right after
-the gate: it takes the libraries that the gate has built, and the folder has what it proved of each crate. `--can-fail` shows that
-edits that are no mistakes make a run fail. `--definitions` tries wrong variants of definitions instead, and with `--untried` only
+the gate: it takes the libraries that the gate has built, and the folder has what it proved of each crate. Other runs take a refusal that
+an earlier run on this machine saw as it is, if nothing that it rests on has changed; `--anew` tries all again. `--can-fail` shows that
+edits that are no mistakes make a run fail, and that a refusal is not taken after a change. `--definitions` tries wrong variants of definitions instead, and with `--untried` only
 those of which the page does not say where they are refused. With `--can-fail` it shows that a variant that says the same and a
 definition without a variant make a run fail.
 """
@@ -21,6 +22,7 @@ from concurrent.futures import ThreadPoolExecutor, as_completed
 from mistakes import definitions, planted, table
 from mistakes.edits import BadEdit, batches_of, edits_of, mistake_of, texts_of
 from kit import Kit
+from mistakes.kept import KeptVerdicts, cache_folder
 from mistakes.verdicts import Verdict, verdict_of
 
 
@@ -71,19 +73,25 @@ def crates_with_libraries(kit, names, is_after_gate):
     return [it for it in names if kit.build_below(it)]
 
 
-def tried(kit, edits, is_after_gate):
+def tried(kit, edits, is_after_gate, kept):
     """Yields each edit with its functions and its verdict, as they are decided. Each crate is one task."""
     mistakes, bad = mistakes_of(edits)
     yield from ((edit, (), verdict) for edit, verdict in bad)
     of_crates = {}
     for it in mistakes:
-        of_crates.setdefault(os.path.basename(it.edit.crate), []).append(it)
+        known = kept.find(it)
+        if known:
+            yield it.edit, it.functions, known
+        else:
+            of_crates.setdefault(os.path.basename(it.edit.crate), []).append(it)
+    print(f"mistakes: {sum(map(len, of_crates.values()))} to try, the others were refused by an earlier run on this machine", flush=True)
     ready = crates_with_libraries(kit, list(of_crates), is_after_gate)
     for name in of_crates.keys() - ready:
         yield from ((it.edit, it.functions, Verdict((), "a library below its crate is not proved")) for it in of_crates[name])
     with ThreadPoolExecutor(max_workers=int(os.environ.get("RT_JOBS") or kit.rt.processors())) as pool:
         tasks = [pool.submit(judged_crate, kit, it, of_crates[it]) for it in sorted(ready, key=lambda it: -kit.crates[it].count(rb"\n"))]
         for task in as_completed(tasks):
+            kept.keep(os.path.basename(task.result()[0][0].edit.crate), task.result())
             yield from ((mistake.edit, mistake.functions, verdict) for mistake, verdict in task.result())
 
 
@@ -106,6 +114,7 @@ def main():
     parser = argparse.ArgumentParser(description="Tries wrong bodies in batches.")
     parser.add_argument("--gate", metavar="FOLDER", help="take the libraries that the gate has just built, and what it proved")
     parser.add_argument("--table", action="store_true", help="write the table of docs/WRONG_BODIES.md")
+    parser.add_argument("--anew", action="store_true", help="try those too that an earlier run on this machine saw refused")
     parser.add_argument("--can-fail", action="store_true", help="show that a run fails by edits that are no mistakes")
     parser.add_argument("--definitions", action="store_true", help="try the wrong variants of definitions instead")
     parser.add_argument("--untried", action="store_true", help="of these only those of which the page does not say where they are refused")
@@ -117,7 +126,7 @@ def main():
     if words.definitions:
         sys.exit(definitions.run(kit, words))
     rows, failed = [], []
-    for edit, functions, verdict in tried(kit, chosen_edits(kit, words), bool(words.gate)):
+    for edit, functions, verdict in tried(kit, chosen_edits(kit, words), bool(words.gate), KeptVerdicts(kit, cache_folder(), words.anew or bool(words.gate))):
         name = f"{os.path.basename(edit.crate)}/{edit.name}"
         at = ", ".join(it.path for it in functions)
         print(f"{name}: {'refused at ' + at + ': ' + verdict.words() if verdict.is_refused() else 'NOT REFUSED: ' + verdict.why}", flush=True)

@@ -1,11 +1,15 @@
-"""Shows that a run can fail: edits of hart_values that are no mistakes, a mistake under a contract that was made weak, a definition in
-other words, and a definition without a variant."""
+"""Shows that a run can fail: edits of hart_values that are no mistakes, a mistake under a contract that was made weak, a refusal that is
+kept from before a change, a definition in other words, and a definition without a variant."""
 
+import copy
 import re
+import shutil
+import tempfile
 from typing import NamedTuple
 
 from mistakes import definitions
 from mistakes.edits import read_edit, texts_of
+from mistakes.kept import KeptVerdicts
 from mistakes.verdicts import verdict_of
 
 CRATE = "hart_values"
@@ -82,6 +86,24 @@ def weak_verdict(kit, mistake, kept):
     return verdict_of(kit.check(CRATE, texts, [it.path for it in mistake.functions], kept), CRATE, mistake)
 
 
+def kept_after_change(kit, mistake, verdict):
+    """What is said if a refusal that was kept is not found again, or is still found once a file of its crate has changed, or None."""
+    crate, found = copy.copy(kit.crates[CRATE]), []
+    with tempfile.TemporaryDirectory(prefix="kept-") as room:
+        crate.folder = shutil.copytree(crate.folder, f"{room}/crate", ignore=shutil.ignore_patterns("out"))
+        copied = copy.copy(kit)
+        copied.crates = {**kit.crates, CRATE: crate}
+        for _ in range(2):
+            verdicts = KeptVerdicts(copied, f"{room}/kept")
+            found.append(verdicts.find(mistake))
+            verdicts.keep(CRATE, [(mistake, verdict)])
+        with open(f"{crate.folder}/{WEAKENED[0]}", "a", encoding="utf-8") as it:
+            it.write("\n")
+        found.append(KeptVerdicts(copied, f"{room}/kept").find(mistake))
+    print(f"planted refusal that was kept: {['not found' if it is None else 'found' for it in found]} at first, when kept, and after a change")
+    return None if found == [None, verdict, None] else "planted refusal that was kept: it has to be found only as long as nothing changes"
+
+
 def run(kit, judged, mistakes_of):
     """Tries all of them, and returns 0 if each verdict is the wanted one."""
     crate = kit.crates[CRATE].folder
@@ -91,13 +113,15 @@ def run(kit, judged, mistakes_of):
     weak = Planted("a_mistake_under_a_weak_clause", HALVED, "is still proved")
     found = [differs(by_name[edit.name], verdict) for edit, verdict in bad + none]
     with kit.kept(CRATE) as kept:
-        found += [differs(by_name[it.edit.name], verdict) for it, verdict in judged(kit, batch, kept)]
+        verdicts = judged(kit, batch, kept)
+        found += [differs(by_name[it.edit.name], verdict) for it, verdict in verdicts]
         found.append(differs(weak, weak_verdict(kit, batch[0], kept)))
-    lacking = len(by_name) + 1 - len(found)
+    found.append(kept_after_change(kit, *verdicts[0]))
+    lacking = len(by_name) + 2 - len(found)
     for it in filter(None, found):
         print(it)
     wrong = sum(it is not None for it in found) + lacking
-    print(f"mistakes: of {len(by_name) + 1} planted edits {wrong} had another verdict than they must have")
+    print(f"mistakes: of {len(by_name) + 2} planted edits and verdicts {wrong} had another outcome than they must have")
     return 1 if wrong else 0
 
 
