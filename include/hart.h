@@ -132,7 +132,7 @@ typedef struct hart_reading {
     size_t taken;   /* how many bytes are taken, status bytes included; unless the data are refused, later bytes are ignored */
     uint8_t code;   /* for a reply its response code; for a request the response code that refuses it, or 0 */
     uint8_t status; /* for a reply its device status; for a request 0 */
-    uint8_t fault;  /* HART_OK, or why nothing was read */
+    uint8_t fault;  /* HART_OK, or why nothing was read; all other numbers are then 0, also `code`, which is then no success */
 } hart_reading;
 
 /* Reads the data of a request of this command, and writes its fields; 16 elements are enough for any data. A refused request has no fields,
@@ -258,9 +258,9 @@ hart_outcome hart_hear(const hart_identity *identity, const hart_process *proces
 
 /* Whether a request was answered. */
 typedef struct hart_acceptance {
-    bool is_accepted; /* true if the reply to the request was heard */
-    uint8_t code;     /* the response code of the reply, where 0 is success; also 0 if no reply was heard */
-    uint8_t status;   /* the device status of the reply; 0 if no reply was heard */
+    bool is_accepted; /* true if a reply to the request was accepted */
+    uint8_t code;     /* the response code of the accepted reply, where 0 is success; also 0 if none was accepted */
+    uint8_t status;   /* the device status of the accepted reply; 0 if none was accepted */
     uint8_t fault;    /* HART_OK, or why nothing was done */
 } hart_acceptance;
 
