@@ -84,5 +84,6 @@ times >"$log"
 read -r user system < <(tail -n 1 "$log")
 echo "processor time: $user user, $system system"
 
+[ "$failed" -eq 0 ] || note 1
 echo "$passed passed, $failed failed"
 exit "$worst"

@@ -39,7 +39,7 @@ def rows():
         if line.startswith(("#", "image\t")):
             continue
         image, heard, reply, _ = line.split("\t")
-        yield image, list(zip(heard.split(BETWEEN), reply.split(BETWEEN)))
+        yield image, list(zip(heard.split(BETWEEN), reply.split(BETWEEN), strict=True))
 
 
 def ended(program, words, lines):

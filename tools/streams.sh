@@ -47,7 +47,9 @@ writes() {
     shift
     status=0
     "$program" "$@" <"$heard" >"$work/output" 2>"$work/errors" || status=$?
-    if [ "$status" -ne 0 ] || [ "$(cat "$work/output")" != "$text" ] || [ -s "$work/errors" ]; then
+    printf '%s' "${text:+$text
+}" >"$work/wanted"
+    if [ "$status" -ne 0 ] || ! cmp -s "$work/wanted" "$work/output" || [ -s "$work/errors" ]; then
         echo "hart $*: status $status and '$(cat "$work/output" "$work/errors")', but 0 and '$text' are wanted" >&2
         exit 1
     fi

@@ -101,7 +101,7 @@ def row(program, image, parts, replies, is_right):
     model = list(of_model(image, parts))
     if replies != model or not is_right:
         sys.exit(f"vectors: to {parts} of image {image} the program replies {replies}, the model {model}; as is known: {is_right}")
-    said = " ".join(note(program, heard, reply) for heard, reply in zip(parts, replies))
+    said = " ".join(note(program, heard, reply) for heard, reply in zip(parts, replies, strict=True))
     return "\t".join((image, BETWEEN.join(parts), BETWEEN.join(reply or "-" for reply in replies), device_note(image) + said))
 
 

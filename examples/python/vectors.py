@@ -18,7 +18,7 @@ def characters(heard):
 
 def is_replied(device, heard, wanted):
     """Whether a device replies to what is heard in turn as is wanted."""
-    for part, reply in zip(heard.split("; "), wanted.split("; ")):
+    for part, reply in zip(heard.split("; "), wanted.split("; "), strict=True):
         if part == "restart":
             device.restart()
         elif (device.hear(characters(part)).hex(" ").upper() or "-") != reply:
