@@ -9,3 +9,4 @@ pub mod Refusal
 pub mod Message
 pub mod FaultNumbers
 pub mod View
+pub mod PlainAddress

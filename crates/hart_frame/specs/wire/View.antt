@@ -1,6 +1,6 @@
 -- What a view of a frame says (own profile).
 use Rattle.hart_frame.specs.wire.FrameParts.{FrameParts}
-use Rattle.hart_frame.specs.private.Address.{address_of}
+use Rattle.hart_frame.specs.wire.PlainAddress.{address_of}
 use Rattle.hart_frame.specs.declared.wire.view.FrameView.{FrameView}
 
 -- The parts of the frame that a view shows.

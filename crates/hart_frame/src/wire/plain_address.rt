@@ -1,7 +1,8 @@
 //! Addresses as plain numbers. A view holds its address in this form, because no field of a view may have a type with a model. A model is
 //! another value that contracts see in place of the value itself.
 ghost use Rattle.std.specs.Prelude.{◌≡◌};
-ghost use Rattle.hart_frame.specs.private.Address.{IsInRange, address_of};
+ghost use Rattle.hart_frame.specs.private.Address.{IsInRange};
+ghost use Rattle.hart_frame.specs.wire.PlainAddress.{address_of};
 
 use hart_values::Address;
 

@@ -2,7 +2,7 @@ use Rattle.std.proofs.Common.{sym, arith}
 use Rattle.std.proofs.lemmas.Grind.{get_or_after_one}
 use Rattle.std.proofs.lemmas.List.{get_or-take}
 use Rattle.std.specs.List.{slice_range}
-use Rattle.hart_frame.specs.private.Address.{address_of}
+use Rattle.hart_frame.specs.wire.PlainAddress.{address_of}
 use Rattle.hart_frame.specs.wire.Header.{HeaderParts}
 use Rattle.hart_frame.specs.wire.Layout.{address_end}
 use Rattle.hart_frame.proofs.lemmas.wire.Header.{StandsAsHeader, header_read}

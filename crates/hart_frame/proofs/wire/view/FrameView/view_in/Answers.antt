@@ -1,7 +1,7 @@
 use Rattle.std.proofs.Common.{◌≡◌, ◌+◌, get_or, length, arith}
 use Rattle.std.proofs.lemmas.Grind.{common_steps}
 use Rattle.std.specs.List.{slice_range}
-use Rattle.hart_frame.specs.private.Address.{address_of}
+use Rattle.hart_frame.specs.wire.PlainAddress.{address_of}
 use Rattle.hart_frame.specs.wire.FrameParts.{FrameParts}
 use Rattle.hart_frame.specs.wire.Layout.{body_length}
 use Rattle.hart_frame.proofs.lemmas.wire.BodiesFound.{long_enough}
