@@ -42,14 +42,14 @@ pub fn next_in_bytes(bytes: &[u8], from: usize, ended: bool) -> NextInBytes<'_>
     ensures all { result.frame ≡ None → IsTrue ended → result.used ≡ length bytes.now }
     ensures undecided { result.frame ≡ None → ended ≡ false → IsUndecided (faultless (drop result.used bytes.now)) }
 {
-    let sighting = search_to_end(bytes, from, ended);
-    let Some(layout) = sighting.layout else {
+    let searched = search_to_end(bytes, from, ended);
+    let Some(layout) = searched.layout else {
         return NextInBytes {
             frame: None,
-            used: sighting.place,
+            used: searched.place,
         };
     };
-    let start = sighting.place + 2;
+    let start = searched.place + 2;
     let stop = start + layout.body_len();
     let found = FoundView {
         start: start as u64,

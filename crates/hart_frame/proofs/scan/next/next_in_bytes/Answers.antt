@@ -8,19 +8,19 @@ use Rattle.hart_frame.proofs.scan.next.next_in_bytes.Goals as goal
 
 pub returns-in_default-clause-frames : goal.returns-in_default-clause-frames
 returns-in_default-clause-frames c =
-    let found = c.search_to_end-sighting.ensures in
-    next_to c.args.bytes.now c.args.ended c.args.from c.search_to_end-sighting.result.place found.after found.within found.none
+    let found = c.search_to_end-searched.ensures in
+    next_to c.args.bytes.now c.args.ended c.args.from c.search_to_end-searched.result.place found.after found.within found.none
 
 pub returns-in_default-clause-undecided : goal.returns-in_default-clause-undecided
 returns-in_default-clause-undecided c = λ none going.
-    let may : MayBegin (drop c.search_to_end-sighting.result.place c.args.bytes.now) = grind (arith, drop_all) in undecided_open _ may
+    let may : MayBegin (drop c.search_to_end-searched.result.place c.args.bytes.now) = grind (arith, drop_all) in undecided_open _ may
 
 pub slice_bounds-view_in-end : goal.slice_bounds-view_in-end
 slice_bounds-view_in-end c = grind (arith, ends_within)
 
 pub view_in-requires : goal.view_in-requires
 view_in-requires c =
-    let found = c.search_to_end-sighting in
+    let found = c.search_to_end-searched in
     let whole = rw c.in-Some.is at found.ensures.stands in
     record {
       body = rw (body_at_place c.args.bytes.now found.result.place c.body_len.result c.in-Some.layout whole c.body_len.ensures)
@@ -29,7 +29,7 @@ view_in-requires c =
 
 pub returns-clause-frames : goal.returns-clause-frames
 returns-clause-frames c =
-    let found = c.search_to_end-sighting.ensures in
-    next_past c.args.bytes.now c.args.ended c.args.from c.search_to_end-sighting.result.place c.body_len.result c.in-Some.layout
+    let found = c.search_to_end-searched.ensures in
+    next_past c.args.bytes.now c.args.ended c.args.from c.search_to_end-searched.result.place c.body_len.result c.in-Some.layout
     (parts_of c.view_in.result) found.after found.within found.none (rw c.in-Some.is at found.stands) c.body_len.ensures
     c.view_in.ensures
