@@ -1,11 +1,10 @@
 -- What a caller in C can rely on when it reads the data of a message, or asks for the names of its fields (own profile).
-use Rattle.std.specs.Prelude.{◌≡◌, ◌<◌, ◌≤◌, ◌⊎◌, ◌++◌, ◌+◌, ◌==◌, if◌then◌else◌, ℕ, Bool, true, false, List, drop, length, slice_get}
-use Rattle.std.specs.Prelude.{Option, None, Some, option_map, [], ◌∷◌, take, Ok, Err}
-use Rattle.hart_commands.specs.ReplyData.{reply_payload, reply_reading}
-use Rattle.hart_commands.specs.RequestData.{Reading, request_data, request_reading}
+use Rattle.std.specs.Prelude.{◌≡◌, ◌<◌, ◌≤◌, ◌⊎◌, ◌++◌, ◌+◌, ℕ, Bool, true, false, List, [], ◌∷◌, drop, length, slice_get, take}
+use Rattle.std.specs.Prelude.{Option, None, Some, option_map, MatchOption, MatchResult}
+use Rattle.hart_commands.specs.{ReplyData.reply_reading, RequestData.request_data, RequestData.request_reading}
 use Rattle.hart_commands.specs.declared.fields.FieldKind.TheVariants.{Bytes, Date, Float, LatinText, Number, PackedText, UnitCode}
 use Rattle.hart_commands.specs.declared.fields.FieldKind.TheVariants.{Variables}
-use Rattle.hart_commands.specs.{Commands.reply_rows, Commands.request_rows, declared.fields.FieldKind.FieldKind, declared.reply.Reply.Reply}
+use Rattle.hart_commands.specs.{Commands.reply_rows, Commands.request_rows, declared.fields.FieldKind.FieldKind}
 use Rattle.hart_commands.specs.{FieldWidths.IsWidthOf, Fields.Field, Fields.Row, Fields.bytes_of, Fields.fields_of, Parts.content_bytes}
 use Rattle.hart_c.specs.Faults.{number_of}
 use Rattle.hart_c.specs.declared.fault.Fault.TheVariants.{NoRoom}
@@ -49,47 +48,30 @@ placed start (field ∷ fields) =
 abbrev pub written_over : List HartField → List HartField → List HartField
 written_over written before = take (length before) written ++ drop (length written) before
 
--- Fields are written over the first fields of `before`. The result has the number of all fields, the number of bytes taken, a code
--- and a device status.
-pub record IsShown (start : ℕ) (fields : List Field) (taken code status : ℕ) (before after : List HartField) (reading : HartReading)
+-- The fields of these rows in the bytes are written over the first fields of `before`. The first field starts at `start`. The result has
+-- the number of all fields, the number of bytes taken, which are these bytes and those before `start`, a code and a device status.
+pub record IsShown (start : ℕ) (rows : List Row) (bytes : List ℕ) (code status : ℕ) (before after : List HartField) (reading : HartReading)
     : Type 0 where
-  pub told : reading ≡ record { count = length fields; taken = taken; code = code; status = status; fault = 0 }
-  pub shown : after ≡ written_over (placed start fields) before
+  pub told : reading
+      ≡ record { count = length (fields_of rows bytes); taken = start + length bytes; code = code; status = status; fault = 0 }
+  pub shown : after ≡ written_over (placed start (fields_of rows bytes)) before
 
--- If data are read as a request, the fields are those of the request's command, in the data bytes that the request takes. A refused request
--- has no fields.
-abbrev pub request_fields : ℕ → List ℕ → Reading → List Field
-request_fields command bytes (Ok request) = fields_of (request_rows command) (take (length (request_data request)) bytes)
-request_fields command bytes (Err code) = []
-
--- If the data are read as a request, its fields are shown, and the result has the number of bytes taken. If the data are refused, no
--- field is shown, and the result has only the code.
-abbrev pub RequestShown : ℕ → List ℕ → Reading → List HartField → List HartField → HartReading → Type 0
-RequestShown command bytes (Ok request) before after reading =
-    IsShown 0 (request_fields command bytes (Ok request)) (length (take (length (request_data request)) bytes)) 0 0 before after reading
-RequestShown command bytes (Err code) before after reading = IsShown 0 [] 0 code 0 before after reading
-
--- `hart_read_request` reads the data as a request of their command, and shows the result.
+-- `hart_read_request` reads the data as a request of their command. The fields are those of the request's command, in the data bytes that
+-- the request takes. If the data are refused, no field is shown, and the result has only the code.
 abbrev pub RequestOutcome : ℕ → List ℕ → List HartField → List HartField → HartReading → Type 0
-RequestOutcome command bytes = RequestShown command bytes (request_reading command bytes)
+RequestOutcome command bytes before after reading =
+    MatchResult (request_reading command bytes)
+    (λ request. IsShown 0 (request_rows command) (take (length (request_data request)) bytes) 0 0 before after reading)
+    (λ code. IsShown 0 [] [] code 0 before after reading)
 
--- If a reply has code 0, the fields are those of the reply's command, in the data bytes that the reply's content takes. Any other reply has
--- no fields.
-abbrev pub reply_fields : ℕ → List ℕ → Reply → List Field
-reply_fields command payload reply =
-    if reply.code == 0 then fields_of (reply_rows command) (take (length (content_bytes reply.content)) (drop 2 payload)) else []
-
--- The fields of a reply are shown from place 2 on, and the result has the code and the device status of the reply. Without a reply the
--- fault is 14.
-abbrev pub ReplyShown : ℕ → List ℕ → Option Reply → List HartField → List HartField → HartReading → Type 0
-ReplyShown command payload (Some reply) before after reading =
-    IsShown 2 (reply_fields command payload reply) (length (reply_payload reply)) reply.code reply.status.0 before after reading
-ReplyShown command payload None before after reading =
-    (reading ≡ record { count = 0; taken = 0; code = 0; status = 0; fault = 14 }) × (after ≡ before)
-
--- `hart_read_reply` reads the payload as a reply to its command, and shows the result.
+-- `hart_read_reply` reads the payload as a reply to its command. The fields are those of the reply's command, in the bytes of its content,
+-- and are shown from place 2 on. The result has the code and the device status of the reply. A reply with a code other than 0 has no
+-- content bytes, and so no fields. Without a reply the fault is 14, the other numbers of the result are 0, and no field is shown.
 abbrev pub ReplyOutcome : ℕ → List ℕ → List HartField → List HartField → HartReading → Type 0
-ReplyOutcome command payload = ReplyShown command payload (reply_reading command payload)
+ReplyOutcome command payload before after reading =
+    MatchOption (reply_reading command payload)
+    ((reading ≡ record { count = 0; taken = 0; code = 0; status = 0; fault = 14 }) × (after ≡ before))
+    (λ reply. IsShown 2 (reply_rows command) (content_bytes reply.content) reply.code reply.status.0 before after reading)
 
 -- `shown` is the field with this index. The field has the name and the kind of its row, and a width that this kind allows. Its place
 -- is right after the fields before it, and its bytes stand there.

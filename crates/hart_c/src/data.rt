@@ -1,8 +1,10 @@
 //! What the data of a message mean, and where each field stands.
 ghost use Rattle.std.specs.Prelude.{◌≡◌, ◌+◌, ◌≤◌, Some, length, map, slice_set};
+ghost use Rattle.hart_commands.specs.Commands.{reply_rows};
 ghost use Rattle.hart_commands.specs.Fields.{fields_of, seen};
+ghost use Rattle.hart_commands.specs.Parts.{content_bytes};
 ghost use Rattle.hart_commands.specs.ReplyData.{reply_reading};
-ghost use Rattle.hart_c.specs.Data.{ReplyOutcome, ReplyShown, RequestOutcome, kind_number, placed, written_over};
+ghost use Rattle.hart_c.specs.Data.{IsShown, ReplyOutcome, RequestOutcome, kind_number, placed, written_over};
 
 use crate::fault::{HART_NO_REPLY, HART_OK};
 use hart_commands::{FieldKind, FieldRow, Reply, Request, reply_rows, request_rows};
@@ -125,7 +127,8 @@ pub extern "C" fn hart_read_reply(
 /// Shows where the fields of a reply stand in its payload.
 fn show_reply(command: u8, payload: &[u8], reply: &Reply, fields: &mut [HartField]) -> HartReading
     requires { reply_reading command payload.now ≡ Some reply.now }
-    ensures { ReplyShown command payload.now (Some reply.now) fields.old fields.new result }
+    ensures { let reply = reply.now in
+        IsShown 2 (reply_rows command) (content_bytes reply.content) reply.code reply.status.0 fields.old fields.new result }
 {
     let mut written = Payload::new();
     reply.write(&mut written);

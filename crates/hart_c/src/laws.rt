@@ -4,7 +4,9 @@ ghost use Rattle.std.specs.Prelude.{All, length, slice_get, slice_index, take};
 ghost use Rattle.hart_frame.specs.heard.Character.{Character};
 ghost use Rattle.hart_frame.specs.heard.Frames.{AreFrames};
 ghost use Rattle.hart_frame.specs.declared.heard.found.Found.{Found};
-ghost use Rattle.hart_commands.specs.Commands.{command_name};
+ghost use Rattle.hart_commands.specs.Commands.{command_name, reply_rows, request_rows};
+ghost use Rattle.hart_commands.specs.Fields.{fields_of};
+ghost use Rattle.hart_commands.specs.Parts.{content_bytes};
 ghost use Rattle.hart_commands.specs.ReplyData.{reply_reading};
 ghost use Rattle.hart_commands.specs.RequestData.{request_reading};
 ghost use Rattle.hart_commands.specs.declared.reply.Reply.{Reply};
@@ -15,7 +17,7 @@ ghost use Rattle.hart_c.specs.declared.data.HartField.{HartField};
 ghost use Rattle.hart_c.specs.declared.data.HartReading.{HartReading};
 ghost use Rattle.hart_c.specs.declared.device.HartDevice.{HartDevice};
 ghost use Rattle.hart_c.specs.declared.fault.HartOutcome.{HartOutcome};
-ghost use Rattle.hart_c.specs.Data.{NameOutcome, ReplyOutcome, RequestOutcome, StandsAt, field_name, reply_fields, request_fields};
+ghost use Rattle.hart_c.specs.Data.{NameOutcome, ReplyOutcome, RequestOutcome, StandsAt, field_name};
 ghost use Rattle.hart_c.specs.Device.{HearOutcome, IsKept, NewDeviceOutcome, device_of, with_protection};
 ghost use Rattle.hart_c.specs.Find.{Finds, IsSearchedSoFar};
 ghost use Rattle.hart_frame.specs.scan.Next.{AreNext};
@@ -59,11 +61,11 @@ pub fn devices_are_kept()
 pub fn fields_stand_where_they_are_shown()
     ensures requests { (command index : ℕ) (bytes : List ℕ) (before after : List HartField) (reading : HartReading) (shown : HartField)
         → RequestOutcome command bytes before after reading → index < reading.count → slice_get after index ≡ Some shown
-        → StandsAt false command 0 (request_fields command bytes (request_reading command bytes)) bytes index shown }
+        → StandsAt false command 0 (fields_of (request_rows command) (take reading.taken bytes)) bytes index shown }
     ensures replies { (command index : ℕ) (payload : List ℕ) (before after : List HartField) (reading : HartReading)
         (shown : HartField) (reply : Reply) → reply_reading command payload ≡ Some reply
         → ReplyOutcome command payload before after reading → index < reading.count → slice_get after index ≡ Some shown
-        → StandsAt true command 2 (reply_fields command payload reply) payload index shown }
+        → StandsAt true command 2 (fields_of (reply_rows command) (content_bytes reply.content)) payload index shown }
 {}
 
 /// An array of 16 fields has room for any data, and 64 bytes have room for any name.

@@ -1,14 +1,13 @@
-use Rattle.std.proofs.Common.{◌≡◌, ◌≤◌, ◌⊎◌, inl, inr, ℕ, List, ◌∷◌, Ok, Some, ap, arith, length, take, refl, subst, sym}
-use Rattle.std.proofs.lemmas.Grind.{common_steps}
+use Rattle.std.proofs.Common.{◌≡◌, ◌≤◌, ◌⊎◌, inl, inr, ℕ, List, Ok, Some, arith, length, take, subst, sym}
 use Rattle.std.proofs.lemmas.List.{length-take, take_all, take_min}
-use Rattle.hart_commands.specs.Commands.{request_rows}
-use Rattle.hart_commands.specs.Fields.{Field, fields_of}
+use Rattle.hart_commands.specs.Commands.{reply_rows, request_rows}
+use Rattle.hart_commands.specs.Parts.{content_bytes}
 use Rattle.hart_commands.specs.RequestData.{request_data, request_reading}
 use Rattle.hart_commands.specs.ReplyData.{reply_payload, reply_reading}
 use Rattle.hart_commands.specs.declared.reply.Reply.{Reply}
 use Rattle.hart_commands.specs.declared.request.Request.{Request}
 use Rattle.hart_commands.proofs.lemmas.Laws.{requests_have_their_command, written_data_are_their_request}
-use Rattle.hart_c.specs.Data.{IsShown, ReplyOutcome, ReplyShown, RequestOutcome, RequestShown, reply_fields}
+use Rattle.hart_c.specs.Data.{IsShown, ReplyOutcome, RequestOutcome}
 use Rattle.hart_c.specs.declared.data.HartField.{HartField}
 use Rattle.hart_c.specs.declared.data.HartReading.{HartReading}
 use Rattle.hart_c.proofs.laws.bytes_that_are_not_taken_are_ignored.Goals as goal
@@ -21,40 +20,32 @@ again n bytes = take_all n (take n bytes) (omega (arith, length-take n bytes))
 as_many : (n : ℕ) (bytes : List ℕ) → take (length (take n bytes)) bytes ≡ take n bytes
 as_many n bytes = rw length-take (take_min n bytes)
 
--- a reply has the same fields if only the bytes that it takes are passed
-same_fields : (command code status : ℕ) (bytes : List ℕ) (reply : Reply)
-    → reply_fields command (take (length (reply_payload reply)) (code ∷ status ∷ bytes)) reply
-    ≡ reply_fields command (code ∷ status ∷ bytes) reply
-same_fields command code status bytes reply = grind (arith, common_steps, again)
-
--- a shorter payload with the same reply and the same fields has the same outcome
+-- a shorter payload with the same reply has the same outcome
 reply_alike : (command : ℕ) (payload front : List ℕ) (reply : Reply) (before after : List HartField) (reading : HartReading)
     → reply_reading command payload ≡ Some reply → reply_reading command front ≡ Some reply
-    → reply_fields command front reply ≡ reply_fields command payload reply → ReplyOutcome command payload before after reading
+    → ReplyOutcome command payload before after reading
     → (reading.taken ≡ length (reply_payload reply)) × ReplyOutcome command front before after reading
-reply_alike command payload front reply before after reading read is fields told =
-    let P = λ (fs : List Field). IsShown 2 fs (length (reply_payload reply)) reply.code reply.status.0 before after reading in
-    let shown : ReplyShown command payload (Some reply) before after reading = rw read at told in
-    (ap (λ (r : HartReading). r.taken) shown.told, rw is (subst P (sym fields) shown))
+reply_alike command payload front reply before after reading read is told =
+    let shown : IsShown 2 (reply_rows command) (content_bytes reply.content) reply.code reply.status.0 before after reading =
+    rw read at told in
+    (grind (arith, shown.told), rw is shown)
 
 pub returns-clause-replies : goal.returns-clause-replies
-returns-clause-replies c command (code ∷ status ∷ bytes) reply before after reading read told =
+returns-clause-replies c command payload reply before after reading read told =
     let laws = c.written_payloads_are_read_again.ensures in
-    let payload = code ∷ status ∷ bytes in
     let front = take (length (reply_payload reply)) payload in
     let kept = laws.kept command payload reply read in
     let made = laws.well_made command payload reply read in
     let own = λ (number : ℕ). reply_reading number (reply_payload reply) ≡ Some reply in
     let read_as = λ (front : List ℕ). reply_reading command front ≡ Some reply in
     let is : reply_reading command front ≡ Some reply = subst read_as kept (subst own made.1 (laws.again reply made.0)) in
-    let alike = reply_alike command payload front reply before after reading read is (same_fields command code status bytes reply) told in
+    let alike = reply_alike command payload front reply before after reading read is told in
     let P = λ (taken : ℕ). ReplyOutcome command (take taken payload) before after reading in
     subst P (sym alike.0) alike.1
-returns-clause-replies c command payload reply before after reading read told = cc
 
 pub returns-clause-two : goal.returns-clause-two
 returns-clause-two c command payload reply before after reading read told =
-    let taken = (reply_alike command payload payload reply before after reading read read refl told).0 in omega (arith, taken)
+    let taken = (reply_alike command payload payload reply before after reading read read told).0 in omega (arith, taken)
 
 -- shorter data with the same request and the same first bytes have the same outcome
 request_alike : (command : ℕ) (bytes front : List ℕ) (request : Request) (before after : List HartField) (reading : HartReading)
@@ -63,9 +54,9 @@ request_alike : (command : ℕ) (bytes front : List ℕ) (request : Request) (be
     → RequestOutcome command bytes before after reading
     → (reading.taken ≡ length (take (length (request_data request)) bytes)) × RequestOutcome command front before after reading
 request_alike command bytes front request before after reading read is same told =
-    let P = λ (taken : List ℕ). IsShown 0 (fields_of (request_rows command) taken) (length taken) 0 0 before after reading in
-    let shown : RequestShown command bytes (Ok request) before after reading = rw read at told in
-    (ap (λ (r : HartReading). r.taken) shown.told, rw is (subst P (sym same) shown))
+    let P = λ (taken : List ℕ). IsShown 0 (request_rows command) taken 0 0 before after reading in
+    let shown : P (take (length (request_data request)) bytes) = rw read at told in
+    (grind (arith, shown.told), rw is (subst P (sym same) shown))
 
 either_fits : (n m : ℕ) → (n ≤ m) ⊎ (m ≤ n)
 either_fits n m = grind arith

@@ -2,15 +2,16 @@ use Rattle.std.proofs.Common.{◌≡◌, ◌<◌, ◌+◌, ℕ, zero, suc, All, 
 use Rattle.std.proofs.Common.{length-append, refl, slice_get, take, true, false, Ok, Err}
 use Rattle.std.proofs.Math.Seq.{drop-append-add, drop-append_seam, take-append_seam}
 use Rattle.std.proofs.lemmas.Grind.{common_steps}
-use Rattle.std.proofs.lemmas.List.{take-append-drop}
+use Rattle.std.proofs.lemmas.List.{length-take, take-append-drop, take_min}
 use Rattle.std.proofs.lemmas.Option.{slice_get_cases}
-use Rattle.std.specs.Prelude.{if◌then◌else◌, ◌==◌}
+use Rattle.hart_commands.specs.Commands.{request_rows}
 use Rattle.hart_commands.specs.Parts.{content_bytes}
 use Rattle.hart_commands.specs.FieldWidths.{HasWidthOfKind}
 use Rattle.hart_commands.specs.Fields.{Field, Row, bytes_of, fields_of}
 use Rattle.hart_commands.specs.RequestData.{Reading, request_data, request_reading}
 use Rattle.hart_commands.proofs.lemmas.Laws.{fields_have_the_width_of_their_kind-reply, fields_have_the_width_of_their_kind-request}
-use Rattle.hart_c.specs.Data.{IsShown, RequestShown, StandsAt, kind_number, placed, request_fields, rows_for, written_over}
+use Rattle.hart_commands.proofs.lemmas.Laws.{written_payloads_are_read_again-kept}
+use Rattle.hart_c.specs.Data.{IsShown, RequestOutcome, StandsAt, kind_number, placed, rows_for, written_over}
 use Rattle.hart_c.specs.declared.data.HartField.{HartField}
 use Rattle.hart_c.specs.declared.data.HartReading.{HartReading}
 use Rattle.hart_c.proofs.laws.fields_stand_where_they_are_shown.Goals as goal
@@ -46,18 +47,18 @@ width_of : (fields : List Field) (index : ℕ) (field : Field) → All HasWidthO
 width_of fields index field wide is = grind (arith, slice_get_cases, wide index field)
 
 -- what is shown at an index is the field of the row with this index
-stands : (is_reply : Bool) (command n : ℕ) (bytes before : List ℕ) (taken code status : ℕ) (old new : List HartField)
-    (reading : HartReading) (index : ℕ) (shown : HartField) (done : Bool) (fields : List Field)
-    → fields ≡ (if done then fields_of (rows_for is_reply command) (take n bytes) else [])
+stands : (is_reply : Bool) (command n : ℕ) (bytes before : List ℕ) (code status : ℕ) (old new : List HartField)
+    (reading : HartReading) (index : ℕ) (shown : HartField)
     → All HasWidthOfKind (fields_of (rows_for is_reply command) (take n bytes))
-    → IsShown (length before) fields taken code status old new reading → index < reading.count → slice_get new index ≡ Some shown
-    → StandsAt is_reply command (length before) fields (before ++ bytes) index shown
-stands is_reply command n bytes before taken code status old new reading index shown done fields are wide from within got =
+    → IsShown (length before) (rows_for is_reply command) (take n bytes) code status old new reading
+    → index < reading.count → slice_get new index ≡ Some shown
+    → StandsAt is_reply command (length before) (fields_of (rows_for is_reply command) (take n bytes)) (before ++ bytes) index shown
+stands is_reply command n bytes before code status old new reading index shown wide from within got =
     let rows = rows_for is_reply command in
-    let all : fields ≡ fields_of rows (take n bytes) = grind arith in
+    let fields = fields_of rows (take n bytes) in
     let (field, is_field, start, len, kind, parts) = field_of (length before) fields old index shown (grind arith) (grind arith) in
     let (row, is_row, name, kinds) = row_of rows (take n bytes) index field (cc) in
-    let width : HasWidthOfKind field = width_of fields index field (rw all wide) is_field in
+    let width : HasWidthOfKind field = width_of fields index field wide is_field in
     let front = before ++ bytes_of (take index fields) in
     let more = bytes_of (drop (suc index) fields) ++ (drop (length (bytes_of fields)) (take n bytes) ++ drop n bytes) in
     let split : before ++ bytes ≡ front ++ (field.bytes ++ more) =
@@ -66,21 +67,27 @@ stands is_reply command n bytes before taken code status old new reading index s
 
 -- what is shown at an index for a request is the field of the row with this index
 of_reading : (command index : ℕ) (bytes : List ℕ) (read : Reading) (old new : List HartField) (reading : HartReading) (shown : HartField)
-    → RequestShown command bytes read old new reading → index < reading.count → slice_get new index ≡ Some shown
-    → StandsAt false command 0 (request_fields command bytes read) bytes index shown
-of_reading command index bytes (Ok request) old new reading shown =
-    stands false command (length (request_data request)) bytes [] _ 0 0 old new reading index shown true _ refl
-    (fields_have_the_width_of_their_kind-request command (take (length (request_data request)) bytes))
-of_reading command index bytes (Err code) old new reading shown =
-    stands false command 0 bytes [] 0 code 0 old new reading index shown false _ refl
-    (fields_have_the_width_of_their_kind-request command (take 0 bytes))
+    → request_reading command bytes ≡ read → RequestOutcome command bytes old new reading → index < reading.count
+    → slice_get new index ≡ Some shown
+    → StandsAt false command 0 (fields_of (request_rows command) (take reading.taken bytes)) bytes index shown
+of_reading command index bytes (Ok request) old new reading shown read told within got =
+    let n = length (request_data request) in
+    let is : IsShown 0 (request_rows command) (take n bytes) 0 0 old new reading = rw read at told in
+    let same : take reading.taken bytes ≡ take n bytes = grind (arith, is.told, length-take n bytes, take_min n bytes) in
+    rw same (stands false command n bytes [] _ _ _ _ _ _ _ (fields_have_the_width_of_their_kind-request command _) is within got)
+of_reading command index bytes (Err code) old new reading shown read told within got =
+    let is : IsShown 0 [] [] code 0 old new reading = rw read at told in absurd (grind (arith, is.told))
 
 pub returns-clause-requests : goal.returns-clause-requests
-returns-clause-requests c command index bytes = of_reading command index bytes (request_reading command bytes)
+returns-clause-requests c command index bytes old new reading shown =
+    of_reading command index bytes (request_reading command bytes) old new reading shown refl
 
 pub returns-clause-replies : goal.returns-clause-replies
 returns-clause-replies c command index (code ∷ status ∷ bytes) old new reading shown reply read outcome within got =
-    stands true command (length (content_bytes reply.content)) bytes (code ∷ status ∷ []) _ reply.code reply.status.0 old new reading index
-    shown (reply.code == 0) _ refl (fields_have_the_width_of_their_kind-reply command (code ∷ status ∷ bytes) reply read)
-    (rw read at outcome) within got
+    let n = length (content_bytes reply.content) in
+    let kept : content_bytes reply.content ≡ take n bytes =
+    grind (arith, written_payloads_are_read_again-kept command (code ∷ status ∷ bytes) reply read) in
+    let is : IsShown 2 (rows_for true command) (take n bytes) reply.code reply.status.0 old new reading = rw kept at (rw read at outcome) in
+    let wide = fields_have_the_width_of_their_kind-reply command (code ∷ status ∷ bytes) reply read in
+    rw kept (stands true command n bytes (code ∷ status ∷ []) _ _ _ _ _ _ _ wide is within got)
 returns-clause-replies c command index payload old new reading shown reply read outcome within got = cc
