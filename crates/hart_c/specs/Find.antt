@@ -3,7 +3,7 @@ use Rattle.std.specs.Prelude.{◌≤◌, ◌≡◌, ◌+◌, ◌<◌, ◌⊎◌,
 use Rattle.hart_frame.specs.heard.Character.{AreFaultBits, Character}
 use Rattle.hart_frame.specs.{declared.heard.found.Found.Found, heard.Frames.IsUndecided, heard.Frames.moved, scan.Next.AreNext}
 use Rattle.hart_c.specs.declared.fault.Fault.TheVariants.{BadFaultBits, TooLong}
-use Rattle.hart_c.specs.{Faults.Check, Faults.needs, Faults.number_of, Numbers.IsTidy, Numbers.found_in_first}
+use Rattle.hart_c.specs.{Faults.Check, Faults.needs, Faults.number_of, Numbers.IsTidy, Numbers.found_in}
 use Rattle.hart_c.specs.declared.{find.HartChar.HartChar, find.HartSearch.HartSearch, frame.HartFrame.HartFrame}
 
 -- The `faults` of each character are fault bits only.
@@ -21,7 +21,7 @@ pub record Finds (chars : List Character) (ended : Bool) (before after : List Ha
   pub within : search.count ≤ length after
   pub untouched : drop search.count after ≡ drop search.count before
   pub tidy : All IsTidy (take search.count after)
-  pub next : AreNext chars ended 0 (found_in_first search.count after) search.used
+  pub next : AreNext chars ended 0 (map found_in (take search.count after)) search.used
   pub few : search.count < length after → length chars ≤ search.used + 268
   pub all : search.count < length after → IsTrue ended → search.used ≡ length chars
   pub undecided : search.count < length after → ended ≡ false → IsUndecided (drop search.used chars)

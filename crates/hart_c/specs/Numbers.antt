@@ -33,10 +33,6 @@ frame_in frame = record {
 abbrev pub found_in : HartFrame → Found
 found_in frame = record { start = frame.start; stop = frame.stop; frame = frame_in frame }
 
--- The first `count` frames of a list, and where they stand.
-abbrev pub found_in_first : ℕ → List HartFrame → List Found
-found_in_first count frames = map found_in (take count frames)
-
 -- The same numbers with another address. The numbers of the unused kind of address become 0.
 abbrev pub with_address : Address → HartFrame → HartFrame
 with_address (Polling number) frame = record frame { is_unique = false; polling_address = number; expanded_type = 0; device_id = 0 }

@@ -5,7 +5,7 @@ ghost use Rattle.hart_frame.specs.heard.Frames.{IsUndecided};
 ghost use Rattle.hart_frame.specs.scan.Streamed.{IsHistory, IsWholeHistory};
 ghost use Rattle.hart_frame.specs.scan.Scanner.{Gives, GivesNothing};
 ghost use Rattle.hart_c.specs.Find.{Finds, SearchOutcome, char_of};
-ghost use Rattle.hart_c.specs.Numbers.{IsTidy, found_in, found_in_first};
+ghost use Rattle.hart_c.specs.Numbers.{IsTidy, found_in};
 
 use crate::fault::{HART_BAD_FAULT_BITS, HART_OK};
 use crate::frame::{HartFrame, show_found};
@@ -141,10 +141,10 @@ fn fill(scanner: &mut Scanner, frames: &mut [HartFrame], count: usize) -> usize
     ensures len { length frames.new ≡ length frames.old }
     ensures untouched { drop result frames.new ≡ drop result frames.old }
     ensures tidy { All IsTidy (take count frames.old) → All IsTidy (take result frames.new) }
-    ensures so_far { (past : List Character) → IsHistory past scanner.old (found_in_first count frames.old)
-        → (result < length frames.new → scanner.old.finished ≡ false) → IsHistory past scanner.new (found_in_first result frames.new) }
-    ensures all { (past : List Character) → IsHistory past scanner.old (found_in_first count frames.old)
-        → result < length frames.new → scanner.old.finished ≡ true → IsWholeHistory past (found_in_first result frames.new) }
+    ensures so_far { (past : List Character) → IsHistory past scanner.old (map found_in (take count frames.old))
+        → (result < length frames.new → scanner.old.finished ≡ false) → IsHistory past scanner.new (map found_in (take result frames.new)) }
+    ensures all { (past : List Character) → IsHistory past scanner.old (map found_in (take count frames.old))
+        → result < length frames.new → scanner.old.finished ≡ true → IsWholeHistory past (map found_in (take result frames.new)) }
     ensures waits { result < length frames.new → scanner.old.finished ≡ false → IsTrue scanner.new.drained }
     ensures few { result < length frames.new → scanner.old.finished ≡ false → length scanner.new.held ≤ 268 }
     ensures undecided { result < length frames.new → scanner.old.finished ≡ false → IsUndecided scanner.new.held }

@@ -20,7 +20,7 @@ use Rattle.hart_frame.specs.scan.Scanner.{Scan}
 use Rattle.hart_frame.proofs.lemmas.Laws.{frames_are_streamed-all, frames_are_streamed-next}
 use Rattle.hart_frame.proofs.lemmas.Laws.{held_characters_have_the_later_frames-held, next_frames_are_all-ended, next_frames_are_all-grown}
 use Rattle.hart_frame.proofs.lemmas.Laws.{next_frames_are_all-whole}
-use Rattle.hart_c.specs.Numbers.{found_in_first, IsTidy}
+use Rattle.hart_c.specs.Numbers.{found_in, IsTidy}
 use Rattle.hart_c.specs.Find.{Finds}
 use Rattle.hart_c.proofs.find.hart_find.Goals as goal
 
@@ -63,12 +63,12 @@ next_of_all n chars finished ended given used (inr (over, all)) next =
 -- the outcome of a search: either its scanner goes on, or the input ended and all its characters were searched
 finds_more : (n count : ℕ) (chars : List Character) (ended : Bool) (before after : List HartFrame)
     (scan : Scan) → n ≤ length chars → count ≤ length after → drop count after ≡ drop count before → All IsTidy (take count after)
-    → (scan.finished ≡ false) ⊎ (IsTrue ended × (n ≡ length chars)) → IsHistory (take n chars) scan (found_in_first count after)
+    → (scan.finished ≡ false) ⊎ (IsTrue ended × (n ≡ length chars)) → IsHistory (take n chars) scan (map found_in (take count after))
     → (count < length after → length scan.held ≤ 268) → (count < length after → n ≡ length chars) → (count < length after → ended ≡ false)
     → (count < length after → IsUndecided scan.held)
     → Finds chars ended before after (record { used = scan.first; count = count; fault = 0 })
 finds_more n count chars ended before after scan fits room untouched tidy goes history few whole going waits =
-    let given = found_in_first count after in
+    let given = map found_in (take count after) in
     let held = held_characters_have_the_later_frames-held (take n chars) scan given history in
     let pushed = frames_are_streamed-pushed (take n chars) scan given history in
     let long = length-take n chars in
@@ -103,7 +103,7 @@ returns-then-count-frames-3 c =
     let finished = rw (← c.finish.ensures) at (finish _ _ _ loop.history) in
     let all = rw (whole, take-length) at (fill.all (take c.loop-taken.taken chars) finished c.if-count-frames-3.true
     (rw c.finish.ensures refl)) in
-    let given = found_in_first c.fill-count-2.result c.fill-count-2.new.frames in
+    let given = map found_in (take c.fill-count-2.result c.fill-count-2.new.frames) in
     let next = next_frames_are_all-ended chars true 0 (length chars) given c.args.ended (λ _. grind arith)
     (next_frames_are_all-whole chars given (frames_are_streamed-all chars _ all)) in
     let tidy = fill.tidy loop.tidy in

@@ -2,7 +2,7 @@ use Rattle.std.proofs.Common.{◌≡◌, ◌<◌, ◌≤◌, ◌-◌, false, IsT
 use Rattle.hart_frame.specs.heard.Frames.{IsUndecided}
 use Rattle.hart_frame.specs.scan.Streamed.{IsHistory}
 use Rattle.hart_c.specs.Find.{char_of}
-use Rattle.hart_c.specs.Numbers.{IsTidy, found_in_first}
+use Rattle.hart_c.specs.Numbers.{IsTidy, found_in}
 use Rattle.hart_c.proofs.find.hart_find.Given as goal
 
 abbrev pub invariant-loop-taken : goal.invariant-loop-taken
@@ -15,7 +15,7 @@ invariant-loop-taken l = record {
   drained : l.count < length l.frames → IsTrue l.scanner.drained;
   few : l.count < length l.frames → length l.scanner.held ≤ 268;
   undecided : l.count < length l.frames → IsUndecided l.scanner.held;
-  history : IsHistory (take l.taken (map char_of l.heard)) l.scanner (found_in_first l.count l.frames);
+  history : IsHistory (take l.taken (map char_of l.heard)) l.scanner (map found_in (take l.count l.frames));
 }
 
 abbrev pub decreases-loop-taken : goal.decreases-loop-taken

@@ -1,4 +1,4 @@
-use Rattle.std.proofs.Common.{◌≡◌, ◌+◌, ◌<◌, ◌≤◌, false, Bool, ℕ, IsTrue, List, All, arith, drop, length, refl, take}
+use Rattle.std.proofs.Common.{◌≡◌, ◌+◌, ◌<◌, ◌≤◌, false, Bool, ℕ, IsTrue, List, All, arith, drop, length, map, refl, take}
 use Rattle.std.proofs.lemmas.Grind.{common_steps}
 use Rattle.std.proofs.lemmas.List.{drop-drop, map-append, take_more_set, append-nil, drop-map, drop-set-lt, length-map, length-set}
 use Rattle.std.proofs.lemmas.List.Elements.{All-append}
@@ -7,14 +7,14 @@ use Rattle.hart_frame.specs.heard.Frames.{IsUndecided}
 use Rattle.hart_frame.specs.scan.Next.{AreNext}
 use Rattle.hart_frame.proofs.lemmas.Laws.{next_frames_are_all-nothing, next_frames_are_all-onward}
 use Rattle.hart_c.specs.Find.{Finds}
-use Rattle.hart_c.specs.Numbers.{IsTidy, found_in_first}
+use Rattle.hart_c.specs.Numbers.{IsTidy, found_in}
 use Rattle.hart_c.specs.declared.frame.HartFrame.{HartFrame}
 use Rattle.hart_c.proofs.find.hart_find_in_bytes.Goals as goal
 
 -- the outcome of a search that filled its room, or that left at most 268 bytes in which no frame is decided
 finds_next : (bytes : List ℕ) (ended : Bool) (before after : List HartFrame) (used count : ℕ) → count ≤ length after
     → drop count after ≡ drop count before → All IsTidy (take count after)
-    → AreNext (faultless bytes) ended 0 (found_in_first count after) used
+    → AreNext (faultless bytes) ended 0 (map found_in (take count after)) used
     → (count < length after → (length bytes ≤ used + 268) × (IsTrue ended → used ≡ length bytes)
     × (ended ≡ false → IsUndecided (faultless (drop used bytes))))
     → Finds (faultless bytes) ended before after (record { used = used; count = count; fault = 0 })
