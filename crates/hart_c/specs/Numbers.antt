@@ -33,16 +33,11 @@ frame_in frame = record {
 abbrev pub found_in : HartFrame → Found
 found_in frame = record { start = frame.start; stop = frame.stop; frame = frame_in frame }
 
--- The same numbers with another address. The numbers of the unused kind of address become 0.
-abbrev pub with_address : Address → HartFrame → HartFrame
-with_address (Polling number) frame = record frame { is_unique = false; polling_address = number; expanded_type = 0; device_id = 0 }
-with_address (Unique numbers) frame =
-    record frame { is_unique = true; polling_address = 0; expanded_type = numbers.expanded_type; device_id = numbers.device_id }
-
 -- Numbers are tidy if they have at most three expansion bytes and if the numbers of the unused kind of address are 0.
 pub record IsTidy (frame : HartFrame) : Type 0 where
   pub expansion : frame.expansion_len ≤ 3
-  pub address : frame ≡ with_address (address_of frame.is_unique frame) frame
+  pub polling : frame.is_unique ≡ true → frame.polling_address ≡ 0
+  pub unique : frame.is_unique ≡ false → (frame.expanded_type ≡ 0) × (frame.device_id ≡ 0)
 
 -- The parts of the identity that the numbers describe.
 abbrev pub parts_of : HartIdentity → IdentityParts

@@ -1,7 +1,7 @@
 //! A frame, as numbers for C.
-ghost use Rattle.std.specs.Prelude.{◌≡◌, ◌≤◌, length};
+ghost use Rattle.std.specs.Prelude.{◌≡◌, ◌≤◌, false, length, true};
 ghost use Rattle.hart_frame.specs.scan.View.{found_of};
-ghost use Rattle.hart_c.specs.Numbers.{IsTidy, found_in, frame_in, with_address};
+ghost use Rattle.hart_c.specs.Numbers.{IsTidy, address_of, found_in, frame_in};
 
 use hart_frame::{FoundView, Frame, FrameKind};
 use hart_values::{Address, MasterId};
@@ -125,7 +125,15 @@ fn show_parts(parts: &Parts<'_>, frame: &mut HartFrame)
 /// Replaces the address of `frame` by this address.
 #[inline(always)]
 fn show_address(address: Address, frame: &mut HartFrame)
-    ensures { frame.new ≡ with_address address frame.old }
+    ensures address { address_of frame.new.is_unique frame.new ≡ address }
+    ensures polling { frame.new.is_unique ≡ true → frame.new.polling_address ≡ 0 }
+    ensures unique { frame.new.is_unique ≡ false → (frame.new.expanded_type ≡ 0) × (frame.new.device_id ≡ 0) }
+    ensures others { frame.new ≡ record frame.old {
+      is_unique = frame.new.is_unique;
+      polling_address = frame.new.polling_address;
+      expanded_type = frame.new.expanded_type;
+      device_id = frame.new.device_id;
+    } }
 {
     match address {
         Address::Polling(polling) => {
