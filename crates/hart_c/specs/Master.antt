@@ -3,7 +3,7 @@ use Rattle.std.specs.Prelude.{◌≡◌, ◌++◌, true, false, List, [], ◌∷
 use Rattle.hart_values.specs.declared.{address.Address.Address, address.Address.TheVariants.Unique, master_id.MasterId.MasterId}
 use Rattle.hart_frame.specs.{heard.Character.Character, wire.FrameParts.FrameParts, wire.FrameParts.request_parts}
 use Rattle.hart_commands.specs.{RequestData.request_reading, declared.reply.Reply.Reply, declared.request.Request.Request}
-use Rattle.hart_master.specs.{Acceptance.IsAccepted, Pairing.may_ask, Unique.unique_in}
+use Rattle.hart_master.specs.{Acceptance.IsAccepted, Pairing.may_ask}
 use Rattle.hart_c.specs.Faults.{AllPass, Check, Outcome, needs, number_of}
 use Rattle.hart_c.specs.declared.fault.Fault.TheVariants.{NoRequest, WrongAddress}
 use Rattle.hart_c.specs.{Find.char_of, Messages.IsFrame, Numbers.IsTidy, Numbers.found_in, Numbers.frame_in}
@@ -64,8 +64,3 @@ AcceptOutcome numbers heard before after =
 abbrev pub given_of : Option Address → HartUnique
 given_of (Some (Unique numbers)) = record { is_given = true; expanded_type = numbers.expanded_type; device_id = numbers.device_id }
 given_of _ = record { is_given = false; expanded_type = 0; device_id = 0 }
-
--- The numbers of the unique address in a reply. Without a reply no unique address is given.
-abbrev pub given_by : Option Reply → HartUnique
-given_by None = given_of None
-given_by (Some reply) = given_of (unique_in reply)

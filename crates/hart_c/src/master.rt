@@ -1,12 +1,13 @@
 //! What a master accepts as a reply.
-ghost use Rattle.std.specs.Prelude.{◌≡◌, ◌<◌, ◌^◌, false, IfErr, IfOk, OnErr};
+ghost use Rattle.std.specs.Prelude.{◌≡◌, ◌<◌, ◌^◌, false, IfErr, IfOk, OnErr, option_and_then};
 ghost use Rattle.hart_commands.specs.ReplyData.{reply_reading};
 ghost use Rattle.hart_commands.specs.declared.request.Request.{Request};
 ghost use Rattle.hart_c.specs.Faults.{IsFirstOf};
 ghost use Rattle.hart_c.specs.Master.{AcceptOutcome, Accepts, IsAsked, IsSent, accept_checks, acceptance_of, send_checks};
 ghost use Rattle.hart_c.specs.Numbers.{frame_in};
+ghost use Rattle.hart_master.specs.Unique.{unique_in};
 ghost use Rattle.hart_master.specs.declared.hand.Hand.TheVariants.{Awaiting};
-ghost use Rattle.hart_c.specs.Master.{given_by, given_of};
+ghost use Rattle.hart_c.specs.Master.{given_of};
 
 use crate::encode::frame_of;
 use crate::fault::{Fault, HART_OK};
@@ -156,7 +157,7 @@ fn asked_by(frame: &Frame) -> Result<Request, Fault>
 /// identity whose address is not the broadcast address. Replies to Commands 0, 11 and 21 have an identity.
 #[unsafe(no_mangle)]
 pub extern "C" fn hart_unique_of(command: u8, payload: &[u8]) -> HartUnique
-    ensures given { result ≡ given_by (reply_reading command payload.now) }
+    ensures given { result ≡ given_of (option_and_then unique_in (reply_reading command payload.now)) }
     ensures expanded_type { result.expanded_type < 2 ^ 14 }
     ensures device_id { result.device_id < 2 ^ 24 }
 {
