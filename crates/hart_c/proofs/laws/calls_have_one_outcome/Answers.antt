@@ -1,4 +1,4 @@
-use Rattle.std.proofs.Common.{◌≡◌, ◌⊎◌, ℕ, List, Option, None, Some, Ok, Err, ap, arith, length, map, sym, ◌∙◌}
+use Rattle.std.proofs.Common.{◌≡◌, ◌⊎◌, ℕ, List, Option, None, Some, Ok, Err, ap, arith, length, map, rules, sym, ◌∙◌}
 use Rattle.std.proofs.lemmas.Grind.{common_steps}
 use Rattle.hart_frame.specs.wire.FrameParts.{FrameParts}
 use Rattle.hart_frame.specs.wire.Message.{IsMessage, IsPreambleCount}
@@ -47,8 +47,7 @@ one_message frame preambles message other is again = grind (arith, bodies_are_un
 
 -- the checks of a frame to be written are sound
 encode_sound : (frame : HartFrame) (preambles room : ℕ) → AreSound (encode_checks frame preambles room)
-encode_sound frame preambles room =
-    (needs-sound _ _, (needs-sound _ _, (needs-sound _ _, (needs-sound _ _, (refused_if-sound _ _, tt)))))
+encode_sound frame preambles room = search (rules, needs-sound, refused_if-sound)
 
 written_passes : (frame : HartFrame) (preambles : ℕ) (before after : List ℕ) (len : ℕ) → IsFrame frame
     → IsPreambleCount preambles → IsWritten (IsMessage (frame_in frame) preambles) before after len
@@ -143,25 +142,7 @@ returns-clause-hear c identity process heard before after other old new newer ou
 
 -- the checks of what a master accepts are sound
 accept_sound : (numbers : HartFrame) (heard : List HartChar) → AreSound (accept_checks numbers heard)
-accept_sound numbers heard = (
-  needs-sound _ _,
-  (
-    needs-sound _ _,
-    (
-      needs-sound _ _,
-      (
-        needs-sound _ _,
-        (
-          needs-sound _ _,
-          (
-            needs-sound _ _,
-            (needs-sound _ _, tt),
-          ),
-        ),
-      ),
-    ),
-  ),
-)
+accept_sound numbers heard = search (rules, needs-sound)
 
 accepted_passes : (numbers : HartFrame) (heard : List HartChar) (before after : HartFrame) (said : Option Reply)
     → Accepts numbers heard before after said → AllPass (accept_checks numbers heard)
