@@ -1,13 +1,15 @@
 //! What a master accepts as a reply.
-ghost use Rattle.std.specs.Prelude.{◌≡◌, ◌<◌, ◌^◌, false, IfErr, IfOk, OnErr, option_and_then};
+ghost use Rattle.std.specs.Prelude.{◌≡◌, ◌<◌, ◌^◌, true, false, IfErr, IfOk, List, OnErr, option_and_then};
 ghost use Rattle.hart_commands.specs.ReplyData.{reply_reading};
 ghost use Rattle.hart_commands.specs.declared.request.Request.{Request};
 ghost use Rattle.hart_c.specs.Faults.{IsFirstOf};
-ghost use Rattle.hart_c.specs.Master.{AcceptOutcome, Accepts, IsAsked, IsSent, accept_checks, acceptance_of, send_checks};
+ghost use Rattle.hart_c.specs.Master.{AcceptOutcome, Accepts, IsAsked, accept_checks, acceptance_of, given_of};
 ghost use Rattle.hart_c.specs.Numbers.{frame_in};
+ghost use Rattle.hart_master.specs.Pairing.{may_ask};
 ghost use Rattle.hart_master.specs.Unique.{unique_in};
 ghost use Rattle.hart_master.specs.declared.hand.Hand.TheVariants.{Awaiting};
-ghost use Rattle.hart_c.specs.Master.{given_of};
+ghost use Rattle.hart_c.specs.Messages.{IsFrame};
+ghost use Rattle.hart_c.specs.declared.find.HartChar.{HartChar};
 
 use crate::encode::frame_of;
 use crate::fault::{Fault, HART_OK};
@@ -123,9 +125,11 @@ fn accept(
 
 /// Returns a master that has sent this request and awaits its reply.
 fn sent(request: &HartFrame) -> Result<Master, Fault>
-    ensures awaits { IfOk result (λ master. (asked : Request) × IsSent request.now asked × (master.id ≡ (frame_in request.now).master)
-        × (master.hand ≡ Awaiting (record { address = (frame_in request.now).address; request = asked; sendings = 1 }) 0)) }
-    ensures refused { IfErr result (IsFirstOf (send_checks request.now)) }
+    ensures frame { IfOk result (λ master. IsFrame request.now) }
+    ensures awaits { IfOk result (λ master. let frame = frame_in request.now in
+        (asked : Request) × IsAsked frame asked × (may_ask frame.address asked ≡ true) × (master.id ≡ frame.master)
+        × (master.hand ≡ Awaiting (record { address = frame.address; request = asked; sendings = 1 }) 0)) }
+    ensures refused { (heard : List HartChar) → IfErr result (IsFirstOf (accept_checks request.now heard)) }
 {
     let frame = frame_of(request)?;
     let asked = asked_by(&frame)?;

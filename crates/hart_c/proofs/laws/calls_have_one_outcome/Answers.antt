@@ -144,13 +144,6 @@ returns-clause-hear c identity process heard before after other old new newer ou
 accept_sound : (numbers : HartFrame) (heard : List HartChar) → AreSound (accept_checks numbers heard)
 accept_sound numbers heard = search (rules, needs-sound)
 
-accepted_passes : (numbers : HartFrame) (heard : List HartChar) (before after : HartFrame) (said : Option Reply)
-    → Accepts numbers heard before after said → AllPass (accept_checks numbers heard)
-accepted_passes numbers heard before after said is =
-    let (address, (expansion, (payload, end))) = is.sent.is_frame in
-    let (bits, (few, last)) = is.delivery in
-    (address, (expansion, (payload, ((is.request, is.sent.asked), ((is.request, is.sent), (bits, (few, tt)))))))
-
 -- what a master accepts is determined by the numbers and the delivery
 same_accepted : (numbers : HartFrame) (heard : List HartChar) (before after other : HartFrame) (said tale : Option Reply)
     → Accepts numbers heard before after said → Accepts numbers heard before other tale
@@ -167,6 +160,6 @@ returns-clause-accept c numbers heard before after other acceptance another =
     let sound = accept_sound numbers heard in
     one_outcome
     (λ is again. grind (arith, same_accepted numbers heard before after other is.0 again.0 is.1 again.1))
-    (λ is why. first_none checks sound (accepted_passes numbers heard before after is.0 is.1) why.0 why.1)
-    (λ why is. first_none checks sound (accepted_passes numbers heard before other is.0 is.1) why.0 why.1)
+    (λ is why. first_none checks sound is.1.passed why.0 why.1)
+    (λ why is. first_none checks sound is.1.passed why.0 why.1)
     (λ why again. grind (arith, first_one checks sound why.0 again.0))

@@ -1,25 +1,28 @@
-use Rattle.std.proofs.Common.{◌∙◌, arith, refl}
+use Rattle.std.proofs.Common.{◌≡◌, ◌∙◌, Err, List, arith, inr, refl, true}
 use Rattle.std.proofs.lemmas.Grind.{common_steps}
+use Rattle.hart_commands.specs.declared.request.Request.{Request}
+use Rattle.hart_master.specs.Pairing.{may_ask}
 use Rattle.hart_master.proofs.lemmas.Laws.{acceptance_is_decided-by_its_frame}
-use Rattle.hart_c.specs.Faults.{AllPass}
-use Rattle.hart_c.specs.Find.{heard_checks}
-use Rattle.hart_c.specs.Master.{send_checks}
-use Rattle.hart_c.specs.declared.fault.Fault.{Fault}
-use Rattle.hart_c.proofs.Checks.{first_after, first_before}
+use Rattle.hart_c.specs.{Faults.AllPass, Find.heard_checks, Master.IsAsked, Master.accept_checks, Messages.IsFrame, Numbers.frame_in}
+use Rattle.hart_c.specs.declared.{find.HartChar.HartChar, frame.HartFrame.HartFrame}
 use Rattle.hart_c.proofs.master.accept.Goals as goal
 
+-- all checks are passed if the numbers are a frame that asks a request, this may be sent to its address, and what is heard passes
+abbrev all_passed : (numbers : HartFrame) (heard : List HartChar) (request : Request) → IsFrame numbers → IsAsked (frame_in numbers) request
+    → may_ask (frame_in numbers).address request ≡ true → AllPass (heard_checks heard) → AllPass (accept_checks numbers heard)
+all_passed numbers heard request (address, (expansion, (payload, end))) asked may passed =
+    (address, (expansion, (payload, ((request, asked), ((request, asked, may), passed)))))
+
 pub returns-in_err-master-clause-refused : goal.returns-in_err-master-clause-refused
-returns-in_err-master-clause-refused c =
-    grind (arith, common_steps, first_before (send_checks c.args.request.now) (heard_checks c.args.heard.now))
+returns-in_err-master-clause-refused c = grind (arith, common_steps, c.in_err-master.ensures.refused c.args.heard.now)
 
 pub returns-in_err-delivery-clause-refused : goal.returns-in_err-delivery-clause-refused
 returns-in_err-delivery-clause-refused c =
     let awaits = c.in_ok-master.ensures.awaits in
-    let (address, (expansion, (payload, end))) = awaits.1.is_frame in
-    let passed : AllPass (send_checks c.args.request.now) =
-    (address, (expansion, (payload, ((awaits.0, awaits.1.asked), ((awaits.0, awaits.1), tt))))) in
-    let after = λ (fault : Fault). first_after (send_checks c.args.request.now) (heard_checks c.args.heard.now) fault passed in
-    grind (arith, common_steps, after)
+    let (address, (expansion, (payload, end))) = c.in_ok-master.ensures.frame in
+    let is : c.from_residual-in_err-delivery.result ≡ Err c.in_err-delivery.field-0.0 = grind (arith, common_steps) in
+    let refused = c.in_err-delivery.ensures.refused in
+    rw is (inr (address, inr (expansion, inr (payload, inr ((awaits.0, awaits.1), inr ((awaits.0, awaits.1, awaits.2), refused))))))
 
 pub returns-in_default-receive : goal.returns-in_default-receive
 returns-in_default-receive c =
@@ -27,11 +30,11 @@ returns-in_default-receive c =
     let all = c.as_slice.ensures ∙ c.in_ok-delivery.ensures.same in
     record {
       accepted = record {
+        passed = all_passed _ _ awaits.0 c.in_ok-master.ensures.frame awaits.1 awaits.2 c.in_ok-delivery.ensures.accepted;
         request = awaits.0;
-        sent = awaits.1;
-        delivery = c.in_ok-delivery.ensures.accepted;
+        asked = awaits.1;
         reply = (
-          λ reply accepted. c.in_default-receive.not-Answered reply _ (c.receive.ensures.answered reply (rw (awaits.3, awaits.2)
+          λ reply accepted. c.in_default-receive.not-Answered reply _ (c.receive.ensures.answered reply (rw (awaits.4, awaits.3)
               (acceptance_is_decided-by_its_frame _ _ _ _ c.in-Alone.found reply (rw all at c.in-Alone.ensures.lone) accepted))),
           refl,
         );
@@ -45,8 +48,8 @@ returns-clause-accepted c =
     let awaits = c.in_ok-master.ensures.awaits in
     let all = c.as_slice.ensures ∙ c.in_ok-delivery.ensures.same in
     record {
+      passed = all_passed _ _ awaits.0 c.in_ok-master.ensures.frame awaits.1 awaits.2 c.in_ok-delivery.ensures.accepted;
       request = awaits.0;
-      sent = awaits.1;
-      delivery = c.in_ok-delivery.ensures.accepted;
+      asked = awaits.1;
       reply = (grind (arith, common_steps), c.show_frame.ensures.found, c.show_frame.ensures.tidy);
     }
