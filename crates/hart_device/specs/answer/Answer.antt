@@ -5,7 +5,6 @@ use Rattle.std.specs.Prelude.{Option, Some, None, Ok, Err}
 use Rattle.std.specs.Str.{bytes_eq}
 use Rattle.hart_values.specs.address.AddressBytes.{is_broadcast}
 use Rattle.hart_values.specs.address.DeviceNumbers.{DeviceNumbers}
-use Rattle.hart_values.specs.EachMaster.{with_master}
 use Rattle.hart_values.specs.declared.address.Address.{Address}
 use Rattle.hart_values.specs.declared.address.Address.TheVariants.{Polling, Unique}
 use Rattle.hart_frame.specs.wire.FrameParts.{FrameParts, reply_parts}
@@ -95,12 +94,9 @@ after_command state frame = after frame.master (effect_of state frame) state
 abbrev pub state_after : DeviceState → FrameParts → DeviceState
 state_after state frame = if is_answered state frame then after_reply frame.master (after_command state frame) else state
 
--- A frame without effect changes at most the cold start bit of its master. If the frame was answered, this bit is clear, since the
--- reply has shown it. Otherwise the bit is unchanged.
+-- The state after a frame without effect: the reply changes the state, and a frame that is not answered leaves it unchanged.
 abbrev pub after_refusal : DeviceState → FrameParts → DeviceState
-after_refusal state frame = record state {
-  cold_start = if is_answered state frame then with_master frame.master false state.cold_start else state.cold_start;
-}
+after_refusal state frame = if is_answered state frame then after_reply frame.master state else state
 
 -- The content of a reply with code 0 to this request. If the data were refused, the content is `Refused`.
 abbrev pub asked_content : DeviceState → Process → Reading → ReplyContent

@@ -2,7 +2,6 @@
 use Rattle.std.proofs.Common.{◌≡◌, ◌≢◌, ℕ, arith, slice_get, Bool, true, false, ◌==◌, ◌&&◌, if◌then◌else◌, Option, None, Some, IfSome, Ok}
 use Rattle.std.proofs.Common.{Err, refl}
 use Rattle.std.proofs.lemmas.Bool.Decides.{nat_tests}
-use Rattle.hart_values.specs.EachMaster.{with_master}
 use Rattle.hart_values.specs.declared.master_id.MasterId.{MasterId}
 use Rattle.hart_frame.specs.wire.FrameParts.{FrameParts, reply_parts}
 use Rattle.hart_commands.specs.Commands.{written_by}
@@ -27,7 +26,7 @@ refused answered code effect not_zero = grind (arith, nat_tests)
 -- A frame without effect changes at most the cold start bit of its master, and only if it is answered.
 pub without_effect : (answered : Bool) (master : MasterId) (effect : Effect) (state : DeviceState) → effect ≡ Nothing
     → (if answered then after_reply master (after master effect state) else state)
-    ≡ record state { cold_start = if answered then with_master master false state.cold_start else state.cold_start }
+    ≡ (if answered then after_reply master state else state)
 without_effect answered master effect state nothing = grind arith
 
 -- The effect of an answered frame is the effect that its judgement asks for.

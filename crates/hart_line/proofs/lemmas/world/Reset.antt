@@ -1,6 +1,7 @@
 -- What holds since a master's last reset, and after a refused command.
 use Rattle.hart_line.proofs.Common.{◌≤◌, ◌≡◌, ◌≢◌, ℕ, refl, arith, Option, IfSome, Ok, false, List, [], ◌∷◌, ◌++◌, length, ◌⊎◌, inl, inr}
 use Rattle.hart_line.proofs.Common.{nat_tests, common_steps, of_master, EachMaster, MasterId, FrameParts, DeviceState, Effect, Nothing}
+use Rattle.hart_line.proofs.Common.{Bool, if◌then◌else◌, with_master, after_reply}
 use Rattle.hart_line.proofs.Common.{Resets, after_refusal, code_of, effect_of, is_answered, reading_of, LineEvent, Turn, append_assoc}
 use Rattle.hart_line.proofs.Common.{brought_in_step, IsStepOf, IsLast, LeadsTo, effect_on, executions_after, marks_after, Execution, Start}
 use Rattle.hart_line.proofs.Common.{World, first_world, state_of, HasNoReset, IsLastReset, IsRefusedByDevice}
@@ -64,10 +65,18 @@ refused_effect : (state : DeviceState) (frame : FrameParts) → (code_of state f
     → effect_of state frame ≡ Nothing
 refused_effect state frame refused = grind (arith, refused_commands_change_nothing-refused, refused_commands_change_nothing-silent)
 
+-- A reply changes only the cold start bit of its master.
+refusal_leaves : (answered : Bool) (id : MasterId) (state : DeviceState) → (if answered then after_reply id state else state)
+    ≡ record state { cold_start = if answered then with_master id false state.cold_start else state.cold_start }
+refusal_leaves answered id state = grind arith
+
 pub refused_step : (start : Start) (events : List LineEvent) (before next : World) (r : IsRefusedByDevice start events before next)
     → state_of start.device next ≡ after_refusal (state_of start.device before) r.frame
 refused_step start events before next r = elim (turn_cases start before r.who r.up r.down next r.turn.step) [
-  | inl s ↦ rw (s.next_is, r.brought, refused_effect (state_of start.device before) r.frame r.refused) (grind (arith, common_steps))
+  | inl s ↦
+      let device = state_of start.device before in
+      rw (s.next_is, r.brought, refused_effect device r.frame r.refused, refusal_leaves (is_answered device r.frame) r.frame.master device)
+      (grind (arith, common_steps))
   | inr silent ↦ grind arith
 ]
 
