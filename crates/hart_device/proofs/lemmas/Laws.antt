@@ -12,7 +12,7 @@ use Rattle.hart_device.specs.Process.{IsProcess}
 use Rattle.hart_device.specs.answer.Answer.{answer_of, code_of, effect_of, is_answered, reading_of, reply_of, state_after}
 use Rattle.hart_device.specs.declared.process.Process.{Process}
 use Rattle.hart_device.specs.image.Image.{IsImageOf, image_of}
-use Rattle.hart_device.proofs.lemmas.answer.Effect.{answered_if, identity_stays, refused, write_executes}
+use Rattle.hart_device.proofs.lemmas.answer.Effect.{answered_if, identity_stays, judged_has_code, refused, write_executes}
 use Rattle.hart_device.proofs.lemmas.answer.Reply.{reply_read}
 use Rattle.hart_device.proofs.lemmas.image.Image.{one_state, written_is}
 pub use Rattle.hart_device.proofs.lemmas.answer.Delivery.{deliveries_bring_one-brings, deliveries_bring_one-one}
@@ -62,7 +62,8 @@ pub answers_give_their_code-answered : (state : DeviceState) (process : Process)
     → (is_answered state frame ≡ true) × (reply ≡ reply_parts frame reply.payload)
     × (slice_get reply.payload 0 ≡ Some (code_of state frame))
 answers_give_their_code-answered state process frame reply is =
-    let parts = answered_if (is_answered state frame) frame reply (reply_of state process frame) is in (parts.0, parts.1, parts.2)
+    let parts = answered_if (is_answered state frame) frame reply (reply_of state process frame) is in
+    (parts.0, parts.1, rw (judged_has_code state frame) at parts.2)
 
 pub frames_leave_identity_and_protection-identity : (state : DeviceState) (frame : FrameParts)
     → (state_after state frame).identity ≡ state.identity

@@ -103,24 +103,6 @@ abbrev pub asked_content : DeviceState → Process → Reading → ReplyContent
 asked_content state process (Ok request) = reply_content state process request
 asked_content state process (Err code) = Refused
 
--- The reply to an answered frame has the code of the frame and the device status after the command. With code 0 it also has the
--- requested data, from the state after the command. The cold start bit is cleared only after that, so the reply still shows it.
-abbrev pub reply_of : DeviceState → Process → FrameParts → Reply
-reply_of state process frame = record {
-  command = frame.command;
-  code = code_of state frame;
-  status = record { 0 = device_status (after_command state frame) process frame.master };
-  content =
-      if code_of state frame == 0 then asked_content (after_command state frame) process (reading_of frame) else Refused;
-}
-
--- The device's answer to a frame: an ACK with the device's reply, or `None` if the frame is not answered.
-abbrev pub answer_of : DeviceState → Process → FrameParts → Option FrameParts
-answer_of state process frame =
-    if is_answered state frame then Some (reply_parts frame (reply_payload (reply_of state process frame))) else None
-
--- Only private calls use the definitions from here on: the request of a frame and its response code, joined in one value, the judgement.
-
 -- The judgement of an answered frame: its request if the code is 0, and otherwise the code that refuses it.
 abbrev pub judged_of : DeviceState → FrameParts → Reading
 judged_of state frame = if code_of state frame == 0 then reading_of frame else Err (code_of state frame)
@@ -130,7 +112,8 @@ abbrev pub judged_code : Reading → ℕ
 judged_code (Ok request) = 0
 judged_code (Err code) = code
 
--- The reply to a frame with this judgement, from a device that is in this state after the command.
+-- The reply to a frame with this judgement, from a device that is in this state after the command. It has the code of the judgement, the
+-- device status, and the requested data if the code is 0.
 abbrev pub reply_with : DeviceState → Process → FrameParts → Reading → Reply
 reply_with state process frame judged = record {
   command = frame.command;
@@ -138,3 +121,13 @@ reply_with state process frame judged = record {
   status = record { 0 = device_status state process frame.master };
   content = asked_content state process judged;
 }
+
+-- The reply to an answered frame follows from its judgement and the state after the command. The cold start bit is cleared only after
+-- that, so the reply still shows it.
+abbrev pub reply_of : DeviceState → Process → FrameParts → Reply
+reply_of state process frame = reply_with (after_command state frame) process frame (judged_of state frame)
+
+-- The device's answer to a frame: an ACK with the device's reply, or `None` if the frame is not answered.
+abbrev pub answer_of : DeviceState → Process → FrameParts → Option FrameParts
+answer_of state process frame =
+    if is_answered state frame then Some (reply_parts frame (reply_payload (reply_of state process frame))) else None

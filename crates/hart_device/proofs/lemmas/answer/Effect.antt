@@ -1,6 +1,6 @@
 -- What a command does to a device. The answer to a command begins with the code of the command.
 use Rattle.std.proofs.Common.{◌≡◌, ◌≢◌, ℕ, arith, slice_get, Bool, true, false, ◌==◌, ◌&&◌, if◌then◌else◌, Option, None, Some, IfSome, Ok}
-use Rattle.std.proofs.Common.{Err, refl}
+use Rattle.std.proofs.Common.{Err}
 use Rattle.std.proofs.lemmas.Bool.Decides.{nat_tests}
 use Rattle.hart_values.specs.declared.master_id.MasterId.{MasterId}
 use Rattle.hart_frame.specs.wire.FrameParts.{FrameParts, reply_parts}
@@ -10,14 +10,12 @@ use Rattle.hart_commands.specs.ReplyData.{reply_payload}
 use Rattle.hart_commands.specs.RequestCode.{data_code}
 use Rattle.hart_commands.specs.RequestData.{IsRequest, Reading}
 use Rattle.hart_commands.specs.declared.reply.Reply.{Reply}
-use Rattle.hart_commands.specs.declared.content.ReplyContent.TheVariants.{Refused}
 use Rattle.hart_commands.specs.declared.request.Request.{Request}
 use Rattle.hart_commands.specs.declared.request.Request.TheVariants.{ResetChanged}
 use Rattle.hart_commands.proofs.lemmas.Laws.{requests_have_their_command}
 use Rattle.hart_device.specs.Device.{DeviceState, Effect, Nothing, Executes, Resets, after, after_reply}
-use Rattle.hart_device.specs.answer.Answer.{after_command, asked_content, asked_effect, code_of, effect_of, is_answered, judged_code}
-use Rattle.hart_device.specs.answer.Answer.{judged_of, reading_of, reply_of, reply_with}
-use Rattle.hart_device.specs.declared.process.Process.{Process}
+use Rattle.hart_device.specs.answer.Answer.{asked_effect, code_of, effect_of, is_answered, judged_code}
+use Rattle.hart_device.specs.answer.Answer.{judged_of, reading_of}
 
 pub refused : (answered : Bool) (code : ℕ) (effect : Effect) → code ≢ 0
     → (if answered && (code == 0) then effect else Nothing) ≡ Nothing
@@ -75,19 +73,8 @@ code_if : (reading : Reading) (counter code : ℕ) → (code ≡ 0 → data_code
     → judged_code (if code == 0 then reading else Err code) ≡ code
 code_if reading counter code good = grind (arith, nat_tests)
 
-judged_has_code : (state : DeviceState) (frame : FrameParts) → judged_code (judged_of state frame) ≡ code_of state frame
+pub judged_has_code : (state : DeviceState) (frame : FrameParts) → judged_code (judged_of state frame) ≡ code_of state frame
 judged_has_code state frame = code_if (reading_of frame) state.counter (code_of state frame) (code_good state frame)
-
--- If the code is 0, the content of a reply is the requested content; otherwise it is a refusal.
-content_judged : (state : DeviceState) (process : Process) (code : ℕ) (reading : Reading)
-    → asked_content state process (if code == 0 then reading else Err code)
-    ≡ (if code == 0 then asked_content state process reading else Refused)
-content_judged state process code reading = grind arith
-
-pub judged_reply : (state : DeviceState) (process : Process) (frame : FrameParts)
-    → reply_with (after_command state frame) process frame (judged_of state frame) ≡ reply_of state process frame
-judged_reply state process frame =
-    rw (judged_has_code state frame, content_judged (after_command state frame) process (code_of state frame) (reading_of frame)) refl
 
 pub resets_name_this_counter-only : (state : DeviceState) (frame : FrameParts) → effect_of state frame ≡ Resets
     → (is_answered state frame ≡ true) × (code_of state frame ≡ 0)

@@ -1,5 +1,5 @@
 -- A device's reply to a known command is read back from its payload.
-use Rattle.std.proofs.Common.{◌≡◌, ℕ, ◌<◌, List, ◌==◌, Some, Ok, Err, refl, subst, arith, Bool, true}
+use Rattle.std.proofs.Common.{◌≡◌, ℕ, ◌<◌, List, ◌==◌, Some, Ok, Err, refl, arith, Bool, true}
 use Rattle.std.proofs.lemmas.Bool.Decides.{nat_tests}
 use Rattle.std.proofs.lemmas.Grind.{common_steps}
 use Rattle.std.specs.Prelude.{if◌then◌else◌}
@@ -8,7 +8,6 @@ use Rattle.hart_frame.specs.wire.FrameParts.{FrameParts}
 use Rattle.hart_commands.specs.Commands.{is_known}
 use Rattle.hart_commands.specs.Registers.{AreValid, Overwrite}
 use Rattle.hart_commands.specs.ReplyData.{reply_payload, reply_reading}
-use Rattle.hart_commands.specs.declared.reply.Reply.{Reply}
 use Rattle.hart_commands.specs.RequestCode.{request_code}
 use Rattle.hart_commands.specs.RequestData.{IsRequest, Reading, command_of}
 use Rattle.hart_commands.proofs.lemmas.Laws.{overwrites_are_valid}
@@ -19,7 +18,7 @@ use Rattle.hart_device.specs.Process.{IsProcess}
 use Rattle.hart_device.specs.answer.Answer.{after_command, effect_of, judged_of, reading_of, reply_of, reply_with}
 use Rattle.hart_device.specs.declared.process.Process.{Process}
 use Rattle.hart_device.proofs.lemmas.answer.Content.{content_again}
-use Rattle.hart_device.proofs.lemmas.answer.Effect.{judged_reply, writes_execute_their_overwrite-well_made}
+use Rattle.hart_device.proofs.lemmas.answer.Effect.{writes_execute_their_overwrite-well_made}
 
 -- A frame is read as a well-made request of its command, or refused with a code from 1 to 127.
 abbrev pub IsJudged : ℕ → Reading → Type 0
@@ -50,8 +49,7 @@ pub reply_read : (state : DeviceState) (process : Process) (frame : FrameParts) 
     → reply_reading frame.command (reply_payload (reply_of state process frame)) ≡ Some (reply_of state process frame)
 reply_read state process frame valid is known =
     let made = writes_execute_their_overwrite-well_made state frame in
-    subst (λ (reply : Reply). reply_reading frame.command (reply_payload reply) ≡ Some reply) (judged_reply state process frame)
-    (reply_again (after_command state frame) process frame (judged_of state frame)
+    reply_again (after_command state frame) process frame (judged_of state frame)
     (after_valid frame.master (effect_of state frame) state made valid) is known
     (judged_by (is_known frame.command) state.protected (needed_data frame.command) frame.command state.counter frame.payload
-    (reading_of frame) (given frame.command frame.payload)))
+    (reading_of frame) (given frame.command frame.payload))
