@@ -32,7 +32,8 @@ impl MasterFault {
 }
 
 /// A request that a master did not take, and the reason.
-#[derive(Debug, Drop, PartialEq, Eq)]
+#[derive(Debug, Drop, PartialEq, Eq, Error)]
+#[error("{fault}")]
 pub struct Rejected {
     /// Why the request was not taken.
     pub fault: MasterFault,

@@ -2,9 +2,11 @@ ghost use Rattle.std.specs.Prelude.{◌≡◌, ◌<◌, ◌↔◌, IsOk, IfOk, I
 
 use crate::ValueFault;
 use std::marker::Model;
+use thiserror::Error;
 
 /// The response code of a reply, 0 to 127; 0 is success (HCF_SPEC-099).
-#[derive(Clone, Copy, Debug, PartialEq, Eq)]
+#[derive(Clone, Copy, Debug, PartialEq, Eq, Error)]
+#[error("response code {value}")]
 pub struct ResponseCode {
     value: u8,
 }
