@@ -1,10 +1,9 @@
 //! Laws about the definitions alone, for the crates that use this one.
-ghost use Rattle.std.specs.Prelude.{◌≡◌, ◌≢◌, ◌<◌, ◌⊎◌, ◌↔◌, ℕ, Bool, false, true, IsTrue, All, Ok, Option, None, Some, IfSome, IsSomeAnd};
+ghost use Rattle.std.specs.Prelude.{◌≡◌, ◌≢◌, ◌⊎◌, ℕ, Bool, false, true, Ok, Option, None, Some, IfSome, IsSomeAnd};
 ghost use Rattle.std.specs.Prelude.{length, unwrap_or};
 ghost use Rattle.std.specs.Prelude.{List, [], ◌∷◌, ◌++◌, Contains, slice_get, if◌then◌else◌};
 ghost use Rattle.std.specs.Int.{bit_at};
 ghost use Rattle.hart_values.specs.EachMaster.{of_master, with_master};
-ghost use Rattle.hart_values.specs.address.AddressBytes.{IsAddressBytes};
 ghost use Rattle.hart_values.specs.declared.address.Address.TheVariants.{Unique};
 ghost use Rattle.hart_values.specs.declared.each_master.EachMaster.{EachMaster};
 ghost use Rattle.hart_values.specs.declared.master_id.MasterId.{MasterId};
@@ -21,7 +20,7 @@ ghost use Rattle.hart_commands.specs.declared.request.Request.TheVariants.{Reset
 ghost use Rattle.hart_device.specs.answer.Answer.{after_refusal, answer_of, code_of, effect_of, is_answered, reading_of, reply_of};
 ghost use Rattle.hart_device.specs.answer.Answer.{state_after};
 ghost use Rattle.hart_device.specs.answer.Delivery.{Brings, Brought};
-ghost use Rattle.hart_device.specs.answer.Garbled.{HasGarbled, garbled_request, is_own_address};
+ghost use Rattle.hart_device.specs.answer.Garbled.{BeginsWithGarbled, HasGarbled};
 ghost use Rattle.hart_device.specs.declared.fault.DeviceFault.{DeviceFault};
 ghost use Rattle.hart_device.specs.declared.answer.garbled.GarbledRequest.{GarbledRequest};
 ghost use Rattle.hart_device.specs.declared.identity_parts.IdentityParts.{IdentityParts};
@@ -123,16 +122,12 @@ pub fn cold_starts_are_shown_once()
         → (state_after state frame).cold_start ≡ state.cold_start }
 {}
 
-/// A list of characters has exactly one garbled request for a device, or none. The test for the device's own address accepts exactly the
-/// bytes of its unique address, for either master and with any burst bit.
+/// A list of characters has exactly one garbled request for a device, or none.
 pub fn garbled_requests_are_decided()
     ensures one { (identity : IdentityParts) (chars : List Character) (request other : GarbledRequest)
         → HasGarbled identity chars request → HasGarbled identity chars other → request ≡ other }
     ensures decided { (identity : IdentityParts) (chars : List Character) → ((request : GarbledRequest) × HasGarbled identity chars request)
         ⊎ ((request : GarbledRequest) → HasGarbled identity chars request → ⊥) }
-    ensures own_address { (identity : IdentityParts) (bytes : List ℕ) → All (λ byte. byte < 256) bytes
-        → IsTrue (is_own_address identity bytes)
-        ↔ ((master : MasterId) × (burst : Bool) × IsAddressBytes master burst (Unique (own_numbers identity)) bytes) }
 {}
 
 /// Every delivery brings a device exactly one of these: a frame, a garbled request, or no message.
@@ -243,5 +238,5 @@ pub fn devices_are_kept_whole()
 pub fn whole_requests_have_the_form_of_garbled_ones()
     ensures { (identity : IdentityParts) (master : MasterId) (command : ℕ) (payload body : List ℕ)
         → IsBody (request_parts master (Unique (own_numbers identity)) command payload) body
-        → garbled_request identity (faultless body) ≡ Some (record { master = master; command = command; faults = 0 }) }
+        → BeginsWithGarbled identity (faultless body) (record { master = master; command = command; faults = 0 }) }
 {}

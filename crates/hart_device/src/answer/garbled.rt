@@ -2,7 +2,8 @@
 ghost use Rattle.std.specs.Prelude.{◌≡◌, ◌==◌, ◌^◌, ◌↔◌, ℕ, not, bit_and, IsTrue, MatchOption};
 ghost use Rattle.std.specs.List.{list_any};
 ghost use Rattle.hart_values.specs.declared.address.Address.TheVariants.{Unique};
-ghost use Rattle.hart_device.specs.answer.Garbled.{HasGarbled, asking_master, communication_faults, garbled_reply, garbled_request};
+ghost use Rattle.hart_values.specs.declared.master_id.MasterId.{MasterId};
+ghost use Rattle.hart_device.specs.answer.Garbled.{BeginsWithGarbled, HasGarbled, IsAsking, communication_faults, garbled_reply};
 ghost use Rattle.hart_device.specs.answer.Garbled.{has_fault, has_odd_bit};
 ghost use Rattle.hart_device.specs.Bits.{bit_if};
 ghost use Rattle.hart_device.specs.Identity.{own_numbers};
@@ -52,7 +53,8 @@ pub(crate) fn garbled_in(identity: &Identity, delivery: &[Char]) -> Option<Garbl
 
 /// Reads the garbled request with which the characters begin, or returns `None` if they begin with none.
 fn garbled_at(identity: &Identity, chars: &[Char]) -> Option<GarbledRequest>
-    ensures { result ≡ garbled_request identity.now chars.now }
+    ensures { MatchOption result ((request : GarbledRequest) → BeginsWithGarbled identity.now chars.now request → ⊥)
+        (BeginsWithGarbled identity.now chars.now) }
 {
     let master = asking_master(identity, chars.get(..UNIQUE_COMMAND_PLACE)?)?;
     let command = chars.get(UNIQUE_COMMAND_PLACE)?.byte();
@@ -68,7 +70,7 @@ fn garbled_at(identity: &Identity, chars: &[Char]) -> Option<GarbledRequest>
 /// Reads the first six characters of a request, and returns the master that sent it. The characters must have no faults, and be the
 /// delimiter and the unique address of the device with this identity. Otherwise the result is `None`.
 fn asking_master(identity: &Identity, head: &[Char]) -> Option<MasterId>
-    ensures { result ≡ asking_master identity.now head.now }
+    ensures { MatchOption result ((master : MasterId) → IsAsking identity.now head.now master → ⊥) (IsAsking identity.now head.now) }
 {
     let [delimiter, first, second, third, fourth, fifth] = head else {
         return None;

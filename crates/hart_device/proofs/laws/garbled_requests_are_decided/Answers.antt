@@ -1,5 +1,5 @@
-use Rattle.hart_device.proofs.lemmas.answer.Garbled.{garbled_decided, garbled_one, own_address}
+use Rattle.hart_device.proofs.lemmas.answer.Garbled.{garbled_decided, garbled_one}
 use Rattle.hart_device.proofs.laws.garbled_requests_are_decided.Goals as goal
 
 pub returns : goal.returns
-returns c = record { one = garbled_one; decided = garbled_decided; own_address = own_address }
+returns c = record { one = garbled_one; decided = garbled_decided }

@@ -14,10 +14,19 @@ use Rattle.hart_device.specs.declared.identity_parts.IdentityParts.{IdentityPart
 use Rattle.hart_device.specs.declared.process.Process.{Process}
 use Rattle.hart_device.proofs.lemmas.answer.Garbled.{garbled_decided, garbled_one}
 
+brings_one : (identity : IdentityParts) (chars : List Character) (frames : List Found) (a b : Brought)
+    → BringsBy identity chars frames a → BringsBy identity chars frames b → a ≡ b
+brings_one identity chars [] (Garbled request) (Garbled other) p q = ap Garbled (garbled_one identity chars request other p q)
+brings_one identity chars [] (Garbled request) NoMessage p q = absurd (q request p)
+brings_one identity chars [] NoMessage (Garbled request) p q = absurd (p request q)
+brings_one identity chars frames a b p q = grind arith
+
 -- a delivery brings at most one thing
 pub deliveries_bring_one-one : (identity : IdentityParts) (chars : List Character) (a b : Brought)
     → Brings identity chars a → Brings identity chars b → a ≡ b
-deliveries_bring_one-one identity chars a b p q = grind (arith, common_steps, frames_are_unambiguous-one_list, garbled_one)
+deliveries_bring_one-one identity chars a b p q =
+    let same : p.frames ≡ q.frames = grind (arith, frames_are_unambiguous-one_list, p.are_frames, q.are_frames) in
+    brings_one identity chars q.frames a b (rw same at p.by_frames) q.by_frames
 
 -- every delivery brings a frame, a garbled request or no message, whatever frames it has
 BringsBy-found : (identity : IdentityParts) (chars : List Character) (frames : List Found)

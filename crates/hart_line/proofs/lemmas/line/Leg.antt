@@ -5,6 +5,7 @@ use Rattle.hart_line.proofs.Common.{DeviceState, Brought, BringsBy, Garbled, NoM
 use Rattle.hart_line.proofs.Common.{Clean, Spoken, length-append, Party, AnswersTo, IsSent, IsSpeakable, AreHeard, Arrives, ArrivesAmong}
 use Rattle.hart_line.proofs.Common.{Reaches, ReachesAmong, SpokenFrame, Speaks, frame_of, master_preambles, party_of, spoken_by, AreSpoken}
 use Rattle.hart_line.proofs.Common.{sent_by, InHand, messages_have_their_frame_alone-message, messages_have_their_frame_alone-nothing}
+use Rattle.hart_frame.specs.heard.Character.{faultless}
 use Rattle.hart_frame.specs.wire.Message.{IsMessage}
 use Rattle.hart_device.specs.answer.Garbled.{HasGarbled, garbled_reply}
 use Rattle.hart_device.specs.declared.answer.garbled.GarbledRequest.{GarbledRequest}
@@ -45,10 +46,19 @@ frame_given result reply answer same is = grind arith
 pub nothing_arrives : (sent : Option FrameParts) → ArrivesAmong [] sent None
 nothing_arrives sent = record { frames = []; are_frames = messages_have_their_frame_alone-nothing; detected = refl }
 
+-- No body starts in a list without characters, so it has no garbled request.
+no_start : (prefix : List Character) (first : Character) (rest : List Character)
+    → [] ≡ prefix ++ faultless (255 ∷ 255 ∷ []) ++ first ∷ rest → ⊥
+no_start [] first rest split = absurd cc
+no_start (character ∷ prefix) first rest split = absurd cc
+
+no_garbled : (identity : IdentityParts) (request : GarbledRequest) → HasGarbled identity [] request → ⊥
+no_garbled identity request has = no_start has.first_start.start.prefix _ _ has.first_start.start.split
+
 pub nothing_reaches : (identity : IdentityParts) (heard : Heard) (said : Option SpokenFrame) → AreHeard heard said []
     → Reaches identity heard said NoMessage
 nothing_reaches identity heard said are =
-    let among = among_none identity [] (frame_of said) NoMessage (nothing_arrives (frame_of said)) (grind (arith, length-append)) in
+    let among = among_none identity [] (frame_of said) NoMessage (nothing_arrives (frame_of said)) (no_garbled identity) in
     record { chars = []; are_heard = are; among = among }
 
 -- In a clean leg the frame that was sent arrives, and is brought to the device.
