@@ -1,6 +1,7 @@
-use crate::rows::hold;
+use crate::rows::{hold_ok, hold_same, same, same_bytes, same_if_any, told};
 use hart_commands::*;
-use hart_values::Payload;
+use hart_values::{Payload, ResponseCode};
+use std::test::Fail;
 
 mod fields;
 
@@ -53,74 +54,81 @@ const ZEROS: [u8; 32] = [0; 32];
 
 /// Whether a command with data has the wanted result. Either it is read as a request, and writing this request gives the wanted data, or
 /// the data are refused with the wanted code.
-fn request_is(command: u8, bytes: &[u8], want: Result<&[u8], u8>) -> bool {
-    match (Request::read(command, bytes), want) {
-        (Ok(request), Ok(want)) => {
-            let mut data = Payload::new();
-            request.write(&mut data);
-            request.command() == command
-                && data.as_slice() == want
-                && request.data_len() == want.len()
-                && request.copy() == request
-        }
-        (Err(code), Err(want)) => code.value() == want,
-        _ => false,
-    }
+fn request_is(command: u8, bytes: &[u8], want: Result<&[u8], u8>) -> Result<bool, Fail> {
+    let request = match Request::read(command, bytes) {
+        Ok(request) => request,
+        Err(code) => return same(&Some(code.value()), &want.err()),
+    };
+    let Ok(want) = want else {
+        return told(false, &request);
+    };
+    let mut data = Payload::new();
+    request.write(&mut data);
+    Ok(
+        same(&request.command(), &command)?
+            && same_bytes(data.as_slice(), want)?
+            && same(&request.data_len(), &want.len())?
+            && same(&request.copy(), &request)?,
+    )
 }
 
 /// Whether a payload is read as wanted. If `want` is a number, the payload must hold a reply, and writing this reply must give the first
 /// `want` bytes of the payload. If `want` is `None`, the payload must hold no reply.
-fn reply_is(command: u8, payload: &[u8], want: Option<usize>) -> bool {
+fn reply_is(command: u8, payload: &[u8], want: Option<usize>) -> Result<bool, Fail> {
     let Some(reply) = Reply::read(command, payload) else {
-        return want.is_none();
+        return same(&None, &want);
     };
     let mut written = Payload::new();
     reply.write(&mut written);
     let len = 2 + reply.data_len();
-    reply.command == command && Some(written.as_slice()) == payload.get(..len) && Some(len) == want
+    Ok(
+        same(&reply.command, &command)?
+            && same_if_any(Some(written.as_slice()), payload.get(..len))?
+            && same(&Some(len), &want)?,
+    )
 }
 
 /// Whether a command needs `needed` bytes of data.
-fn needs(command: u8, needed: usize) -> bool {
+fn needs(command: u8, needed: usize) -> Result<bool, Fail> {
     let bytes = ZEROS.get(..needed).unwrap_or(&[]);
     let written = if command == 6 { &[0, 1] } else { bytes };
     let fewer = ZEROS.get(1..needed).unwrap_or(&[]);
-    needed_data(command) == needed
-        && bytes.len() == needed
-        && request_is(command, bytes, Ok(written))
-        && (needed == 0 || request_is(command, fewer, Err(5)))
+    Ok(
+        same(&needed_data(command), &needed)?
+            && same(&bytes.len(), &needed)?
+            && request_is(command, bytes, Ok(written))?
+            && (needed == 0 || request_is(command, fewer, Err(5))?),
+    )
 }
 
 /// Whether a payload of `len` bytes is a reply to a command, and a payload of one byte less is not.
-fn is_replied_with(command: u8, len: usize) -> bool {
+fn is_replied_with(command: u8, len: usize) -> Result<bool, Fail> {
     let payload = PAYLOAD.get(..len).unwrap_or(&[]);
-    let Some((_, shorter)) = payload.split_last() else {
-        return false;
-    };
-    reply_is(command, payload, Some(len)) && reply_is(command, shorter, None)
+    let (_, shorter) = payload.split_last().ok_or("too long")?;
+    Ok(reply_is(command, payload, Some(len))? && reply_is(command, shorter, None)?)
 }
 
 #[test]
 fn each_command_needs_its_bytes(rt: HostRuntime) {
     for (command, needed, len) in COMMANDS {
-        let holds = needs(*command, *needed) && is_replied_with(*command, *len);
-        hold(&rt, holds, "Command", usize::from(*command));
+        let number = usize::from(*command);
+        hold_ok(&rt, needs(*command, *needed), "Command", number);
+        hold_ok(&rt, is_replied_with(*command, *len), "Command", number);
     }
 }
 
 /// Whether a command is not known.
 fn is_unknown(command: u8) -> bool {
-    needed_data(command) == 0
-        && request_is(command, &[], Err(64))
-        && reply_is(command, &[0x40, 0x00], None)
+    let code = Request::read(command, &[]).err().map(ResponseCode::value);
+    needed_data(command) == 0 && code == Some(64) && Reply::read(command, &[0x40, 0x00]).is_none()
 }
 
 #[test]
 fn every_other_command_is_unknown(rt: HostRuntime) {
     for command in 0..=255u8 {
         let known = matches!(command, 0..=3 | 6..=9 | 11..=22 | 38 | 48);
-        let holds = is_unknown(command) != known;
-        hold(&rt, holds, "Command", usize::from(command));
+        let number = usize::from(command);
+        hold_same(&rt, &is_unknown(command), &!known, "Command", number);
     }
 }
 
@@ -156,7 +164,7 @@ const REQUESTS: &[(u8, &[u8], Result<&[u8], u8>)] = &[
 #[test]
 fn requests_are_read_and_written(rt: HostRuntime) {
     for (row, (command, bytes, want)) in REQUESTS.iter().enumerate() {
-        hold(&rt, request_is(*command, bytes, *want), "row", row);
+        hold_ok(&rt, request_is(*command, bytes, *want), "row", row);
     }
 }
 
@@ -199,22 +207,28 @@ const REPLIES: &[(u8, &[u8], Option<usize>)] = &[
 #[test]
 fn replies_are_read_and_written(rt: HostRuntime) {
     for (row, (command, payload, want)) in REPLIES.iter().enumerate() {
-        hold(&rt, reply_is(*command, payload, *want), "row", row);
+        hold_ok(&rt, reply_is(*command, payload, *want), "row", row);
     }
 }
 
 /// Whether a payload holds a reply to a command with this code, this status and this content.
-fn says(command: u8, payload: &[u8], code: u8, status: u8, content: &ReplyContent) -> bool {
-    match Reply::read(command, payload) {
-        Some(reply) => {
-            reply.code.value() == code && reply.status.0 == status && reply.content == *content
-        }
-        None => false,
-    }
+fn says(
+    command: u8,
+    payload: &[u8],
+    code: u8,
+    status: u8,
+    content: &ReplyContent,
+) -> Result<bool, Fail> {
+    let reply = Reply::read(command, payload).ok_or("no reply")?;
+    Ok(
+        same(&reply.code.value(), &code)?
+            && same(&reply.status.0, &status)?
+            && same(&reply.content, content)?,
+    )
 }
 
 #[test]
-fn replies_say_their_content(rt: HostRuntime) {
+fn replies_say_their_content(rt: HostRuntime) -> Result<(), Fail> {
     let identity = ReplyContent::Identity(IdentityContent {
         expanded_device_type: [0x37, 0x42],
         request_preambles: 5,
@@ -232,11 +246,12 @@ fn replies_say_their_content(rt: HostRuntime) {
         private_label_distributor: [0x00, 0x37],
         device_profile: 1,
     });
-    let said = says(0, &IDENTITY, 0, 0, &identity)
-        && says(11, &IDENTITY, 0, 0, &identity)
-        && says(21, &IDENTITY, 0, 0, &identity);
+    let said = says(0, &IDENTITY, 0, 0, &identity)?
+        && says(11, &IDENTITY, 0, 0, &identity)?
+        && says(21, &IDENTITY, 0, 0, &identity)?;
     assert!(rt; said);
-    assert!(rt; says(19, &[0x07, 0x40], 7, 0x40, &ReplyContent::Refused));
+    assert!(rt; says(19, &[0x07, 0x40], 7, 0x40, &ReplyContent::Refused)?);
+    Ok(())
 }
 
 /// Each register, and the bytes that a write of `TAG` puts into the register, or `None` if the write does not set it.
@@ -257,43 +272,41 @@ const NAMED: &[(Register, Option<&[u8]>)] = &[
 ];
 
 /// Whether a write command with these data puts the wanted bytes into a register, or does not set the register if `want` is `None`.
-fn writes(command: u8, bytes: &[u8], register: Register, want: Option<&[u8]>) -> bool {
-    match Request::read(command, bytes) {
-        Ok(request) => match writes_of(&request) {
-            Some(overwrite) => overwrite.get(register) == want,
-            None => false,
-        },
-        Err(_) => false,
-    }
+fn writes(
+    command: u8,
+    bytes: &[u8],
+    register: Register,
+    want: Option<&[u8]>,
+) -> Result<bool, Fail> {
+    let request = Request::read(command, bytes).ok().ok_or("no request")?;
+    let overwrite = writes_of(&request).ok_or("no write")?;
+    same_if_any(overwrite.get(register), want)
 }
 
 #[test]
 fn a_write_names_its_registers(rt: HostRuntime) {
     for (row, (register, want)) in NAMED.iter().enumerate() {
-        hold(&rt, writes(18, &TAG, *register, *want), "row", row);
+        hold_ok(&rt, writes(18, &TAG, *register, *want), "row", row);
     }
 }
 
 /// Whether Command 22 with a long tag writes exactly this long tag, and whether a reply to Command 20 with this long tag is read as exactly
 /// this long tag.
-fn is_long_tag(long_tag: [u8; 32]) -> bool {
+fn is_long_tag(long_tag: [u8; 32]) -> Result<bool, Fail> {
     let mut payload = Payload::new();
     payload.extend_from_slice(&[0; 2]);
     payload.extend_from_slice(&long_tag);
-    request_is(22, &long_tag, Ok(&long_tag))
-        && writes(22, &long_tag, Register::LongTag, Some(&long_tag))
-        && says(
-            20,
-            payload.as_slice(),
-            0,
-            0,
-            &ReplyContent::LongTag(long_tag),
-        )
+    let content = ReplyContent::LongTag(long_tag);
+    Ok(
+        request_is(22, &long_tag, Ok(&long_tag))?
+            && writes(22, &long_tag, Register::LongTag, Some(&long_tag))?
+            && says(20, payload.as_slice(), 0, 0, &content)?,
+    )
 }
 
 #[test]
 fn a_long_tag_has_any_bytes(rt: HostRuntime) {
     for byte in 0..=255u8 {
-        hold(&rt, is_long_tag([byte; 32]), "byte", usize::from(byte));
+        hold_ok(&rt, is_long_tag([byte; 32]), "byte", usize::from(byte));
     }
 }

@@ -1,4 +1,4 @@
-use crate::rows::{has_text, hold, hold_ok};
+use crate::rows::{has_text, hold_ok, hold_same, same, same_bytes, same_if_any};
 use hart_commands::Request;
 use hart_device::*;
 use hart_frame::{Char, Frame, Payload};
@@ -89,7 +89,8 @@ fn asked_at(
 /// Whether a device replies as a row says.
 fn replies(device: &mut Device<FieldRegisters>, row: &Row) -> Result<bool, Fail> {
     let (command, data, payload) = row;
-    Ok(asked(device, *command, data)?.payload() == *payload)
+    let reply = asked(device, *command, data)?;
+    same_bytes(reply.payload(), payload)
 }
 
 /// Whether a write-protected bench device replies as a row says, leaves its counter unchanged, and stays protected.
@@ -97,7 +98,7 @@ fn replies_protected(row: &Row) -> Result<bool, Fail> {
     let mut device = bench_device();
     device.protect(true);
     let replied = replies(&mut device, row)?;
-    Ok(replied && device.counter() == 0 && device.is_protected())
+    Ok(replied && same(&device.counter(), &0)? && device.is_protected())
 }
 
 #[test]
@@ -120,8 +121,9 @@ fn is_unknown(command: u8) -> bool {
 fn is_met_by_number(command: u8) -> Result<bool, Fail> {
     let mut device = bench_device();
     device.protect(command % 2 == 0);
-    let refused = replies(&mut device, &(command, &[], &[0x40, 0x00]))?;
-    Ok(refused == is_unknown(command))
+    let reply = asked(&mut device, command, &[])?;
+    let refused = reply.payload() == [0x40, 0x00].as_slice();
+    same(&refused, &is_unknown(command))
 }
 
 #[test]
@@ -137,8 +139,9 @@ fn status_is(place: usize, status: u8, check: u8) -> Result<bool, Fail> {
     let mut process = bench::process();
     *process.additional_status.get_mut(place).ok_or("a place")? = 1;
     let reply = asked_at(&mut bench_device(), 48, &[], &process)?;
-    let has_status = reply.payload().get(1) == Some(&status);
-    Ok(has_status && reply.body().as_slice().last() == Some(&check))
+    let shown = reply.payload().get(1).copied();
+    let last = reply.body().as_slice().last().copied();
+    same(&(shown, last), &(Some(status), Some(check)))
 }
 
 /// Places of bytes in the additional status, each with the device status and the check byte of the reply if that byte is 1.
@@ -254,7 +257,7 @@ fn fault_of(refused: &Refused) -> Option<DeviceFault> {
 fn has_its_fault(alloc: Global, row: &RefusedRow) -> Result<bool, Fail> {
     let (refused, number, text) = row;
     let fault = fault_of(refused).ok_or("no fault")?;
-    Ok(fault.number() == *number && has_text(alloc, &fault, text)?)
+    Ok(same(&fault.number(), number)? && has_text(alloc, &fault, text)?)
 }
 
 #[test]

@@ -4,7 +4,7 @@ mod sighting;
 mod start;
 mod stream;
 
-use crate::rows::{exclusive_or, has_text, hold, hold_ok, write_chars};
+use crate::rows::{exclusive_or, has_text, hold_ok, hold_same, same, same_bytes, write_chars};
 use hart_frame::*;
 use hart_values::{Address, MasterId};
 use std::test::Fail;
@@ -51,23 +51,30 @@ const BODIES: &[(&[u8], Read)] = &[
 const UNIQUE: &[u8] = &[0xB7, 0x42, 0x0A, 0x1B, 0x2C];
 
 /// Whether a frame has these parts, and its body this length.
-fn is_read_as(frame: &Frame, read: &Read) -> bool {
+fn is_read_as(frame: &Frame, read: &Read) -> Result<bool, Fail> {
     let (len, kind, address, expansion, payload) = read;
     let address_bytes = frame.address().bytes(frame.master(), frame.burst());
-    frame.body().as_slice().len() == *len
-        && frame.kind() == *kind
-        && frame.master() == MasterId::Primary
-        && !frame.burst()
-        && address_bytes.as_slice() == *address
-        && frame.expansion() == *expansion
-        && frame.command() == 0
-        && frame.payload() == *payload
+    Ok(
+        same(&frame.body().as_slice().len(), len)?
+            && same(&frame.kind(), kind)?
+            && same(&frame.master(), &MasterId::Primary)?
+            && same(&frame.burst(), &false)?
+            && same_bytes(address_bytes.as_slice(), address)?
+            && same_bytes(frame.expansion(), expansion)?
+            && same(&frame.command(), &0)?
+            && same_bytes(frame.payload(), payload)?,
+    )
 }
 
 /// Whether bytes begin with the body of a frame with these parts.
 fn begin_with(bytes: &[u8], read: &Read) -> Result<bool, Fail> {
     let (frame, len) = decode(bytes)?;
-    Ok(len == read.0 && is_read_as(&frame, read) && bytes.starts_with(frame.body().as_slice()))
+    let body = bytes.get(..len).ok_or("too long")?;
+    Ok(
+        same(&len, &read.0)?
+            && is_read_as(&frame, read)?
+            && same_bytes(frame.body().as_slice(), body)?,
+    )
 }
 
 #[test]
@@ -108,7 +115,7 @@ const REFUSED: &[(&[u8], FrameFault)] = &[
 #[test]
 fn bodies_are_refused(rt: HostRuntime) {
     for (row, (bytes, want)) in REFUSED.iter().enumerate() {
-        hold(&rt, decode(bytes).err() == Some(*want), "row", row);
+        hold_same(&rt, &decode(bytes).err(), &Some(*want), "row", row);
     }
 }
 
@@ -210,11 +217,9 @@ fn checked_bytes() -> [u8; MOST_CHECKED] {
 }
 
 /// Whether the check byte of the first `len` bytes is their exclusive or.
-fn is_checked(bytes: &[u8], len: usize) -> bool {
-    match bytes.get(..len) {
-        Some(part) => check_byte(part) == exclusive_or(part),
-        None => false,
-    }
+fn is_checked(bytes: &[u8], len: usize) -> Result<bool, Fail> {
+    let part = bytes.get(..len).ok_or("too long")?;
+    same(&check_byte(part), &exclusive_or(part))
 }
 
 #[test]
@@ -222,7 +227,7 @@ fn a_check_byte_is_the_exclusive_or(rt: HostRuntime) {
     assert!(rt; check_byte(&[0x02, 0x80, 0x00, 0x00]) == 0x82);
     let bytes = checked_bytes();
     for len in CHECKED_LENGTHS {
-        hold(&rt, is_checked(&bytes, *len), "length", *len);
+        hold_ok(&rt, is_checked(&bytes, *len), "length", *len);
     }
 }
 
@@ -239,7 +244,7 @@ const FAULTS: &[(FrameFault, u8, &str)] = &[
 #[test]
 fn faults_have_numbers_and_texts(rt: HostRuntime) {
     for (row, (fault, number, text)) in FAULTS.iter().enumerate() {
-        hold(&rt, fault.number() == *number, "the number of row", row);
+        hold_same(&rt, &fault.number(), number, "the number of row", row);
         hold_ok(&rt, has_text(rt.alloc(), fault, text), "row", row);
     }
 }

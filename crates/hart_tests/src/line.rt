@@ -5,7 +5,7 @@ pub mod scripts;
 mod texts;
 mod undetected;
 
-use crate::rows::{has_text, hold, hold_ok};
+use crate::rows::{has_text, hold, hold_ok, hold_same, same};
 use hart_commands::Request;
 use hart_line::*;
 use hart_values::{Address, MasterId};
@@ -44,7 +44,7 @@ const FAULTS: &[(LineFault, u8, &str)] = &[
 #[test]
 fn faults_have_numbers_and_texts(rt: HostRuntime) -> Result<(), Fail> {
     for (row, (fault, number, text)) in FAULTS.iter().enumerate() {
-        hold(&rt, fault.number() == *number, "the number of row", row);
+        hold_same(&rt, &fault.number(), number, "the number of row", row);
         hold_ok(&rt, has_text(rt.alloc(), fault, text), "row", row);
     }
     // No allocation can have `usize::MAX` bytes.
@@ -144,19 +144,16 @@ fn letters(alloc: Global, events: &[LineEvent]) -> Result<Vec<u8>, AllocError> {
 
 /// Whether a text is read as a script with the events of these letters, or is refused at the first bad line with this number.
 fn is_read_as(alloc: Global, text: &[u8], want: Result<&str, usize>) -> Result<bool, Fail> {
-    Ok(match read_script(alloc, text) {
+    match read_script(alloc, text) {
         Ok(events) => {
             let found = letters(alloc, events.as_slice())?;
-            match want {
-                Ok(want) => found.as_slice() == want.as_bytes(),
-                Err(_number) => false,
-            }
+            same(&Ok(str::from_utf8(found.as_slice())?), &want)
         }
-        Err(fault) => match want {
-            Ok(_want) => false,
-            Err(number) => fault == LineFault::BadLine { number },
-        },
-    })
+        Err(fault) => {
+            let wanted = want.err().map(|number| LineFault::BadLine { number });
+            same(&Some(fault), &wanted)
+        }
+    }
 }
 
 /// Whether a line that submits this command without data is read if a request of the command may have no data, and is refused as a bad

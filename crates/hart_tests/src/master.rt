@@ -1,4 +1,4 @@
-use crate::rows::{has_text, hold, hold_ok, write_faultless};
+use crate::rows::{has_text, hold_ok, hold_same, same, write_faultless};
 use hart_commands::{Reply, ReplyContent, Request};
 use hart_frame::{Char, Frame, decode};
 use hart_master::*;
@@ -15,7 +15,7 @@ const FAULTS: &[(MasterFault, u8, &str)] = &[
 #[test]
 fn faults_have_numbers_and_texts(rt: HostRuntime) {
     for (row, (fault, number, text)) in FAULTS.iter().enumerate() {
-        hold(&rt, fault.number() == *number, "the number of row", row);
+        hold_same(&rt, &fault.number(), number, "the number of row", row);
         hold_ok(&rt, has_text(rt.alloc(), fault, text), "row", row);
     }
 }
@@ -32,7 +32,7 @@ const LIMITS: &[(u8, u8, Option<MasterFault>)] = &[
 fn masters_have_limits(rt: HostRuntime) {
     for (row, (retries, reply_limit, want)) in LIMITS.iter().enumerate() {
         let made = Master::new(MasterId::Primary, *retries, *reply_limit);
-        hold(&rt, made.err() == *want, "row", row);
+        hold_same(&rt, &made.err(), want, "row", row);
     }
 }
 
@@ -75,7 +75,10 @@ fn request_of(command: u8, data: &[u8]) -> Result<Request, Fail> {
 fn refuses_another(master: &mut Master) -> Result<bool, Fail> {
     let second = master.submit(address_of(POLLING)?, Request::ReadPrimary);
     let rejected = second.err().ok_or("a second request")?;
-    Ok(rejected.fault == MasterFault::Pending && rejected.request == Request::ReadPrimary)
+    Ok(
+        same(&rejected.fault, &MasterFault::Pending)?
+            && same(&rejected.request, &Request::ReadPrimary)?,
+    )
 }
 
 /// Whether an idle master does with a submission what its row says. Without a fault it takes the submission, and refuses another one. With
@@ -89,7 +92,7 @@ fn is_taken_or_refused(submission: &Submission) -> Result<bool, Fail> {
     };
     let is_idle = master.is_idle();
     let refuses = is_idle || refuses_another(&mut master)?;
-    Ok(fault == want && is_idle == want.is_some() && refuses)
+    Ok(same(&fault, &want)? && same(&is_idle, &want.is_some())? && refuses)
 }
 
 #[test]
@@ -127,21 +130,19 @@ const CALLS: &[Call] = &[
 ];
 
 /// Whether a master sends this request.
-fn sends(master: &mut Master, request: &Frame) -> bool {
-    match master.send() {
-        Some(sent) => sent == *request,
-        None => false,
-    }
+fn sends(master: &mut Master, request: &Frame) -> Result<bool, Fail> {
+    let sent = master.send().ok_or("silence")?;
+    same(&sent, request)
 }
 
 /// Whether a call has its result. A frame that is sent must be this request.
-fn gives(master: &mut Master, call: &Call, request: &Frame) -> bool {
+fn gives(master: &mut Master, call: &Call, request: &Frame) -> Result<bool, Fail> {
     match call {
         Call::Sends => sends(master, request),
-        Call::StaysSilent => master.send().is_none(),
-        Call::Waits(times) => master.tick(*times) == MasterEvent::Nothing,
-        Call::Retries(times) => master.tick(*times) == MasterEvent::Retry,
-        Call::GivesUp(times) => master.tick(*times) == MasterEvent::NoReply(2),
+        Call::StaysSilent => same(&master.send(), &None),
+        Call::Waits(times) => same(&master.tick(*times), &MasterEvent::Nothing),
+        Call::Retries(times) => same(&master.tick(*times), &MasterEvent::Retry),
+        Call::GivesUp(times) => same(&master.tick(*times), &MasterEvent::NoReply(2)),
     }
 }
 
@@ -152,7 +153,7 @@ fn a_request_is_sent_twice_and_given_up(rt: HostRuntime) -> Result<(), Fail> {
     let submitted = master.submit(address_of(POLLING)?, Request::Identify);
     assert!(rt; submitted.is_ok());
     for (row, call) in CALLS.iter().enumerate() {
-        hold(&rt, gives(&mut master, call, &request), "row", row);
+        hold_ok(&rt, gives(&mut master, call, &request), "row", row);
     }
     assert!(rt; master.is_idle() && master.sendings() == 0);
     Ok(())
@@ -243,28 +244,24 @@ fn event_of(command: u8, payload: Option<&[u8]>) -> Result<MasterEvent, Fail> {
     Ok(answered.ok_or("either a code or content")?)
 }
 
-/// Returns whether a master accepts nothing before it sends, and whether it accepts exactly the wanted reply after it sent.
-fn accepts(row: &Heard) -> Result<(bool, bool), Fail> {
+/// Whether a master accepts nothing before it sends, and exactly the wanted reply after it sent.
+fn accepts(row: &Heard) -> Result<bool, Fail> {
     let (address, command, data, first, second, want) = *row;
     let chars = heard(first, second).ok_or("characters")?;
     let mut master = with_request(address, request_of(command, data)?)?;
-    let early = master.hear(&chars) == MasterEvent::Nothing;
-    let sends = master.send().is_some();
-    let accepted = master.hear(&chars) == event_of(command, want)?;
-    Ok((
-        early && sends,
-        accepted && master.is_idle() == want.is_some(),
-    ))
+    same(&master.hear(&chars), &MasterEvent::Nothing)?;
+    let _request = master.send().ok_or("silence")?;
+    Ok(
+        same(&master.hear(&chars), &event_of(command, want)?)?
+            && same(&master.is_idle(), &want.is_some())?,
+    )
 }
 
 #[test]
-fn replies_are_accepted(rt: HostRuntime) -> Result<(), Fail> {
+fn replies_are_accepted(rt: HostRuntime) {
     for (number, row) in HEARD.iter().enumerate() {
-        let (before, after) = accepts(row)?;
-        hold(&rt, before, "the sending of row", number);
-        hold(&rt, after, "row", number);
+        hold_ok(&rt, accepts(row), "row", number);
     }
-    Ok(())
 }
 
 #[test]
@@ -312,7 +309,7 @@ fn gives_address(given: &Given) -> Result<bool, Fail> {
         Some((expanded_type, id)) => Some(Address::unique(expanded_type, id)?),
         None => None,
     };
-    Ok(unique_of(&reply) == want)
+    same(&unique_of(&reply), &want)
 }
 
 #[test]

@@ -3,7 +3,8 @@
 use hart_frame::Char;
 use hart_line::leading_item;
 use std::alloc::{AllocError, Global};
-use std::fmt::Display;
+use std::fmt;
+use std::fmt::{Debug, Display};
 use std::process::{Abort, Termination};
 use std::test::Fail;
 
@@ -25,10 +26,71 @@ pub fn hold_ok(rt: &(impl Abort + Eprint), holds: Result<bool, Fail>, word: &str
     hold(rt, holds, word, number);
 }
 
-/// Whether a value is displayed as this text.
+/// Like `hold`, unless `got` is `wanted`. The failure says both.
+pub fn hold_same<T: PartialEq + Debug>(
+    rt: &(impl Abort + Eprint),
+    got: &T,
+    wanted: &T,
+    word: &str,
+    number: usize,
+) {
+    hold_ok(rt, same(got, wanted), word, number);
+}
+
+/// Whether a check of `got` holds. If it does not, the error says what `got` is.
+pub fn told<T: Debug>(holds: bool, got: &T) -> Result<bool, Fail> {
+    if holds {
+        Ok(true)
+    } else {
+        Err(Fail::new(format_args!("got {got:?}")))
+    }
+}
+
+/// Whether `got` is `wanted`. If it is not, the error says both.
+pub fn same<T: PartialEq + Debug>(got: &T, wanted: &T) -> Result<bool, Fail> {
+    if *got == *wanted {
+        Ok(true)
+    } else {
+        Err(Fail::new(format_args!("got {got:?}, wanted {wanted:?}")))
+    }
+}
+
+/// Bytes, which are displayed in hex, or no bytes.
+#[derive(Drop)]
+struct Hex<'a>(Option<&'a [u8]>);
+
+impl Display for Hex<'_> {
+    fn fmt<W: fmt::Write>(&self, f: &mut fmt::Formatter<W>) -> fmt::Result {
+        let Some(bytes) = self.0 else {
+            return write!(f, "none");
+        };
+        write!(f, "'")?;
+        for byte in bytes {
+            write!(f, "{byte:02X}")?;
+        }
+        write!(f, "'")
+    }
+}
+
+/// Like `same`, for bytes.
+pub fn same_bytes(got: &[u8], wanted: &[u8]) -> Result<bool, Fail> {
+    same_if_any(Some(got), Some(wanted))
+}
+
+/// Like `same`, for bytes, if there are any.
+pub fn same_if_any(got: Option<&[u8]>, wanted: Option<&[u8]>) -> Result<bool, Fail> {
+    if got == wanted {
+        return Ok(true);
+    }
+    let got = Hex(got);
+    let wanted = Hex(wanted);
+    Err(Fail::new(format_args!("got {got}, wanted {wanted}")))
+}
+
+/// Whether a value is displayed as this text. If it is not, the error says both texts.
 pub fn has_text(alloc: Global, value: &impl Display, text: &str) -> Result<bool, Fail> {
     let written = format!(in alloc; "{value}")?;
-    Ok(written.as_str() == text)
+    same(&written.as_str(), &text)
 }
 
 /// Returns the character whose fault bits are the high byte of `both` and whose byte is the low byte of `both`. Returns `None` if the high

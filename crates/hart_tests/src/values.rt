@@ -1,4 +1,4 @@
-use crate::rows::{has_text, hold, hold_ok};
+use crate::rows::{has_text, hold_ok, hold_same, same};
 use hart_values::*;
 use std::test::Fail;
 
@@ -31,7 +31,7 @@ const POLLING: &[(u8, MasterId, bool, u8)] = &[
 fn holds_polling(row: &(u8, MasterId, bool, u8)) -> Result<bool, Fail> {
     let (byte, master, burst, number) = *row;
     let polling = Address::polling(number)?;
-    Ok(Address::read(&[byte]) == Some((master, burst, polling)))
+    same(&Address::read(&[byte]), &Some((master, burst, polling)))
 }
 
 #[test]
@@ -63,7 +63,8 @@ fn numbers_out_of_range_are_refused(rt: HostRuntime) {
         CommFaults::new(128).err(),
     ];
     for (row, fault) in faults.iter().enumerate() {
-        hold(&rt, fault.map(ValueFault::number) == Some(4), "row", row);
+        let number = fault.map(ValueFault::number);
+        hold_same(&rt, &number, &Some(4), "row", row);
     }
 }
 
@@ -133,7 +134,7 @@ const BAD_TEXTS: &[(&str, ValueFault)] = &[
 fn bad_texts_are_refused(rt: HostRuntime) {
     for (row, (text, want)) in BAD_TEXTS.iter().enumerate() {
         let packed = PackedText::<6>::from_text(text.as_bytes());
-        hold(&rt, packed.err() == Some(*want), "row", row);
+        hold_same(&rt, &packed.err(), &Some(*want), "row", row);
     }
 }
 
@@ -154,7 +155,7 @@ const DATES: &[([u8; 3], bool)] = &[
 fn dates_are_those_of_the_calendar(rt: HostRuntime) {
     for (row, (bytes, good)) in DATES.iter().enumerate() {
         let date = HartDate::from_bytes(*bytes);
-        hold(&rt, date.is_ok() == *good, "row", row);
+        hold_same(&rt, &date.is_ok(), good, "row", row);
     }
 }
 
@@ -229,7 +230,7 @@ const FAULTS: &[(ValueFault, u8, &str)] = &[
 #[test]
 fn faults_have_numbers_and_texts(rt: HostRuntime) {
     for (row, (fault, number, text)) in FAULTS.iter().enumerate() {
-        hold(&rt, fault.number() == *number, "the number of row", row);
+        hold_same(&rt, &fault.number(), number, "the number of row", row);
         hold_ok(&rt, has_text(rt.alloc(), fault, text), "row", row);
     }
 }

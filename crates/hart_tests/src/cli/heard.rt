@@ -4,7 +4,7 @@ use super::call::Call;
 use super::calls::{EMPTY, Given, NONE, READ, Row, Wanted, does, does_as, hold_rows};
 use super::fakes::After;
 use crate::device::worked::{HEARD, OWN, OwnRow, REPLY, REQUEST};
-use crate::rows::{hold_ok, text_of};
+use crate::rows::{hold_ok, same, text_of};
 use hart_cli::{Plain, explain_raw};
 use std::alloc::Global;
 use std::test::Fail;
@@ -230,7 +230,8 @@ fn is_said_of_raw_bytes(alloc: Global) -> Result<bool, Fail> {
     let mut reader = Plain::new(b"\xFF\xFF\x02\x80\x00\x00\x82".as_slice());
     let mut writer = Plain::new(Vec::new(alloc));
     explain_raw(alloc, &mut reader, &mut writer)?;
-    Ok(writer.into_inner().as_slice() == IDENTIFY_SAID.as_bytes())
+    let said = writer.into_inner();
+    same(&str::from_utf8(said.as_slice())?, &IDENTIFY_SAID)
 }
 
 #[test]

@@ -4,7 +4,7 @@ ghost use Rattle.std.specs.Prelude.{◌≡◌, IfOk};
 
 use super::call::Call;
 use super::streams::{WRITTEN, Written};
-use crate::rows::hold_ok;
+use crate::rows::{hold_ok, same};
 use hart_cli::{DONE, Failed, Plain, Sink, Source, program};
 use std::alloc::Global;
 use std::io;
@@ -15,23 +15,29 @@ use std::test::Fail;
 fn serves_by_name(alloc: Global, call: Call, input: &str, text: &str) -> Result<bool, Fail> {
     let mut output = Plain::new(Vec::new(alloc));
     let result = call.make(alloc, &mut Plain::new(input.as_bytes()), &mut output)?;
-    Ok(result.is_ok() && output.into_inner().as_slice() == text.as_bytes())
+    let output = output.into_inner();
+    Ok(result.is_ok() && same(&str::from_utf8(output.as_slice())?, &text)?)
 }
 
 /// Whether `program`, on readers and writers of the standard library, writes a text, and nothing to `errors`.
-fn serves_by_words(alloc: Global, words: &[String], input: &str, text: &str) -> bool {
+fn serves_by_words(alloc: Global, words: &[String], input: &str, text: &str) -> Result<bool, Fail> {
     let mut reader = Plain::new(input.as_bytes());
     let mut output = Plain::new(Vec::new(alloc));
     let mut errors = Plain::new(Vec::new(alloc));
     let status = program(alloc, words, &mut reader, &mut output, &mut errors);
-    let is_written = output.into_inner().as_slice() == text.as_bytes();
-    status == DONE && is_written && errors.into_inner().is_empty()
+    let output = output.into_inner();
+    let errors = errors.into_inner();
+    Ok(
+        same(&status, &DONE)?
+            && same(&str::from_utf8(output.as_slice())?, &text)?
+            && same(&str::from_utf8(errors.as_slice())?, &"")?,
+    )
 }
 
 /// Whether a call on readers and writers of the standard library writes its text, by its name and by its words.
 fn serves(alloc: Global, (call, input, text): &Written) -> Result<bool, Fail> {
     let words = call.words(alloc)?;
-    let is_run = serves_by_words(alloc, words.as_slice(), input, text);
+    let is_run = serves_by_words(alloc, words.as_slice(), input, text)?;
     Ok(is_run && serves_by_name(alloc, *call, input, text)?)
 }
 
@@ -42,7 +48,8 @@ fn fills_a_slice(alloc: Global, (call, input, text): &Written) -> Result<bool, F
     let mut output = Plain::new(&mut room[..]);
     let result = call.make(alloc, &mut Plain::new(input.as_bytes()), &mut output)?;
     let fault = result.err().ok_or("a fault")?;
-    Ok(fault.number() == 2 && text.as_bytes().starts_with(room.as_slice()))
+    let begun = text.get(..room.len()).ok_or("too short a text")?;
+    Ok(same(&fault.number(), &2)? && same(&str::from_utf8(room.as_slice())?, &begun)?)
 }
 
 #[test]
@@ -89,22 +96,27 @@ impl Write for Counted {
 }
 
 /// Whether a read into a buffer returns `want`, and calls the inner reader once.
-fn reads_once(buffer: &mut [u8], fails: bool, want: Result<usize, Failed>) -> bool {
+fn reads_once(buffer: &mut [u8], fails: bool, want: Result<usize, Failed>) -> Result<bool, Fail> {
     let mut reader = Plain::new(Counted { calls: 0, fails });
-    reader.read(buffer) == want && reader.into_inner().calls == 1
+    let read = reader.read(buffer);
+    Ok(same(&read, &want)? && same(&reader.into_inner().calls, &1)?)
 }
 
 /// Whether a write of bytes returns `want`, and calls the inner writer once.
-fn writes_once(bytes: &[u8], fails: bool, want: Result<usize, Failed>) -> bool {
+fn writes_once(bytes: &[u8], fails: bool, want: Result<usize, Failed>) -> Result<bool, Fail> {
     let mut writer = Plain::new(Counted { calls: 0, fails });
-    writer.write(bytes) == want && writer.into_inner().calls == 1
+    let written = writer.write(bytes);
+    Ok(same(&written, &want)? && same(&writer.into_inner().calls, &1)?)
 }
 
 /// Whether a read and a write of `size` bytes make one inner call each. They succeed, or fail if the inner call is interrupted.
 fn makes_one_call(alloc: Global, size: usize, fails: bool) -> Result<bool, Fail> {
     let want = if fails { Err(Failed) } else { Ok(size) };
     let mut bytes = vec![in alloc; 0; size]?;
-    Ok(reads_once(bytes.as_mut_slice(), fails, want) && writes_once(bytes.as_slice(), fails, want))
+    Ok(
+        reads_once(bytes.as_mut_slice(), fails, want)?
+            && writes_once(bytes.as_slice(), fails, want)?,
+    )
 }
 
 #[test]

@@ -1,6 +1,7 @@
 //! The names of fields, as worked messages show them.
-use crate::rows::hold;
+use crate::rows::{hold_ok, same, same_bytes};
 use hart_commands::{FieldRow, reply_rows, request_rows};
+use std::test::Fail;
 
 /// Fields of data, each with its name and its bytes.
 type Named = &'static [(&'static str, &'static [u8])];
@@ -83,24 +84,24 @@ const FIELDS: &[Data] = &[
 ];
 
 /// Whether rows split data into these fields.
-fn fall_into(rows: &[FieldRow], data: &[u8], fields: Named) -> bool {
+fn fall_into(rows: &[FieldRow], data: &[u8], fields: Named) -> Result<bool, Fail> {
     let mut rest = data;
     let mut found = 0;
     for row in rows {
         let Some((bytes, after)) = row.split(rest) else {
             break;
         };
-        if fields.get(found) != Some(&(row.name, bytes)) {
-            return false;
-        }
+        let (name, wanted) = *fields.get(found).ok_or("more fields")?;
+        same(&row.name, &name)?;
+        same_bytes(bytes, wanted)?;
         rest = after;
         found += 1;
     }
-    found == fields.len()
+    same(&found, &fields.len())
 }
 
 /// Whether the data of a row have its fields.
-fn have_fields(row: &Data) -> bool {
+fn have_fields(row: &Data) -> Result<bool, Fail> {
     let (command, replies, data, fields) = *row;
     if replies {
         fall_into(reply_rows(command), data, fields)
@@ -112,6 +113,6 @@ fn have_fields(row: &Data) -> bool {
 #[test]
 fn fields_have_their_names(rt: HostRuntime) {
     for (number, row) in FIELDS.iter().enumerate() {
-        hold(&rt, have_fields(row), "row", number);
+        hold_ok(&rt, have_fields(row), "row", number);
     }
 }

@@ -131,10 +131,13 @@ fn answers(row: &Row, protected: bool) -> Result<bool, Fail> {
     let mut device = device_of(values)?;
     device.protect(protected);
     let replied = match device.receive(&frame, &bench::process()) {
-        Some(reply) => { Some(reply.payload()) == payload && reply.address() == frame.address() }
-        None => payload.is_none(),
+        Some(reply) => {
+            same_if_any(Some(reply.payload()), payload)?
+                && same(&reply.address(), &frame.address())?
+        }
+        None => same_if_any(None, payload)?,
     };
-    Ok(replied && device.counter() == 0)
+    Ok(replied && same(&device.counter(), &0)?)
 }
 
 #[test]

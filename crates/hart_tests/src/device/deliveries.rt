@@ -76,7 +76,10 @@ fn leads_to(delivery: &[Char], reply: &[u8], held: Held) -> Result<bool, Fail> {
     let (assembly, ending) = held;
     let written = image_with(IMAGE_2, ASSEMBLY, &assembly);
     let image = image_with(written, ENDING, &ending);
-    Ok(message.as_slice() == reply && device.image().as_slice() == image.as_slice())
+    Ok(
+        same_bytes(message.as_slice(), reply)?
+            && same_bytes(device.image().as_slice(), image.as_slice())?,
+    )
 }
 
 /// Returns the message of a communication-fault reply of the bench device, with this first address byte, this command and this

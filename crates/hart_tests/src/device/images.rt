@@ -82,9 +82,12 @@ const BAD_LENGTHS: &[(&[u8], DeviceFault)] = &[
 ];
 
 /// Whether images of both versions are accepted as they are, and refused with the fault of a row once they hold the row's bytes.
-fn is_refused(row: &BadImage) -> bool {
+fn is_refused(row: &BadImage) -> Result<bool, Fail> {
     let (bytes, first, second, fault) = *row;
-    is_refused_with(IMAGE_1, first, bytes, fault) && is_refused_with(IMAGE_2, second, bytes, fault)
+    Ok(
+        is_refused_with(IMAGE_1, first, bytes, fault)?
+            && is_refused_with(IMAGE_2, second, bytes, fault)?,
+    )
 }
 
 /// Whether an image is accepted as it is, and refused with this fault once it holds these bytes from a place on.
@@ -93,18 +96,21 @@ fn is_refused_with<const N: usize>(
     place: usize,
     bytes: &[u8],
     fault: DeviceFault,
-) -> bool {
-    image_fault(&image).is_none() && image_fault(&image_with(image, place, bytes)) == Some(fault)
+) -> Result<bool, Fail> {
+    Ok(
+        same(&image_fault(&image), &None)?
+            && same(&image_fault(&image_with(image, place, bytes)), &Some(fault))?,
+    )
 }
 
 #[test]
 fn bad_images_are_refused(rt: HostRuntime) {
     for (number, row) in BAD_IMAGES.iter().enumerate() {
-        hold(&rt, is_refused(row), "row", number);
+        hold_ok(&rt, is_refused(row), "row", number);
     }
     for (number, (bytes, fault)) in BAD_LENGTHS.iter().enumerate() {
-        let is_refused = image_fault(bytes) == Some(*fault);
-        hold(&rt, is_refused, "length row", number);
+        let got = image_fault(bytes);
+        hold_same(&rt, &got, &Some(*fault), "length row", number);
     }
 }
 
@@ -140,7 +146,8 @@ fn goes_on<S: RegisterStore + Drop>(row: &GoesOn) -> Result<bool, Fail> {
     let write = request(19, &[0x01, 0x23, 0x45])?;
     let reply = device.receive(&write, &bench::process()).ok_or("silence")?;
     let stopped = device.image();
-    let ends = reply.payload() == *payload && stopped.as_slice().ends_with(after);
+    let ending = stopped.as_slice().get(ENDING..).ok_or("too short")?;
+    let ends = same_bytes(reply.payload(), payload)? && same_bytes(ending, after)?;
     Ok(
         ends && has_image::<S>(&image, &image)?
             && has_image::<S>(stopped.as_slice(), stopped.as_slice())?,
@@ -161,12 +168,12 @@ fn image_after<S: RegisterStore + Drop>(image: &[u8]) -> Result<Image, DeviceFau
 }
 
 /// Whether a device that starts from `image` has the image `other`.
-fn has_image<S: RegisterStore + Drop>(image: &[u8], other: &[u8]) -> Result<bool, DeviceFault> {
-    Ok(image_after::<S>(image)?.as_slice() == other)
+fn has_image<S: RegisterStore + Drop>(image: &[u8], other: &[u8]) -> Result<bool, Fail> {
+    same_bytes(image_after::<S>(image)?.as_slice(), other)
 }
 
 /// Whether, for each kind of store, a device that starts from `image` has the image `other`.
-fn have_image(image: &[u8], other: &[u8]) -> Result<bool, DeviceFault> {
+fn have_image(image: &[u8], other: &[u8]) -> Result<bool, Fail> {
     Ok(has_image::<FieldRegisters>(image, other)? && has_image::<ImageRegisters>(image, other)?)
 }
 
@@ -208,14 +215,14 @@ fn long_tag_of(group: u8) -> [u8; 32] {
 /// Whether devices that start from an image with the long tag of a group keep that image.
 fn keep_long_tag(group: u8) -> Result<bool, Fail> {
     let image = image_with(IMAGE_2, LONG_TAG, &long_tag_of(group));
-    Ok(have_image(&image, &image)?)
+    have_image(&image, &image)
 }
 
 /// Whether devices that start from the version 1 image of a row have the version 2 image that results.
 fn migrate(row: &Migrated) -> Result<bool, Fail> {
     let (place, bytes, text) = *row;
     let image = image_with(IMAGE_1, place, bytes);
-    Ok(have_image(&image, &migrated(&image, text))?)
+    have_image(&image, &migrated(&image, text))
 }
 
 #[test]

@@ -82,7 +82,10 @@ fn status_bytes(
 }
 
 /// Returns a bench device that was restarted twice, and has since heard requests that it ignores, and a garbled request.
-fn restarted_device(rt: &impl Abort, protected: bool) -> Result<Device<FieldRegisters>, Fail> {
+fn restarted_device(
+    rt: &(impl Abort + Eprint),
+    protected: bool,
+) -> Result<Device<FieldRegisters>, Fail> {
     let mut device = bench_device();
     device.protect(protected);
     let image = device.image();
@@ -91,7 +94,7 @@ fn restarted_device(rt: &impl Abort, protected: bool) -> Result<Device<FieldRegi
     assert!(rt; device.image() == image);
     for (row, (asked, command, data)) in SILENT.iter().enumerate() {
         let silence = status_bytes(&mut device, MasterId::Primary, *asked, *command, data)?;
-        hold(rt, silence.is_none(), "silent row", row);
+        hold_same(rt, &silence, &None, "silent row", row);
     }
     assert!(rt; replies_with_faults(&mut device)?);
     Ok(device)
@@ -117,9 +120,9 @@ fn is_shown_once(
     let second = status_bytes(device, MasterId::Primary, *asked, command, data)?;
     let other = status_bytes(device, MasterId::Secondary, Asked::Own, 7, &[])?;
     Ok(
-        first == Some([code, status])
-            && second == Some([code, status & 0x40])
-            && other == Some([0x00, status]),
+        same(&first, &Some([code, status]))?
+            && same(&second, &Some([code, status & 0x40]))?
+            && same(&other, &Some([0x00, status]))?,
     )
 }
 
@@ -135,7 +138,7 @@ fn kept(device: &Device<FieldRegisters>) -> Result<Device<FieldRegisters>, Fail>
 
 /// Whether a device shows a cold start once after a restart, for each command of a row, and keeps its protection. A device that starts from
 /// the image and the cold start bits of the first device must do the same.
-fn is_shown_after_restart(rt: &impl Abort, row: &Row) -> Result<bool, Fail> {
+fn is_shown_after_restart(rt: &(impl Abort + Eprint), row: &Row) -> Result<bool, Fail> {
     let (protected, _, [first, last], ..) = *row;
     let mut shown = true;
     for command in first..=last {

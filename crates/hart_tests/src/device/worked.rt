@@ -163,7 +163,7 @@ fn replies_so(alloc: Global, heard: &str, reply: &str, counter: u16) -> Result<b
     if let Some(answer) = device.hear(delivery.as_slice(), &bench::process()) {
         encode(&answer, device.response_preambles(), &mut message)?;
     }
-    Ok(message.as_slice() == want.as_slice() && device.counter() == counter)
+    Ok(same_bytes(message.as_slice(), want.as_slice())? && same(&device.counter(), &counter)?)
 }
 
 /// Like `replies_so`, for a request to the device's own address.

@@ -83,9 +83,13 @@ const HEADERS: &[Row] = &[
 ];
 
 /// Whether a header has this kind, these address bytes and this command.
-fn says(header: &Header, (kind, address, command): &Said) -> bool {
+fn says(header: &Header, (kind, address, command): &Said) -> Result<bool, Fail> {
     let bytes = header.address().bytes(header.master(), false);
-    header.kind() == *kind && bytes.as_slice() == *address && header.command() == *command
+    Ok(
+        same(&header.kind(), kind)?
+            && same_bytes(bytes.as_slice(), address)?
+            && same(&header.command(), command)?,
+    )
 }
 
 /// Whether the first sighting of a row is a miss with the header of the row.
@@ -96,14 +100,13 @@ fn has_its_header((bytes, damaged, want): &Row) -> Result<bool, Fail> {
         After::End
     };
     let next = next_of(bytes, after, 0).ok_or("a sighting")?;
-    Ok(match next.sighting {
+    match next.sighting {
         Some(Sighting::Missed { header, .. }) => match (header, want) {
             (Some(header), Some(want)) => says(&header, want),
-            (None, None) => true,
-            _ => false,
+            (header, want) => same(&header.is_some(), &want.is_some()),
         },
-        _ => false,
-    })
+        _ => Err("no miss".into()),
+    }
 }
 
 #[test]

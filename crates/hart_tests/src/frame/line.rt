@@ -1,5 +1,6 @@
 //! Tests of the frames that are found in what is heard on the line, and of the places where none stands.
 use super::*;
+use crate::rows::told;
 
 /// Fault bits, and whether a character can have them.
 const FAULT_BITS: &[(u8, bool)] = &[
@@ -17,21 +18,21 @@ const FAULT_BITS: &[(u8, bool)] = &[
     (0xFF, false),
 ];
 
-/// Whether a character has the byte A5 and these fault bits, and is faultless if there are none.
-fn has_its_parts(character: Char, faults: u8) -> bool {
-    character.byte() == 0xA5
-        && character.faults() == faults
-        && character.is_faultless() == (faults == 0)
+/// Returns the byte and the fault bits of a character, and whether it is faultless.
+fn parts_of(character: Char) -> (u8, u8, bool) {
+    (
+        character.byte(),
+        character.faults(),
+        character.is_faultless(),
+    )
 }
 
 #[test]
 fn fault_bits_are_four(rt: HostRuntime) {
     for (faults, known) in FAULT_BITS {
-        let holds = match Char::new(0xA5, *faults) {
-            Some(character) => *known && has_its_parts(character, *faults),
-            None => !*known,
-        };
-        hold(&rt, holds, "fault bits", usize::from(*faults));
+        let parts = Char::new(0xA5, *faults).map(parts_of);
+        let want = (*known).then_some((0xA5, *faults, *faults == 0));
+        hold_same(&rt, &parts, &want, "fault bits", usize::from(*faults));
     }
 }
 
@@ -106,10 +107,8 @@ fn heard(row: &[u16]) -> Option<[Char; 300]> {
 fn is_found((bytes, count, from, want): &Heard) -> Result<bool, Fail> {
     let chars = heard(bytes).ok_or("characters")?;
     let chars = chars.get(..*count).ok_or("at most 300 characters")?;
-    Ok(match first_frame(chars, *from) {
-        Some(found) => *want == Some((found.start, found.stop)),
-        None => want.is_none(),
-    })
+    let found = first_frame(chars, *from).map(|found| (found.start, found.stop));
+    same(&found, want)
 }
 
 #[test]
@@ -139,21 +138,23 @@ const DELIVERIES: &[Delivery] = &[
 ];
 
 /// Whether these are the frames of a delivery.
-fn are_frames_of(delivery: &[Char], want: &Frames) -> bool {
-    match (lone_frame(delivery), want) {
+fn are_frames_of(delivery: &[Char], want: &Frames) -> Result<bool, Fail> {
+    let got = lone_frame(delivery);
+    let holds = match (&got, want) {
         (LoneFrame::NoFrame, Frames::NoFrame) | (LoneFrame::Several, Frames::Several) => true,
         (LoneFrame::Alone(found), Frames::Alone(start, stop)) => {
             found.start == *start && found.stop == *stop
         }
         _ => false,
-    }
+    };
+    told(holds, &got)
 }
 
 /// Whether a delivery has the frames that its row says.
 fn has_its_frames((bytes, want): &Delivery) -> Result<bool, Fail> {
     let chars = heard(bytes).ok_or("characters")?;
     let delivery = chars.get(..bytes.len()).ok_or("at most 300 characters")?;
-    Ok(are_frames_of(delivery, want))
+    are_frames_of(delivery, want)
 }
 
 #[test]
@@ -365,7 +366,7 @@ const MISSES: &[Missed] = &[
 fn has_its_reason((bytes, count, start, want): &Missed) -> Result<bool, Fail> {
     let chars = heard(bytes).ok_or("characters")?;
     let chars = chars.get(..*count).ok_or("at most 300 characters")?;
-    Ok(why_none(chars, *start) == *want)
+    same(&why_none(chars, *start), want)
 }
 
 #[test]

@@ -1,11 +1,11 @@
 //! Compares the sightings that are decided while characters are heard with the messages and misses of the whole list.
-use crate::rows::{hold, hold_ok};
+use crate::rows::{hold_ok, same};
 use hart_frame::{After, Char, Miss, NextSighting, Sighting, first_frame, next_sighting, why_none};
 use std::alloc::Global;
 use std::test::Fail;
 
 /// A message, given by its start and its stop, or a miss, given by its place.
-#[derive(Clone, Copy, PartialEq, Eq)]
+#[derive(Clone, Copy, Debug, PartialEq, Eq)]
 enum Seen {
     Message(u64, u64),
     Missed(usize, Miss),
@@ -290,7 +290,8 @@ fn sees(alloc: Global, row: &Row) -> Result<bool, Fail> {
         chars.push(Char::new((both % 256) as u8, (both / 256) as u8).ok_or("a character")?)?;
     }
     let seen = heard(alloc, &chars, !*more, 1)?;
-    Ok(seen.as_slice() == *want && heard(alloc, &chars, !*more, 7)?.as_slice() == *want)
+    let at_once = heard(alloc, &chars, !*more, 7)?;
+    Ok(same(&seen.as_slice(), want)? && same(&at_once.as_slice(), want)?)
 }
 
 #[test]
@@ -333,11 +334,6 @@ fn push_some(chars: &mut Vec<Char>, number: u64) -> Result<(), Fail> {
     Ok(())
 }
 
-/// Whether `all` begins with `first`.
-fn begins(all: &[Seen], first: &[Seen]) -> bool {
-    all.get(..first.len()) == Some(first)
-}
-
 /// Makes characters from a number. Returns whether their sightings are those of the whole list, both when they are heard at once and in
 /// pieces. The sightings that are decided before the end must be the first sightings of the whole list.
 fn is_whole(alloc: Global, number: u64) -> Result<bool, Fail> {
@@ -353,11 +349,10 @@ fn is_whole(alloc: Global, number: u64) -> Result<bool, Fail> {
     let sizes: [usize; 4] = [1, 3, 8, 1000];
     for size in sizes {
         let seen = heard(alloc, &chars, true, size)?;
-        if seen.as_slice() != whole.as_slice() {
-            return Ok(false);
-        }
+        same(&seen.as_slice(), &whole.as_slice())?;
     }
-    Ok(begins(&whole, &early) && early.as_slice() == early_at_once.as_slice())
+    let begun = whole.get(..early.len()).ok_or("more than the whole list")?;
+    Ok(same(&early.as_slice(), &begun)? && same(&early_at_once.as_slice(), &early.as_slice())?)
 }
 
 #[test]

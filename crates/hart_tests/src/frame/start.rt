@@ -1,5 +1,5 @@
 //! Tests of the first place at which a body may start.
-use crate::rows::{hold, write_chars};
+use crate::rows::{hold_same, write_chars};
 use hart_frame::{Char, first_start};
 
 /// Characters, and the first place at which a body may start. The high byte of a character is its fault bits.
@@ -26,6 +26,6 @@ fn start_in(heard: &[u16]) -> Option<Option<usize>> {
 #[test]
 fn the_first_start_is_found(rt: HostRuntime) {
     for (row, (heard, place)) in STARTS.iter().enumerate() {
-        hold(&rt, start_in(heard) == Some(*place), "row", row);
+        hold_same(&rt, &start_in(heard), &Some(*place), "row", row);
     }
 }

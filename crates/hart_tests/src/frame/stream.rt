@@ -253,23 +253,26 @@ fn push_chars(scanner: &mut Scanner, chars: &[Char], size: usize) -> Option<usiz
 }
 
 /// Whether the last frame of a list stops at `stop`, if the list is pushed by chunks of each size in `RUNS`.
-fn stops_by_chunks_at(chars: &[Char], stop: usize, chunks: Chunks) -> bool {
-    RUNS.iter()
-        .all(|size| by_chunks(chars, *size, chunks) == Some(stop))
+fn stops_by_chunks_at(chars: &[Char], stop: usize, chunks: Chunks) -> Result<bool, Fail> {
+    let mut stops = true;
+    for size in RUNS {
+        stops &= same(&by_chunks(chars, *size, chunks), &Some(stop))?;
+    }
+    Ok(stops)
 }
 
 /// Whether the last frame of a list stops at `stop`, if the list is pushed character by character and by chunks of bytes.
-fn stops_at(chars: &[Char], stop: usize) -> bool {
-    by_character(chars) == Some(stop) && stops_by_chunks_at(chars, stop, Chunks::Bytes)
+fn stops_at(chars: &[Char], stop: usize) -> Result<bool, Fail> {
+    Ok(same(&by_character(chars), &Some(stop))? && stops_by_chunks_at(chars, stop, Chunks::Bytes)?)
 }
 
 #[test]
 fn a_scanner_gives_the_frames(rt: HostRuntime) -> Result<(), Fail> {
     for (row, (parts, want)) in HEARD.iter().enumerate() {
         let chars = heard(rt.alloc(), parts)?;
-        hold(&rt, stops_at(&chars, *want), "row", row);
+        hold_ok(&rt, stops_at(&chars, *want), "row", row);
         let by_chars = stops_by_chunks_at(&chars, *want, Chunks::Chars);
-        hold(&rt, by_chars, "the chunks of row", row);
+        hold_ok(&rt, by_chars, "the chunks of row", row);
     }
     Ok(())
 }
@@ -306,18 +309,21 @@ fn a_view_waits_for_the_false_message_around_it(rt: HostRuntime) -> Result<(), F
     Ok(())
 }
 
-/// Returns where the first frame stops, if it is the wanted frame and the characters end with it. Returns 0 if no frame is wanted and none
-/// is found.
-fn noise_stop(chars: &[Char], want: &Option<(usize, Read)>) -> Option<usize> {
+/// Returns where the first frame stops, or 0 if no frame is wanted and none is found. Fails unless the first frame is the wanted frame and
+/// the characters end with it.
+fn noise_stop(chars: &[Char], want: &Option<(usize, Read)>) -> Result<usize, Fail> {
     match (first_frame(chars, 0), want) {
-        (None, None) => Some(0),
+        (None, None) => Ok(0),
         (Some(found), Some((start, read))) => {
-            let same = found.start == *start
-                && found.stop == chars.len()
-                && is_read_as(&found.frame, read);
-            same.then_some(found.stop)
+            let holds = same(&(found.start, found.stop), &(*start, chars.len()))?
+                && is_read_as(&found.frame, read)?;
+            Ok(holds.then_some(found.stop).ok_or("another frame")?)
         }
-        _ => None,
+        (Some(found), None) => {
+            let place = found.start;
+            Err(Fail::new(format_args!("got a frame at {place}")))
+        }
+        (None, Some(_)) => Err("no frame".into()),
     }
 }
 
@@ -331,11 +337,9 @@ fn at_once(chars: &[Char], bytes: &[u8]) -> Option<usize> {
 }
 
 /// Whether the wanted frame, and no other frame, is found, however the characters or their bytes are pushed.
-fn is_passed(chars: &[Char], bytes: &[u8], want: &Option<(usize, Read)>) -> bool {
-    match noise_stop(chars, want) {
-        Some(stop) => stops_at(chars, stop) && at_once(chars, bytes) == Some(stop),
-        None => false,
-    }
+fn is_passed(chars: &[Char], bytes: &[u8], want: &Option<(usize, Read)>) -> Result<bool, Fail> {
+    let stop = noise_stop(chars, want)?;
+    Ok(stops_at(chars, stop)? && same(&at_once(chars, bytes), &Some(stop))?)
 }
 
 #[test]
@@ -343,7 +347,7 @@ fn noise_is_passed(rt: HostRuntime) -> Result<(), Fail> {
     for (row, (parts, want)) in NOISE.iter().enumerate() {
         let chars = heard(rt.alloc(), parts)?;
         let bytes = bytes_of(rt.alloc(), &chars)?;
-        hold(&rt, is_passed(&chars, &bytes, want), "row", row);
+        hold_ok(&rt, is_passed(&chars, &bytes, want), "row", row);
     }
     Ok(())
 }

@@ -165,8 +165,8 @@ fn is_carried_out(alloc: Global, growing: &Growing, times: usize) -> Result<bool
     let text = text_of(alloc, growing.prefix, growing.part, times, growing.suffix)?;
     let (outcomes, spoken) = lens_of(alloc, text.as_str())?;
     Ok(
-        outcomes == times.saturating_mul(growing.outcomes)
-            && spoken == times.saturating_mul(growing.spoken),
+        same(&outcomes, &times.saturating_mul(growing.outcomes))?
+            && same(&spoken, &times.saturating_mul(growing.spoken))?,
     )
 }
 

@@ -2,6 +2,7 @@
 use super::carried::{carried_out, new_device};
 use super::scripts::*;
 use super::*;
+use crate::rows::same_bytes;
 use hart_commands::{Register, Reply};
 use hart_device::{Device, FieldRegisters, Image, ImageRegisters, RegisterStore, bench};
 use hart_master::MasterFault;
@@ -330,24 +331,40 @@ fn outcomes_of(alloc: Global, fates: &[Fate]) -> Result<Vec<Outcome>, Fail> {
 }
 
 /// Whether a report has these outcomes, and the number of spoken frames and the counter of a row.
-fn is_led_to<S: RegisterStore>(report: &Report<S>, outcomes: &[Outcome], row: &Row) -> bool {
-    report.outcomes.as_slice() == outcomes
-        && report.spoken.as_slice().len() == row.spoken
-        && report.device.counter() == row.counter
+fn is_led_to<S: RegisterStore>(
+    report: &Report<S>,
+    outcomes: &[Outcome],
+    row: &Row,
+) -> Result<bool, Fail> {
+    Ok(
+        same(&report.outcomes.as_slice(), &outcomes)?
+            && same(&report.spoken.as_slice().len(), &row.spoken)?
+            && same(&report.device.counter(), &row.counter)?,
+    )
 }
 
 /// Whether registers hold what a row says.
-fn are_held(registers: &FieldRegisters, row: &Row) -> bool {
-    registers.get(Register::Polling) == [row.polling].as_slice()
-        && registers.get(Register::Mode) == [1].as_slice()
-        && registers.get(Register::Assembly) == row.assembly.as_slice()
+fn are_held(registers: &FieldRegisters, row: &Row) -> Result<bool, Fail> {
+    Ok(
+        same_bytes(registers.get(Register::Polling), &[row.polling])?
+            && same_bytes(registers.get(Register::Mode), &[1])?
+            && same_bytes(registers.get(Register::Assembly), &row.assembly)?,
+    )
 }
 
 /// Whether two devices with different kinds of store did the same.
-fn are_alike(report: &Report<FieldRegisters>, other: &Report<ImageRegisters>) -> bool {
-    other.outcomes.as_slice() == report.outcomes.as_slice()
-        && other.spoken.as_slice() == report.spoken.as_slice()
-        && other.device.image() == report.device.image()
+fn are_alike(
+    report: &Report<FieldRegisters>,
+    other: &Report<ImageRegisters>,
+) -> Result<bool, Fail> {
+    Ok(
+        same(&other.outcomes.as_slice(), &report.outcomes.as_slice())?
+            && same(&other.spoken.as_slice(), &report.spoken.as_slice())?
+            && same_bytes(
+                other.device.image().as_slice(),
+                report.device.image().as_slice(),
+            )?,
+    )
 }
 
 /// Whether a row's script leads to what the row says, with a store of each kind.
@@ -356,9 +373,9 @@ fn is_as_said(alloc: Global, row: &Row) -> Result<bool, Fail> {
     let report = report_of(alloc, row)?;
     let other = report_of(alloc, row)?;
     Ok(
-        is_led_to(&report, outcomes.as_slice(), row)
-            && are_held(report.device.registers(), row)
-            && are_alike(&report, &other),
+        is_led_to(&report, outcomes.as_slice(), row)?
+            && are_held(report.device.registers(), row)?
+            && are_alike(&report, &other)?,
     )
 }
 

@@ -47,7 +47,7 @@ fn stops(alloc: Global, row: &Row) -> Result<bool, Fail> {
     let want = LineFault::Undetected { event, leg };
     let by_fields = fault_of::<FieldRegisters>(alloc, script)?;
     let by_image = fault_of::<ImageRegisters>(alloc, script)?;
-    Ok(by_fields == want && by_image == want)
+    Ok(same(&by_fields, &want)? && same(&by_image, &want)?)
 }
 
 #[test]
