@@ -193,27 +193,81 @@ const WRITTEN: &[u8] = &[
     0x23, 0x45, 0x7F,
 ];
 
-/// Address bytes, a command and its data, what is heard in two parts, and the payload of the reply that is accepted.
-type Heard<'a> = (&'a [u8], u8, &'a [u8], &'a [u8], &'a [u8], Option<&'a [u8]>);
+/// The address bytes, the command and the data of a request, what is heard in two parts, and the payload of the reply that is accepted.
+struct Hearing<'a> {
+    address: &'a [u8],
+    command: u8,
+    data: &'a [u8],
+    first: &'a [u8],
+    second: &'a [u8],
+    accepted: Option<&'a [u8]>,
+}
 
-const HEARD: &[Heard] = &[
-    (POLLING, 0, &[], TO_SECONDARY, &[], None),
-    (POLLING, 0, &[], TO_PRIMARY, TO_PRIMARY, None),
-    (POLLING, 0, &[], TO_PRIMARY, TO_SECONDARY, None),
-    (POLLING, 0, &[], WRITTEN, &[], None),
-    (POLLING, 0, &[], &[], &[], None),
-    (POLLING, 0, &[], &[0xFF, 0x06], TO_PRIMARY, Some(IDENTITY)),
-    (DEVICE, 19, &[1, 2, 3], FAULTY, &[], None),
-    (DEVICE, 19, &[1, 2, 3], BUSY, &[], Some(&[0x20, 0x00])),
-    (
-        DEVICE,
-        19,
-        &[1, 2, 3],
-        WRITTEN,
-        &[],
-        Some(&[0x00, 0x40, 0x01, 0x23, 0x45]),
-    ),
-    (DEVICE, 16, &[], WRITTEN, &[], None),
+/// A request to a polling address, after which nothing is heard. The rows say in what they differ.
+const TO_POLLING: Hearing = Hearing {
+    address: POLLING,
+    command: 0,
+    data: &[],
+    first: &[],
+    second: &[],
+    accepted: None,
+};
+
+const HEARD: &[Hearing] = &[
+    Hearing {
+        first: TO_SECONDARY,
+        ..TO_POLLING
+    },
+    Hearing {
+        first: TO_PRIMARY,
+        second: TO_PRIMARY,
+        ..TO_POLLING
+    },
+    Hearing {
+        first: TO_PRIMARY,
+        second: TO_SECONDARY,
+        ..TO_POLLING
+    },
+    Hearing {
+        first: WRITTEN,
+        ..TO_POLLING
+    },
+    TO_POLLING,
+    Hearing {
+        first: &[0xFF, 0x06],
+        second: TO_PRIMARY,
+        accepted: Some(IDENTITY),
+        ..TO_POLLING
+    },
+    Hearing {
+        address: DEVICE,
+        command: 19,
+        data: &[1, 2, 3],
+        first: FAULTY,
+        ..TO_POLLING
+    },
+    Hearing {
+        address: DEVICE,
+        command: 19,
+        data: &[1, 2, 3],
+        first: BUSY,
+        accepted: Some(&[0x20, 0x00]),
+        ..TO_POLLING
+    },
+    Hearing {
+        address: DEVICE,
+        command: 19,
+        data: &[1, 2, 3],
+        first: WRITTEN,
+        accepted: Some(&[0x00, 0x40, 0x01, 0x23, 0x45]),
+        ..TO_POLLING
+    },
+    Hearing {
+        address: DEVICE,
+        command: 16,
+        first: WRITTEN,
+        ..TO_POLLING
+    },
 ];
 
 /// Returns the characters of both parts that are heard, followed by zeros, 80 in all.
@@ -245,15 +299,14 @@ fn event_of(command: u8, payload: Option<&[u8]>) -> Result<MasterEvent, Fail> {
 }
 
 /// Whether a master accepts nothing before it sends, and exactly the wanted reply after it sent.
-fn accepts(row: &Heard) -> Result<bool, Fail> {
-    let (address, command, data, first, second, want) = *row;
-    let chars = heard(first, second).ok_or("characters")?;
-    let mut master = with_request(address, request_of(command, data)?)?;
+fn accepts(row: &Hearing) -> Result<bool, Fail> {
+    let chars = heard(row.first, row.second).ok_or("characters")?;
+    let mut master = with_request(row.address, request_of(row.command, row.data)?)?;
     same(&master.hear(&chars), &MasterEvent::Nothing)?;
     let _request = master.send().ok_or("silence")?;
     Ok(
-        same(&master.hear(&chars), &event_of(command, want)?)?
-            && same(&master.is_idle(), &want.is_some())?,
+        same(&master.hear(&chars), &event_of(row.command, row.accepted)?)?
+            && same(&master.is_idle(), &row.accepted.is_some())?,
     )
 }
 

@@ -6,76 +6,161 @@ use crate::rows::{hold_ok, text_of};
 use std::alloc::Global;
 use std::test::Fail;
 
-/// WHO, ADDRESS, COMMAND, DATA and a number of preamble bytes; then the message, and the fault.
-type Row<'a> = (&'a str, &'a str, &'a str, &'a str, u8, &'a str, Fault<'a>);
+/// The words of a request for the identity at polling address 0. The rows say in what they differ.
+const IDENTIFY: Words = Words {
+    who: "P",
+    address: "@0",
+    command: "0",
+    data: "",
+    preambles: 5,
+};
+
+/// Words of a message to send, and the message and the fault that are written for them.
+struct Row<'a> {
+    words: Words<'a>,
+    text: &'a str,
+    fault: Fault<'a>,
+}
 
 const ROWS: &[Row] = &[
-    (
-        "P",
-        "@0",
-        "0",
-        "",
-        5,
-        "FF FF FF FF FF 02 80 00 00 82\n",
-        NONE,
-    ),
-    (
-        "S",
-        "@07",
-        "000",
-        "",
-        7,
-        "FF FF FF FF FF FF FF 02 07 00 00 05\n",
-        NONE,
-    ),
-    (
-        "S",
-        "37420a1b2c",
-        "019",
-        "0a0B0c",
-        5,
-        "FF FF FF FF FF 82 37 42 0A 1B 2C 13 03 0A 0B 0C D7\n",
-        NONE,
-    ),
-    (
-        "S",
-        "F7420A1B2C",
-        "6",
-        "0501",
-        5,
-        "FF FF FF FF FF 82 37 42 0A 1B 2C 06 02 05 01 CA\n",
-        NONE,
-    ),
-    (
-        "S",
-        "all",
-        "11",
-        "415350B71C31",
-        20,
-        "FF FF FF FF FF FF FF FF FF FF FF FF FF FF FF FF FF FF FF FF 82 00 00 00 00 00 0B 06 41 53 50 B7 1C 31 57\n",
-        NONE,
-    ),
-    ("p", "@64", "256", "0", 5, "", (8, "bad word 1")),
-    ("", "@0", "0", "", 5, "", (8, "bad word 1")),
-    ("P", "@64", "0", "", 5, "", (8, "bad word 2")),
-    ("P", "", "256", "0", 5, "", (8, "bad word 2")),
-    ("P", "37420A1B2", "0", "", 5, "", (8, "bad word 2")),
-    ("P", "@0", "256", "0", 5, "", (8, "bad word 3")),
-    ("P", "@0", "", "", 5, "", (8, "bad word 3")),
-    ("P", "@0", "0", "0", 5, "", (8, "bad word 4")),
-    ("P", "@0", "0", "0G", 5, "", (8, "bad word 4")),
+    Row {
+        words: IDENTIFY,
+        text: "FF FF FF FF FF 02 80 00 00 82\n",
+        fault: NONE,
+    },
+    Row {
+        words: Words {
+            who: "S",
+            address: "@07",
+            command: "000",
+            preambles: 7,
+            ..IDENTIFY
+        },
+        text: "FF FF FF FF FF FF FF 02 07 00 00 05\n",
+        fault: NONE,
+    },
+    Row {
+        words: Words {
+            who: "S",
+            address: "37420a1b2c",
+            command: "019",
+            data: "0a0B0c",
+            ..IDENTIFY
+        },
+        text: "FF FF FF FF FF 82 37 42 0A 1B 2C 13 03 0A 0B 0C D7\n",
+        fault: NONE,
+    },
+    Row {
+        words: Words {
+            who: "S",
+            address: "F7420A1B2C",
+            command: "6",
+            data: "0501",
+            ..IDENTIFY
+        },
+        text: "FF FF FF FF FF 82 37 42 0A 1B 2C 06 02 05 01 CA\n",
+        fault: NONE,
+    },
+    Row {
+        words: Words {
+            who: "S",
+            address: "all",
+            command: "11",
+            data: "415350B71C31",
+            preambles: 20,
+            ..IDENTIFY
+        },
+        text: "FF FF FF FF FF FF FF FF FF FF FF FF FF FF FF FF FF FF FF FF 82 00 00 00 00 00 0B 06 41 53 50 B7 1C 31 57\n",
+        fault: NONE,
+    },
+    Row {
+        words: Words {
+            who: "p",
+            address: "@64",
+            command: "256",
+            data: "0",
+            ..IDENTIFY
+        },
+        text: "",
+        fault: (8, "bad word 1"),
+    },
+    Row {
+        words: Words {
+            who: "",
+            ..IDENTIFY
+        },
+        text: "",
+        fault: (8, "bad word 1"),
+    },
+    Row {
+        words: Words {
+            address: "@64",
+            ..IDENTIFY
+        },
+        text: "",
+        fault: (8, "bad word 2"),
+    },
+    Row {
+        words: Words {
+            address: "",
+            command: "256",
+            data: "0",
+            ..IDENTIFY
+        },
+        text: "",
+        fault: (8, "bad word 2"),
+    },
+    Row {
+        words: Words {
+            address: "37420A1B2",
+            ..IDENTIFY
+        },
+        text: "",
+        fault: (8, "bad word 2"),
+    },
+    Row {
+        words: Words {
+            command: "256",
+            data: "0",
+            ..IDENTIFY
+        },
+        text: "",
+        fault: (8, "bad word 3"),
+    },
+    Row {
+        words: Words {
+            command: "",
+            ..IDENTIFY
+        },
+        text: "",
+        fault: (8, "bad word 3"),
+    },
+    Row {
+        words: Words {
+            data: "0",
+            ..IDENTIFY
+        },
+        text: "",
+        fault: (8, "bad word 4"),
+    },
+    Row {
+        words: Words {
+            data: "0G",
+            ..IDENTIFY
+        },
+        text: "",
+        fault: (8, "bad word 4"),
+    },
 ];
 
-/// Whether the words of a row are written as a message, or refused with the row's fault. The call reads nothing.
-fn is_written(rt: &impl Eprint, alloc: Global, row: Row) -> Result<bool, Fail> {
-    let (who, address, command, data, preambles, text, fault) = row;
-    let call = Call::Encode(Words {
-        who,
-        address,
-        command,
-        data,
-        preambles,
-    });
+/// Whether words are written as this message, or refused with this fault. The call reads nothing.
+fn is_written<'a>(
+    rt: &impl Eprint,
+    alloc: Global,
+    words: Words,
+    text: &'a str,
+    fault: Fault<'a>,
+) -> Result<bool, Fail> {
     let given = Given {
         input: "!",
         most_written: 1,
@@ -87,25 +172,34 @@ fn is_written(rt: &impl Eprint, alloc: Global, row: Row) -> Result<bool, Fail> {
         reads: Some(0),
         writes: Some(text.len()),
     };
-    does(rt, alloc, call, &given, &wanted)
+    does(rt, alloc, Call::Encode(words), &given, &wanted)
 }
 
 /// Whether data of `len` bytes are written, or refused with this fault.
-fn has_data(rt: &impl Eprint, alloc: Global, len: usize, fault: Fault) -> Result<bool, Fail> {
+fn has_data(
+    rt: &impl Eprint,
+    alloc: Global,
+    len: usize,
+    fault: Fault<'static>,
+) -> Result<bool, Fail> {
     let data = text_of(alloc, "", "00", len, "")?;
     let message = if fault.0 == 0 {
         text_of(alloc, "FF FF FF FF FF 02 80 00 FF", " 00", len, " 7D\n")?
     } else {
         String::new(alloc)
     };
-    let row = ("P", "@0", "0", data.as_str(), 5, message.as_str(), fault);
-    is_written(rt, alloc, row)
+    let words = Words {
+        data: data.as_str(),
+        ..IDENTIFY
+    };
+    is_written(rt, alloc, words, message.as_str(), fault)
 }
 
 #[test]
 fn words_are_written_as_a_message(rt: HostRuntime) {
     for (number, row) in ROWS.iter().enumerate() {
-        hold_ok(&rt, is_written(&rt, rt.alloc(), *row), "row", number);
+        let written = is_written(&rt, rt.alloc(), row.words, row.text, row.fault);
+        hold_ok(&rt, written, "row", number);
     }
     hold_ok(&rt, has_data(&rt, rt.alloc(), 255, NONE), "data", 255);
     let longer = has_data(&rt, rt.alloc(), 256, (8, "bad word 4"));

@@ -68,38 +68,54 @@ const BROKEN_OFF: &[Row] = &[
     ("FF FF 02 80 00 00 82 8", IDENTIFY_LINE, READ),
 ];
 
-/// The prefix of a text, a part, how often the part is repeated, the suffix, and what is written for this text.
-type Long<'a> = (&'a str, &'a str, usize, &'a str, &'a str);
+/// An input in which a part is repeated, and what is written for it.
+struct Long<'a> {
+    prefix: &'a str,
+    part: &'a str,
+    times: usize,
+    suffix: &'a str,
+    text: &'a str,
+}
 
 /// Whether `dump` writes the wanted text for a long input, whatever the size of a read.
 fn is_dumped(rt: &impl Eprint, alloc: Global, long: &Long) -> Result<bool, Fail> {
-    let (prefix, part, times, suffix, text) = *long;
-    let input = text_of(alloc, prefix, part, times, suffix)?;
+    let input = text_of(alloc, long.prefix, long.part, long.times, long.suffix)?;
     does_as(
         rt,
         alloc,
         Call::Dump,
-        (input.as_str(), text, NONE),
+        (input.as_str(), long.text, NONE),
         After::End,
     )
 }
 
 const LONG: &[Long] = &[
-    (FALSE_START, " 00", 246, "", INNER_LINE),
-    (FALSE_START, " 00", 245, "", INNER_LINE),
+    Long {
+        prefix: FALSE_START,
+        part: " 00",
+        times: 246,
+        suffix: "",
+        text: INNER_LINE,
+    },
+    Long {
+        prefix: FALSE_START,
+        part: " 00",
+        times: 245,
+        suffix: "",
+        text: INNER_LINE,
+    },
 ];
 
 /// Like `is_dumped`, for an input that is read at once.
 fn is_dumped_at_once(rt: &impl Eprint, alloc: Global, long: &Long) -> Result<bool, Fail> {
-    let (prefix, part, times, suffix, text) = *long;
-    let input = text_of(alloc, prefix, part, times, suffix)?;
+    let input = text_of(alloc, long.prefix, long.part, long.times, long.suffix)?;
     let given = Given {
         input: input.as_str(),
         ..EMPTY
     };
     let wanted = Wanted {
         fault: NONE,
-        text,
+        text: long.text,
         reads: None,
         writes: None,
     };
@@ -107,14 +123,20 @@ fn is_dumped_at_once(rt: &impl Eprint, alloc: Global, long: &Long) -> Result<boo
 }
 
 const PREAMBLES: &[Long] = &[
-    ("", "FF", 100_000, "", ""),
-    (
-        "",
-        "FF",
-        100_000,
-        "02 80 00 00 82",
-        "100000 100005 STX P 0 @0 - 0 -\n",
-    ),
+    Long {
+        prefix: "",
+        part: "FF",
+        times: 100_000,
+        suffix: "",
+        text: "",
+    },
+    Long {
+        prefix: "",
+        part: "FF",
+        times: 100_000,
+        suffix: "02 80 00 00 82",
+        text: "100000 100005 STX P 0 @0 - 0 -\n",
+    },
 ];
 
 /// Whether the longest message, with 20 preamble bytes, has its line.

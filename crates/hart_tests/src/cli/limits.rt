@@ -10,99 +10,129 @@ use hart_cli::INPUT_LIMIT;
 use std::alloc::Global;
 use std::test::Fail;
 
-/// A call, a number of spaces, the items after the spaces, and what comes after the items; then the fault, and what is written.
-type Spaced<'a> = (Call<'a>, usize, &'a str, After, Fault<'a>, &'a str);
+/// A call, the number of spaces at the beginning of its input, the items after them, and what comes after the items; then the fault, and
+/// what is written.
+struct Spaced<'a> {
+    call: Call<'a>,
+    spaces: usize,
+    input: &'a str,
+    after: After,
+    fault: Fault<'a>,
+    text: &'a str,
+}
 
 /// Inputs that are as long as they may be.
 const LONGEST: &[Spaced] = &[
-    (Call::Dump, INPUT_LIMIT, "", After::End, NONE, ""),
-    (Call::Answer(None), INPUT_LIMIT, "", After::End, NONE, ""),
-    (
-        Call::Simulate(None),
-        INPUT_LIMIT,
-        "",
-        After::End,
-        NONE,
-        AS_NEW,
-    ),
-    (
-        Call::Dump,
-        INPUT_LIMIT - IDENTIFY.len(),
-        IDENTIFY,
-        After::End,
-        NONE,
-        IDENTIFY_LINE,
-    ),
+    Spaced {
+        call: Call::Dump,
+        spaces: INPUT_LIMIT,
+        input: "",
+        after: After::End,
+        fault: NONE,
+        text: "",
+    },
+    Spaced {
+        call: Call::Answer(None),
+        spaces: INPUT_LIMIT,
+        input: "",
+        after: After::End,
+        fault: NONE,
+        text: "",
+    },
+    Spaced {
+        call: Call::Simulate(None),
+        spaces: INPUT_LIMIT,
+        input: "",
+        after: After::End,
+        fault: NONE,
+        text: AS_NEW,
+    },
+    Spaced {
+        call: Call::Dump,
+        spaces: INPUT_LIMIT - IDENTIFY.len(),
+        input: IDENTIFY,
+        after: After::End,
+        fault: NONE,
+        text: IDENTIFY_LINE,
+    },
     // The input of `explain` may be longer.
-    (Call::Explain, INPUT_LIMIT + 1, "", After::End, NONE, ""),
-    (
-        Call::Explain,
-        INPUT_LIMIT,
-        IDENTIFY,
-        After::End,
-        NONE,
-        IDENTIFY_SAID,
-    ),
+    Spaced {
+        call: Call::Explain,
+        spaces: INPUT_LIMIT + 1,
+        input: "",
+        after: After::End,
+        fault: NONE,
+        text: "",
+    },
+    Spaced {
+        call: Call::Explain,
+        spaces: INPUT_LIMIT,
+        input: IDENTIFY,
+        after: After::End,
+        fault: NONE,
+        text: IDENTIFY_SAID,
+    },
 ];
 
 /// Longer inputs. Their last item counts as whole only if the byte after it still lies within the limit.
 const LONGER: &[Spaced] = &[
-    (Call::Dump, INPUT_LIMIT + 1, "", After::End, TOO_LONG, ""),
-    (
-        Call::Answer(None),
-        INPUT_LIMIT + 1,
-        "",
-        After::End,
-        TOO_LONG,
-        "",
-    ),
-    (
-        Call::Simulate(None),
-        INPUT_LIMIT + 1,
-        "",
-        After::End,
-        TOO_LONG,
-        "",
-    ),
-    (
-        Call::Dump,
-        INPUT_LIMIT - IDENTIFY.len(),
-        IDENTIFY,
-        After::Spaces,
-        TOO_LONG,
-        "",
-    ),
-    (
-        Call::Dump,
-        INPUT_LIMIT - IDENTIFY_WHOLE.len(),
-        IDENTIFY_WHOLE,
-        After::Spaces,
-        TOO_LONG,
-        IDENTIFY_LINE,
-    ),
+    Spaced {
+        call: Call::Dump,
+        spaces: INPUT_LIMIT + 1,
+        input: "",
+        after: After::End,
+        fault: TOO_LONG,
+        text: "",
+    },
+    Spaced {
+        call: Call::Answer(None),
+        spaces: INPUT_LIMIT + 1,
+        input: "",
+        after: After::End,
+        fault: TOO_LONG,
+        text: "",
+    },
+    Spaced {
+        call: Call::Simulate(None),
+        spaces: INPUT_LIMIT + 1,
+        input: "",
+        after: After::End,
+        fault: TOO_LONG,
+        text: "",
+    },
+    Spaced {
+        call: Call::Dump,
+        spaces: INPUT_LIMIT - IDENTIFY.len(),
+        input: IDENTIFY,
+        after: After::Spaces,
+        fault: TOO_LONG,
+        text: "",
+    },
+    Spaced {
+        call: Call::Dump,
+        spaces: INPUT_LIMIT - IDENTIFY_WHOLE.len(),
+        input: IDENTIFY_WHOLE,
+        after: After::Spaces,
+        fault: TOO_LONG,
+        text: IDENTIFY_LINE,
+    },
 ];
 
 /// Whether the input of a row is taken or refused as the row says.
 fn has_its_length(rt: &impl Eprint, alloc: Global, row: &Spaced) -> Result<bool, Fail> {
-    let (call, spaces, input, after, fault, text) = *row;
     let given = Given {
-        spaces,
-        input,
-        after,
+        spaces: row.spaces,
+        input: row.input,
+        after: row.after,
         ..EMPTY
     };
-    does_by_name(
-        rt,
-        alloc,
-        call,
-        &given,
-        &Wanted {
-            fault,
-            text,
-            reads: None,
-            writes: None,
-        },
-    )
+    let wanted = Wanted {
+        fault: row.fault,
+        text: row.text,
+        reads: None,
+        writes: None,
+    };
+    does_by_name(rt, alloc, row.call, &given, &wanted)
 }
 
 #[test]

@@ -191,195 +191,177 @@ const HELD_BACK: &str = "FF FF 02 80 00 08 FF FF 02 80 00 00 82 00 00 00 ";
 /// A single preamble byte, after which a longer body may begin, and a whole message inside that body.
 const OPEN_AFTER_ONE: &str = "FF 82 B7 42 0A 1B 2C 13 FF FF FF 02 80 00 00 82 ";
 
-/// A call, its input, what comes after the input, the greatest number of bytes of a read and the number of the write that fails;
-/// then the fault, the numbers of reads and writes, and what is written.
-type Order<'a> = (
-    Call<'a>,
-    &'a str,
-    After,
-    usize,
-    Option<usize>,
-    Fault<'a>,
-    usize,
-    usize,
-    &'a str,
-);
+/// A call, and the streams that it is given; then its fault, how often it reads and writes, and what it writes.
+struct Order<'a> {
+    call: Call<'a>,
+    input: &'a str,
+    after: After,
+    most_read: usize,
+    fails_at: Option<usize>,
+    fault: Fault<'a>,
+    reads: usize,
+    writes: usize,
+    text: &'a str,
+}
+
+/// An empty input that is read a byte at a time. The rows say in what they differ.
+const BY_BYTES: Order = Order {
+    call: Call::Dump,
+    input: "",
+    after: After::End,
+    most_read: 1,
+    fails_at: None,
+    fault: NONE,
+    reads: 1,
+    writes: 0,
+    text: "",
+};
 
 /// Each call writes a line as soon as the line is decided, and makes no read after a fault or after the end of its input.
 const ORDERS: &[Order] = &[
-    (
-        Call::Dump,
-        IDENTIFY,
-        After::End,
-        1,
-        None,
-        NONE,
-        21,
-        1,
-        IDENTIFY_LINE,
-    ),
-    (
-        Call::Dump,
-        IDENTIFY_WHOLE,
-        After::End,
-        1,
-        Some(0),
-        WRITE,
-        21,
-        1,
-        "",
-    ),
-    (
-        Call::Dump,
-        HELD_BACK,
-        After::End,
-        1,
-        Some(0),
-        WRITE,
-        45,
-        1,
-        "",
-    ),
-    (
-        Call::Dump,
-        HELD_BACK,
-        After::End,
-        1,
-        None,
-        NONE,
-        49,
-        1,
-        "8 13 STX P 0 @0 - 0 -\n",
-    ),
-    (
-        Call::Dump,
-        "FF 82!80 FF",
-        After::End,
-        1,
-        None,
-        (4, "bad hex at 3"),
-        7,
-        0,
-        "",
-    ),
-    (
-        Call::Dump,
-        "FF 82!08 FF",
-        After::End,
-        1,
-        None,
-        (4, "bad hex at 3"),
-        8,
-        0,
-        "",
-    ),
-    (
-        Call::Dump,
-        TWO_MESSAGES,
-        After::Failure,
-        ALL,
-        None,
-        READ,
-        2,
-        1,
-        IDENTIFY_LINE,
-    ),
-    (
-        Call::Explain,
-        IDENTIFY,
-        After::End,
-        1,
-        None,
-        NONE,
-        21,
-        1,
-        IDENTIFY_SAID,
-    ),
-    (
-        Call::Explain,
-        IDENTIFY_WHOLE,
-        After::End,
-        1,
-        Some(0),
-        WRITE,
-        21,
-        1,
-        "",
-    ),
-    (
-        Call::Explain,
-        "FF FF 02 80 00 00 82 FF 02 80 00 00 82 ",
-        After::End,
-        1,
-        Some(1),
-        WRITE,
-        39,
-        2,
-        IDENTIFY_SAID,
-    ),
-    (
-        Call::Explain,
-        "FF FF 02 80!40 ",
-        After::End,
-        1,
-        Some(0),
-        WRITE,
-        15,
-        1,
-        "",
-    ),
-    (
-        Call::Explain,
-        OPEN_AFTER_ONE,
-        After::End,
-        1,
-        Some(0),
-        WRITE,
-        48,
-        1,
-        "",
-    ),
-    (
-        Call::Explain,
-        "FF 82!08 FF",
-        After::End,
-        1,
-        None,
-        (4, "bad hex at 3"),
-        8,
-        0,
-        "",
-    ),
-    (
-        Call::Explain,
-        IDENTIFY_WHOLE,
-        After::Failure,
-        ALL,
-        None,
-        READ,
-        2,
-        1,
-        IDENTIFY_SAID,
-    ),
+    Order {
+        call: Call::Dump,
+        input: IDENTIFY,
+        reads: 21,
+        writes: 1,
+        text: IDENTIFY_LINE,
+        ..BY_BYTES
+    },
+    Order {
+        call: Call::Dump,
+        input: IDENTIFY_WHOLE,
+        fails_at: Some(0),
+        fault: WRITE,
+        reads: 21,
+        writes: 1,
+        ..BY_BYTES
+    },
+    Order {
+        call: Call::Dump,
+        input: HELD_BACK,
+        fails_at: Some(0),
+        fault: WRITE,
+        reads: 45,
+        writes: 1,
+        ..BY_BYTES
+    },
+    Order {
+        call: Call::Dump,
+        input: HELD_BACK,
+        reads: 49,
+        writes: 1,
+        text: "8 13 STX P 0 @0 - 0 -\n",
+        ..BY_BYTES
+    },
+    Order {
+        call: Call::Dump,
+        input: "FF 82!80 FF",
+        fault: (4, "bad hex at 3"),
+        reads: 7,
+        writes: 0,
+        ..BY_BYTES
+    },
+    Order {
+        call: Call::Dump,
+        input: "FF 82!08 FF",
+        fault: (4, "bad hex at 3"),
+        reads: 8,
+        writes: 0,
+        ..BY_BYTES
+    },
+    Order {
+        call: Call::Dump,
+        input: TWO_MESSAGES,
+        after: After::Failure,
+        most_read: ALL,
+        fault: READ,
+        reads: 2,
+        writes: 1,
+        text: IDENTIFY_LINE,
+        ..BY_BYTES
+    },
+    Order {
+        call: Call::Explain,
+        input: IDENTIFY,
+        reads: 21,
+        writes: 1,
+        text: IDENTIFY_SAID,
+        ..BY_BYTES
+    },
+    Order {
+        call: Call::Explain,
+        input: IDENTIFY_WHOLE,
+        fails_at: Some(0),
+        fault: WRITE,
+        reads: 21,
+        writes: 1,
+        ..BY_BYTES
+    },
+    Order {
+        call: Call::Explain,
+        input: "FF FF 02 80 00 00 82 FF 02 80 00 00 82 ",
+        fails_at: Some(1),
+        fault: WRITE,
+        reads: 39,
+        writes: 2,
+        text: IDENTIFY_SAID,
+        ..BY_BYTES
+    },
+    Order {
+        call: Call::Explain,
+        input: "FF FF 02 80!40 ",
+        fails_at: Some(0),
+        fault: WRITE,
+        reads: 15,
+        writes: 1,
+        ..BY_BYTES
+    },
+    Order {
+        call: Call::Explain,
+        input: OPEN_AFTER_ONE,
+        fails_at: Some(0),
+        fault: WRITE,
+        reads: 48,
+        writes: 1,
+        ..BY_BYTES
+    },
+    Order {
+        call: Call::Explain,
+        input: "FF 82!08 FF",
+        fault: (4, "bad hex at 3"),
+        reads: 8,
+        writes: 0,
+        ..BY_BYTES
+    },
+    Order {
+        call: Call::Explain,
+        input: IDENTIFY_WHOLE,
+        after: After::Failure,
+        most_read: ALL,
+        fault: READ,
+        reads: 2,
+        writes: 1,
+        text: IDENTIFY_SAID,
+        ..BY_BYTES
+    },
 ];
 
 /// Whether a call reads and writes in this order.
 fn is_in_order(rt: &impl Eprint, alloc: Global, order: &Order) -> Result<bool, Fail> {
-    let (call, input, after, most_read, fails_at, fault, reads, writes, text) = *order;
     let given = Given {
-        input,
-        after,
-        most_read,
-        fails_at,
+        input: order.input,
+        after: order.after,
+        most_read: order.most_read,
+        fails_at: order.fails_at,
         ..EMPTY
     };
     let wanted = Wanted {
-        fault,
-        text,
-        reads: Some(reads),
-        writes: Some(writes),
+        fault: order.fault,
+        text: order.text,
+        reads: Some(order.reads),
+        writes: Some(order.writes),
     };
-    does(rt, alloc, call, &given, &wanted)
+    does(rt, alloc, order.call, &given, &wanted)
 }
 
 #[test]

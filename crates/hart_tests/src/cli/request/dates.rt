@@ -1,100 +1,60 @@
 //! Words that a request refuses as dates.
 
-use super::{Row, is_written};
+use super::{Row, TO_DEVICE, is_written};
 use crate::rows::hold_ok;
 
 /// Dates that do not exist, or that a device cannot hold.
 const DATES: &[Row] = &[
-    (
-        "P",
-        "37420A1B2C",
-        "18",
-        &["tag=X", "descriptor=Y", "date=2026-02-30"],
-        5,
-        "",
-        (8, "bad word 6: no date"),
-    ),
-    (
-        "P",
-        "37420A1B2C",
-        "18",
-        &["tag=X", "descriptor=Y", "date=1899-12-31"],
-        5,
-        "",
-        (8, "bad word 6: no date"),
-    ),
-    (
-        "P",
-        "37420A1B2C",
-        "18",
-        &["tag=X", "descriptor=Y", "date=2156-01-01"],
-        5,
-        "",
-        (8, "bad word 6: no date"),
-    ),
-    (
-        "P",
-        "37420A1B2C",
-        "18",
-        &["tag=X", "descriptor=Y", "date="],
-        5,
-        "",
-        (8, "bad word 6: no date"),
-    ),
-    (
-        "P",
-        "37420A1B2C",
-        "18",
-        &["tag=X", "descriptor=Y", "date=Not set"],
-        5,
-        "",
-        (8, "bad word 6: no date"),
-    ),
-    (
-        "P",
-        "37420A1B2C",
-        "18",
-        &["tag=X", "descriptor=Y", "date=2026-11-27T10:00"],
-        5,
-        "",
-        (8, "bad word 6: no date"),
-    ),
-    (
-        "P",
-        "37420A1B2C",
-        "18",
-        &["tag=X", "descriptor=Y", "date=2026-11-27T10:00+01:00"],
-        5,
-        "",
-        (8, "bad word 6: no date"),
-    ),
-    (
-        "P",
-        "37420A1B2C",
-        "18",
-        &["tag=X", "descriptor=Y", "date=2026-11-27[u-ca=iso8601]"],
-        5,
-        "",
-        (8, "bad word 6: no date"),
-    ),
-    (
-        "P",
-        "37420A1B2C",
-        "18",
-        &["tag=X", "descriptor=Y", "date=20261127"],
-        5,
-        "",
-        (8, "bad word 6: no date"),
-    ),
-    (
-        "P",
-        "37420A1B2C",
-        "18",
-        &["tag=X", "descriptor=Y", "date=+002026-11-27"],
-        5,
-        "",
-        (8, "bad word 6: no date"),
-    ),
+    Row {
+        fields: &["tag=X", "descriptor=Y", "date=2026-02-30"],
+        fault: (8, "bad word 6: no date"),
+        ..TO_DEVICE
+    },
+    Row {
+        fields: &["tag=X", "descriptor=Y", "date=1899-12-31"],
+        fault: (8, "bad word 6: no date"),
+        ..TO_DEVICE
+    },
+    Row {
+        fields: &["tag=X", "descriptor=Y", "date=2156-01-01"],
+        fault: (8, "bad word 6: no date"),
+        ..TO_DEVICE
+    },
+    Row {
+        fields: &["tag=X", "descriptor=Y", "date="],
+        fault: (8, "bad word 6: no date"),
+        ..TO_DEVICE
+    },
+    Row {
+        fields: &["tag=X", "descriptor=Y", "date=Not set"],
+        fault: (8, "bad word 6: no date"),
+        ..TO_DEVICE
+    },
+    Row {
+        fields: &["tag=X", "descriptor=Y", "date=2026-11-27T10:00"],
+        fault: (8, "bad word 6: no date"),
+        ..TO_DEVICE
+    },
+    Row {
+        fields: &["tag=X", "descriptor=Y", "date=2026-11-27T10:00+01:00"],
+        fault: (8, "bad word 6: no date"),
+        ..TO_DEVICE
+    },
+    Row {
+        fields: &["tag=X", "descriptor=Y", "date=2026-11-27[u-ca=iso8601]"],
+        fault: (8, "bad word 6: no date"),
+        ..TO_DEVICE
+    },
+    Row {
+        fields: &["tag=X", "descriptor=Y", "date=20261127"],
+        fault: (8, "bad word 6: no date"),
+        ..TO_DEVICE
+    },
+    Row {
+        fields: &["tag=X", "descriptor=Y", "date=+002026-11-27"],
+        fault: (8, "bad word 6: no date"),
+        ..TO_DEVICE
+    },
 ];
 
 #[test]
