@@ -296,10 +296,10 @@ def lines_are_written_before_more_is_read(runner):
         (["explain", "--raw", "--json"], objects.RAW_FAILED_WRITES),
     )
     for call, rows in calls:
-        for text, most_read, most_written, write, reads, wanted in rows:
-            run = runner.run(call, text, most_read=most_read, most_written=most_written, failed_output=write)
-            is_named = run.gave(FAULT, wanted, "write fault\n") and (run.reads, run.writes) == (reads, write + 1)
-            runner.hold(is_named, call, f"at write {write} on {text}: {run}")
+        for row in rows:
+            run = runner.run(call, row.text, most_read=row.most_read, most_written=row.most_written, failed_output=row.write)
+            is_named = run.gave(FAULT, row.written, "write fault\n") and (run.reads, run.writes) == (row.reads, row.write + 1)
+            runner.hold(is_named, call, f"at write {row.write} on {row.text}: {run}")
 
 
 def worked_calls_end_as_shown(runner):
@@ -322,10 +322,11 @@ def worked_calls_write_before_they_read_on(runner):
 
 def nothing_is_read_after_the_end(runner):
     for call, rows in ((["dump"], dump.READS), (["explain"], explain.READS), (["explain", "--json"], objects.READS)):
-        for text, after, most_read, fault, reads, writes, wanted in rows:
-            run = runner.run(call, text, most_read=most_read, after=after)
-            is_no_more = run.gave(FAULT if fault else DONE, wanted, fault) and (run.reads, run.writes) == (reads, writes)
-            runner.hold(is_no_more, call, f"on {text}, {most_read} a read: {run}")
+        for row in rows:
+            run = runner.run(call, row.text, most_read=row.most_read, after=row.after)
+            gave = run.gave(FAULT if row.fault else DONE, row.written, row.fault)
+            is_no_more = gave and (run.reads, run.writes) == (row.reads, row.writes)
+            runner.hold(is_no_more, call, f"on {row.text}, {row.most_read} a read: {run}")
 
 
 def inputs_are_read_up_to_the_limit(runner):

@@ -1,5 +1,7 @@
 """`hart dump`: what was heard, and its lines."""
 
+from rows.counted import FailedWrite, Read
+
 # A message that begins and goes on far beyond the whole one within it.
 FALSE_START = "FF FF 82 B7 42 0A 1B 2C 13 FF FF FF FF FF FF 02 80 00 00 82"
 FIRST_LINE = "2 7 STX P 0 @0 - 0 -\n"
@@ -50,40 +52,38 @@ HELD_LINE = "8 13 STX P 0 @0 - 0 -\n"
 
 BAD_HEX = "FF FF 02 80 00 00 82 8G FF FF 02 00 00 00 02 "
 
-# An input, the most bytes of a read and of a write, and the number of the write that fails; then the number of reads, all of which
-# came before that write, and what was written before it. None is no limit.
+# Each line is written before more is read, so a write that fails ends the call there.
 FAILED_WRITES = (
-    (MESSAGES, 1, None, 0, 21, ""),
-    (MESSAGES, 1, None, 1, 42, FIRST_LINE),
-    (MESSAGES, 1, None, 2, 63, TWO_LINES),
-    (MESSAGES, 1, 1, 20, 21, "2 7 STX P 0 @0 - 0 -"),
-    (MESSAGES, 1, 1, 21, 42, FIRST_LINE),
-    (MESSAGES, 2, None, 0, 11, ""),
-    (MESSAGES, 3, None, 1, 14, FIRST_LINE),
-    (MESSAGES, None, None, 0, 1, ""),
-    (MESSAGES, None, 1, 21, 1, FIRST_LINE),
-    (HELD_BACK, 1, None, 0, 45, ""),
-    (BAD_HEX, None, None, 0, 1, ""),
+    FailedWrite(MESSAGES, write=0, reads=21),
+    FailedWrite(MESSAGES, write=1, reads=42, written=FIRST_LINE),
+    FailedWrite(MESSAGES, write=2, reads=63, written=TWO_LINES),
+    FailedWrite(MESSAGES, most_written=1, write=20, reads=21, written="2 7 STX P 0 @0 - 0 -"),
+    FailedWrite(MESSAGES, most_written=1, write=21, reads=42, written=FIRST_LINE),
+    FailedWrite(MESSAGES, most_read=2, write=0, reads=11),
+    FailedWrite(MESSAGES, most_read=3, write=1, reads=14, written=FIRST_LINE),
+    FailedWrite(MESSAGES, most_read=None, write=0, reads=1),
+    FailedWrite(MESSAGES, most_read=None, most_written=1, write=21, reads=1, written=FIRST_LINE),
+    FailedWrite(HELD_BACK, write=0, reads=45),
+    FailedWrite(BAD_HEX, most_read=None, write=0, reads=1),
 )
 
-# An input, what comes after it, and the most bytes of a read; then the line of the fault, the numbers of reads and writes, and what is
-# written.
+# Nothing is read after a fault or after the end.
 READS = (
-    (MESSAGES, "end", 1, "", 64, 3, LINES),
-    (MESSAGES, "end", None, "", 2, 1, LINES),
-    (HELD_BACK, "end", 1, "", 49, 1, HELD_LINE),
+    Read(MESSAGES, reads=64, writes=3, written=LINES),
+    Read(MESSAGES, most_read=None, reads=2, writes=1, written=LINES),
+    Read(HELD_BACK, reads=49, writes=1, written=HELD_LINE),
     # The end makes an item whole, and a failed read does not.
-    (OPEN_MESSAGE, "end", 1, "", 21, 1, FIRST_LINE),
-    (OPEN_MESSAGE, "failure", 1, "read fault\n", 21, 0, ""),
-    (OPEN_MESSAGE, "failure", None, "read fault\n", 2, 0, ""),
-    (ONE_MESSAGE, "failure", 1, "read fault\n", 22, 1, FIRST_LINE),
-    (ONE_MESSAGE, "failure", None, "read fault\n", 2, 1, FIRST_LINE),
-    (STILL_HELD_BACK, "failure", 1, "read fault\n", 43, 1, HELD_LINE),
+    Read(OPEN_MESSAGE, reads=21, writes=1, written=FIRST_LINE),
+    Read(OPEN_MESSAGE, after="failure", fault="read fault\n", reads=21, writes=0),
+    Read(OPEN_MESSAGE, after="failure", most_read=None, fault="read fault\n", reads=2, writes=0),
+    Read(ONE_MESSAGE, after="failure", fault="read fault\n", reads=22, writes=1, written=FIRST_LINE),
+    Read(ONE_MESSAGE, after="failure", most_read=None, fault="read fault\n", reads=2, writes=1, written=FIRST_LINE),
+    Read(STILL_HELD_BACK, after="failure", fault="read fault\n", reads=43, writes=1, written=HELD_LINE),
     # Bad hex is decided at its first byte after which nothing makes an item of it.
-    (BAD_HEX, "end", 1, "bad hex at 21\n", 23, 1, FIRST_LINE),
-    (BAD_HEX, "end", None, "bad hex at 21\n", 1, 1, FIRST_LINE),
-    ("FF 82!80 FF", "end", 1, "bad hex at 3\n", 7, 0, ""),
-    ("FF 82!08 FF", "end", 1, "bad hex at 3\n", 8, 0, ""),
+    Read(BAD_HEX, fault="bad hex at 21\n", reads=23, writes=1, written=FIRST_LINE),
+    Read(BAD_HEX, most_read=None, fault="bad hex at 21\n", reads=1, writes=1, written=FIRST_LINE),
+    Read("FF 82!80 FF", fault="bad hex at 3\n", reads=7, writes=0),
+    Read("FF 82!08 FF", fault="bad hex at 3\n", reads=8, writes=0),
 )
 
 # The end of an input that is as long as may be, what comes after it, the line of the fault, and what is written.

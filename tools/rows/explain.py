@@ -4,6 +4,7 @@ import functools
 import operator
 
 from fuzz.units import unit_text
+from rows.counted import FailedWrite, Read
 
 IDENTIFY_HEADER = "request of the primary master to the device at polling address 0, Command 0, read unique identifier\n"
 IDENTIFY = f"2-7: {IDENTIFY_HEADER}"
@@ -276,35 +277,33 @@ MESSAGES = "FF FF 02 80 00 00 82 FF 02 80 00 00 82 "
 # A message whose first three preamble bytes are data of a body that may come after one preamble byte.
 IN_OPEN_BODY = "FF 82 B7 42 0A 1B 2C 13 FF FF FF 02 80 00 00 82 "
 
-# An input, the most bytes of a read and of a write, and the number of the write that fails; then the number of reads, all of which
-# came before that write, and what was written before it. None is no limit.
+# Each line is written before more is read, so a write that fails ends the call there.
 FAILED_WRITES = (
-    (MESSAGES, 1, None, 0, 21, ""),
-    (MESSAGES, 1, None, 1, 39, IDENTIFY),
-    (MESSAGES, 2, None, 0, 11, ""),
-    (MESSAGES, 1, 1, 20, 21, IDENTIFY[:20]),
-    (MESSAGES, None, None, 0, 1, ""),
-    ("FF FF 02 80 00!40 ", 1, None, 0, 18, ""),
-    ("FF FF 02 80 00 00 83 ", 1, None, 0, 21, ""),
+    FailedWrite(MESSAGES, write=0, reads=21),
+    FailedWrite(MESSAGES, write=1, reads=39, written=IDENTIFY),
+    FailedWrite(MESSAGES, most_read=2, write=0, reads=11),
+    FailedWrite(MESSAGES, most_written=1, write=20, reads=21, written=IDENTIFY[:20]),
+    FailedWrite(MESSAGES, most_read=None, write=0, reads=1),
+    FailedWrite("FF FF 02 80 00!40 ", write=0, reads=18),
+    FailedWrite("FF FF 02 80 00 00 83 ", write=0, reads=21),
     # A silence decides at once what is open.
-    ("FF FF 82 B7/FF FF FF ", 1, None, 0, 12, ""),
-    (IN_OPEN_BODY, 1, None, 0, 48, ""),
+    FailedWrite("FF FF 82 B7/FF FF FF ", write=0, reads=12),
+    FailedWrite(IN_OPEN_BODY, write=0, reads=48),
 )
 
 # The same of raw bytes.
 RAW_FAILED_WRITES = (
-    (bytes.fromhex(MESSAGES), 1, None, 0, 7, ""),
-    (bytes.fromhex(MESSAGES), 1, None, 1, 13, IDENTIFY),
-    (bytes.fromhex(MESSAGES), 7, None, 0, 1, ""),
+    FailedWrite(bytes.fromhex(MESSAGES), write=0, reads=7),
+    FailedWrite(bytes.fromhex(MESSAGES), write=1, reads=13, written=IDENTIFY),
+    FailedWrite(bytes.fromhex(MESSAGES), most_read=7, write=0, reads=1),
 )
 
-# An input, what comes after it, and the most bytes of a read; then the line of the fault, the numbers of reads and writes, and what is
-# written.
+# Nothing is read after a fault or after the end.
 READS = (
-    (MESSAGES, "end", 1, "", 40, 2, IDENTIFY + ONE_PREAMBLE),
-    (MESSAGES, "end", None, "", 2, 1, IDENTIFY + ONE_PREAMBLE),
+    Read(MESSAGES, reads=40, writes=2, written=IDENTIFY + ONE_PREAMBLE),
+    Read(MESSAGES, most_read=None, reads=2, writes=1, written=IDENTIFY + ONE_PREAMBLE),
     # The end decides what is open.
-    ("FF FF 02 80 00 00 ", "end", 1, "", 19, 1, "2: no message: it lacks 1 character, its check byte\n" + SEEMS_IDENTIFY),
-    ("FF FF 02 80 00 00 82 8G FF FF 02 00 00 00 02 ", "end", 1, "bad hex at 21\n", 23, 1, IDENTIFY),
-    ("FF 82!08 FF", "end", 1, "bad hex at 3\n", 8, 0, ""),
+    Read("FF FF 02 80 00 00 ", reads=19, writes=1, written="2: no message: it lacks 1 character, its check byte\n" + SEEMS_IDENTIFY),
+    Read("FF FF 02 80 00 00 82 8G FF FF 02 00 00 00 02 ", fault="bad hex at 21\n", reads=23, writes=1, written=IDENTIFY),
+    Read("FF 82!08 FF", fault="bad hex at 3\n", reads=8, writes=0),
 )

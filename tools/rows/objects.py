@@ -1,6 +1,7 @@
 """`hart explain --json`: what was heard, and the object of each message and each miss."""
 
 from rows.explain import MESSAGES
+from rows.counted import FailedWrite, Read
 
 IDENTIFIES = '"address":"@0","burst":false,"expansion":"","command":0,"command_name":"read unique identifier","data":"",' \
     '"fields":{},"ignored":"","problem":null'
@@ -139,25 +140,23 @@ RAW_ROWS = (
 
 ONE_PREAMBLE = f'{{"type":"miss","place":8,"reason":"one_preamble",{SEEMS_IDENTIFY}}}\n'
 
-# As in rows.explain: an input, the most bytes of a read and of a write, and the number of the write that fails; then the number of
-# reads, all of which came before that write, and what was written before it.
+# As in rows.explain.
 FAILED_WRITES = (
-    (MESSAGES, 1, None, 0, 21, ""),
-    (MESSAGES, 1, None, 1, 39, IDENTIFY),
-    (MESSAGES, 1, 1, 20, 21, IDENTIFY[:20]),
-    ("FF FF 82 B7/FF FF FF ", 1, None, 0, 12, ""),
+    FailedWrite(MESSAGES, write=0, reads=21),
+    FailedWrite(MESSAGES, write=1, reads=39, written=IDENTIFY),
+    FailedWrite(MESSAGES, most_written=1, write=20, reads=21, written=IDENTIFY[:20]),
+    FailedWrite("FF FF 82 B7/FF FF FF ", write=0, reads=12),
 )
 
 # The same of raw bytes.
 RAW_FAILED_WRITES = (
-    (bytes.fromhex(MESSAGES), 1, None, 0, 7, ""),
-    (bytes.fromhex(MESSAGES), 1, None, 1, 13, IDENTIFY),
+    FailedWrite(bytes.fromhex(MESSAGES), write=0, reads=7),
+    FailedWrite(bytes.fromhex(MESSAGES), write=1, reads=13, written=IDENTIFY),
 )
 
-# As there: an input, what comes after it, and the most bytes of a read; then the line of the fault, the numbers of reads and writes,
-# and what is written.
+# As in rows.explain.
 READS = (
-    (MESSAGES, "end", 1, "", 40, 2, IDENTIFY + ONE_PREAMBLE),
-    (MESSAGES, "end", None, "", 2, 1, IDENTIFY + ONE_PREAMBLE),
-    ("FF FF 02 80 00 00 82 8G FF FF 02 00 00 00 02 ", "end", 1, "bad hex at 21\n", 23, 1, IDENTIFY),
+    Read(MESSAGES, reads=40, writes=2, written=IDENTIFY + ONE_PREAMBLE),
+    Read(MESSAGES, most_read=None, reads=2, writes=1, written=IDENTIFY + ONE_PREAMBLE),
+    Read("FF FF 02 80 00 00 82 8G FF FF 02 00 00 00 02 ", fault="bad hex at 21\n", reads=23, writes=1, written=IDENTIFY),
 )
