@@ -20,6 +20,17 @@ fn faults_have_numbers_and_texts(rt: HostRuntime) {
     }
 }
 
+#[test]
+fn rejected_requests_have_the_text_of_the_fault(rt: HostRuntime) {
+    for (row, (fault, _, text)) in FAULTS.iter().enumerate() {
+        let rejected = Rejected {
+            fault: *fault,
+            request: Request::Identify,
+        };
+        hold_ok(&rt, has_text(rt.alloc(), &rejected, text), "row", row);
+    }
+}
+
 /// Retries and reply limits, and the fault with which they are refused, if they are refused.
 const LIMITS: &[(u8, u8, Option<MasterFault>)] = &[
     (0, 1, None),

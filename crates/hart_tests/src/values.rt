@@ -234,3 +234,9 @@ fn faults_have_numbers_and_texts(rt: HostRuntime) {
         hold_ok(&rt, has_text(rt.alloc(), fault, text), "row", row);
     }
 }
+
+#[test]
+fn response_codes_have_a_text(rt: HostRuntime) {
+    let text = has_text(rt.alloc(), &ResponseCode::INVALID_MODE, "response code 12");
+    hold_ok(&rt, text, "code", 12);
+}
