@@ -49,7 +49,8 @@ abbrev pub written_over : List HartField → List HartField → List HartField
 written_over written before = take (length before) written ++ drop (length written) before
 
 -- The fields of these rows in the bytes are written over the first fields of `before`. The first field starts at `start`. The result has
--- the number of all fields, the number of bytes taken, which are these bytes and those before `start`, a code and a device status.
+-- the number of all fields, the number of bytes taken, which are these bytes and those before `start`, a code, a device status, and no
+-- fault.
 pub record IsShown (start : ℕ) (rows : List Row) (bytes : List ℕ) (code status : ℕ) (before after : List HartField) (reading : HartReading)
     : Type 0 where
   pub told : reading

@@ -98,7 +98,7 @@ state_after state frame = if is_answered state frame then after_reply frame.mast
 abbrev pub after_refusal : DeviceState → FrameParts → DeviceState
 after_refusal state frame = if is_answered state frame then after_reply frame.master state else state
 
--- The content of a reply with code 0 to this request. If the data were refused, the content is `Refused`.
+-- The content of the reply to a frame with this judgement: the content for its request, or `Refused` if a code refuses the frame.
 abbrev pub asked_content : DeviceState → Process → Reading → ReplyContent
 asked_content state process (Ok request) = reply_content state process request
 asked_content state process (Err code) = Refused
@@ -113,7 +113,7 @@ judged_code (Ok request) = 0
 judged_code (Err code) = code
 
 -- The reply to a frame with this judgement, from a device that is in this state after the command. It has the code of the judgement, the
--- device status, and the requested data if the code is 0.
+-- device status, and the requested data if the judgement is a request.
 abbrev pub reply_with : DeviceState → Process → FrameParts → Reading → Reply
 reply_with state process frame judged = record {
   command = frame.command;

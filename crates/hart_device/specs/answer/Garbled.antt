@@ -49,8 +49,8 @@ pub record IsAsking (identity : IdentityParts) (head : List Character) (master :
 
 -- Characters begin with a garbled request if they begin with its head, a command, a byte count, the number of payload characters that the
 -- byte count gives, and a check byte. Each character after the head may have any faults. The request has the command as it was heard, and
--- the communication faults of all these characters. A request without any fault has this form too, but a delivery with such a request has
--- a frame, and so brings no garbled request.
+-- the communication faults of all its characters, from the delimiter to the check byte. A request without any fault has this form too, but
+-- a delivery with such a request has a frame, and so brings no garbled request.
 pub record BeginsWithGarbled (identity : IdentityParts) (chars : List Character) (request : GarbledRequest) : Type 0 where
   pub head : List Character
   pub command : Character
