@@ -74,7 +74,7 @@ pub record HasFirstBadLine (text : List ℕ) (number : ℕ) : Type 0 where
   pub bad : IsBadLine words
   pub good : AreEvents (take before (lines_in_words text)) events
 
--- A word of items needs room for this number of characters: half as many as the word has bytes, rounded down. The number is at least 1.
+-- A word of items needs room for half as many characters as it has bytes, rounded down. A word of fewer than two bytes needs none.
 abbrev pub IsNeededByItems : List ℕ → ℕ → Type 0
 IsNeededByItems word items = (0 < items) × (items ≡ length word / 2)
 

@@ -157,7 +157,7 @@ missed_are chars from stop place miss header has =
     header has in
     let own = own_miss (miss_in_whole from) (seen_miss (drop from chars) (place - from)) miss is.2 in (is.0, own.0, own.1, own.2)
 
--- the header that is told with a miss is the header that stands at the place of the miss
+-- a miss is told with the header that stands at its place
 pub missed_header : (chars : List Character) (from stop place : ℕ) (miss : Miss) (header : Option HeaderParts)
     → Contains (missed chars from stop) (Missed place miss header) → header_at chars place ≡ header
 missed_header chars from stop place miss header has =

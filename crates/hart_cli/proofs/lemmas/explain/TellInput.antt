@@ -196,7 +196,7 @@ tells_all r r2 w w1 w2 start telling end rest read fault new told in_time text w
       in_time = in_time_on (IsDecidedText heard_decoding (IsDecidedIn start.teller.style)) told.input w w1 w2 text in_time wrote.0;
     }
 
--- when the sightings that were left are told too, the whole text of what was heard has been written
+-- after the last sightings are told, all of the text has been written
 pub explains_all : (decoding : Decoding (List Heard)) (limit : ℕ) (r r2 w w1 w2 : Stream) (start telling : Telling)
     (fault : Option CliFault) → IsNew start → TellsAll decoding limit r r2 w w1 start telling fault → TellsRest telling w1 w2
     → (text : List ℕ) × ReadsText decoding limit (IsTextIn start.teller.style) r r2 fault text × WritesAll w w2 text

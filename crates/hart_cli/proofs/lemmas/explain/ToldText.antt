@@ -111,7 +111,7 @@ fails_in_text start a heard w w1 w2 new t xs ended k =
       rw more (FailsToWrite-longer w w2 (text_in style date all) after begun),
     )
 
--- when the sightings that were left are told too, the whole text of what was heard has been written
+-- after the last sightings are told, all of the text has been written
 pub rest_text : (start a : Telling) (heard : List Heard) (w w1 w2 : Stream) → IsNew start → Told start a heard w w1 → IsWaiting a
     → a.kept ≡ [] → TellsRest a w1 w2 → (text : List ℕ) × IsTextIn start.teller.style heard text × WritesAll w w2 text
 rest_text start a heard w w1 w2 new t waiting quiet k =

@@ -77,7 +77,7 @@ either : (held : Bool) (given other : Result (List ℕ) FieldFault) (bytes : Lis
 either true given other bytes is = inl is
 either false given other bytes is = inr is
 
--- the bytes of a value in hex are as many as the bytes of its field
+-- a value in hex has as many bytes as its field
 length-sized : (size : ℕ) (found : Option (List ℕ)) (bytes : List ℕ) → sized (NoBytes size) size size found ≡ Ok bytes
     → length bytes ≡ size
 length-sized size None bytes is = absurd cc
