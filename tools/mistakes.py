@@ -79,12 +79,14 @@ def tried(kit, edits, is_after_gate, kept):
     yield from ((edit, (), verdict) for edit, verdict in bad)
     of_crates = {}
     for it in mistakes:
-        known = kept.find(it)
-        if known:
-            yield it.edit, it.functions, known
+        refusal = kept.find(it)
+        if refusal:
+            yield it.edit, it.functions, refusal
         else:
             of_crates.setdefault(os.path.basename(it.edit.crate), []).append(it)
-    print(f"mistakes: {sum(map(len, of_crates.values()))} to try, the others were refused by an earlier run on this machine", flush=True)
+    known = len(mistakes) - sum(map(len, of_crates.values()))
+    if known:
+        print(f"mistakes: {known} of {len(mistakes)} were refused by an earlier run on this machine, and are not tried again", flush=True)
     ready = crates_with_libraries(kit, list(of_crates), is_after_gate)
     for name in of_crates.keys() - ready:
         yield from ((it.edit, it.functions, Verdict((), "a library below its crate is not proved")) for it in of_crates[name])
