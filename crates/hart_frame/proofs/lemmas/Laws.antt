@@ -1,11 +1,6 @@
 -- The laws of bodies, frames, scanners, starts, damage and sightings, for the proofs of this crate and of the crates above it.
-use Rattle.std.proofs.Common.{arith, ◌≡◌, ◌↔◌, ℕ, Bool, IsTrue, List, [], ◌++◌, drop, length, map}
-use Rattle.std.proofs.lemmas.List.{append-nil}
-use Rattle.hart_frame.specs.declared.heard.found.Found.{Found}
-use Rattle.hart_frame.specs.heard.Character.{Character}
-use Rattle.hart_frame.specs.heard.Frames.{AreFrames, moved}
-use Rattle.hart_frame.specs.scan.Next.{AreNext}
-use Rattle.hart_frame.specs.scan.Scanner.{Scan}
+use Rattle.hart_frame.proofs.Common.{arith, ◌≡◌, ◌↔◌, ℕ, Bool, IsTrue, List, [], ◌++◌, drop, length, map, append-nil, Found, Character}
+use Rattle.hart_frame.proofs.Common.{AreFrames, moved, AreNext, Scan}
 use Rattle.hart_frame.specs.scan.Streamed.{IsHistory}
 use Rattle.hart_frame.proofs.lemmas.heard.Place.{HasNoFrame-end}
 use Rattle.hart_frame.proofs.lemmas.heard.Rest.{rest_frames, rest_only}

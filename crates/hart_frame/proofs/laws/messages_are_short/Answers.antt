@@ -1,5 +1,4 @@
-use Rattle.std.proofs.Common.{[], length, arith, length-append}
-use Rattle.std.proofs.lemmas.List.{append-nil, length-replicate}
+use Rattle.hart_frame.proofs.Common.{[], length, arith, length-append, append-nil, length-replicate}
 use Rattle.hart_frame.proofs.lemmas.wire.Parity.{fits_at}
 use Rattle.hart_frame.proofs.lemmas.wire.Refusal.{says}
 use Rattle.hart_frame.proofs.lemmas.wire.UnambiguousBodies.{BeginsWithBody-append, address_type-lt}

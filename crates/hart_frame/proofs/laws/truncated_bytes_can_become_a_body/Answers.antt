@@ -1,4 +1,4 @@
-use Rattle.hart_frame.specs.declared.wire.fault.FrameFault.TheVariants.{Truncated}
+use Rattle.hart_frame.proofs.Common.{Truncated}
 use Rattle.hart_frame.proofs.lemmas.wire.Refusal.{not_refused}
 use Rattle.hart_frame.proofs.lemmas.wire.Truncated.{CanBecomeBody-truncated, IsTruncated-only}
 use Rattle.hart_frame.proofs.laws.truncated_bytes_can_become_a_body.Goals as goal

@@ -1,10 +1,7 @@
 -- The first frames of a delivery decide whether it has no frame, one frame or several.
-use Rattle.std.proofs.Common.{arith, ◌≡◌, List, [], ◌∷◌}
+use Rattle.hart_frame.proofs.Common.{arith, ◌≡◌, List, [], ◌∷◌, Found, Character, AreFrames, HasNoFrame, IsFirst, none, first}
 use Rattle.hart_frame.specs.declared.scan.first.LoneFrame.{LoneFrame}
-use Rattle.hart_frame.specs.declared.heard.found.Found.{Found}
-use Rattle.hart_frame.specs.heard.Character.{Character}
 use Rattle.hart_frame.specs.heard.Delivery.{IsLone, lone_of}
-use Rattle.hart_frame.specs.heard.Frames.{AreFrames, HasNoFrame, IsFirst, none, first}
 use Rattle.hart_frame.proofs.lemmas.heard.UnambiguousFrames.{AreFrames-one}
 
 -- Whether a delivery has no frame, one frame alone or several follows from its list of frames.

@@ -1,16 +1,9 @@
 -- A frame stands where a body may start and a whole body stands. Every list of characters has a list of frames.
-use Rattle.std.proofs.Common.{append_assoc, ◌≡◌, ℕ, zero, suc, ◌+◌, ◌≤◌, ◌⊎◌, inl, inr, List, [], ◌∷◌, length, take, drop, arith, ◌++◌}
-use Rattle.std.proofs.Common.{length-append, refl}
-use Rattle.std.proofs.lemmas.Grind.{common_steps}
-use Rattle.std.proofs.lemmas.List.{take-append-drop, drop_at}
-use Rattle.hart_frame.specs.declared.heard.found.Found.{Found}
-use Rattle.hart_frame.specs.heard.Character.{Character, faultless, faultless_bytes}
-use Rattle.hart_frame.specs.heard.Frames.{none, first, AreFrames, IsFirst}
-use Rattle.hart_frame.specs.heard.InTheWay.{bytes_from, HasBodyAt}
-use Rattle.hart_frame.specs.heard.Place.{HasFrameAt, HasFrameUpTo, StandsIn}
-use Rattle.hart_frame.specs.heard.Start.{IsStart}
-use Rattle.hart_frame.specs.wire.Body.{IsBody, BeginsWithBody}
-use Rattle.hart_frame.specs.wire.FrameParts.{FrameParts}
+use Rattle.hart_frame.proofs.Common.{append_assoc, ◌≡◌, ℕ, zero, suc, ◌+◌, ◌≤◌, ◌⊎◌, inl, inr, List, [], ◌∷◌, length, take, drop, arith}
+use Rattle.hart_frame.proofs.Common.{◌++◌, length-append, refl, common_steps, take-append-drop, drop_at, Found, Character, faultless, none}
+use Rattle.hart_frame.proofs.Common.{faultless_bytes, first, AreFrames, IsFirst, bytes_from, HasBodyAt, HasFrameAt, StandsIn, IsStart}
+use Rattle.hart_frame.proofs.Common.{IsBody, BeginsWithBody, FrameParts}
+use Rattle.hart_frame.specs.heard.Place.{HasFrameUpTo}
 use Rattle.hart_frame.proofs.lemmas.heard.Body.{head_of}
 use Rattle.hart_frame.proofs.lemmas.heard.Front.{heard_parts, regrouped, faultless_bytes-append}
 use Rattle.hart_frame.proofs.lemmas.heard.Place.{preamble, StandsIn-from, StandsIn-within, HasNoFrame-end}

@@ -1,16 +1,10 @@
 -- The bytes up to the first character with fault bits.
-use Rattle.std.proofs.Common.{◌≡◌, ◌≢◌, ℕ, ◌+◌, ◌<◌, ◌≤◌, List, [], ◌∷◌, ◌++◌, length, take, drop, get_or, Some}
-use Rattle.std.proofs.Common.{refl, arith, append_assoc, length-append, ◌==◌}
-use Rattle.std.proofs.lemmas.Bool.Decides.{nat_tests}
-use Rattle.std.proofs.lemmas.Grind.{common_steps}
-use Rattle.std.proofs.lemmas.List.{get_or_append_left, get_or-map, drop_more, length-map, length-take}
-use Rattle.std.proofs.lemmas.List.{map-append, take_min, take-append-le, take-map}
-use Rattle.std.proofs.lemmas.List.Elements.{All-drop, All-from_get_or, All-take}
+use Rattle.hart_frame.proofs.Common.{◌≡◌, ◌≢◌, ℕ, ◌+◌, ◌<◌, ◌≤◌, List, [], ◌∷◌, ◌++◌, length, take, drop, get_or, Some, refl, arith, ◌==◌}
+use Rattle.hart_frame.proofs.Common.{append_assoc, length-append, nat_tests, common_steps, get_or_append_left, get_or-map, drop_more, All}
+use Rattle.hart_frame.proofs.Common.{length-map, length-take, map-append, take-append-le, take-map, All-drop, All-from_get_or, All-take}
+use Rattle.hart_frame.proofs.Common.{slice_get, Character, faultless, faultless_bytes, IsOfBytes, body_length}
+use Rattle.std.proofs.lemmas.List.{take_min}
 use Rattle.std.proofs.lemmas.List.Sums.{take_while-cons}
-use Rattle.std.specs.List.{All, slice_get}
-use Rattle.hart_frame.specs.heard.Character.{Character, faultless, faultless_bytes}
-use Rattle.hart_frame.specs.private.Miss.{IsOfBytes}
-use Rattle.hart_frame.specs.wire.Layout.{body_length}
 use Rattle.hart_frame.proofs.lemmas.heard.Place.{preamble}
 
 -- A faultless character adds its byte, and a character with fault bits ends the bytes.

@@ -1,26 +1,18 @@
 -- Where a body may start, a frame stands or there is a miss, and when the miss is put right a frame stands there.
-use Rattle.std.proofs.Common.{◌≡◌, ◌≢◌, ℕ, fold, bit_xor, ◌+◌, ◌-◌, ◌<◌, ◌⊎◌, List, [], ◌∷◌, ◌++◌, length, take, drop, get_or}
-use Rattle.std.proofs.Common.{set, true, ap, inl, inr, sym, ◌∙◌, None, Option, Some, refl, arith, append_assoc, length-append, ◌↔◌}
-use Rattle.std.proofs.lemmas.Bool.Decides.{nat_tests}
-use Rattle.std.proofs.lemmas.Grind.{common_steps}
-use Rattle.std.proofs.lemmas.List.{length-set, drop_all, length-drop, take_at, append-nil, drop_more, get_or-set_same, length-take-le}
-use Rattle.std.proofs.lemmas.List.{map-append, set_at, take-append-drop, take-take, take_more}
-use Rattle.std.proofs.lemmas.List.Elements.{All-append, All-drop, All-take}
+use Rattle.hart_frame.proofs.Common.{◌≡◌, ◌≢◌, ℕ, fold, bit_xor, ◌+◌, ◌-◌, ◌<◌, ◌⊎◌, List, [], ◌∷◌, ◌++◌, length, take, drop, get_or, true}
+use Rattle.hart_frame.proofs.Common.{ap, inl, inr, sym, ◌∙◌, None, Option, Some, refl, arith, append_assoc, length-append, ◌↔◌, nat_tests}
+use Rattle.hart_frame.proofs.Common.{common_steps, drop_all, length-drop, take_at, append-nil, drop_more, length-take-le, map-append, All}
+use Rattle.hart_frame.proofs.Common.{take-append-drop, take-take, take_more, All-append, All-drop, All-take, MatchOption, is_some, Miss}
+use Rattle.hart_frame.proofs.Common.{Faulty, OnePreamble, Character, faultless, faultless_bytes, bytes_from, HasBodyAt, HasFrameAt, miss_of}
+use Rattle.hart_frame.proofs.Common.{body_miss, check_miss, IsStart, IsOfBytes, BeginsWithBody, body_length, IsCheckByte, HasCheckByte}
+use Rattle.std.proofs.Common.{set}
+use Rattle.std.proofs.lemmas.List.{length-set, get_or-set_same, set_at}
 use Rattle.std.proofs.lemmas.Option.{get_or_from_slice_get, slice_get_within}
-use Rattle.std.specs.List.{All, insert}
-use Rattle.std.specs.Option.{IsSome, MatchOption, is_some}
-use Rattle.hart_frame.specs.declared.heard.miss.Miss.{Miss}
-use Rattle.hart_frame.specs.declared.heard.miss.Miss.TheVariants.{BadCheck, Faulty, Missing, OnePreamble}
-use Rattle.hart_frame.specs.heard.Character.{Character, faultless, faultless_bytes}
-use Rattle.hart_frame.specs.heard.InTheWay.{bytes_from, FollowsOnePreamble, HasBodyAt, HasFaultsAt, IsMiss}
-use Rattle.hart_frame.specs.heard.Place.{HasFrameAt, HasFrameUpTo}
-use Rattle.hart_frame.specs.heard.Miss.{body_miss, check_miss, miss_of}
-use Rattle.hart_frame.specs.heard.Start.{IsStart}
-use Rattle.hart_frame.specs.private.Miss.{IsOfBytes}
-use Rattle.hart_frame.specs.wire.Body.{BeginsWithBody}
-use Rattle.hart_frame.specs.wire.Layout.{body_length}
-use Rattle.hart_frame.specs.wire.Parity.{IsCheckByte}
-use Rattle.hart_frame.specs.wire.Refusal.{HasCheckByte}
+use Rattle.std.specs.List.{insert}
+use Rattle.std.specs.Option.{IsSome}
+use Rattle.hart_frame.specs.declared.heard.miss.Miss.TheVariants.{BadCheck, Missing}
+use Rattle.hart_frame.specs.heard.InTheWay.{FollowsOnePreamble, HasFaultsAt, IsMiss}
+use Rattle.hart_frame.specs.heard.Place.{HasFrameUpTo}
 use Rattle.hart_frame.proofs.lemmas.heard.FramesFound.{body_at, body_frame, frame_up_to, starts}
 use Rattle.hart_frame.proofs.lemmas.heard.Front.{faultless_fit, heard_parts, length-faultless_bytes, of_chars, take_heard}
 use Rattle.hart_frame.proofs.lemmas.heard.InTheWay.{in_the_way, way_of}

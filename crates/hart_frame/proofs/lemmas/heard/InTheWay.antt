@@ -1,25 +1,12 @@
 -- Where a body may start, the miss is what stands in the way. The bytes are refused with the fault that corresponds to this miss.
-use Rattle.std.proofs.Common.{◌≡◌, ◌≢◌, ℕ, ◌+◌, ◌-◌, ◌<◌, ◌⊎◌, List, fold, bit_xor, length, take, ◌↔◌, drop, get_or, None, Some, refl}
-use Rattle.std.proofs.Common.{arith, Option, ◌∙◌}
-use Rattle.std.proofs.lemmas.Bool.Decides.{nat_tests}
-use Rattle.std.proofs.lemmas.Grind.{common_steps}
-use Rattle.std.proofs.lemmas.List.{get_or-drop, length-append, length-drop, take-take}
-use Rattle.std.proofs.lemmas.List.Elements.{All-take}
-use Rattle.std.proofs.lemmas.Option.{slice_get-get_or, slice_get_cases}
-use Rattle.std.specs.List.{All, slice_get}
-use Rattle.hart_frame.specs.declared.heard.miss.Miss.{Miss}
-use Rattle.hart_frame.specs.declared.heard.miss.Miss.TheVariants.{BadCheck, EndsBeforeByteCount, Faulty, Missing, OnePreamble}
-use Rattle.hart_frame.specs.declared.wire.fault.FrameFault.{FrameFault}
-use Rattle.hart_frame.specs.heard.Character.{Character, faultless_bytes}
-use Rattle.hart_frame.specs.heard.InTheWay.{ComeToTheEnd, HasFaultsAt, IsInTheWay, bytes_from, fault_of}
-use Rattle.hart_frame.specs.heard.Miss.{miss_in, body_miss, faulty_or, miss_of}
-use Rattle.hart_frame.specs.heard.Start.{IsStart}
-use Rattle.hart_frame.specs.private.Miss.{IsOfBytes}
-use Rattle.hart_frame.specs.wire.Body.{BeginsWithBody}
-use Rattle.hart_frame.specs.wire.FrameParts.{FrameParts}
-use Rattle.hart_frame.specs.wire.Layout.{body_length}
-use Rattle.hart_frame.specs.wire.Parity.{IsCheckByte}
-use Rattle.hart_frame.specs.wire.Refusal.{IsRefusedWith}
+use Rattle.hart_frame.proofs.Common.{◌≡◌, ◌≢◌, ℕ, ◌+◌, ◌-◌, ◌<◌, ◌⊎◌, List, fold, bit_xor, length, take, ◌↔◌, drop, get_or, None, Some, ◌∙◌}
+use Rattle.hart_frame.proofs.Common.{refl, arith, Option, nat_tests, common_steps, get_or-drop, length-append, length-drop, take-take, All}
+use Rattle.hart_frame.proofs.Common.{All-take, slice_get-get_or, slice_get_cases, slice_get, Miss, Faulty, OnePreamble, FrameFault, miss_in}
+use Rattle.hart_frame.proofs.Common.{Character, faultless_bytes, bytes_from, body_miss, miss_of, IsStart, IsOfBytes, BeginsWithBody}
+use Rattle.hart_frame.proofs.Common.{FrameParts, body_length, IsCheckByte, IsRefusedWith}
+use Rattle.hart_frame.specs.declared.heard.miss.Miss.TheVariants.{BadCheck, EndsBeforeByteCount, Missing}
+use Rattle.hart_frame.specs.heard.InTheWay.{ComeToTheEnd, HasFaultsAt, IsInTheWay, fault_of}
+use Rattle.hart_frame.specs.heard.Miss.{faulty_or}
 use Rattle.hart_frame.proofs.lemmas.heard.Front.{char_at, after_faultless, length-faultless_bytes}
 use Rattle.hart_frame.proofs.lemmas.heard.Missed.{miss_of-some, miss_of-start}
 use Rattle.hart_frame.proofs.lemmas.heard.Place.{preamble, rest_at}

@@ -1,15 +1,8 @@
 -- Where a frame stands, and where its body begins.
-use Rattle.std.proofs.Common.{◌≡◌, ℕ, ◌+◌, ◌<◌, ◌≤◌, List, ◌∷◌, ◌++◌, length, drop, take, ap, sym, ◌∙◌, arith, append_assoc, length-append}
-use Rattle.std.proofs.lemmas.Grind.{common_steps}
-use Rattle.std.proofs.lemmas.List.{drop_at, get_or-drop, length-drop, length-map, length-take-le, take-append-drop}
-use Rattle.std.proofs.lemmas.Option.{slice_get-get_or, slice_get_cases}
-use Rattle.std.specs.List.{slice_get}
-use Rattle.hart_frame.specs.declared.heard.found.Found.{Found}
-use Rattle.hart_frame.specs.heard.Character.{Character, faultless}
-use Rattle.hart_frame.specs.heard.Frames.{HasNoFrame}
-use Rattle.hart_frame.specs.heard.Place.{StandsIn}
-use Rattle.hart_frame.specs.wire.Body.{IsBody}
-use Rattle.hart_frame.specs.wire.FrameParts.{FrameParts}
+use Rattle.hart_frame.proofs.Common.{◌≡◌, ℕ, ◌+◌, ◌<◌, ◌≤◌, List, ◌∷◌, ◌++◌, length, drop, take, ap, sym, ◌∙◌, arith, append_assoc, drop_at}
+use Rattle.hart_frame.proofs.Common.{length-append, common_steps, get_or-drop, length-drop, length-map, length-take-le, take-append-drop}
+use Rattle.hart_frame.proofs.Common.{slice_get-get_or, slice_get_cases, slice_get, Found, Character, faultless, HasNoFrame, StandsIn}
+use Rattle.hart_frame.proofs.Common.{IsBody, FrameParts}
 
 -- The faultless preamble byte FF.
 abbrev pub preamble : Character

@@ -1,22 +1,15 @@
 -- How what is seen of a list from a place on depends on what is seen of the list from a later place on.
-use Rattle.std.proofs.Common.{◌≡◌, ℕ, zero, suc, ◌+◌, ◌-◌, ◌≤◌, List, [], ◌∷◌, ◌++◌, length}
-use Rattle.std.proofs.Common.{◌<◌, drop, true, false, None, inl, arith, append_assoc, refl, sym}
-use Rattle.std.proofs.lemmas.Bool.Decides.{nat_tests}
-use Rattle.std.proofs.lemmas.List.{append-nil}
-use Rattle.hart_frame.specs.declared.heard.miss.Miss.{Miss}
-use Rattle.hart_frame.specs.heard.Miss.{body_miss}
+use Rattle.hart_frame.proofs.Common.{◌≡◌, ℕ, zero, suc, ◌+◌, ◌-◌, ◌≤◌, List, [], ◌∷◌, ◌++◌, length, ◌<◌, drop, true, false, None, inl, refl}
+use Rattle.hart_frame.proofs.Common.{arith, append_assoc, sym, nat_tests, append-nil, Miss, body_miss, flat_map, range_with_len, Found}
+use Rattle.hart_frame.proofs.Common.{Character, AreFrames, IsFirst, first, none, StandsIn, AreSightings, Message, Missed, Seen, header_at}
+use Rattle.hart_frame.proofs.Common.{missed_at, sightings}
 use Rattle.hart_frame.proofs.lemmas.heard.FramesFound.{body_of, start_of}
 use Rattle.hart_frame.proofs.lemmas.heard.Missed.{none_of}
 use Rattle.hart_frame.proofs.lemmas.heard.Place.{preamble}
 use Rattle.hart_frame.proofs.lemmas.heard.Sighting.{IsClean, follows_from, is_other_at, is_preamble_at, same_from}
 use Rattle.hart_frame.proofs.lemmas.heard.Start.{starts_at, tested}
 use Rattle.std.proofs.lemmas.Grind.{flat_map-append}
-use Rattle.std.specs.List.{flat_map, range_with_len}
-use Rattle.hart_frame.specs.declared.heard.found.Found.{Found}
-use Rattle.hart_frame.specs.heard.Character.{Character}
-use Rattle.hart_frame.specs.heard.Frames.{AreFrames, IsFirst, first, none}
-use Rattle.hart_frame.specs.heard.Place.{StandsIn}
-use Rattle.hart_frame.specs.heard.Sighting.{AreSightings, Message, Missed, Seen, header_at, missed, missed_at, sightings}
+use Rattle.hart_frame.specs.heard.Sighting.{missed}
 
 -- A list passes to `to` if three things hold: `given` is seen before `to`; no frame begins before `to`; and what is seen at a place from
 -- `to` on does not depend on whether characters count from `from` on or from `to` on.

@@ -1,25 +1,15 @@
 -- What is seen in the rest of a list, and what is seen after a character other than FF.
-use Rattle.std.proofs.Common.{◌≡◌, ℕ, zero, suc, ◌+◌, ◌-◌, ◌<◌, ◌≤◌, Bool, true, false, List, [], ◌∷◌, length, map, drop, Option, None}
-use Rattle.std.proofs.Common.{Some, ◌∙◌, ◌⊎◌, inl, inr, ap, sym, arith, refl, length-drop}
-use Rattle.std.proofs.lemmas.Bool.Decides.{nat_tests}
-use Rattle.std.proofs.lemmas.Grind.{common_steps}
-use Rattle.std.proofs.lemmas.List.{drop_all, drop_more, drop-drop, map-append}
+use Rattle.hart_frame.proofs.Common.{◌≡◌, ℕ, zero, suc, ◌+◌, ◌-◌, ◌<◌, ◌≤◌, Bool, true, false, List, [], ◌∷◌, length, map, drop, Option, ap}
+use Rattle.hart_frame.proofs.Common.{None, Some, ◌∙◌, ◌⊎◌, inl, inr, sym, arith, refl, length-drop, nat_tests, common_steps, drop_all, ◌&&◌}
+use Rattle.hart_frame.proofs.Common.{drop_more, drop-drop, map-append, flat_map, range_with_len, slice_get, option_map_or, not, Found, Miss}
+use Rattle.hart_frame.proofs.Common.{OnePreamble, Character, moved, body_miss, stands_alone, Missed, Seen, header_at, missed_at, sightings}
+use Rattle.hart_frame.proofs.Common.{miss_in_whole, two_begin_in_body, HeaderParts}
 use Rattle.hart_frame.proofs.lemmas.heard.Front.{faultless_bytes-more}
 use Rattle.hart_frame.proofs.lemmas.heard.Place.{preamble, rest_at}
-use Rattle.std.specs.List.{flat_map, range_with_len, slice_get}
-use Rattle.std.specs.Option.{option_map_or}
-use Rattle.std.specs.Prelude.{◌&&◌, if◌then◌else◌, is_none, nat_lt, not, option_map}
-use Rattle.hart_frame.specs.declared.heard.found.Found.{Found}
-use Rattle.hart_frame.specs.declared.heard.miss.Miss.{Miss}
-use Rattle.hart_frame.specs.declared.heard.miss.Miss.TheVariants.{OnePreamble}
-use Rattle.hart_frame.specs.heard.Character.{Character}
-use Rattle.hart_frame.specs.heard.Frames.{moved}
-use Rattle.hart_frame.specs.heard.Miss.{body_miss, follows_preamble, is_preamble}
-use Rattle.hart_frame.specs.private.Sighting.{stands_alone}
+use Rattle.std.specs.Prelude.{if◌then◌else◌, is_none, nat_lt, option_map}
+use Rattle.hart_frame.specs.heard.Miss.{follows_preamble, is_preamble}
 use Rattle.hart_frame.proofs.lemmas.heard.Start.{tested}
-use Rattle.hart_frame.specs.heard.Sighting.{Missed, Seen, header_at, missed, missed_at, miss_in_whole, moved_seen, seen_miss, sightings}
-use Rattle.hart_frame.specs.heard.Sighting.{two_begin_in_body}
-use Rattle.hart_frame.specs.wire.Header.{HeaderParts}
+use Rattle.hart_frame.specs.heard.Sighting.{missed, moved_seen, seen_miss}
 
 -- What is seen at a place of the rest of a list is seen `n` places later in the list.
 told_moved : (n from p : ℕ) (h : Option HeaderParts) (m : Option Miss)

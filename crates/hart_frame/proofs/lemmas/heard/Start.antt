@@ -1,15 +1,11 @@
 -- Where a body may start in a list of characters.
-use Rattle.std.proofs.Common.{◌↔◌, true, false, not, ◌≡◌, ◌≢◌, ℕ, zero, suc, ◌-◌, ◌<◌, ◌≤◌, ◌⊎◌, inl, inr, List, [], ◌∷◌, ◌++◌, length}
-use Rattle.std.proofs.Common.{take, drop, get_or, arith, length-append, drop-cons, append_assoc}
-use Rattle.std.proofs.lemmas.Bool.Decides.{nat_tests}
-use Rattle.std.proofs.lemmas.Option.{slice_get-get_or, slice_get_cases}
-use Rattle.std.specs.List.{slice_get}
-use Rattle.std.specs.Option.{option_map_or}
+use Rattle.hart_frame.proofs.Common.{◌↔◌, true, false, not, ◌≡◌, ◌≢◌, ℕ, zero, suc, ◌-◌, ◌<◌, ◌≤◌, ◌⊎◌, inl, inr, List, [], ◌∷◌, ◌++◌, take}
+use Rattle.hart_frame.proofs.Common.{length, drop, get_or, arith, length-append, append_assoc, nat_tests, slice_get-get_or, slice_get_cases}
+use Rattle.hart_frame.proofs.Common.{slice_get, option_map_or, common_steps, length-take-le, take-append-drop, Character, IsStart}
+use Rattle.std.proofs.Common.{drop-cons}
 use Rattle.hart_frame.specs.heard.Miss.{is_preamble, is_start}
-use Rattle.std.proofs.lemmas.Grind.{common_steps}
-use Rattle.std.proofs.lemmas.List.{get_or-append-add, length-take-le, take-append-drop}
-use Rattle.hart_frame.specs.heard.Character.{Character}
-use Rattle.hart_frame.specs.heard.Start.{HasNoStart, IsFirstStart, IsStart}
+use Rattle.std.proofs.lemmas.List.{get_or-append-add}
+use Rattle.hart_frame.specs.heard.Start.{HasNoStart, IsFirstStart}
 use Rattle.hart_frame.proofs.lemmas.heard.Place.{preamble}
 
 -- A list has at most one first start.

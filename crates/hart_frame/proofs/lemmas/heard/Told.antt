@@ -1,20 +1,13 @@
 -- The miss of a place follows from how the bytes there begin.
-use Rattle.std.proofs.Common.{◌≡◌, ℕ, ◌+◌, ◌<◌, ◌≤◌, List, ◌++◌, Option, None, Some, drop, get_or, length, take, ◌∙◌, arith, length-append}
-use Rattle.std.proofs.lemmas.Bool.Decides.{nat_tests}
-use Rattle.std.proofs.lemmas.List.{get_or-take, get_or_append_left, length-take, take_all, take-append-drop, take-append-le, take-take}
-use Rattle.std.proofs.lemmas.List.Elements.{All-from_get_or, All-take}
-use Rattle.std.specs.List.{slice_get}
-use Rattle.hart_frame.specs.declared.wire.layout.Layout.{Layout}
-use Rattle.hart_frame.specs.declared.wire.prefix.Prefix.TheVariants.{Cut, Whole}
-use Rattle.hart_frame.specs.declared.wire.prefix.Wrong.{Wrong}
+use Rattle.hart_frame.proofs.Common.{◌≡◌, ℕ, ◌+◌, ◌<◌, ◌≤◌, List, ◌++◌, Option, None, Some, drop, get_or, length, take, ◌∙◌, arith, Layout}
+use Rattle.hart_frame.proofs.Common.{length-append, nat_tests, get_or-take, get_or_append_left, length-take, take_all, take-append-drop}
+use Rattle.hart_frame.proofs.Common.{take-append-le, take-take, All-from_get_or, All-take, slice_get, Cut, Wrong, Character, body_miss}
+use Rattle.hart_frame.proofs.Common.{faultless_bytes, check_miss, miss_in, layout_length, IsOfBytes, IsPrefix, IsWrong, body_length}
+use Rattle.hart_frame.proofs.Common.{byte_count_place, HasCheckByte}
+use Rattle.hart_frame.specs.declared.wire.prefix.Prefix.TheVariants.{Whole}
 use Rattle.hart_frame.specs.declared.wire.prefix.Wrong.TheVariants.{BadCheck, BadDelimiter, ShortReply}
-use Rattle.hart_frame.specs.heard.Character.{Character, faultless_bytes}
-use Rattle.hart_frame.specs.heard.Miss.{body_miss, check_miss, faulty_or, miss_in}
-use Rattle.hart_frame.specs.private.Layout.{layout_length}
-use Rattle.hart_frame.specs.private.Miss.{IsOfBytes, cut_miss, wrong_miss}
-use Rattle.hart_frame.specs.private.Prefix.{IsPrefix, IsWrong}
-use Rattle.hart_frame.specs.wire.Layout.{body_length, byte_count_place}
-use Rattle.hart_frame.specs.wire.Refusal.{HasCheckByte}
+use Rattle.hart_frame.specs.heard.Miss.{faulty_or}
+use Rattle.hart_frame.specs.private.Miss.{cut_miss, wrong_miss}
 use Rattle.hart_frame.proofs.lemmas.wire.Parity.{odd}
 use Rattle.hart_frame.proofs.lemmas.wire.Reading.{fold_fits, whole_has}
 

@@ -1,10 +1,6 @@
 -- From a place on, a list of characters has at most one first frame, and only one list of frames.
-use Rattle.std.proofs.Common.{◌≡◌, ℕ, List, length, refl, arith}
-use Rattle.hart_frame.specs.declared.heard.found.Found.{Found}
-use Rattle.hart_frame.specs.heard.Character.{Character}
-use Rattle.hart_frame.specs.heard.Frames.{IsFirst, AreFrames, none, first}
-use Rattle.hart_frame.specs.heard.Place.{StandsIn}
-use Rattle.hart_frame.specs.heard.InTheWay.{bytes_from}
+use Rattle.hart_frame.proofs.Common.{◌≡◌, ℕ, List, length, refl, arith, Found, Character, IsFirst, AreFrames, none, first, StandsIn}
+use Rattle.hart_frame.proofs.Common.{bytes_from}
 use Rattle.hart_frame.proofs.lemmas.heard.FramesFound.{begins_at, body_of}
 use Rattle.hart_frame.proofs.lemmas.wire.UnambiguousBodies.{bodies_are_unambiguous-one_prefix}
 

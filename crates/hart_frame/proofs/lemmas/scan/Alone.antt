@@ -1,18 +1,13 @@
 -- Lemmas about when two FF in a row begin in a whole body, and when they do not.
-use Rattle.std.proofs.Common.{◌≡◌, ◌≢◌, ℕ, ◌+◌, ◌-◌, ◌<◌, ◌≤◌, ◌⊎◌, true, false, List, [], ◌∷◌, ◌++◌, length, take, drop, get_or, min, ◌∙◌}
-use Rattle.std.proofs.Common.{add-zero, ap, sym, arith, refl, length-append, length-drop, None, Option}
-use Rattle.std.proofs.lemmas.Bool.Decides.{nat_tests}
-use Rattle.std.proofs.lemmas.List.{append-nil, get_or_append_left, take_all, take-append-le}
-use Rattle.std.proofs.Math.Seq.{take-append-add}
-use Rattle.std.specs.Prelude.{◌==◌, ◌&&◌, ◌||◌, is_none}
-use Rattle.hart_frame.specs.declared.scan.sighting.After.{After}
-use Rattle.hart_frame.specs.declared.scan.sighting.After.TheVariants.{Damaged, End, More}
-use Rattle.hart_frame.specs.heard.Character.{Character, faultless, faultless_bytes}
-use Rattle.hart_frame.specs.heard.Miss.{body_miss, check_miss, miss_in}
-use Rattle.hart_frame.specs.heard.Sighting.{has_two_preambles, two_begin_in_body, miss_in_whole}
-use Rattle.hart_frame.specs.private.Sighting.{HasBodyMiss, MayFollow, MayStandAlone, Whatever, stands_alone}
-use Rattle.hart_frame.specs.wire.Layout.{body_length}
-use Rattle.hart_frame.specs.wire.Refusal.{HasCheckByte, IsTruncated}
+use Rattle.hart_frame.proofs.Common.{◌≡◌, ◌≢◌, ℕ, ◌+◌, ◌-◌, ◌<◌, ◌≤◌, ◌⊎◌, true, false, List, [], ◌∷◌, ◌++◌, length, take, drop, get_or, ap}
+use Rattle.hart_frame.proofs.Common.{◌∙◌, add-zero, sym, arith, refl, length-append, length-drop, None, Option, nat_tests, append-nil, ◌==◌}
+use Rattle.hart_frame.proofs.Common.{get_or_append_left, take_all, take-append-le, take-append-add, ◌&&◌, ◌||◌, After, Damaged, End, More}
+use Rattle.hart_frame.proofs.Common.{Character, faultless, faultless_bytes, body_miss, check_miss, miss_in, has_two_preambles, MayFollow}
+use Rattle.hart_frame.proofs.Common.{two_begin_in_body, miss_in_whole, MayStandAlone, Whatever, stands_alone, body_length, HasCheckByte}
+use Rattle.hart_frame.proofs.Common.{IsTruncated}
+use Rattle.std.proofs.Common.{min}
+use Rattle.std.specs.Prelude.{is_none}
+use Rattle.hart_frame.specs.private.Sighting.{HasBodyMiss}
 use Rattle.hart_frame.proofs.lemmas.heard.Place.{preamble}
 use Rattle.hart_frame.proofs.lemmas.heard.Front.{faultless_bytes-end}
 use Rattle.hart_frame.proofs.lemmas.heard.Sighting.{body_moved, is_none-map}

@@ -1,28 +1,15 @@
 -- What stands at a place of bytes, whatever comes after them.
+use Rattle.hart_frame.proofs.Common.{◌≡◌, ◌≢◌, ℕ, ◌+◌, ◌<◌, ◌≤◌, false, List, [], ◌∷◌, ◌++◌, length, drop, None, Some, Option, ◌∙◌, arith}
+use Rattle.hart_frame.proofs.Common.{refl, length-append, length-drop, nat_tests, append-nil, drop-append-le, drop-map, get_or_at, Miss}
+use Rattle.hart_frame.proofs.Common.{length-map, slice_get-get_or, slice_get_cases, slice_get, Faulty, After, Damaged, End, More, Layout}
+use Rattle.hart_frame.proofs.Common.{Cut, Wrong, Character, faultless, faultless_bytes, body_miss, miss_in, IsPrefix, IsWrong, Whatever}
+use Rattle.hart_frame.proofs.Common.{stands_alone, heard_with, header_in, body_length, command_place, delimiter_in, IsDelimiter}
 use Rattle.hart_frame.proofs.lemmas.heard.Front.{faultless_bytes-end, faultless_bytes-append}
-use Rattle.std.proofs.Common.{◌≡◌, ◌≢◌, ℕ, ◌+◌, ◌<◌, ◌≤◌, false, List, [], ◌∷◌, ◌++◌, length, drop, None, Some, Option}
-use Rattle.std.proofs.Common.{◌∙◌, arith, refl, length-append, length-drop}
-use Rattle.std.proofs.lemmas.Bool.Decides.{nat_tests}
-use Rattle.std.proofs.lemmas.List.{append-nil, drop-append-le, drop-map, get_or_at, length-map}
-use Rattle.std.proofs.lemmas.Option.{slice_get-get_or, slice_get_cases}
-use Rattle.std.specs.Prelude.{slice_get}
-use Rattle.hart_frame.specs.declared.heard.miss.Miss.{Miss}
-use Rattle.hart_frame.specs.declared.heard.miss.Miss.TheVariants.{Faulty}
-use Rattle.hart_frame.specs.declared.scan.sighting.After.{After}
-use Rattle.hart_frame.specs.declared.scan.sighting.After.TheVariants.{Damaged, End, More}
-use Rattle.hart_frame.specs.declared.wire.layout.Layout.{Layout}
-use Rattle.hart_frame.specs.declared.wire.prefix.Prefix.TheVariants.{Cut, Whole}
-use Rattle.hart_frame.specs.declared.wire.prefix.Wrong.{Wrong}
+use Rattle.hart_frame.specs.declared.wire.prefix.Prefix.TheVariants.{Whole}
 use Rattle.hart_frame.specs.declared.wire.prefix.Wrong.TheVariants.{BadCheck, BadDelimiter, ShortReply}
-use Rattle.hart_frame.specs.heard.Character.{Character, faultless, faultless_bytes}
-use Rattle.hart_frame.specs.heard.Miss.{body_miss, miss_in}
 use Rattle.hart_frame.specs.private.Miss.{cut_miss, wrong_miss}
-use Rattle.hart_frame.specs.private.Prefix.{IsPrefix, IsWrong}
-use Rattle.hart_frame.specs.private.Sighting.{HasBodyMiss, KeepsHeader, Whatever, stands_alone}
-use Rattle.hart_frame.specs.scan.Sighting.{NamesPlacesBelow, heard_with}
-use Rattle.hart_frame.specs.wire.Header.{header_in}
-use Rattle.hart_frame.specs.wire.Layout.{body_length, command_place, delimiter_in}
-use Rattle.hart_frame.specs.wire.Delimiter.{IsDelimiter}
+use Rattle.hart_frame.specs.private.Sighting.{HasBodyMiss, KeepsHeader}
+use Rattle.hart_frame.specs.scan.Sighting.{NamesPlacesBelow}
 use Rattle.hart_frame.proofs.lemmas.wire.Header.{header_sure}
 use Rattle.hart_frame.proofs.lemmas.heard.Told.{cut_told, whole_told, wrong_told}
 use Rattle.hart_frame.proofs.lemmas.scan.Sighted.{heard_few}

@@ -1,21 +1,13 @@
 -- What is known about bytes from how they begin.
-use Rattle.std.proofs.Common.{◌≡◌, ◌≢◌, ℕ, zero, suc, ◌+◌, ◌<◌, ◌≤◌, inl, inr, List, [], ◌∷◌, ◌++◌, length, take, drop, get_or, refl, sym}
-use Rattle.std.proofs.Common.{ap, ◌∙◌, arith, append_assoc}
-use Rattle.std.proofs.Math.Seq.{take-append-add}
-use Rattle.std.proofs.lemmas.List.{append-nil, length-drop, map-append, take_rest, take-append-drop}
-use Rattle.std.specs.List.{slice_range}
+use Rattle.hart_frame.proofs.Common.{◌≡◌, ◌≢◌, ℕ, zero, suc, ◌+◌, ◌<◌, ◌≤◌, inl, inr, List, [], ◌∷◌, ◌++◌, length, take, drop, get_or, refl}
+use Rattle.hart_frame.proofs.Common.{sym, ap, ◌∙◌, arith, append_assoc, take-append-add, append-nil, length-drop, map-append, take_rest}
+use Rattle.hart_frame.proofs.Common.{take-append-drop, slice_range, Truncated, Layout, Wrong, Character, faultless, faultless_bytes}
+use Rattle.hart_frame.proofs.Common.{IsUndecided, BeginWithNone, IsWhole, MayBegin, layout_length, IsPrefix, IsWrong, IsTruncated}
 use Rattle.hart_frame.specs.declared.scan.candidate.Candidate.TheVariants.{Never, Whole}
-use Rattle.hart_frame.specs.declared.wire.fault.FrameFault.TheVariants.{Truncated}
-use Rattle.hart_frame.specs.declared.wire.layout.Layout.{Layout}
 use Rattle.hart_frame.specs.declared.wire.prefix.Prefix.TheVariants as prefix
-use Rattle.hart_frame.specs.declared.wire.prefix.Wrong.{Wrong}
 use Rattle.hart_frame.specs.private.Body.{bytes_of}
-use Rattle.hart_frame.specs.heard.Character.{Character, faultless, faultless_bytes}
-use Rattle.hart_frame.specs.heard.Frames.{IsUndecided}
-use Rattle.hart_frame.specs.private.Candidate.{BeginWithNone, IsCandidate, IsWhole, MayBegin, MayBeginBefore, NothingFollows, NeverBegin}
-use Rattle.hart_frame.specs.private.Layout.{layout_length}
-use Rattle.hart_frame.specs.private.Prefix.{IsPrefix, IsWrong, fault_in, shown_by}
-use Rattle.hart_frame.specs.wire.Refusal.{IsTruncated}
+use Rattle.hart_frame.specs.private.Candidate.{IsCandidate, MayBeginBefore, NothingFollows, NeverBegin}
+use Rattle.hart_frame.specs.private.Prefix.{fault_in, shown_by}
 use Rattle.hart_frame.proofs.lemmas.heard.Body.{bytes_of-faultless}
 use Rattle.hart_frame.proofs.lemmas.heard.Front.{faultless_bytes-append, faultless_bytes-end}
 use Rattle.hart_frame.proofs.lemmas.heard.Place.{StandsIn-at, StandsIn-within, preamble}

@@ -1,20 +1,12 @@
 -- How a scanner hears a chunk, at once or in parts.
-use Rattle.std.proofs.Common.{◌≡◌, ℕ, ◌+◌, ◌-◌, ◌<◌, ◌≤◌, ◌⊎◌, inl, inr, false, List, [], ◌∷◌, ◌++◌, length, take, Option, None}
-use Rattle.std.proofs.Common.{Some, drop, get_or, refl, ap, subst, ◌∙◌, arith, append_assoc, length-drop}
-use Rattle.std.proofs.Math.Seq.{take-add}
-use Rattle.std.proofs.lemmas.Grind.{common_steps}
-use Rattle.std.proofs.lemmas.List.{length-take, append-nil, take-map, take-take, length-map, length-take-le}
-use Rattle.std.specs.Option.{MatchOption}
-use Rattle.hart_frame.specs.declared.scan.buffer.Buffer.{Buffer}
-use Rattle.hart_frame.specs.declared.scan.buffer.State.TheVariants.{Drained}
-use Rattle.hart_frame.specs.declared.wire.layout.Layout.{Layout}
-use Rattle.hart_frame.specs.heard.Character.{Character, faultless, faultless_bytes}
-use Rattle.hart_frame.specs.heard.Frames.{IsUndecided}
-use Rattle.hart_frame.specs.private.Buffer.{IsSound, scan_of}
-use Rattle.hart_frame.specs.private.Chunk.{Hears, HearsPart}
+use Rattle.hart_frame.proofs.Common.{◌≡◌, ℕ, ◌+◌, ◌-◌, ◌<◌, ◌≤◌, ◌⊎◌, inl, inr, false, List, [], ◌∷◌, ◌++◌, length, take, Option, None, ap}
+use Rattle.hart_frame.proofs.Common.{Some, drop, get_or, refl, subst, ◌∙◌, arith, append_assoc, length-drop, take-add, common_steps, Buffer}
+use Rattle.hart_frame.proofs.Common.{length-take, append-nil, take-map, take-take, length-map, length-take-le, MatchOption, Drained, Layout}
+use Rattle.hart_frame.proofs.Common.{Character, faultless, faultless_bytes, IsUndecided, IsSound, scan_of, Hears, Scan, GivesNothing}
+use Rattle.hart_frame.proofs.Common.{MovesPast, hearing}
+use Rattle.hart_frame.specs.private.Chunk.{HearsPart}
 use Rattle.hart_frame.specs.scan.Chunk.{StopsAt}
 use Rattle.hart_frame.specs.private.Decision.{HoldsWhole}
-use Rattle.hart_frame.specs.scan.Scanner.{Scan, GivesNothing, MovesPast, hearing}
 use Rattle.hart_frame.proofs.lemmas.heard.Front.{front_heard}
 use Rattle.hart_frame.proofs.lemmas.scan.Buffer.{drained_is, undecided_waiting, waits_drained}
 use Rattle.hart_frame.proofs.lemmas.scan.Decision.{holds_frame}

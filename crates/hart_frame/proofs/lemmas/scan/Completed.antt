@@ -1,20 +1,13 @@
 -- Whether bytes that end too early for a body may become one that stands alone.
-use Rattle.std.proofs.Common.{◌≡◌, ◌≢◌, ℕ, zero, suc, ◌+◌, ◌-◌, ◌<◌, ◌≤◌, inl, inr, true, false, List, [], ◌∷◌, ◌++◌, length, take, get_or}
-use Rattle.std.proofs.Common.{fold, bit_xor, None, ◌∙◌, ap, sym, arith, refl, append_assoc, length-append, replicate}
-use Rattle.std.proofs.Math.Seq.{take-append-add}
-use Rattle.std.proofs.lemmas.Bool.Decides.{nat_tests}
-use Rattle.std.proofs.lemmas.List.{append-nil, get_or_at, length-replicate, length-take-le, map-append, take-replicate, take_all, take_at}
-use Rattle.std.proofs.lemmas.List.Elements.{All-append, All-replicate, All-take}
-use Rattle.std.specs.List.{All}
-use Rattle.hart_frame.specs.heard.Character.{Character, faultless, faultless_bytes}
-use Rattle.hart_frame.specs.heard.InTheWay.{HasBodyAt, bytes_from}
-use Rattle.hart_frame.specs.heard.Miss.{body_miss, check_miss}
-use Rattle.hart_frame.specs.heard.Sighting.{has_two_preambles, two_begin_in_body}
-use Rattle.hart_frame.specs.private.Sighting.{LacksOnePreamble, MayStandAlone, stands_alone}
-use Rattle.hart_frame.specs.wire.Body.{IsBody}
-use Rattle.hart_frame.specs.wire.FrameParts.{FrameParts}
-use Rattle.hart_frame.specs.wire.Layout.{body_length}
-use Rattle.hart_frame.specs.wire.Refusal.{HasCheckByte, IsTruncated}
+use Rattle.hart_frame.proofs.Common.{◌≡◌, ◌≢◌, ℕ, zero, suc, ◌+◌, ◌-◌, ◌<◌, ◌≤◌, inl, inr, true, false, List, [], ◌∷◌, ◌++◌, length, take}
+use Rattle.hart_frame.proofs.Common.{get_or, fold, bit_xor, None, ◌∙◌, ap, sym, arith, refl, append_assoc, length-append, replicate, All}
+use Rattle.hart_frame.proofs.Common.{take-append-add, nat_tests, append-nil, get_or_at, length-replicate, length-take-le, map-append}
+use Rattle.hart_frame.proofs.Common.{take_all, take_at, All-append, All-take, Character, faultless, faultless_bytes, HasBodyAt, bytes_from}
+use Rattle.hart_frame.proofs.Common.{body_miss, check_miss, has_two_preambles, two_begin_in_body, MayStandAlone, stands_alone, IsBody}
+use Rattle.hart_frame.proofs.Common.{FrameParts, body_length, HasCheckByte, IsTruncated}
+use Rattle.std.proofs.lemmas.List.{take-replicate}
+use Rattle.std.proofs.lemmas.List.Elements.{All-replicate}
+use Rattle.hart_frame.specs.private.Sighting.{LacksOnePreamble}
 use Rattle.hart_frame.proofs.lemmas.heard.FramesFound.{begins_at}
 use Rattle.hart_frame.proofs.lemmas.heard.Front.{faultless_bytes-append}
 use Rattle.hart_frame.proofs.lemmas.heard.Missed.{none_of}

@@ -1,25 +1,15 @@
 -- What is decided about a buffer, and what it gives then.
-use Rattle.std.proofs.Common.{◌≡◌, ◌≢◌, ℕ, ◌+◌, ◌-◌, ◌↔◌, inl, inr, Bool, IsTrue, List, [], ◌∷◌, ◌++◌, length, take}
-use Rattle.std.proofs.Common.{drop, refl, sym, ◌∙◌, arith, subst, append_assoc, length-append, length-drop}
-use Rattle.std.proofs.lemmas.List.{drop_at, map-append}
+use Rattle.hart_frame.proofs.Common.{◌≡◌, ◌≢◌, ℕ, ◌+◌, ◌-◌, ◌↔◌, inl, inr, Bool, IsTrue, List, [], ◌∷◌, ◌++◌, length, take, drop, refl, sym}
+use Rattle.hart_frame.proofs.Common.{◌∙◌, arith, subst, append_assoc, length-append, length-drop, drop_at, map-append, Buffer, Drained}
+use Rattle.hart_frame.proofs.Common.{SearchResult, Layout, faultless, StandsIn, FrameParts, IsSound, IsWaiting, held_bytes, scan_of, Scan}
+use Rattle.hart_frame.proofs.Common.{IsWhole, MovesPast, GivesNothing, IsBody, IsCheckedPart, body_length, layout_length}
 use Rattle.std.specs.Option.{option_to_list}
-use Rattle.hart_frame.specs.declared.scan.buffer.Buffer.{Buffer}
-use Rattle.hart_frame.specs.declared.scan.buffer.State.TheVariants.{Busy, Drained, Stands}
-use Rattle.hart_frame.specs.declared.scan.search.SearchResult.{SearchResult}
-use Rattle.hart_frame.specs.declared.wire.layout.Layout.{Layout}
-use Rattle.hart_frame.specs.heard.Character.{faultless}
-use Rattle.hart_frame.specs.heard.Place.{StandsIn}
-use Rattle.hart_frame.specs.wire.FrameParts.{FrameParts}
-use Rattle.hart_frame.specs.private.Buffer.{IsEnded, IsSound, IsWaiting, held_bytes, scan_of}
-use Rattle.hart_frame.specs.private.Candidate.{IsWhole}
+use Rattle.hart_frame.specs.declared.scan.buffer.State.TheVariants.{Busy, Stands}
+use Rattle.hart_frame.specs.private.Buffer.{IsEnded}
 use Rattle.hart_frame.specs.private.Prefix.{IsWholeBody}
 use Rattle.hart_frame.specs.scan.Chunk.{BeginsWithFrame}
 use Rattle.hart_frame.specs.private.Decision.{GivesSpan, HoldsWhole, IsHeldOpen, IsHeldSearched, NoneBeginHeld}
-use Rattle.hart_frame.specs.scan.Scanner.{Scan, MovesPast, GivesNothing}
 use Rattle.hart_frame.specs.private.Search.{IsSearchedToEnd}
-use Rattle.hart_frame.specs.wire.Body.{IsBody, IsCheckedPart}
-use Rattle.hart_frame.specs.wire.Layout.{body_length}
-use Rattle.hart_frame.specs.private.Layout.{layout_length}
 use Rattle.hart_frame.proofs.lemmas.scan.Buffer.{held_passed, moves_passed, passed, waits}
 use Rattle.hart_frame.proofs.lemmas.scan.Next.{body_at_place}
 use Rattle.hart_frame.proofs.lemmas.scan.Scan.{moves_frame, moves_then}

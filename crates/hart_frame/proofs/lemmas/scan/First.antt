@@ -1,21 +1,12 @@
 -- How a scanner that hears a list gives the first frame of the list.
-use Rattle.std.proofs.Common.{inl, inr, add-zero, ◌≡◌, ℕ, ◌<◌, ◌≤◌, false, Option, Some, None, List, [], ◌∷◌, ◌++◌, length, take, drop}
-use Rattle.std.proofs.Common.{arith, refl, subst}
-use Rattle.std.proofs.Math.Seq.{take-length}
-use Rattle.std.proofs.lemmas.List.{append-nil, length-take-le, take-append-drop}
-use Rattle.std.specs.Option.{MatchOption, is_some}
-use Rattle.hart_frame.specs.declared.heard.found.Found.{Found}
-use Rattle.hart_frame.specs.declared.scan.buffer.Buffer.{Buffer}
+use Rattle.hart_frame.proofs.Common.{inl, inr, add-zero, ◌≡◌, ℕ, ◌<◌, ◌≤◌, false, Option, Some, None, List, [], ◌∷◌, ◌++◌, length, take}
+use Rattle.hart_frame.proofs.Common.{drop, arith, refl, subst, take-length, append-nil, length-take-le, take-append-drop, MatchOption, Scan}
+use Rattle.hart_frame.proofs.Common.{is_some, Found, Buffer, Character, AreFrames, HasNoFrame, IsFirst, moved, Hears, scan_of, GivesNothing}
+use Rattle.hart_frame.proofs.Common.{MovesPast, hearing, IsBody, FrameParts}
 use Rattle.hart_frame.specs.declared.scan.buffer.Span.{Span}
-use Rattle.hart_frame.specs.heard.Character.{Character}
-use Rattle.hart_frame.specs.heard.Frames.{AreFrames, HasNoFrame, IsFirst, moved}
-use Rattle.hart_frame.specs.private.Chunk.{Hears}
-use Rattle.hart_frame.specs.private.Buffer.{scan_of}
 use Rattle.hart_frame.specs.private.Decision.{GivesSpan, body_at}
 use Rattle.hart_frame.specs.private.First.{HoldsFirst}
-use Rattle.hart_frame.specs.scan.Scanner.{Scan, Gives, GivesNothing, MovesPast, finishing, hearing, new_scan}
-use Rattle.hart_frame.specs.wire.Body.{IsBody}
-use Rattle.hart_frame.specs.wire.FrameParts.{FrameParts}
+use Rattle.hart_frame.specs.scan.Scanner.{Gives, finishing, new_scan}
 use Rattle.hart_frame.proofs.lemmas.heard.FramesFound.{AreFrames-found, head_first}
 use Rattle.hart_frame.proofs.lemmas.heard.Place.{StandsIn-within}
 use Rattle.hart_frame.proofs.lemmas.heard.Rest.{first_moved, stands_in}

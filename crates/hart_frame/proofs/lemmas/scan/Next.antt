@@ -1,19 +1,11 @@
 -- The next frames of characters: from a place on, when more characters come, in the rest of a list, and in bytes.
-use Rattle.std.proofs.Common.{◌≡◌, ℕ, ◌+◌, ◌-◌, ◌<◌, ◌≤◌, ◌⊎◌, inl, inr, Bool, false, true, IsTrue, List, [], ◌∷◌, ◌++◌, length, map, drop}
-use Rattle.std.proofs.Common.{append_assoc, arith, length-append, length-drop, refl, subst, sym, ap, ◌∙◌}
-use Rattle.std.proofs.lemmas.List.{append-nil, drop-append-le, drop-drop, drop-map, length-map, length-take-le, map-append, take_at}
-use Rattle.std.proofs.lemmas.List.Elements.{All-append, All-cons, All-map, All-nil, All-weaker}
-use Rattle.std.specs.List.{All, slice_range}
-use Rattle.hart_frame.specs.declared.heard.found.Found.{Found}
-use Rattle.hart_frame.specs.declared.wire.layout.Layout.{Layout}
-use Rattle.hart_frame.specs.heard.Character.{Character, faultless}
-use Rattle.hart_frame.specs.heard.Frames.{AreFrames, moved, none, first}
-use Rattle.hart_frame.specs.private.Candidate.{BeginWithNone, IsWhole}
-use Rattle.hart_frame.specs.private.Layout.{layout_length}
+use Rattle.hart_frame.proofs.Common.{◌≡◌, ℕ, ◌+◌, ◌-◌, ◌<◌, ◌≤◌, ◌⊎◌, inl, inr, Bool, false, true, IsTrue, List, [], ◌∷◌, ◌++◌, length, map}
+use Rattle.hart_frame.proofs.Common.{drop, append_assoc, arith, length-append, length-drop, refl, subst, sym, ap, ◌∙◌, append-nil, drop-map}
+use Rattle.hart_frame.proofs.Common.{drop-append-le, drop-drop, length-map, length-take-le, map-append, take_at, All-append, All, Found}
+use Rattle.hart_frame.proofs.Common.{slice_range, Layout, Character, faultless, AreFrames, moved, none, first, BeginWithNone, IsWhole}
+use Rattle.hart_frame.proofs.Common.{layout_length, AreNext, IsBody, FrameParts}
+use Rattle.std.proofs.lemmas.List.Elements.{All-cons, All-map, All-nil, All-weaker}
 use Rattle.hart_frame.specs.private.Search.{NoneBeginThen}
-use Rattle.hart_frame.specs.scan.Next.{AreNext}
-use Rattle.hart_frame.specs.wire.Body.{IsBody}
-use Rattle.hart_frame.specs.wire.FrameParts.{FrameParts}
 use Rattle.hart_frame.proofs.lemmas.heard.FramesFound.{AreFrames-earlier, AreFrames-found, head_first}
 use Rattle.hart_frame.proofs.lemmas.heard.Place.{StandsIn-at, StandsIn-from, StandsIn-within, stands_at}
 use Rattle.hart_frame.proofs.lemmas.heard.Rest.{frames_none, moved_twice, rest_all, rest_frames}

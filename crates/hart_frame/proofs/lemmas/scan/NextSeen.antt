@@ -1,30 +1,17 @@
 -- The message or miss that the search in bytes finds next is what is seen next, whatever follows the bytes.
-use Rattle.std.proofs.Common.{◌≡◌, ◌≢◌, ℕ, ◌+◌, ◌-◌, ◌<◌, ◌≤◌, ◌⊎◌, inl, inr, true, false, List, [], ◌∷◌, ◌++◌, length, drop, get_or}
-use Rattle.std.proofs.Common.{None, Some, Option, ◌∙◌, ap, sym, arith, refl, append_assoc, length-append, length-drop, take-append-drop}
-use Rattle.std.proofs.lemmas.List.{drop_more, get_or-drop, length-take-le, length-map}
-use Rattle.std.specs.List.{slice_range}
-use Rattle.std.specs.Prelude.{IsTrue}
-use Rattle.hart_frame.specs.declared.heard.found.Found.{Found}
-use Rattle.hart_frame.specs.declared.heard.miss.Miss.{Miss}
-use Rattle.hart_frame.specs.declared.heard.miss.Miss.TheVariants.{OnePreamble}
-use Rattle.hart_frame.specs.declared.scan.sighting.After.{After}
-use Rattle.hart_frame.specs.declared.scan.sighting.After.TheVariants.{Damaged, End, More}
-use Rattle.hart_frame.specs.heard.Character.{Character, faultless}
-use Rattle.hart_frame.specs.heard.Miss.{body_miss}
-use Rattle.hart_frame.specs.heard.Place.{StandsIn}
-use Rattle.hart_frame.specs.heard.Sighting.{AreSightings, Message, Missed, Seen, SeesOn, header_at}
-use Rattle.hart_frame.specs.scan.Sighting.{AfterIsValid, heard_with, is_end}
-use Rattle.hart_frame.specs.private.Sighting.{AreSilent, FollowsTwo, IsAsked, IsMessageAt, IsNextAsked, IsPassed, IsStandingAt, MayFollow}
-use Rattle.hart_frame.specs.private.Sighting.{Whatever, stands_alone}
+use Rattle.hart_frame.proofs.Common.{◌≡◌, ◌≢◌, ℕ, ◌+◌, ◌-◌, ◌<◌, ◌≤◌, ◌⊎◌, inl, inr, true, false, List, [], ◌∷◌, ◌++◌, length, drop, get_or}
+use Rattle.hart_frame.proofs.Common.{None, Some, Option, ◌∙◌, ap, sym, arith, refl, append_assoc, length-append, length-drop, drop_more}
+use Rattle.hart_frame.proofs.Common.{take-append-drop, get_or-drop, length-take-le, length-map, slice_range, IsTrue, Found, Miss, After}
+use Rattle.hart_frame.proofs.Common.{OnePreamble, Damaged, End, More, Character, faultless, body_miss, StandsIn, AreSightings, Message}
+use Rattle.hart_frame.proofs.Common.{Missed, Seen, header_at, heard_with, FollowsTwo, IsAsked, MayFollow, Whatever, stands_alone, parts_of}
+use Rattle.hart_frame.proofs.Common.{Layout, IsBody, FrameParts, header_in}
+use Rattle.hart_frame.specs.heard.Sighting.{SeesOn}
+use Rattle.hart_frame.specs.scan.Sighting.{AfterIsValid, is_end}
+use Rattle.hart_frame.specs.private.Sighting.{AreSilent, IsMessageAt, IsNextAsked, IsPassed, IsStandingAt}
 use Rattle.hart_frame.specs.scan.View.{found_of}
 use Rattle.hart_frame.specs.declared.scan.view.FoundView.{FoundView}
-use Rattle.hart_frame.specs.wire.View.{parts_of}
 use Rattle.hart_frame.specs.declared.scan.sighting.Standing.TheVariants as standing
 use Rattle.hart_frame.specs.declared.scan.sighting.Standing.TheVariants.{Nothing, Open}
-use Rattle.hart_frame.specs.declared.wire.layout.Layout.{Layout}
-use Rattle.hart_frame.specs.wire.Body.{IsBody}
-use Rattle.hart_frame.specs.wire.FrameParts.{FrameParts}
-use Rattle.hart_frame.specs.wire.Header.{header_in}
 use Rattle.hart_frame.proofs.lemmas.heard.Front.{regrouped}
 use Rattle.hart_frame.proofs.lemmas.heard.Place.{StandsIn-from, stands_at}
 use Rattle.hart_frame.proofs.lemmas.heard.Seen.{Passes, NoneSeen, frame_at, message_on, missed_none, passes_miss, passes_on, passes_silent}

@@ -1,16 +1,10 @@
 -- How a scanner hears a part of a chunk of bytes when it searches the part together with what it holds.
-use Rattle.std.proofs.Common.{◌≡◌, ℕ, ◌+◌, ◌<◌, ◌⊎◌, inl, inr, false, List, ◌++◌, length, take, None, drop, refl, arith, length-append}
-use Rattle.std.proofs.Math.Seq.{take-append-add}
-use Rattle.std.proofs.lemmas.List.{append-nil, map-append, take-map, length-map, length-take-le}
-use Rattle.hart_frame.specs.declared.scan.buffer.Buffer.{Buffer}
-use Rattle.hart_frame.specs.declared.scan.search.SearchResult.{SearchResult}
-use Rattle.hart_frame.specs.heard.Character.{faultless}
-use Rattle.hart_frame.specs.heard.Frames.{IsUndecided}
-use Rattle.hart_frame.specs.private.Buffer.{IsSound, IsWaiting, held_bytes, scan_of, state_of}
-use Rattle.hart_frame.specs.private.Chunk.{Hears}
+use Rattle.hart_frame.proofs.Common.{◌≡◌, ℕ, ◌+◌, ◌<◌, ◌⊎◌, inl, inr, false, List, ◌++◌, length, take, None, drop, refl, arith, append-nil}
+use Rattle.hart_frame.proofs.Common.{length-append, take-append-add, map-append, take-map, length-map, length-take-le, Buffer, SearchResult}
+use Rattle.hart_frame.proofs.Common.{faultless, IsUndecided, IsSound, IsWaiting, held_bytes, scan_of, Hears, Scan, hearing, IsSearched}
+use Rattle.hart_frame.specs.private.Buffer.{state_of}
 use Rattle.hart_frame.specs.scan.Chunk.{StopsAt}
-use Rattle.hart_frame.specs.scan.Scanner.{Scan, hearing}
-use Rattle.hart_frame.specs.private.Search.{IsOpenFrom, IsSearched}
+use Rattle.hart_frame.specs.private.Search.{IsOpenFrom}
 use Rattle.hart_frame.proofs.lemmas.scan.Buffer.{held_clear, undecided_waiting}
 use Rattle.hart_frame.proofs.lemmas.scan.Candidate.{undecided_open}
 use Rattle.hart_frame.proofs.lemmas.scan.Decision.{holds_frame}

@@ -1,14 +1,8 @@
 -- What a scanner moves past when it lets characters go.
-use Rattle.std.proofs.Common.{◌≡◌, ℕ, ◌+◌, ◌<◌, ◌≤◌, false, IsTrue, List, [], ◌∷◌, ◌++◌, length, map, drop, refl, sym, ◌∙◌, arith}
-use Rattle.std.proofs.Common.{append_assoc, length-append, length-drop}
-use Rattle.std.proofs.lemmas.List.{drop-append-le, drop-drop, drop-map, drop_at, length-map, map-append}
-use Rattle.hart_frame.specs.declared.heard.found.Found.{Found}
-use Rattle.hart_frame.specs.heard.Character.{Character, faultless}
-use Rattle.hart_frame.specs.heard.Frames.{AreFrames, moved}
-use Rattle.hart_frame.specs.private.Candidate.{BeginWithNone}
-use Rattle.hart_frame.specs.scan.Scanner.{MovesPast, Scan, hearing}
-use Rattle.hart_frame.specs.wire.Body.{IsBody}
-use Rattle.hart_frame.specs.wire.FrameParts.{FrameParts}
+use Rattle.hart_frame.proofs.Common.{◌≡◌, ℕ, ◌+◌, ◌<◌, ◌≤◌, false, IsTrue, List, [], ◌∷◌, ◌++◌, length, map, drop, refl, sym, ◌∙◌, arith}
+use Rattle.hart_frame.proofs.Common.{append_assoc, length-append, length-drop, drop-append-le, drop-drop, drop-map, drop_at, length-map}
+use Rattle.hart_frame.proofs.Common.{map-append, Found, Character, faultless, AreFrames, moved, BeginWithNone, MovesPast, Scan, hearing}
+use Rattle.hart_frame.proofs.Common.{IsBody, FrameParts}
 use Rattle.hart_frame.proofs.lemmas.heard.Rest.{moved_twice}
 use Rattle.hart_frame.proofs.lemmas.scan.Next.{next_grown, next_none, next_nothing, next_of_rest, next_one, next_then}
 

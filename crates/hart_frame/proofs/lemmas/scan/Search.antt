@@ -1,18 +1,16 @@
 -- What is known of bytes while they are searched, and what a search then finds.
-use Rattle.std.proofs.Common.{Some, None, ◌≡◌, ◌≢◌, ℕ, zero, suc, ◌+◌, ◌-◌, ◌<◌, ◌≤◌, ◌⊎◌, inl, inr, List, [], ◌∷◌, ◌++◌, length, take}
-use Rattle.std.proofs.Common.{drop, get_or, refl, ap, ◌∙◌, max, replicate, MatchOption, Option, arith, append_assoc, length-append}
-use Rattle.std.proofs.Common.{length-drop, add-zero}
-use Rattle.std.proofs.Math.Seq.{take-add, take-append-add}
+use Rattle.hart_frame.proofs.Common.{Some, None, ◌≡◌, ◌≢◌, ℕ, zero, suc, ◌+◌, ◌-◌, ◌<◌, ◌≤◌, ◌⊎◌, inl, inr, List, [], ◌∷◌, ◌++◌, length, ap}
+use Rattle.hart_frame.proofs.Common.{take, drop, get_or, refl, ◌∙◌, replicate, MatchOption, Option, arith, append_assoc, length-append}
+use Rattle.hart_frame.proofs.Common.{length-drop, add-zero, take-add, take-append-add, common_steps, drop-append-le, drop-drop, drop_more}
+use Rattle.hart_frame.proofs.Common.{get_or-drop, length-take-le, take_rest, slice_range, Layout, IsWhole, MayBegin, HasNoPair, HasPair}
+use Rattle.hart_frame.proofs.Common.{IsSearched, layout_length}
+use Rattle.std.proofs.Common.{max}
 use Rattle.std.proofs.lemmas.Bool.{cases_eq, cases_lt}
-use Rattle.std.proofs.lemmas.Grind.{common_steps}
-use Rattle.std.proofs.lemmas.List.{drop-append-le, drop-drop, drop-take, drop_more, get_or-drop, length-take-le, take_rest}
-use Rattle.std.specs.List.{slice_range}
+use Rattle.std.proofs.lemmas.List.{drop-take}
 use Rattle.hart_frame.specs.declared.scan.candidate.Candidate.TheVariants.{Never, Whole}
-use Rattle.hart_frame.specs.declared.wire.layout.Layout.{Layout}
 use Rattle.hart_frame.specs.declared.wire.prefix.Wrong.TheVariants.{BadDelimiter}
-use Rattle.hart_frame.specs.private.Candidate.{IsCandidate, IsWhole, MayBegin, MayBeginBefore, NeverBegin}
-use Rattle.hart_frame.specs.private.Search.{HasNoPair, HasPair, IsNextPair, IsOpenBefore, IsSearched, NoneBegin}
-use Rattle.hart_frame.specs.private.Layout.{layout_length}
+use Rattle.hart_frame.specs.private.Candidate.{IsCandidate, MayBeginBefore, NeverBegin}
+use Rattle.hart_frame.specs.private.Search.{IsNextPair, IsOpenBefore, NoneBegin}
 use Rattle.hart_frame.proofs.lemmas.scan.Candidate.{may_begin_before, never_after, never_first, never_more, second_never}
 use Rattle.hart_frame.proofs.lemmas.wire.Truncated.{truncated_check, truncated_count}
 

@@ -1,15 +1,8 @@
 -- What comes next in bytes, and what is seen in the characters that are heard.
-use Rattle.std.proofs.Common.{◌≡◌, ◌≢◌, ℕ, ◌-◌, ◌<◌, ◌≤◌, ◌⊎◌, inl, inr, Bool, true, false, List, ◌++◌, length, get_or}
-use Rattle.std.proofs.Common.{arith, refl, length-append}
-use Rattle.std.proofs.lemmas.Bool.Decides.{nat_tests}
-use Rattle.std.proofs.lemmas.List.{get_or_append_left, get_or_at, get_or-map, length-map}
-use Rattle.hart_frame.specs.declared.heard.found.Found.{Found}
-use Rattle.hart_frame.specs.declared.scan.sighting.After.{After}
-use Rattle.hart_frame.specs.declared.scan.sighting.After.TheVariants.{Damaged}
-use Rattle.hart_frame.specs.heard.Character.{Character, faultless}
-use Rattle.hart_frame.specs.heard.Place.{StandsIn}
-use Rattle.hart_frame.specs.scan.Sighting.{heard_with}
-use Rattle.hart_frame.specs.private.Sighting.{FollowsTwo, IsAsked, IsSilent, MayFollow}
+use Rattle.hart_frame.proofs.Common.{◌≡◌, ◌≢◌, ℕ, ◌-◌, ◌<◌, ◌≤◌, ◌⊎◌, inl, inr, Bool, true, false, List, ◌++◌, length, get_or, arith, refl}
+use Rattle.hart_frame.proofs.Common.{length-append, nat_tests, get_or_append_left, get_or_at, get_or-map, length-map, Found, After, Damaged}
+use Rattle.hart_frame.proofs.Common.{Character, faultless, StandsIn, heard_with, FollowsTwo, IsAsked, MayFollow}
+use Rattle.hart_frame.specs.private.Sighting.{IsSilent}
 use Rattle.hart_frame.proofs.lemmas.heard.Place.{preamble}
 use Rattle.hart_frame.proofs.lemmas.heard.Seen.{NoneSeen, frame_at}
 use Rattle.hart_frame.proofs.lemmas.heard.Sighting.{after_one-none, follows_from, is_other_at, is_preamble_at, not_other, unasked}

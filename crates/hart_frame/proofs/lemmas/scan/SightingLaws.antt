@@ -1,10 +1,7 @@
 -- The sightings given one after another are all sightings of a list, and a list has only one list of sightings.
-use Rattle.std.proofs.Common.{◌≡◌, ◌≤◌, ℕ, Bool, false, List, [], ◌++◌, length, drop, map, ap, sym, arith, refl, append_assoc}
-use Rattle.std.proofs.lemmas.List.{append-nil, drop-append-le}
-use Rattle.std.specs.Prelude.{IsTrue}
-use Rattle.hart_frame.specs.heard.Character.{Character}
-use Rattle.hart_frame.specs.heard.Frames.{AreFrames}
-use Rattle.hart_frame.specs.heard.Sighting.{AreSightings, Seen, SeesOn, moved_seen, sightings}
+use Rattle.hart_frame.proofs.Common.{◌≡◌, ◌≤◌, ℕ, Bool, false, List, [], ◌++◌, length, drop, map, ap, sym, arith, refl, append_assoc, Seen}
+use Rattle.hart_frame.proofs.Common.{append-nil, drop-append-le, IsTrue, Character, AreFrames, AreSightings, sightings}
+use Rattle.hart_frame.specs.heard.Sighting.{SeesOn, moved_seen}
 use Rattle.hart_frame.proofs.lemmas.heard.FramesFound.{AreFrames-found}
 use Rattle.hart_frame.proofs.lemmas.heard.Place.{HasNoFrame-end}
 use Rattle.hart_frame.proofs.lemmas.heard.Rest.{rest_frames}

@@ -1,11 +1,7 @@
 -- The frames given since a scanner was new are the next frames in what was pushed. After the end they are all frames of what was pushed.
-use Rattle.std.proofs.Common.{◌≡◌, ◌+◌, Bool, true, false, IsTrue, ℕ, List, [], ◌∷◌, ◌++◌, length, map, drop, refl, sym, arith, length-drop}
-use Rattle.std.proofs.lemmas.List.{append-nil, drop-append-le, drop-drop}
-use Rattle.hart_frame.specs.declared.heard.found.Found.{Found}
-use Rattle.hart_frame.specs.heard.Character.{Character}
-use Rattle.hart_frame.specs.heard.Frames.{AreFrames, HasNoFrame, moved}
-use Rattle.hart_frame.specs.scan.Next.{AreNext}
-use Rattle.hart_frame.specs.scan.Scanner.{Scan, MovesPast, hearing}
+use Rattle.hart_frame.proofs.Common.{◌≡◌, ◌+◌, Bool, true, false, IsTrue, ℕ, List, [], ◌∷◌, ◌++◌, length, map, drop, refl, sym, arith, Scan}
+use Rattle.hart_frame.proofs.Common.{length-drop, append-nil, drop-append-le, drop-drop, Found, Character, AreFrames, HasNoFrame, moved}
+use Rattle.hart_frame.proofs.Common.{AreNext, MovesPast, hearing}
 use Rattle.hart_frame.specs.scan.Streamed.{IsHistory, IsWholeHistory, begin, push, push_chars, take_view, wait, finish}
 use Rattle.hart_frame.proofs.lemmas.heard.FramesFound.{AreFrames-found}
 use Rattle.hart_frame.proofs.lemmas.heard.Rest.{rest_frames}

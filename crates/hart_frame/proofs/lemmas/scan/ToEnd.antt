@@ -1,12 +1,7 @@
 -- What a search to the end of a list finds.
-use Rattle.std.proofs.Common.{◌≡◌, ℕ, ◌+◌, ◌<◌, ◌≤◌, Bool, IsTrue, List, length, drop, None, arith}
-use Rattle.std.proofs.Math.Seq.{take-length}
-use Rattle.std.proofs.lemmas.Grind.{common_steps}
-use Rattle.std.proofs.lemmas.List.{length-take-le, take-append-drop}
-use Rattle.std.specs.Option.{MatchOption}
-use Rattle.hart_frame.specs.declared.scan.search.SearchResult.{SearchResult}
-use Rattle.hart_frame.specs.private.Candidate.{IsWhole, MayBegin}
-use Rattle.hart_frame.specs.private.Search.{IsSearched, NoneBeginThen}
+use Rattle.hart_frame.proofs.Common.{◌≡◌, ℕ, ◌+◌, ◌<◌, ◌≤◌, Bool, IsTrue, List, length, drop, None, arith, take-length, common_steps}
+use Rattle.hart_frame.proofs.Common.{length-take-le, take-append-drop, MatchOption, SearchResult, IsWhole, MayBegin, IsSearched}
+use Rattle.hart_frame.specs.private.Search.{NoneBeginThen}
 use Rattle.hart_frame.proofs.lemmas.scan.Candidate.{nothing_open}
 use Rattle.hart_frame.proofs.lemmas.scan.Search.{joined, none_more, whole_append}
 

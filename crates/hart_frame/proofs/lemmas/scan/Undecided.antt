@@ -1,14 +1,9 @@
 -- What stays undecided when a scanner passes some characters.
-use Rattle.std.proofs.Common.{◌≡◌, ℕ, ◌+◌, ◌<◌, ◌≤◌, inl, inr, false, List, [], ◌∷◌, ◌++◌, length, take, refl, sym, arith}
-use Rattle.std.proofs.Common.{append_assoc, length-append}
-use Rattle.std.proofs.lemmas.List.{length-take-le, take-append-drop}
-use Rattle.hart_frame.specs.declared.heard.found.Found.{Found}
-use Rattle.hart_frame.specs.heard.Character.{Character, faultless}
-use Rattle.hart_frame.specs.heard.Frames.{AreFrames, HasNoFrame, IsUndecided, none}
-use Rattle.hart_frame.specs.heard.Place.{StandsIn}
+use Rattle.hart_frame.proofs.Common.{◌≡◌, ℕ, ◌+◌, ◌<◌, ◌≤◌, inl, inr, false, List, [], ◌∷◌, ◌++◌, length, take, refl, sym, arith, Found}
+use Rattle.hart_frame.proofs.Common.{append_assoc, length-append, length-take-le, take-append-drop, Character, faultless, AreFrames, none}
+use Rattle.hart_frame.proofs.Common.{HasNoFrame, IsUndecided, StandsIn, AreNext, Scan, MovesPast, GivesNothing}
 use Rattle.hart_frame.specs.scan.Chunk.{BeginsWithFrame}
-use Rattle.hart_frame.specs.scan.Next.{AreNext}
-use Rattle.hart_frame.specs.scan.Scanner.{Scan, MovesPast, Gives, Waits, GivesNothing}
+use Rattle.hart_frame.specs.scan.Scanner.{Gives, Waits}
 use Rattle.hart_frame.proofs.lemmas.heard.FramesFound.{AreFrames-found, head_first}
 use Rattle.hart_frame.proofs.lemmas.heard.Place.{StandsIn-within}
 use Rattle.hart_frame.proofs.lemmas.heard.Rest.{none_moved, some_moved, stands_in}

@@ -1,27 +1,15 @@
 -- If the characters that follow change which sighting comes first, no sighting is decided.
-use Rattle.std.proofs.Common.{◌≡◌, ◌≢◌, ℕ, zero, suc, ◌+◌, ◌-◌, ◌<◌, ◌≤◌, ◌⊎◌, inl, inr, List, [], ◌∷◌, ◌++◌, length, drop, get_or}
-use Rattle.std.proofs.Common.{None, Some, Option, ◌∙◌, ap, sym, arith, refl, length-drop}
-use Rattle.std.proofs.lemmas.List.{append-nil, drop_more, get_or-drop, length-map}
-use Rattle.std.proofs.lemmas.List.Elements.{All-cons, All-drop, All-map}
-use Rattle.std.specs.List.{All, flat_map, range_with_len}
-use Rattle.std.specs.Option.{option_map_or}
-use Rattle.hart_frame.specs.declared.heard.found.Found.{Found}
-use Rattle.hart_frame.specs.declared.heard.miss.Miss.{Miss}
-use Rattle.hart_frame.specs.declared.heard.miss.Miss.TheVariants.{OnePreamble}
-use Rattle.hart_frame.specs.declared.scan.sighting.After.TheVariants.{More}
-use Rattle.hart_frame.specs.heard.Character.{Character, faultless}
-use Rattle.hart_frame.specs.heard.Frames.{AreFrames}
-use Rattle.hart_frame.specs.heard.Miss.{body_miss, miss_in}
-use Rattle.hart_frame.specs.heard.Place.{StandsIn}
-use Rattle.hart_frame.specs.heard.Sighting.{AreSightings, IsUndecidedSighting, Message, Missed, Seen, header_at, miss_in_whole}
-use Rattle.hart_frame.specs.heard.Sighting.{missed_at, seen_miss, sightings}
-use Rattle.hart_frame.specs.wire.Header.{HeaderParts}
-use Rattle.hart_frame.specs.scan.Sighting.{heard_with}
-use Rattle.hart_frame.specs.private.Sighting.{FollowsTwo, IsAsked, IsStandingAt, IsUsed, MayStandAlone}
-use Rattle.hart_frame.specs.declared.scan.sighting.After.{After}
+use Rattle.hart_frame.proofs.Common.{◌≡◌, ◌≢◌, ℕ, zero, suc, ◌+◌, ◌-◌, ◌<◌, ◌≤◌, ◌⊎◌, inl, inr, List, [], ◌∷◌, ◌++◌, length, drop, get_or}
+use Rattle.hart_frame.proofs.Common.{None, Some, Option, ◌∙◌, ap, sym, arith, refl, length-drop, append-nil, drop_more, get_or-drop, All}
+use Rattle.hart_frame.proofs.Common.{length-map, All-drop, flat_map, range_with_len, option_map_or, Found, Miss, OnePreamble, More, miss_in}
+use Rattle.hart_frame.proofs.Common.{Character, faultless, AreFrames, body_miss, StandsIn, AreSightings, Message, Missed, Seen, header_at}
+use Rattle.hart_frame.proofs.Common.{miss_in_whole, missed_at, sightings, HeaderParts, heard_with, FollowsTwo, IsAsked, MayStandAlone}
+use Rattle.hart_frame.proofs.Common.{After, IsTruncated}
+use Rattle.std.proofs.lemmas.List.Elements.{All-cons, All-map}
+use Rattle.hart_frame.specs.heard.Sighting.{IsUndecidedSighting, seen_miss}
+use Rattle.hart_frame.specs.private.Sighting.{IsStandingAt, IsUsed}
 use Rattle.hart_frame.specs.declared.scan.sighting.Standing.TheVariants.{Open}
 use Rattle.hart_frame.proofs.lemmas.scan.Alone.{alone_moved}
-use Rattle.hart_frame.specs.wire.Refusal.{IsTruncated}
 use Rattle.hart_frame.proofs.lemmas.heard.FramesFound.{AreFrames-found}
 use Rattle.hart_frame.proofs.lemmas.heard.Open.{open_begins}
 use Rattle.hart_frame.proofs.lemmas.heard.Place.{StandsIn-within}

@@ -1,24 +1,18 @@
 -- Each list of bytes begins with a body, or begins with no body.
-use Rattle.std.proofs.Common.{◌≡◌, ℕ, fold, bit_xor, ◌+◌, ◌-◌, ◌*◌, ◌/◌, ◌%◌, ◌<◌, ◌≤◌, ◌⊎◌, inl, inr, Bool, List, [], ◌∷◌}
-use Rattle.std.proofs.Common.{length, take, get_or, ltb, ◌∙◌, arith}
-use Rattle.std.proofs.lemmas.Bool.Decides.{nat_tests}
+use Rattle.hart_frame.proofs.Common.{◌≡◌, ℕ, fold, bit_xor, ◌+◌, ◌-◌, ◌*◌, ◌/◌, ◌%◌, ◌<◌, ◌≤◌, ◌⊎◌, inl, inr, Bool, List, [], ◌∷◌, length}
+use Rattle.hart_frame.proofs.Common.{take, get_or, ltb, ◌∙◌, arith, nat_tests, get_or-take, length-take-le, take-take, All, slice_range}
+use Rattle.hart_frame.proofs.Common.{IsAddressBytes, Address, MasterId, Layout, IsCheckedPart, BeginsWithBody, kind_code, FrameParts}
+use Rattle.hart_frame.proofs.Common.{delimiter_in, command_place, body_length, HasEvenParity, HasCheckByte}
 use Rattle.std.proofs.lemmas.Grind.{get_or_after_one}
-use Rattle.std.proofs.lemmas.List.{get_or-take, length-take-le, take-take}
 use Rattle.std.proofs.lemmas.List.Elements.{All-get_or}
 use Rattle.std.proofs.lemmas.List.Sums.{prefix_len_passes, prefix_len_stops}
-use Rattle.std.specs.List.{All, prefix_len, slice_range}
-use Rattle.hart_values.specs.address.AddressBytes.{IsAddressBytes, first_byte}
-use Rattle.hart_values.specs.declared.address.Address.{Address}
+use Rattle.std.specs.List.{prefix_len}
+use Rattle.hart_values.specs.address.AddressBytes.{first_byte}
 use Rattle.hart_values.specs.declared.address.Address.TheVariants.{Polling, Unique}
-use Rattle.hart_values.specs.declared.master_id.MasterId.{MasterId}
 use Rattle.hart_frame.specs.declared.wire.kind.FrameKind.{FrameKind}
-use Rattle.hart_frame.specs.declared.wire.layout.Layout.{Layout}
-use Rattle.hart_frame.specs.wire.Body.{IsCheckedPart, BeginsWithBody, HasNoBody}
-use Rattle.hart_frame.specs.wire.Delimiter.{kind_code}
-use Rattle.hart_frame.specs.wire.FrameParts.{FrameParts, IsLongEnough}
-use Rattle.hart_frame.specs.wire.Layout.{delimiter_in, address_end, command_place, byte_count_in, body_length}
-use Rattle.hart_frame.specs.wire.Parity.{HasEvenParity}
-use Rattle.hart_frame.specs.wire.Refusal.{HasCheckByte}
+use Rattle.hart_frame.specs.wire.Body.{HasNoBody}
+use Rattle.hart_frame.specs.wire.FrameParts.{IsLongEnough}
+use Rattle.hart_frame.specs.wire.Layout.{address_end, byte_count_in}
 use Rattle.hart_frame.proofs.lemmas.wire.Body.{IsBody-whole}
 use Rattle.hart_frame.proofs.lemmas.wire.Layout.{IsCheckedPart-in, length-slice_range}
 use Rattle.hart_frame.proofs.lemmas.wire.Parity.{IsCheckByte-fold, check-even, even-check, fits_at}

@@ -1,12 +1,7 @@
 -- Which bytes are a body: the checked part with its check byte, or bytes of even parity.
-use Rattle.std.proofs.Common.{ℕ, ◌-◌, ◌<◌, ◌≤◌, List, [], ◌∷◌, ◌++◌, length, take, arith}
-use Rattle.std.proofs.lemmas.Grind.{common_steps}
-use Rattle.std.proofs.lemmas.List.{take_more, take_all}
+use Rattle.hart_frame.proofs.Common.{ℕ, ◌-◌, ◌<◌, ◌≤◌, List, [], ◌∷◌, ◌++◌, length, take, arith, common_steps, take_more, take_all, All}
+use Rattle.hart_frame.proofs.Common.{IsBody, IsCheckedPart, FrameParts, IsCheckByte, HasEvenParity}
 use Rattle.std.proofs.lemmas.List.Elements.{All-push}
-use Rattle.std.specs.List.{All}
-use Rattle.hart_frame.specs.wire.Body.{IsBody, IsCheckedPart}
-use Rattle.hart_frame.specs.wire.FrameParts.{FrameParts}
-use Rattle.hart_frame.specs.wire.Parity.{IsCheckByte, HasEvenParity}
 use Rattle.hart_frame.proofs.lemmas.wire.Parity.{HasEvenParity-push}
 
 -- The checked part of a frame, with its check byte, is a body.

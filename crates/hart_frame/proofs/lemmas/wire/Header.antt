@@ -1,20 +1,13 @@
 -- The header with which bytes begin.
-use Rattle.std.proofs.Common.{◌≡◌, ◌↔◌, ℕ, ◌+◌, ◌/◌, ◌%◌, ◌<◌, Bool, true, false, List, ◌∷◌, ◌++◌, Some, ◌∙◌, get_or, length}
-use Rattle.std.proofs.Common.{take, drop, sym, arith, append_assoc, length-append}
-use Rattle.std.proofs.lemmas.Bool.Decides.{nat_tests}
-use Rattle.std.proofs.lemmas.List.{get_or_append_left, get_or_at, take-append-drop}
+use Rattle.hart_frame.proofs.Common.{◌≡◌, ◌↔◌, ℕ, ◌+◌, ◌/◌, ◌%◌, ◌<◌, Bool, true, false, List, ◌∷◌, ◌++◌, Some, ◌∙◌, get_or, length, take}
+use Rattle.hart_frame.proofs.Common.{drop, sym, arith, append_assoc, length-append, nat_tests, get_or_append_left, get_or_at, Address}
+use Rattle.hart_frame.proofs.Common.{take-append-drop, IsAddressBytes, MasterId, BeginsWithBody, address_type, delimiter_of, kind_code}
+use Rattle.hart_frame.proofs.Common.{FrameParts, HeaderParts, header_in, command_place, delimiter_in, IsDelimiter}
 use Rattle.std.specs.Prelude.{IsSome}
-use Rattle.hart_values.specs.address.AddressBytes.{IsAddressBytes, first_byte}
-use Rattle.hart_values.specs.declared.address.Address.{Address}
+use Rattle.hart_values.specs.address.AddressBytes.{first_byte}
 use Rattle.hart_values.specs.declared.address.Address.TheVariants.{Polling, Unique}
-use Rattle.hart_values.specs.declared.master_id.MasterId.{MasterId}
 use Rattle.hart_values.specs.declared.master_id.MasterId.TheVariants.{Primary, Secondary}
-use Rattle.hart_frame.specs.wire.Body.{BeginsWithBody}
-use Rattle.hart_frame.specs.wire.Delimiter.{address_type, delimiter_of, kind_code}
-use Rattle.hart_frame.specs.wire.FrameParts.{FrameParts}
-use Rattle.hart_frame.specs.wire.Header.{HeaderParts, address_in, header_in, header_of, kind_in, master_in}
-use Rattle.hart_frame.specs.wire.Layout.{command_place, delimiter_in}
-use Rattle.hart_frame.specs.wire.Delimiter.{IsDelimiter}
+use Rattle.hart_frame.specs.wire.Header.{address_in, header_of, kind_in, master_in}
 use Rattle.hart_frame.specs.wire.Refusal.{HasDelimiter}
 use Rattle.hart_frame.proofs.lemmas.wire.Refusal.{has_check, says}
 use Rattle.hart_frame.proofs.lemmas.wire.UnambiguousBodies.{address_type-lt, kind_code-is, length-address, spread}

@@ -1,17 +1,15 @@
 -- Taking the exclusive or (XOR) in each lane and then over all lanes gives the XOR of all bytes.
-use Rattle.std.proofs.Common.{◌≡◌, ℕ, zero, suc, ◌+◌, ◌*◌, ◌-◌, ◌/◌, ◌<◌, ◌≤◌, List, [], ◌∷◌, ◌++◌, refl, sym, ap, ◌∙◌, arith, fold}
-use Rattle.std.proofs.Common.{bit_xor, take, drop, length, get_or, ltb, replicate, take-add, take-append-drop}
-use Rattle.std.proofs.lemmas.Bool.Decides.{nat_tests}
-use Rattle.std.proofs.lemmas.Grind.{common_steps}
-use Rattle.std.proofs.lemmas.List.{drop-drop, drop-take, length-append, length-replicate, length-take-le, take-take}
+use Rattle.hart_frame.proofs.Common.{◌≡◌, ℕ, zero, suc, ◌+◌, ◌*◌, ◌-◌, ◌/◌, ◌<◌, ◌≤◌, List, [], ◌∷◌, ◌++◌, refl, sym, ap, ◌∙◌, arith, fold}
+use Rattle.hart_frame.proofs.Common.{bit_xor, take, drop, length, get_or, ltb, replicate, take-add, take-append-drop, nat_tests, drop-drop}
+use Rattle.hart_frame.proofs.Common.{common_steps, length-append, length-replicate, length-take-le, take-take, range_with_len, IsCheckByte}
+use Rattle.std.proofs.lemmas.List.{drop-take}
 use Rattle.std.proofs.lemmas.List.Sums.{fold-append}
 use Rattle.std.proofs.lemmas.Nat.{xor_comm}
 use Rattle.std.proofs.lemmas.Simd.{length-chunk}
 use Rattle.std.specs.Int.Bits.{xor_assoc, xor_zero_r}
-use Rattle.std.specs.List.{range_with_len, slice_index_or}
+use Rattle.std.specs.List.{slice_index_or}
 use Rattle.std.specs.Simd.{first_chunks}
 use Rattle.std.specs.Simd.Lanes.{zip2, fold_l, sel_l}
-use Rattle.hart_frame.specs.wire.Parity.{IsCheckByte}
 use Rattle.hart_frame.proofs.lemmas.wire.Parity.{IsCheckByte-fold, fits_take}
 
 -- The exclusive or of bytes.

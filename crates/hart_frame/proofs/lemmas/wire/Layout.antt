@@ -1,16 +1,8 @@
 -- The parts into which a layout cuts bytes, joined again, are the bytes.
-use Rattle.hart_frame.specs.wire.Delimiter.{delimiter_of}
-use Rattle.std.proofs.Common.{◌≡◌, ℕ, ◌+◌, ◌-◌, ◌<◌, ◌≤◌, List, ◌∷◌, ◌++◌, length, take, drop, get_or, arith, length-drop}
-use Rattle.std.proofs.Math.Seq.{take-add}
-use Rattle.std.proofs.lemmas.List.{drop_more, drop-drop, length-take-le}
-use Rattle.std.specs.List.{slice_range}
-use Rattle.hart_values.specs.address.AddressBytes.{IsAddressBytes}
-use Rattle.hart_frame.specs.declared.wire.layout.Layout.{Layout}
-use Rattle.hart_frame.specs.wire.Body.{IsCheckedPart}
-use Rattle.hart_frame.specs.wire.FrameParts.{FrameParts, IsLongEnough}
-use Rattle.hart_frame.specs.private.Layout.{Describes}
-use Rattle.hart_frame.specs.wire.Layout.{body_length}
-use Rattle.hart_frame.specs.wire.Refusal.{HasCheckByte}
+use Rattle.hart_frame.proofs.Common.{delimiter_of, ◌≡◌, ℕ, ◌+◌, ◌-◌, ◌<◌, ◌≤◌, List, ◌∷◌, ◌++◌, length, take, drop, get_or, arith, take-add}
+use Rattle.hart_frame.proofs.Common.{length-drop, drop_more, drop-drop, length-take-le, slice_range, IsAddressBytes, Layout, IsCheckedPart}
+use Rattle.hart_frame.proofs.Common.{FrameParts, Describes, body_length, HasCheckByte}
+use Rattle.hart_frame.specs.wire.FrameParts.{IsLongEnough}
 
 -- A range and the range right after it together are one range.
 slice_range-join : (xs : List ℕ) (a b c : ℕ) → a ≤ b → b ≤ c → slice_range xs a b ++ slice_range xs b c ≡ slice_range xs a c

@@ -1,18 +1,13 @@
 -- A bit of the exclusive or of bytes is set exactly if it is set in an odd number of them.
-use Rattle.std.proofs.Common.{◌≡◌, ◌≢◌, ℕ, ◌+◌, ◌-◌, ◌%◌, ◌<◌, ◌≤◌, List, [], ◌∷◌, ◌++◌, fold, bit_xor, drop, get_or, length, suc, take}
-use Rattle.std.proofs.Common.{arith}
-use Rattle.std.proofs.lemmas.Bool.Decides.{nat_tests}
-use Rattle.std.proofs.lemmas.Grind.{common_steps}
-use Rattle.std.proofs.lemmas.List.{get_or-drop, get_or-take, get_or_append_left, get_or_at, get_or_past, length-take, length-take-le}
-use Rattle.std.proofs.lemmas.List.{take_all, take_more}
+use Rattle.hart_frame.proofs.Common.{◌≡◌, ◌≢◌, ℕ, ◌+◌, ◌-◌, ◌%◌, ◌<◌, ◌≤◌, List, [], ◌∷◌, ◌++◌, fold, bit_xor, drop, get_or, length, suc}
+use Rattle.hart_frame.proofs.Common.{take, arith, nat_tests, common_steps, get_or-drop, get_or-take, get_or_append_left, get_or_at, bit_at}
+use Rattle.hart_frame.proofs.Common.{get_or_past, length-take, length-take-le, take_all, take_more, All, IsCheckByte, HasEvenParity}
 use Rattle.std.proofs.lemmas.List.Elements.{All-get_or}
 use Rattle.std.proofs.lemmas.List.Sums.{fold-append, sum_by_push}
 use Rattle.std.proofs.lemmas.Nat.{xor_of_8}
 use Rattle.std.proofs.lemmas.Nat.Bits.{bit_at_xor, bit_at-lt, bit_at-zero, same_from_bits_below}
-use Rattle.std.specs.Int.{bit_at}
 use Rattle.std.specs.Int.Bits.{xor_assoc, xor_self, xor_zero_r}
-use Rattle.std.specs.List.{All}
-use Rattle.hart_frame.specs.wire.Parity.{bit_count, IsCheckByte, HasEvenParity}
+use Rattle.hart_frame.specs.wire.Parity.{bit_count}
 
 -- Each element of a list of bytes is below 256, and so is the 0 that is read past its end.
 pub fits_at : (bytes : List ℕ) → All (λ byte. byte < 256) bytes → (i : ℕ) → get_or bytes i 0 < 256

@@ -1,12 +1,8 @@
 -- What bytes say about a body does not change when more bytes follow.
-use Rattle.std.proofs.Common.{◌≡◌, ◌≢◌, ℕ, ◌<◌, ◌≤◌, List, ◌++◌, length, take, arith, length-append}
-use Rattle.std.proofs.lemmas.List.{get_or_append_left, get_or-take, length-take-le, take-append-le}
-use Rattle.hart_frame.specs.declared.wire.fault.FrameFault.{FrameFault}
-use Rattle.hart_frame.specs.declared.wire.fault.FrameFault.TheVariants.{Truncated}
-use Rattle.hart_frame.specs.declared.wire.layout.Layout.{Layout}
-use Rattle.hart_frame.specs.private.Layout.{Describes}
-use Rattle.hart_frame.specs.wire.Layout.{byte_count_place, body_length}
-use Rattle.hart_frame.specs.wire.Refusal.{IsRefusedWith, HasGoodByteCount, HasCheckByte}
+use Rattle.hart_frame.proofs.Common.{◌≡◌, ◌≢◌, ℕ, ◌<◌, ◌≤◌, List, ◌++◌, length, take, arith, length-append, get_or_append_left, get_or-take}
+use Rattle.hart_frame.proofs.Common.{length-take-le, take-append-le, FrameFault, Truncated, Layout, Describes, byte_count_place}
+use Rattle.hart_frame.proofs.Common.{body_length, IsRefusedWith, HasCheckByte}
+use Rattle.hart_frame.specs.wire.Refusal.{HasGoodByteCount}
 
 pub length_more : (xs ys : List ℕ) → byte_count_place xs < length xs → body_length (xs ++ ys) ≡ body_length xs
 length_more xs ys within = grind (arith, get_or_append_left)

@@ -1,16 +1,11 @@
 -- Bytes that begin with a body are not refused, and that body is decoded.
-use Rattle.std.proofs.Common.{◌≡◌, ℕ, ◌+◌, ◌*◌, ◌≤◌, List, [], ◌∷◌, ◌++◌, length, take, drop, sym, ◌∙◌, arith}
-use Rattle.std.proofs.Common.{append_assoc, length-append, Result, Ok, Err}
-use Rattle.std.proofs.lemmas.Grind.{common_steps}
-use Rattle.std.proofs.lemmas.List.{length-take-le, take-append-drop, get_or_at}
+use Rattle.hart_frame.proofs.Common.{◌≡◌, ℕ, ◌+◌, ◌*◌, ◌≤◌, List, [], ◌∷◌, ◌++◌, length, take, drop, sym, ◌∙◌, arith, append_assoc}
+use Rattle.hart_frame.proofs.Common.{length-append, common_steps, length-take-le, take-append-drop, get_or_at, FrameFault, BeginsWithBody}
+use Rattle.hart_frame.proofs.Common.{delimiter_of, address_type, FrameParts, delimiter_in, byte_count_place, body_length, IsDelimiter}
+use Rattle.hart_frame.proofs.Common.{HasCheckByte, IsRefusedWith}
+use Rattle.std.proofs.Common.{Result, Ok, Err}
 use Rattle.std.specs.Result.{IfOk, IfErr}
-use Rattle.hart_frame.specs.declared.wire.fault.FrameFault.{FrameFault}
-use Rattle.hart_frame.specs.wire.Body.{BeginsWithBody}
-use Rattle.hart_frame.specs.wire.Delimiter.{delimiter_of, address_type}
-use Rattle.hart_frame.specs.wire.FrameParts.{FrameParts}
-use Rattle.hart_frame.specs.wire.Layout.{delimiter_in, byte_count_place, byte_count_in, body_length}
-use Rattle.hart_frame.specs.wire.Delimiter.{IsDelimiter}
-use Rattle.hart_frame.specs.wire.Refusal.{HasCheckByte, IsRefusedWith}
+use Rattle.hart_frame.specs.wire.Layout.{byte_count_in}
 use Rattle.hart_frame.proofs.lemmas.wire.UnambiguousBodies.{address_type-lt, bodies_are_unambiguous-one_prefix, kind_code-is}
 use Rattle.hart_frame.proofs.lemmas.wire.UnambiguousBodies.{length-address, spread}
 

@@ -1,15 +1,12 @@
 -- Bytes end too early for a body exactly if they can become a body and begin with no body yet.
-use Rattle.std.proofs.Common.{◌≡◌, ℕ, fold, bit_xor, ◌+◌, ◌-◌, ◌<◌, ◌≤◌, List, [], ◌∷◌, ◌++◌, length, take, drop}
-use Rattle.std.proofs.Common.{get_or, replicate, refl, arith, length-append}
-use Rattle.std.proofs.Math.Seq.{take-append_seam}
-use Rattle.std.proofs.lemmas.List.{get_or_append_left, get_or-append_right, get_or-replicate, get_or-take, length-replicate, length-take-le}
-use Rattle.std.proofs.lemmas.List.{take_all, take_at, take-append-drop, take-append-le, take-take}
-use Rattle.std.proofs.lemmas.List.Elements.{All-append, All-push, All-replicate, All-take}
-use Rattle.std.specs.List.{All}
-use Rattle.hart_frame.specs.wire.Body.{IsBody, BeginsWithBody, HasNoBody, CanBecomeBody}
-use Rattle.hart_frame.specs.wire.FrameParts.{FrameParts}
-use Rattle.hart_frame.specs.wire.Layout.{byte_count_place, body_length}
-use Rattle.hart_frame.specs.wire.Refusal.{HasCheckByte, HasDelimiter, HasGoodByteCount, IsTruncated}
+use Rattle.hart_frame.proofs.Common.{◌≡◌, ℕ, fold, bit_xor, ◌+◌, ◌-◌, ◌<◌, ◌≤◌, List, [], ◌∷◌, ◌++◌, length, take, drop, get_or, replicate}
+use Rattle.hart_frame.proofs.Common.{refl, arith, length-append, take-append_seam, get_or_append_left, get_or-take, length-replicate, All}
+use Rattle.hart_frame.proofs.Common.{length-take-le, take_all, take_at, take-append-drop, take-append-le, take-take, All-append, All-take}
+use Rattle.hart_frame.proofs.Common.{IsBody, BeginsWithBody, FrameParts, byte_count_place, body_length, HasCheckByte, IsTruncated}
+use Rattle.std.proofs.lemmas.List.{get_or-append_right, get_or-replicate}
+use Rattle.std.proofs.lemmas.List.Elements.{All-push, All-replicate}
+use Rattle.hart_frame.specs.wire.Body.{HasNoBody, CanBecomeBody}
+use Rattle.hart_frame.specs.wire.Refusal.{HasDelimiter, HasGoodByteCount}
 use Rattle.hart_frame.proofs.lemmas.wire.BodiesFound.{held_frame}
 use Rattle.hart_frame.proofs.lemmas.wire.Body.{IsBody-push}
 use Rattle.hart_frame.proofs.lemmas.wire.Parity.{IsCheckByte-fold, fits_at}

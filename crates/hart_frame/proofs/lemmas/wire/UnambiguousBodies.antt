@@ -1,17 +1,12 @@
 -- A list of bytes begins with at most one body, and that body has at most one frame.
-use Rattle.std.proofs.Common.{◌≡◌, ℕ, ◌+◌, ◌*◌, ◌<◌, Bool, List, [], ◌∷◌, ◌++◌, fold, bit_xor, length, take, drop, refl, arith}
-use Rattle.std.proofs.Common.{append_assoc, length-append}
-use Rattle.std.proofs.Math.Seq.{drop-append_seam, take-append_seam}
-use Rattle.std.proofs.lemmas.List.{append-nil, length-take-le, take_at, take-append-drop, get_or_append_left, get_or_at, get_or_past}
+use Rattle.hart_frame.proofs.Common.{◌≡◌, ℕ, ◌+◌, ◌*◌, ◌<◌, Bool, List, [], ◌∷◌, ◌++◌, fold, bit_xor, length, take, drop, refl, arith}
+use Rattle.hart_frame.proofs.Common.{append_assoc, length-append, take-append_seam, append-nil, length-take-le, take_at, take-append-drop}
+use Rattle.hart_frame.proofs.Common.{get_or_append_left, get_or_at, get_or_past, IsAddressBytes, Address, MasterId, IsBody, BeginsWithBody}
+use Rattle.hart_frame.proofs.Common.{delimiter_of, kind_code, address_type, FrameParts}
+use Rattle.std.proofs.Math.Seq.{drop-append_seam}
 use Rattle.hart_values.proofs.lemmas.Laws.{address_bytes_are_unambiguous-one_list}
-use Rattle.hart_values.specs.address.AddressBytes.{IsAddressBytes}
-use Rattle.hart_values.specs.declared.address.Address.{Address}
-use Rattle.hart_values.specs.declared.master_id.MasterId.{MasterId}
 use Rattle.hart_frame.specs.declared.wire.kind.FrameKind.{FrameKind}
 use Rattle.hart_frame.specs.declared.wire.kind.FrameKind.TheVariants.{Stx, Ack}
-use Rattle.hart_frame.specs.wire.Body.{IsBody, BeginsWithBody}
-use Rattle.hart_frame.specs.wire.Delimiter.{delimiter_of, kind_code, address_type}
-use Rattle.hart_frame.specs.wire.FrameParts.{FrameParts}
 use Rattle.hart_frame.proofs.lemmas.wire.Parity.{even-is, fits_at}
 
 -- Prefixes of the same length split equal lists into equal parts.

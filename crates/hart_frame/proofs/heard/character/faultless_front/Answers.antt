@@ -1,6 +1,4 @@
-use Rattle.std.proofs.Common.{arith}
-use Rattle.std.proofs.lemmas.Grind.{common_steps}
-use Rattle.std.proofs.lemmas.List.{get_or-take, length-take}
+use Rattle.hart_frame.proofs.Common.{arith, common_steps, get_or-take, length-take}
 use Rattle.hart_frame.proofs.lemmas.heard.Front.{Front-more}
 use Rattle.hart_frame.proofs.heard.character.faultless_front.Goals as goal
 

@@ -1,4 +1,4 @@
-use Rattle.std.proofs.Common.{arith, sym}
+use Rattle.hart_frame.proofs.Common.{arith, sym}
 use Rattle.hart_frame.proofs.lemmas.heard.Front.{length-front}
 use Rattle.hart_frame.proofs.lemmas.heard.Told.{front_cut, front_whole, front_wrong, of_bytes}
 use Rattle.hart_frame.proofs.lemmas.wire.Parity.{fits_at}

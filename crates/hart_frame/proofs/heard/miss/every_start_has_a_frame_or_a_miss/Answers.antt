@@ -1,4 +1,4 @@
-use Rattle.std.proofs.Common.{inl, inr}
+use Rattle.hart_frame.proofs.Common.{inl, inr}
 use Rattle.hart_frame.proofs.lemmas.heard.Hint.{frame_or_miss}
 use Rattle.hart_frame.proofs.lemmas.heard.Missed.{miss_of-some, no_miss}
 use Rattle.hart_frame.proofs.heard.miss.every_start_has_a_frame_or_a_miss.Goals as goal

@@ -1,6 +1,4 @@
-use Rattle.std.proofs.Common.{◌-◌, arith}
-use Rattle.std.proofs.lemmas.Bool.Decides.{nat_tests}
-use Rattle.std.proofs.lemmas.Option.{slice_get-get_or}
+use Rattle.hart_frame.proofs.Common.{◌-◌, arith, nat_tests, slice_get-get_or}
 use Rattle.hart_frame.proofs.heard.miss.follows_preamble.Goals as goal
 
 pub returns-then-byte : goal.returns-then-byte

@@ -1,9 +1,6 @@
-use Rattle.std.proofs.Common.{◌≡◌, ◌<◌, ℕ, zero, suc, inl, inr, List, None, drop, length, refl, arith}
-use Rattle.std.proofs.lemmas.List.{take_rest}
-use Rattle.hart_frame.specs.heard.Character.{Character}
-use Rattle.hart_frame.specs.heard.Miss.{miss_of}
+use Rattle.hart_frame.proofs.Common.{◌≡◌, ◌<◌, ℕ, zero, suc, inl, inr, List, None, drop, length, refl, arith, take_rest, Character, miss_of}
+use Rattle.hart_frame.proofs.Common.{IsOfBytes}
 use Rattle.hart_frame.proofs.lemmas.heard.Hint.{is_told}
-use Rattle.hart_frame.specs.private.Miss.{IsOfBytes}
 use Rattle.hart_frame.proofs.lemmas.heard.Start.{start_test, tested}
 use Rattle.hart_frame.proofs.heard.miss.why_none.Goals as goal
 

@@ -1,8 +1,7 @@
-use Rattle.std.proofs.Common.{◌≡◌, ◌≢◌, ◌&&◌, not, nat_eq, ℕ, ◌<◌, List, length, Bool, true, false, Option, Some, IfSome, sym, ◌∙◌, arith}
-use Rattle.std.proofs.Common.{get_or}
-use Rattle.std.proofs.lemmas.Bool.Decides.{nat_tests}
+use Rattle.hart_frame.proofs.Common.{◌≡◌, ◌≢◌, ◌&&◌, not, ℕ, ◌<◌, List, length, Bool, true, false, Option, Some, sym, ◌∙◌, arith, get_or}
+use Rattle.hart_frame.proofs.Common.{nat_tests, Character}
+use Rattle.std.proofs.Common.{nat_eq, IfSome}
 use Rattle.std.proofs.lemmas.List.{get_or_default}
-use Rattle.hart_frame.specs.heard.Character.{Character}
 use Rattle.hart_frame.proofs.lemmas.heard.Place.{preamble}
 use Rattle.hart_frame.proofs.lemmas.heard.Start.{is_start_from, starts_at}
 use Rattle.hart_frame.proofs.heard.start.is_start_within.Goals as goal

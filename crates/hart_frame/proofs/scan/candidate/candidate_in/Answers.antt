@@ -1,5 +1,4 @@
-use Rattle.std.proofs.Common.{arith, length-drop}
-use Rattle.std.proofs.lemmas.List.{take_rest}
+use Rattle.hart_frame.proofs.Common.{arith, length-drop, take_rest}
 use Rattle.hart_frame.proofs.lemmas.scan.Candidate.{after_whole, after_wrong}
 use Rattle.hart_frame.proofs.lemmas.wire.Parity.{fits_drop}
 use Rattle.hart_frame.proofs.lemmas.wire.Reading.{cut_truncated, wrong_few, wrong_within}

@@ -1,6 +1,4 @@
-use Rattle.std.proofs.Common.{arith}
-use Rattle.std.proofs.lemmas.List.{take_rest}
-use Rattle.hart_frame.specs.heard.Frames.{IsFirst}
+use Rattle.hart_frame.proofs.Common.{arith, take_rest, IsFirst}
 use Rattle.hart_frame.proofs.lemmas.scan.First.{first_copied, first_later, no_later}
 use Rattle.hart_frame.proofs.scan.first.first_frame.Goals as goal
 

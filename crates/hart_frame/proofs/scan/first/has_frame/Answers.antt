@@ -1,4 +1,4 @@
-use Rattle.std.proofs.Common.{arith}
+use Rattle.hart_frame.proofs.Common.{arith}
 use Rattle.hart_frame.proofs.lemmas.scan.First.{none_first, some_first}
 use Rattle.hart_frame.proofs.scan.first.has_frame.Goals as goal
 

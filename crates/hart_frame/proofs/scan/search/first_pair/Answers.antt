@@ -1,4 +1,4 @@
-use Rattle.std.proofs.Common.{arith}
+use Rattle.hart_frame.proofs.Common.{arith}
 use Rattle.hart_frame.proofs.lemmas.scan.Pairs.{no_pair_in_lanes, pair_in_lanes}
 use Rattle.hart_frame.proofs.scan.search.first_pair.Goals as goal
 

@@ -1,5 +1,4 @@
-use Rattle.std.proofs.Common.{◌-◌, ◌≤◌, length}
-use Rattle.hart_frame.specs.private.Search.{HasNoPair}
+use Rattle.hart_frame.proofs.Common.{◌-◌, ◌≤◌, length, HasNoPair}
 use Rattle.hart_frame.proofs.scan.search.next_pair.Given as goal
 
 abbrev pub invariant-loop-place : goal.invariant-loop-place

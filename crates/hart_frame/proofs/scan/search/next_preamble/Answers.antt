@@ -1,6 +1,6 @@
-use Rattle.std.proofs.Common.{◌≡◌, ◌≢◌, ◌≤◌, ◌<◌, ◌+◌, ◌-◌, ℕ, List, length, drop, take, get_or, slice_index, arith, length-drop}
-use Rattle.std.proofs.lemmas.Bool.Decides.{nat_tests}
-use Rattle.std.proofs.lemmas.List.{get_or-drop, length-take-le, take_rest}
+use Rattle.hart_frame.proofs.Common.{◌≡◌, ◌≢◌, ◌≤◌, ◌<◌, ◌+◌, ◌-◌, ℕ, List, length, drop, take, get_or, arith, length-drop, nat_tests}
+use Rattle.hart_frame.proofs.Common.{get_or-drop, length-take-le, take_rest}
+use Rattle.std.proofs.Common.{slice_index}
 use Rattle.memchr.specs.Find.{Nowhere, Passes, is_byte}
 use Rattle.hart_frame.proofs.scan.search.next_preamble.Goals as goal
 

@@ -1,4 +1,4 @@
-use Rattle.hart_frame.specs.private.Search.{HasNoPair}
+use Rattle.hart_frame.proofs.Common.{HasNoPair}
 use Rattle.hart_frame.proofs.scan.search.pair_near_end.Given as goal
 
 abbrev pub invariant-loop-place : goal.invariant-loop-place

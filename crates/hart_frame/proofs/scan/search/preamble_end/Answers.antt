@@ -1,5 +1,5 @@
-use Rattle.std.proofs.Common.{◌≡◌, ◌+◌, ◌-◌, ◌<◌, ◌≤◌, ℕ, get_or, arith, length-drop}
-use Rattle.std.proofs.lemmas.List.{get_or-drop, get_or-take, length-take-le, take_rest}
+use Rattle.hart_frame.proofs.Common.{◌≡◌, ◌+◌, ◌-◌, ◌<◌, ◌≤◌, ℕ, get_or, arith, length-drop, get_or-drop, get_or-take, length-take-le}
+use Rattle.hart_frame.proofs.Common.{take_rest}
 use Rattle.hart_frame.proofs.scan.search.preamble_end.Goals as goal
 
 pub returns : goal.returns

@@ -1,4 +1,4 @@
-use Rattle.std.proofs.Common.{length, ◌-◌}
+use Rattle.hart_frame.proofs.Common.{length, ◌-◌}
 use Rattle.hart_frame.proofs.lemmas.scan.Search.{IsSearching}
 use Rattle.hart_frame.proofs.scan.search.search.Given as goal
 

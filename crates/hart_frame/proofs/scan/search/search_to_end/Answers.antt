@@ -1,4 +1,4 @@
-use Rattle.std.proofs.Common.{arith, not}
+use Rattle.hart_frame.proofs.Common.{arith, not}
 use Rattle.hart_frame.proofs.lemmas.scan.ToEnd.{looked_from, looked_on}
 use Rattle.hart_frame.proofs.scan.search.search_to_end.Goals as goal
 

@@ -1,4 +1,4 @@
-use Rattle.std.proofs.Common.{length, ◌-◌}
+use Rattle.hart_frame.proofs.Common.{length, ◌-◌}
 use Rattle.hart_frame.proofs.lemmas.scan.ToEnd.{IsLookedAt}
 use Rattle.hart_frame.proofs.scan.search.search_to_end.Given as goal
 

@@ -1,8 +1,4 @@
-use Rattle.std.proofs.Common.{◌∙◌, arith, drop, length-drop}
-use Rattle.std.proofs.lemmas.List.{take_rest, get_or-drop}
-use Rattle.hart_frame.specs.private.Sighting.{MayStandAlone}
-use Rattle.hart_frame.specs.declared.wire.prefix.Prefix.TheVariants.{Cut}
-use Rattle.hart_frame.specs.private.Prefix.{IsPrefix}
+use Rattle.hart_frame.proofs.Common.{◌∙◌, arith, drop, length-drop, take_rest, get_or-drop, MayStandAlone, Cut, IsPrefix}
 use Rattle.hart_frame.proofs.lemmas.scan.Alone.{alone_moved}
 use Rattle.hart_frame.proofs.lemmas.scan.BodyAt.{cut_not_alone, not_alone, whole_seen, wrong_seen}
 use Rattle.hart_frame.proofs.lemmas.wire.Reading.{cut_truncated}

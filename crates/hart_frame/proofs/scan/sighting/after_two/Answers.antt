@@ -1,12 +1,6 @@
-use Rattle.std.proofs.Common.{◌≡◌, ◌≤◌, ℕ, List, Option, length, drop, arith, length-append}
-use Rattle.std.proofs.lemmas.List.{length-map, take_rest}
-use Rattle.hart_frame.specs.declared.heard.miss.Miss.TheVariants.{Faulty}
-use Rattle.hart_frame.specs.declared.scan.sighting.After.{After}
-use Rattle.hart_frame.specs.declared.scan.sighting.After.TheVariants.{Damaged}
+use Rattle.hart_frame.proofs.Common.{◌≡◌, ◌≤◌, ℕ, List, Option, length, drop, arith, length-append, length-map, take_rest, Faulty, After}
+use Rattle.hart_frame.proofs.Common.{Damaged, Cut, Character, IsPrefix}
 use Rattle.hart_frame.specs.declared.scan.sighting.Standing.TheVariants.{Missed}
-use Rattle.hart_frame.specs.declared.wire.prefix.Prefix.TheVariants.{Cut}
-use Rattle.hart_frame.specs.heard.Character.{Character}
-use Rattle.hart_frame.specs.private.Prefix.{IsPrefix}
 use Rattle.hart_frame.specs.private.Sighting.{IsAfterTwo}
 use Rattle.hart_frame.proofs.lemmas.scan.BodyAt.{cut_damaged, cut_ended, damaged_header, ended_header}
 use Rattle.hart_frame.proofs.lemmas.scan.BodyAt.{wrong_below, wrong_header, wrong_seen}

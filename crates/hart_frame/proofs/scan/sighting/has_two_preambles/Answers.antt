@@ -1,6 +1,4 @@
-use Rattle.std.proofs.Common.{arith}
-use Rattle.std.proofs.lemmas.Bool.Decides.{nat_tests}
-use Rattle.std.proofs.lemmas.List.{drop_all, drop_more}
+use Rattle.hart_frame.proofs.Common.{arith, nat_tests, drop_all, drop_more}
 use Rattle.hart_frame.proofs.lemmas.scan.Alone.{two_none, two_step}
 use Rattle.hart_frame.proofs.scan.sighting.has_two_preambles.Goals as goal
 

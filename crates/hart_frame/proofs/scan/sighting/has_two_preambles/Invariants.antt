@@ -1,6 +1,5 @@
-use Rattle.std.proofs.Common.{◌≡◌}
-use Rattle.std.specs.Prelude.{◌||◌, ◌&&◌, ◌==◌, drop, slice_index}
-use Rattle.hart_frame.specs.heard.Sighting.{has_two_preambles}
+use Rattle.hart_frame.proofs.Common.{◌≡◌, ◌||◌, ◌&&◌, ◌==◌, drop, has_two_preambles}
+use Rattle.std.specs.Prelude.{slice_index}
 use Rattle.hart_frame.proofs.scan.sighting.has_two_preambles.Given as goal
 
 abbrev pub invariant-loop-byte : goal.invariant-loop-byte

@@ -1,7 +1,5 @@
-use Rattle.std.proofs.Common.{◌≡◌, ◌≢◌, ◌+◌, ◌-◌, arith, refl, drop, get_or, length, length-drop, take, false}
-use Rattle.std.proofs.lemmas.List.{get_or-drop}
-use Rattle.hart_frame.specs.heard.Sighting.{has_two_preambles}
-use Rattle.hart_frame.specs.declared.scan.sighting.After.TheVariants.{More}
+use Rattle.hart_frame.proofs.Common.{◌≡◌, ◌≢◌, ◌+◌, ◌-◌, arith, refl, drop, get_or, length, length-drop, take, false, get_or-drop, More}
+use Rattle.hart_frame.proofs.Common.{has_two_preambles}
 use Rattle.hart_frame.proofs.lemmas.scan.Alone.{alone, crossed, lone_open, looked_at}
 use Rattle.hart_frame.proofs.lemmas.scan.BodyAt.{body_header}
 use Rattle.hart_frame.proofs.scan.sighting.lone_body.Goals as goal

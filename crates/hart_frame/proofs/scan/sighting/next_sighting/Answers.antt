@@ -1,5 +1,4 @@
-use Rattle.std.proofs.Common.{[], ◌+◌, ◌<◌, arith}
-use Rattle.std.proofs.lemmas.List.Elements.{All-from_get_or}
+use Rattle.hart_frame.proofs.Common.{[], ◌+◌, ◌<◌, arith, All-from_get_or}
 use Rattle.hart_frame.specs.private.Sighting.{IsUsed}
 use Rattle.hart_frame.proofs.lemmas.scan.NextSeen.{message_seen, message_two, missed_seen, next_is, open_few, open_seen}
 use Rattle.hart_frame.proofs.lemmas.scan.NextSeen.{passed_all, sees, silent_all, silent_on}

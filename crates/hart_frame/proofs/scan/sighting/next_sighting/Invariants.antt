@@ -1,4 +1,4 @@
-use Rattle.std.proofs.Common.{◌≤◌, ◌-◌, length}
+use Rattle.hart_frame.proofs.Common.{◌≤◌, ◌-◌, length}
 use Rattle.hart_frame.specs.private.Sighting.{AreSilent}
 use Rattle.hart_frame.proofs.scan.sighting.next_sighting.Given as goal
 

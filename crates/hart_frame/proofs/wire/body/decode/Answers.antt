@@ -1,4 +1,4 @@
-use Rattle.std.proofs.Common.{arith}
+use Rattle.hart_frame.proofs.Common.{arith}
 use Rattle.hart_frame.proofs.lemmas.wire.Reading.{cut_truncated, wrong_refused}
 use Rattle.hart_frame.proofs.lemmas.wire.Refusal.{only}
 use Rattle.hart_frame.proofs.wire.body.decode.Goals as goal

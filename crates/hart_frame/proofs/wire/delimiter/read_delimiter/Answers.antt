@@ -1,6 +1,5 @@
-use Rattle.std.proofs.Common.{◌≡◌, ℕ, ◌%◌, ◌<◌, ◌==◌, ◌||◌, bit_and, not, refl, arith}
+use Rattle.hart_frame.proofs.Common.{◌≡◌, ℕ, ◌%◌, ◌<◌, ◌==◌, ◌||◌, bit_and, not, refl, arith, nat_tests}
 use Rattle.std.proofs.lemmas.Bool.{agree_below_at}
-use Rattle.std.proofs.lemmas.Bool.Decides.{nat_tests}
 use Rattle.hart_frame.specs.wire.Delimiter.{is_delimiter}
 use Rattle.hart_frame.proofs.wire.delimiter.read_delimiter.Goals as goal
 

@@ -1,6 +1,4 @@
-use Rattle.std.proofs.Common.{◌<◌, arith, append_assoc}
-use Rattle.std.proofs.lemmas.List.{drop_at, take_rest}
-use Rattle.std.proofs.lemmas.List.Elements.{All-drop}
+use Rattle.hart_frame.proofs.Common.{◌<◌, arith, append_assoc, drop_at, take_rest, All-drop}
 use Rattle.hart_frame.proofs.lemmas.wire.Body.{IsBody-push}
 use Rattle.hart_frame.proofs.wire.message.push_body.Goals as goal
 

@@ -1,4 +1,4 @@
-use Rattle.std.proofs.Common.{length, ap, arith, append_assoc, length-append, rules}
+use Rattle.hart_frame.proofs.Common.{length, ap, arith, append_assoc, length-append, rules}
 use Rattle.hart_frame.proofs.wire.message.push_checked_part.Goals as goal
 
 -- Each part fits after the parts before it, as their lengths show.

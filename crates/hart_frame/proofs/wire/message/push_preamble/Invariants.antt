@@ -1,4 +1,4 @@
-use Rattle.std.proofs.Common.{◌≡◌, replicate}
+use Rattle.hart_frame.proofs.Common.{◌≡◌, replicate}
 use Rattle.hart_frame.proofs.wire.message.push_preamble.Given as goal
 
 abbrev pub invariant-loop : goal.invariant-loop

@@ -1,5 +1,4 @@
-use Rattle.std.proofs.Common.{◌*◌, ◌/◌, length, arith}
-use Rattle.std.proofs.lemmas.List.{take_rest}
+use Rattle.hart_frame.proofs.Common.{◌*◌, ◌/◌, length, arith, take_rest}
 use Rattle.hart_frame.proofs.lemmas.wire.Lane.{IsCheckByte-rest}
 use Rattle.hart_frame.proofs.wire.parity.check_byte.Goals as goal
 

@@ -1,4 +1,4 @@
-use Rattle.std.proofs.Common.{◌≡◌, ◌*◌, take}
+use Rattle.hart_frame.proofs.Common.{◌≡◌, ◌*◌, take}
 use Rattle.hart_frame.proofs.lemmas.wire.Lane.{xor_of}
 use Rattle.hart_frame.proofs.wire.parity.fold_blocks.Given as goal
 

@@ -1,4 +1,4 @@
-use Rattle.std.proofs.Common.{◌≡◌, ◌*◌, ◌/◌, length, arith}
+use Rattle.hart_frame.proofs.Common.{◌≡◌, ◌*◌, ◌/◌, length, arith}
 use Rattle.hart_frame.proofs.lemmas.wire.Lane.{fold-rest, xor_of-block}
 use Rattle.hart_frame.proofs.wire.parity.fold_few.Goals as goal
 

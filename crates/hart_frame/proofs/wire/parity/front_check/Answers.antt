@@ -1,5 +1,4 @@
-use Rattle.std.proofs.Common.{◌*◌, ◌/◌, length, drop, ap, arith}
-use Rattle.std.proofs.lemmas.List.{length-take-le, take_rest}
+use Rattle.hart_frame.proofs.Common.{◌*◌, ◌/◌, length, drop, ap, arith, length-take-le, take_rest}
 use Rattle.hart_frame.proofs.lemmas.wire.Lane.{IsCheckByte-few, IsCheckByte-front}
 use Rattle.hart_frame.proofs.wire.parity.front_check.Goals as goal
 

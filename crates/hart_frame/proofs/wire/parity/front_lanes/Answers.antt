@@ -1,6 +1,6 @@
-use Rattle.std.proofs.Common.{List, Bool, ltb, replicate, ap, ◌∙◌, arith, w8}
+use Rattle.hart_frame.proofs.Common.{List, Bool, ltb, replicate, ap, ◌∙◌, arith, range_with_len}
+use Rattle.std.proofs.Common.{w8}
 use Rattle.std.proofs.lemmas.Simd.{tops_compared}
-use Rattle.std.specs.List.{range_with_len}
 use Rattle.std.specs.Simd.Lanes.{sel_l}
 use Rattle.hart_frame.proofs.lemmas.wire.Lane.{kept}
 use Rattle.hart_frame.proofs.wire.parity.front_lanes.Goals as goal

@@ -1,6 +1,4 @@
-use Rattle.std.proofs.Common.{arith}
-use Rattle.hart_frame.specs.private.Layout.{Describes}
-use Rattle.hart_frame.specs.wire.Refusal.{HasCheckByte}
+use Rattle.hart_frame.proofs.Common.{arith, Describes, HasCheckByte}
 use Rattle.hart_frame.proofs.lemmas.wire.Reading.{odd_prefix, whole_prefix}
 use Rattle.hart_frame.proofs.wire.prefix.prefix_of.Goals as goal
 

@@ -1,9 +1,6 @@
-use Rattle.std.proofs.Common.{◌⊎◌, ◌≡◌, ◌<◌, ℕ, refl, bit_and, arith, sym, ap, ◌∙◌}
-use Rattle.std.proofs.lemmas.Bool.{false≢true}
-use Rattle.std.proofs.lemmas.Grind.{common_steps}
+use Rattle.hart_frame.proofs.Common.{◌⊎◌, ◌≡◌, ◌<◌, ℕ, refl, bit_and, arith, sym, ap, ◌∙◌, false≢true, common_steps, bit_at}
 use Rattle.std.proofs.lemmas.Nat.{and_le_l}
 use Rattle.std.proofs.lemmas.Nat.Bits.{bit_at_and, bit_at-lt, bit_at-zero, same_from_bits_below}
-use Rattle.std.specs.Int.{bit_at}
 use Rattle.hart_frame.specs.heard.Character.{IsFaultBit, AreFaultBits}
 use Rattle.hart_frame.proofs.heard.character.Char.new.Goals as goal
 

@@ -1,5 +1,4 @@
-use Rattle.std.proofs.Common.{refl, arith}
-use Rattle.hart_frame.specs.private.Buffer.{scan_of}
+use Rattle.hart_frame.proofs.Common.{refl, arith, scan_of}
 use Rattle.hart_frame.proofs.lemmas.heard.Place.{preamble}
 use Rattle.hart_frame.proofs.lemmas.scan.Scan.{moves_past}
 use Rattle.hart_frame.proofs.scan.buffer.Buffer.drop_damaged.Goals as goal

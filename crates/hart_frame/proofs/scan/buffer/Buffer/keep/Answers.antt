@@ -1,4 +1,4 @@
-use Rattle.std.proofs.Common.{arith}
+use Rattle.hart_frame.proofs.Common.{arith}
 use Rattle.hart_frame.proofs.lemmas.scan.Buffer.{kept_after, kept_past}
 use Rattle.hart_frame.proofs.scan.buffer.Buffer.keep.Goals as goal
 

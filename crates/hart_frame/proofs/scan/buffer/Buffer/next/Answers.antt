@@ -1,4 +1,4 @@
-use Rattle.std.proofs.Common.{arith}
+use Rattle.hart_frame.proofs.Common.{arith}
 use Rattle.hart_frame.proofs.lemmas.scan.Decision.{gives_span}
 use Rattle.hart_frame.proofs.scan.buffer.Buffer.next.Goals as goal
 

@@ -1,5 +1,4 @@
-use Rattle.std.proofs.Common.{arith, refl}
-use Rattle.hart_frame.specs.private.Buffer.{scan_of}
+use Rattle.hart_frame.proofs.Common.{arith, refl, scan_of}
 use Rattle.hart_frame.proofs.lemmas.scan.Buffer.{waits, waits_drained}
 use Rattle.hart_frame.proofs.lemmas.scan.Scan.{moves_none}
 use Rattle.hart_frame.proofs.scan.buffer.Buffer.peek.Goals as goal

@@ -1,8 +1,5 @@
-use Rattle.std.proofs.Common.{◌≡◌, ℕ, List, length, drop, ◌∙◌, sym, arith}
-use Rattle.std.proofs.lemmas.Bool.{false≢true}
-use Rattle.std.proofs.lemmas.List.{drop-map, length-map, take_rest}
-use Rattle.std.specs.List.{slice_range}
-use Rattle.hart_frame.specs.heard.Character.{faultless}
+use Rattle.hart_frame.proofs.Common.{◌≡◌, ℕ, List, length, drop, ◌∙◌, sym, arith, false≢true, drop-map, length-map, take_rest, slice_range}
+use Rattle.hart_frame.proofs.Common.{faultless}
 use Rattle.hart_frame.proofs.lemmas.scan.Chunk.{hearing_on, hears_all, hears_until}
 use Rattle.hart_frame.proofs.scan.buffer.Buffer.push_bytes.Goals as goal
 

@@ -1,7 +1,4 @@
-use Rattle.std.proofs.Common.{◌≡◌, ◌-◌, length}
-use Rattle.hart_frame.specs.heard.Character.{faultless}
-use Rattle.hart_frame.specs.declared.scan.buffer.State.TheVariants.{Drained}
-use Rattle.hart_frame.specs.private.Buffer.{IsSound}
+use Rattle.hart_frame.proofs.Common.{◌≡◌, ◌-◌, length, faultless, Drained, IsSound}
 use Rattle.hart_frame.proofs.lemmas.scan.Chunk.{IsHearing}
 use Rattle.hart_frame.proofs.scan.buffer.Buffer.push_bytes.Given as goal
 

@@ -1,6 +1,4 @@
-use Rattle.std.proofs.Common.{sym, ◌∙◌, arith}
-use Rattle.std.proofs.lemmas.Bool.{false≢true}
-use Rattle.std.proofs.lemmas.List.{take_rest}
+use Rattle.hart_frame.proofs.Common.{sym, ◌∙◌, arith, false≢true, take_rest}
 use Rattle.hart_frame.proofs.lemmas.scan.Chunk.{hearing_on, hears_all, hears_until}
 use Rattle.hart_frame.proofs.scan.buffer.Buffer.push_chars.Goals as goal
 

@@ -1,6 +1,4 @@
-use Rattle.std.proofs.Common.{◌≡◌, ◌-◌, length}
-use Rattle.hart_frame.specs.declared.scan.buffer.State.TheVariants.{Drained}
-use Rattle.hart_frame.specs.private.Buffer.{IsSound}
+use Rattle.hart_frame.proofs.Common.{◌≡◌, ◌-◌, length, Drained, IsSound}
 use Rattle.hart_frame.proofs.lemmas.scan.Chunk.{IsHearing}
 use Rattle.hart_frame.proofs.scan.buffer.Buffer.push_chars.Given as goal
 

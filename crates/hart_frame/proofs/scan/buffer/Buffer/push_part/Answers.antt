@@ -1,5 +1,4 @@
-use Rattle.std.proofs.Common.{arith}
-use Rattle.hart_frame.specs.private.Buffer.{scan_of}
+use Rattle.hart_frame.proofs.Common.{arith, scan_of}
 use Rattle.hart_frame.proofs.lemmas.scan.Chunk.{bytes_heard}
 use Rattle.hart_frame.proofs.scan.buffer.Buffer.push_part.Goals as goal
 

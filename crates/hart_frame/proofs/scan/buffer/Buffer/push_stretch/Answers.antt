@@ -1,5 +1,4 @@
-use Rattle.std.proofs.Common.{◌<◌, length, ◌∙◌, rules, arith}
-use Rattle.hart_frame.specs.private.Buffer.{scan_of}
+use Rattle.hart_frame.proofs.Common.{◌<◌, length, ◌∙◌, rules, arith, scan_of}
 use Rattle.hart_frame.proofs.lemmas.heard.Front.{length-front}
 use Rattle.hart_frame.proofs.lemmas.scan.Chunk.{hears_first, stretch_heard}
 use Rattle.hart_frame.proofs.scan.buffer.Buffer.push_stretch.Goals as goal

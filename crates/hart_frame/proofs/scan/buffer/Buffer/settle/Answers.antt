@@ -1,5 +1,4 @@
-use Rattle.std.proofs.Common.{length-drop, length-append, arith, ap, length}
-use Rattle.std.proofs.Math.Seq.{take-length}
+use Rattle.hart_frame.proofs.Common.{length-drop, length-append, arith, ap, length, take-length}
 use Rattle.hart_frame.proofs.lemmas.scan.Buffer.{waits_drained}
 use Rattle.hart_frame.proofs.lemmas.scan.Part.{IsKept, hears_kept}
 use Rattle.hart_frame.proofs.scan.buffer.Buffer.settle.Goals as goal

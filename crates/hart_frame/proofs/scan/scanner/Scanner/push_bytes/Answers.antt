@@ -1,8 +1,4 @@
-use Rattle.std.proofs.Common.{arith}
-use Rattle.std.proofs.lemmas.List.{take-map}
-use Rattle.hart_frame.specs.heard.Character.{faultless}
-use Rattle.hart_frame.specs.private.Buffer.{scan_of}
-use Rattle.hart_frame.specs.private.Chunk.{Hears}
+use Rattle.hart_frame.proofs.Common.{arith, take-map, faultless, scan_of, Hears}
 use Rattle.hart_frame.proofs.scan.scanner.Scanner.push_bytes.Goals as goal
 
 hears : (c : goal.After-push_bytes) → Hears c.args.self.now (scan_of c.push_bytes.new.self) (faultless c.args.chunk.now) c.push_bytes.result

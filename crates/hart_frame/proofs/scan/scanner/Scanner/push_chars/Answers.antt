@@ -1,6 +1,4 @@
-use Rattle.std.proofs.Common.{arith}
-use Rattle.hart_frame.specs.private.Buffer.{scan_of}
-use Rattle.hart_frame.specs.private.Chunk.{Hears}
+use Rattle.hart_frame.proofs.Common.{arith, scan_of, Hears}
 use Rattle.hart_frame.proofs.scan.scanner.Scanner.push_chars.Goals as goal
 
 hears : (c : goal.After-push_chars) → Hears c.args.self.now (scan_of c.push_chars.new.self) c.args.chunk.now c.push_chars.result

@@ -1,5 +1,4 @@
-use Rattle.std.proofs.Common.{arith}
-use Rattle.hart_frame.specs.wire.View.{parts_of}
+use Rattle.hart_frame.proofs.Common.{arith, parts_of}
 use Rattle.hart_frame.proofs.scan.scanner.Scanner.take.Goals as goal
 
 pub returns : goal.returns

@@ -1,9 +1,6 @@
-use Rattle.std.proofs.Common.{sym, arith}
+use Rattle.hart_frame.proofs.Common.{sym, arith, get_or-take, slice_range, HeaderParts}
 use Rattle.std.proofs.lemmas.Grind.{get_or_after_one}
-use Rattle.std.proofs.lemmas.List.{get_or-take}
-use Rattle.std.specs.List.{slice_range}
 use Rattle.hart_frame.specs.wire.PlainAddress.{address_of}
-use Rattle.hart_frame.specs.wire.Header.{HeaderParts}
 use Rattle.hart_frame.specs.wire.Layout.{address_end}
 use Rattle.hart_frame.proofs.lemmas.wire.Header.{StandsAsHeader, header_read}
 use Rattle.hart_frame.proofs.lemmas.wire.Layout.{length-slice_range}

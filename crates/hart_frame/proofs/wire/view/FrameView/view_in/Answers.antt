@@ -1,9 +1,5 @@
-use Rattle.std.proofs.Common.{◌≡◌, ◌+◌, get_or, length, arith}
-use Rattle.std.proofs.lemmas.Grind.{common_steps}
-use Rattle.std.specs.List.{slice_range}
+use Rattle.hart_frame.proofs.Common.{◌≡◌, ◌+◌, get_or, length, arith, common_steps, slice_range, FrameParts, body_length}
 use Rattle.hart_frame.specs.wire.PlainAddress.{address_of}
-use Rattle.hart_frame.specs.wire.FrameParts.{FrameParts}
-use Rattle.hart_frame.specs.wire.Layout.{body_length}
 use Rattle.hart_frame.proofs.lemmas.wire.BodiesFound.{long_enough}
 use Rattle.hart_frame.proofs.lemmas.wire.Body.{IsBody-whole}
 use Rattle.hart_frame.proofs.lemmas.wire.Layout.{IsCheckedPart-in, StandsByLayout}
