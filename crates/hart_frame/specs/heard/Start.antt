@@ -2,8 +2,7 @@
 use Rattle.std.specs.Prelude.{◌≡◌, ◌≢◌, ◌≤◌, ◌+◌, ℕ, List, [], ◌∷◌, ◌++◌, length}
 use Rattle.hart_frame.specs.heard.Character.{Character, faultless}
 
--- A body may start at a place of a list if two faultless preamble bytes FF stand right before it, and the character at it is not a
--- faultless FF.
+-- A body may start at a place if two faultless preamble bytes FF stand right before it, and the character at it is not a faultless FF.
 pub record IsStart (place : ℕ) (chars : List Character) : Type 0 where
   pub prefix : List Character
   pub first : Character
