@@ -71,19 +71,29 @@ class Kit:
     def check(self, name, texts, functions, kept=None):
         """Checks these functions, and what they call, in a copy of a crate with these texts, and returns what the prover printed."""
         flags = ["--jobs", "1", *[word for it in functions for word in ("--only", it)]]
-        return self.rt.checked(self.crates[name], texts, flags, kept).stdout
+        with self.copied(name, texts) as room:
+            words = [*self.crates[name].words(flags, keeps=False), *(["--incremental", kept] if kept else [])]
+            return self.call(room, ["check", *words]).stdout
+
+    @contextlib.contextmanager
+    def copied(self, name, texts):
+        """A folder with a copy of a crate, in which files have these texts, or are added with them."""
+        with tempfile.TemporaryDirectory(prefix="mistakes-") as room:
+            for part in self.rt.rtlib.PARTS:
+                if os.path.isdir(f"{self.crates[name].folder}/{part}"):
+                    shutil.copytree(f"{self.crates[name].folder}/{part}", f"{room}/{part}")
+            for path, text in texts.items():
+                os.makedirs(os.path.dirname(f"{room}/{path}"), exist_ok=True)
+                with open(f"{room}/{path}", "w", encoding="utf-8") as it:
+                    it.write(text)
+            yield room
 
     def check_over(self, name, below, texts, functions):
         """Checks these functions of a crate over the sources of the libraries below it, of which one has these texts, and returns what the
         prover printed."""
         crate, changed = self.crates[name], self.crates[below]
         flags = ["--jobs", "1", *[word for it in functions for word in ("--only", it)]]
-        with tempfile.TemporaryDirectory(prefix="over-") as room:
-            for part in filter(os.path.isdir, [f"{changed.folder}/{it}" for it in self.rt.rtlib.PARTS]):
-                shutil.copytree(part, f"{room}/{os.path.basename(part)}")
-            for path, text in texts.items():
-                with open(f"{room}/{path}", "w", encoding="utf-8") as it:
-                    it.write(text)
+        with self.copied(below, texts) as room:
             words = crate.words(flags, keeps=False, as_source=True)
             return self.call(crate.folder, ["check", *[it.replace(f"={changed.folder}/src/", f"={room}/src/") for it in words]]).stdout
 
@@ -96,11 +106,8 @@ class Kit:
         """Builds a static library over the built libraries, and proves those parts of it that are not kept. Returns what the prover
         printed, and its status."""
         crate = self.crates[name]
-        with tempfile.TemporaryDirectory(prefix="library-") as room, self.kept(name) as kept:
+        with self.copied(name, {}) as room, self.kept(name) as kept:
             words = [*crate.words(["--jobs", "1"], keeps=False), "--incremental", kept]
             words += ["--toolchain", f"{self.rt.KIT}/toolchain", "--backend", "llvm", "-o", to]
-            for part in self.rt.rtlib.PARTS:
-                if os.path.isdir(f"{crate.folder}/{part}"):
-                    shutil.copytree(f"{crate.folder}/{part}", f"{room}/{part}")
             ran = self.call(room, ["build", *words])
             return ran.stdout, ran.returncode

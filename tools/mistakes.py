@@ -9,9 +9,9 @@ Without names it tries all of `crates/NAME/mistakes/`, and then holds the table 
 `--table` tries those of `must-fail/` too, which the gate tries one by one, and writes the table. `--gate` is for a run right after
 the gate: it takes the libraries that the gate has built, and the folder has what it proved of each crate. Other runs take a refusal that
 an earlier run on this machine saw as it is, if nothing that it rests on has changed; `--anew` tries all again. `--can-fail` shows that
-edits that are no mistakes make a run fail, and that a refusal is not taken after a change. `--definitions` tries wrong variants of definitions instead, and with `--untried` only
-those of which the page does not say where they are refused. With `--can-fail` it shows that a variant that says the same and a
-definition without a variant make a run fail.
+edits that are no mistakes make a run fail, and that a refusal is not taken after a change. `--definitions` tries wrong variants of
+definitions instead, and with `--untried` only those of which the page does not say where they are refused. With `--can-fail` it shows
+that a variant that says the same and a definition without a variant make a run fail.
 """
 
 import argparse
@@ -20,7 +20,9 @@ import sys
 from concurrent.futures import ThreadPoolExecutor, as_completed
 
 from mistakes import definitions, planted, table
-from mistakes.edits import BadEdit, batches_of, edits_of, mistake_of, texts_of
+from mistakes.batches import batches_of, texts_of
+from mistakes.copies import as_tried
+from mistakes.edits import BadEdit, edits_of, mistake_of
 from kit import Kit
 from mistakes.kept import KeptVerdicts, cache_folder
 from mistakes.verdicts import Verdict, verdict_of
@@ -28,10 +30,11 @@ from mistakes.verdicts import Verdict, verdict_of
 
 def judged(kit, batch, kept=None):
     """Returns the verdict on each mistake of a batch. A mistake that is not refused beside others is tried once more, alone."""
-    crate = os.path.basename(batch[0].edit.crate)
-    functions = sorted({it.path for mistake in batch for it in mistake.functions})
-    said = kit.check(crate, texts_of(batch), functions, kept)
-    found = [(it, verdict_of(said, crate, it)) for it in batch]
+    crate, texts = os.path.basename(batch[0].edit.crate), texts_of(batch)
+    tried_as = [as_tried(it, texts) for it in batch]
+    functions = sorted({it.path for mistake in tried_as for it in mistake.functions})
+    said = kit.check(crate, texts, functions, kept)
+    found = [(it._replace(copy=0), verdict_of(said, crate, at)) for it, at in zip(batch, tried_as, strict=True)]
     if len(batch) == 1:
         return found
     return [pair if pair[1].is_refused() else judged(kit, [pair[0]], kept)[0] for pair in found]

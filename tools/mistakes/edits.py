@@ -1,4 +1,4 @@
-"""Reads wrong bodies, applies them to the texts of a crate, and puts as many as can stand together into one batch."""
+"""Reads wrong bodies, and applies them to the texts of a crate."""
 
 import glob
 import os
@@ -33,11 +33,13 @@ class Edit(NamedTuple):
 
 
 class Mistake(NamedTuple):
-    """A wrong body with the functions that it changes. It stands alone if it changes more than bodies."""
+    """A wrong body with the functions that it changes, or with the number of the copy that it changes in place of its one function. It
+    stands alone if it changes more than bodies."""
 
     edit: Edit
     functions: tuple
     is_alone: bool
+    copy: int = 0
 
 
 def read_edit(text, name, crate, folder):
@@ -136,40 +138,3 @@ def function_at(edit, modules):
             if function.path == edit.refused_at:
                 return function
     raise BadEdit(f"there is no function {edit.refused_at}")
-
-
-def can_stand_beside(one, other):
-    """Whether two mistakes can be refused in one check: no function is changed twice.
-
-    One may call the other: a proof rests on the contracts of the functions that it calls, and not on their proofs."""
-    return not {it.path for it in one.functions} & {it.path for it in other.functions}
-
-
-def batches_of(mistakes):
-    """Puts mistakes into as few batches as a first fit finds. One that stands alone has a batch of its own."""
-    batches = []
-    for mistake in mistakes:
-        for batch in batches if not mistake.is_alone else ():
-            if not batch[0].is_alone and all(can_stand_beside(mistake, it) for it in batch) and applies_with(mistake, batch):
-                batch.append(mistake)
-                break
-        else:
-            batches.append([mistake])
-    return batches
-
-
-def applies_with(mistake, batch):
-    """Whether the changes of a mistake can be made after those of a batch."""
-    try:
-        texts_of([*batch, mistake])
-    except BadEdit:
-        return False
-    return True
-
-
-def texts_of(mistakes):
-    """The texts of the files that these mistakes change, by their paths in the crate."""
-    texts = Texts(mistakes[0].edit.crate)
-    for mistake in mistakes:
-        texts.apply(mistake.edit)
-    return texts.changed

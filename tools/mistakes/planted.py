@@ -1,5 +1,5 @@
-"""Shows that a run can fail: edits of hart_values that are no mistakes, a mistake under a contract that was made weak, a refusal that is
-kept from before a change, a definition in other words, and a definition without a variant."""
+"""Shows that a run can fail: edits of hart_values that are no mistakes, also of a copy of a function, a mistake under a contract that was
+made weak, a refusal that is kept from before a change, a definition in other words, and a definition without a variant."""
 
 import copy
 import re
@@ -8,7 +8,8 @@ import tempfile
 from typing import NamedTuple
 
 from mistakes import definitions
-from mistakes.edits import read_edit, texts_of
+from mistakes.batches import batches_of, texts_of
+from mistakes.edits import read_edit
 from mistakes.kept import KeptVerdicts
 from mistakes.verdicts import verdict_of
 
@@ -30,6 +31,8 @@ class Planted(NamedTuple):
 
 TOGETHER = (
     Planted("a_mistake", HALVED, ""),
+    Planted("a_second_mistake_of_the_function", HALVED.replace("/ 2", "/ 3"), ""),
+    Planted("no_mistake_of_the_function", HALVED.replace("self.bytes.len() / 2", "self.as_slice().len()"), "is still proved"),
     Planted(
         "the_same_in_other_words",
         """
@@ -109,7 +112,8 @@ def run(kit, judged, mistakes_of):
     crate = kit.crates[CRATE].folder
     by_name = {it.name: it for it in (*TOGETHER, *UNREAD)}
     _, bad = mistakes_of([edit_of(crate, it) for it in UNREAD])
-    batch, none = mistakes_of([edit_of(crate, it) for it in TOGETHER])
+    together, none = mistakes_of([edit_of(crate, it) for it in TOGETHER])
+    batch = next(iter(batches_of(together)))
     weak = Planted("a_mistake_under_a_weak_clause", HALVED, "is still proved")
     found = [differs(by_name[edit.name], verdict) for edit, verdict in bad + none]
     with kit.kept(CRATE) as kept:
