@@ -16,6 +16,7 @@ that a variant that says the same and a definition without a variant make a run 
 
 import argparse
 import os
+import resource
 import sys
 from concurrent.futures import ThreadPoolExecutor, as_completed
 
@@ -139,6 +140,8 @@ def main():
         failed += [] if verdict.is_refused() else [name]
     if not words.names:
         failed += table.write(rows) if words.table else table.differences(rows)
+    used = resource.getrusage(resource.RUSAGE_CHILDREN)
+    print(f"mistakes: {(used.ru_utime + used.ru_stime) / 60:.1f} processor minutes")
     print(f"mistakes: {sum(it.verdict.is_refused() for it in rows)} refused, {len(failed)} failed{': ' + ' '.join(failed) if failed else ''}")
     sys.exit(1 if failed else 0)
 
