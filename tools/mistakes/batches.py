@@ -3,6 +3,9 @@
 from mistakes.copies import add_copy, can_be_copied
 from mistakes.edits import BadEdit, Texts
 
+# A check of 175 mistakes of the largest crate takes more than 5 GB of memory, and each task of the gate may take 4 GB.
+MOST = 110
+
 
 def can_stand_beside(one, other):
     """Whether two mistakes can be refused in one check: no function is changed twice.
@@ -13,7 +16,7 @@ def can_stand_beside(one, other):
 
 def placed(mistake, batch):
     """The mistake as it can stand in a batch: in its own functions, or else in a copy of its one function; None if it cannot."""
-    if mistake.is_alone or batch[0].is_alone:
+    if mistake.is_alone or batch[0].is_alone or len(batch) == MOST:
         return None
     if all(can_stand_beside(mistake, it) for it in batch):
         return mistake if applies_with(mistake, batch) else None
