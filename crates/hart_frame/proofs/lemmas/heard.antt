@@ -5,7 +5,6 @@ pub mod UnambiguousFrames
 pub mod FramesFound
 pub mod Open
 pub mod Message
-pub mod Delivery
 pub mod Rest
 pub mod Sighting
 pub mod Seen

@@ -6,7 +6,8 @@ use Rattle.hart_frame.proofs.Common.{missed_at, sightings}
 use Rattle.hart_frame.proofs.lemmas.heard.FramesFound.{body_of, start_of}
 use Rattle.hart_frame.proofs.lemmas.heard.Missed.{none_of}
 use Rattle.hart_frame.proofs.lemmas.heard.Place.{preamble}
-use Rattle.hart_frame.proofs.lemmas.heard.Sighting.{IsClean, follows_from, is_other_at, is_preamble_at, same_from}
+use Rattle.hart_frame.proofs.Common.{◌≢◌, ◌⊎◌, ◌∙◌}
+use Rattle.hart_frame.proofs.lemmas.heard.Sighting.{after_two, not_both, IsClean, follows_from, is_other_at, is_preamble_at, same_from}
 use Rattle.hart_frame.proofs.lemmas.heard.Start.{starts_at, tested}
 use Rattle.std.proofs.lemmas.Grind.{flat_map-append}
 use Rattle.hart_frame.specs.heard.Sighting.{missed}
@@ -117,32 +118,6 @@ missed_one chars from start order silent =
     let before = missed_none chars from start silent in
     rw (long, parts, flat_map-append, before, append-nil) refl
 
--- If no miss is seen before a clean place, and no frame begins before it, the list passes to this place with nothing seen.
-pub passes_silent : (chars : List Character) (from used : ℕ) → from ≤ used → used ≤ length chars → NoneSeen chars from used
-    → ((found : Found) → StandsIn found chars from → used + 2 ≤ found.start) → IsClean chars from used → Passes chars from used []
-passes_silent chars from used order within silent frames clean = record {
-  order = order;
-  within = within;
-  told = missed_none chars from used silent;
-  frames = frames;
-  same = λ place after. same_from chars from used place order after clean;
-}
-
--- If a miss is seen, no miss is seen before it, and no frame begins before the next place, the list passes to the next place with this miss
--- seen.
-pub passes_miss : (chars : List Character) (from start : ℕ) (miss : Miss) → from ≤ start → start < length chars
-    → NoneSeen chars from start → missed_at chars from start ≡ Missed start miss (header_at chars start) ∷ []
-    → ((found : Found) → StandsIn found chars from → start + 3 ≤ found.start) → is_preamble_at chars start ≡ false
-    → Passes chars from (start + 1) (Missed start miss (header_at chars start) ∷ [])
-passes_miss chars from start miss order within silent is frames other =
-    let back : start + 1 - 1 ≡ start = omega arith in record {
-      order = omega (arith, order);
-      within = omega (arith, within);
-      told = rw (missed_one chars from start order silent) is;
-      frames = λ found stands. omega (arith, frames found stands);
-      same = λ place after. same_from chars from (start + 1) place (omega (arith, order)) after (inl (λ _. rw back other));
-    }
-
 -- Where a frame starts, two FF stand right before the place, a character other than FF stands at it, and a whole body begins there.
 pub record FrameAt (chars : List Character) (from start : ℕ) : Type 0 where
   pub order : from + 2 ≤ start
@@ -170,4 +145,50 @@ frame_at chars from found stands =
       before = before;
       last = last;
       body = none_of chars found.start (body_of chars found from stands);
+    }
+
+-- Where a frame starts, no miss is seen.
+frame_silent : (chars : List Character) (from : ℕ) (found : Found) → StandsIn found chars from → missed_at chars from found.start ≡ []
+frame_silent chars from found stands =
+    let at = frame_at chars from found stands in
+    after_two chars from found.start (omega (arith, at.order)) at.one at.two at.other ∙ rw at.body refl
+
+-- A frame that starts at or after a clean place has its two preamble bytes there or later.
+clean_frames : (chars : List Character) (from used : ℕ) (found : Found) → IsClean chars from used → StandsIn found chars from
+    → used ≤ found.start → used + 2 ≤ found.start
+clean_frames chars from used found clean stands low =
+    let at = frame_at chars from found stands in
+    let other : is_preamble_at chars found.start ≢ true = λ same. let no = not_both chars found.start same in cc (no, at.other) in
+    let cases : (found.start ≡ used) ⊎ (found.start ≡ used + 1) ⊎ (used + 2 ≤ found.start) = grind arith in
+    grind (arith, at)
+
+-- If no miss is seen before a clean place, and no frame starts before it, the list passes to this place with nothing seen.
+pub passes_silent : (chars : List Character) (from used : ℕ) → from ≤ used → used ≤ length chars → NoneSeen chars from used
+    → ((found : Found) → StandsIn found chars from → used ≤ found.start) → IsClean chars from used → Passes chars from used []
+passes_silent chars from used order within silent frames clean = record {
+  order = order;
+  within = within;
+  told = missed_none chars from used silent;
+  frames = λ found stands. clean_frames chars from used found clean stands (frames found stands);
+  same = λ place after. same_from chars from used place order after clean;
+}
+
+differ : (xs : List Seen) (x : Seen) (later : List Seen) → xs ≡ [] → xs ≡ x ∷ later → ⊥
+differ xs x later empty some = cc
+
+-- If a miss is seen, no miss is seen before it, and no frame starts before it, the list passes to the next place with this miss seen.
+pub passes_miss : (chars : List Character) (from start : ℕ) (miss : Miss) → from ≤ start → start < length chars
+    → NoneSeen chars from start → missed_at chars from start ≡ Missed start miss (header_at chars start) ∷ []
+    → ((found : Found) → StandsIn found chars from → start ≤ found.start) → is_preamble_at chars start ≡ false
+    → Passes chars from (start + 1) (Missed start miss (header_at chars start) ∷ [])
+passes_miss chars from start miss order within silent is frames other =
+    let back : start + 1 - 1 ≡ start = omega arith in
+    let clean : IsClean chars from (start + 1) = inl (λ _. rw back other) in record {
+      order = omega (arith, order);
+      within = omega (arith, within);
+      told = rw (missed_one chars from start order silent) is;
+      frames = λ found stands.
+          let here : found.start ≢ start = λ same. differ _ _ [] (rw same at (frame_silent chars from found stands)) is in
+          clean_frames chars from (start + 1) found clean stands (omega (arith, frames found stands, here));
+      same = λ place after. same_from chars from (start + 1) place (omega (arith, order)) after clean;
     }

@@ -105,7 +105,7 @@ miss_is chars from place after =
     told refl)
 
 -- What is seen at a place: its miss, if it has one, with its header.
-abbrev told : ℕ → Option HeaderParts → Option Miss → List Seen
+abbrev pub told : ℕ → Option HeaderParts → Option Miss → List Seen
 told place h m = option_map_or (λ miss. Missed place miss h ∷ []) m []
 
 told_is : (from place : ℕ) (h : Option HeaderParts) (m : Option Miss)
@@ -161,20 +161,16 @@ not_other chars from place after is = told_at chars from place after ∙ rw (is,
     (none_other place (header_at chars place) (follows_from chars from place) (follows_from chars from (place - 1)))
 
 -- After a single FF, a miss is seen at a place exactly if a body stands alone there.
-pub after_one-none : (chars : List Character) (from place : ℕ) → from ≤ place → follows_from chars from place ≡ true
-    → follows_from chars from (place - 1) ≡ false → stands_alone chars place ≡ false → missed_at chars from place ≡ []
-after_one-none chars from place after follows one alone = told_at chars from place after ∙ rw (follows, one, alone) refl
-
-pub after_one-miss : (chars : List Character) (from place : ℕ) → from ≤ place → follows_from chars from place ≡ true
-    → follows_from chars from (place - 1) ≡ false → stands_alone chars place ≡ true
-    → missed_at chars from place ≡ Missed place OnePreamble (header_at chars place) ∷ []
-after_one-miss chars from place after follows one alone = told_at chars from place after ∙ rw (follows, one, alone) refl
+pub after_one : (chars : List Character) (from place : ℕ) → from ≤ place → follows_from chars from place ≡ true
+    → follows_from chars from (place - 1) ≡ false → missed_at chars from place
+    ≡ told place (header_at chars place) (if stands_alone chars place then Some OnePreamble else None)
+after_one chars from place after follows one = told_at chars from place after ∙ rw (follows, one) refl
 
 -- After two FF, the reason why no body begins at a place is the miss that is seen there.
-pub after_two-miss : (chars : List Character) (from place : ℕ) (miss : Miss) → from ≤ place → follows_from chars from place ≡ true
-    → follows_from chars from (place - 1) ≡ true → is_other_at chars place ≡ true → body_miss place (drop place chars) ≡ Some miss
-    → missed_at chars from place ≡ Missed place miss (header_at chars place) ∷ []
-after_two-miss chars from place miss after follows two other is = told_at chars from place after ∙ rw (follows, two, other, is) refl
+pub after_two : (chars : List Character) (from place : ℕ) → from ≤ place → follows_from chars from place ≡ true
+    → follows_from chars from (place - 1) ≡ true → is_other_at chars place ≡ true
+    → missed_at chars from place ≡ told place (header_at chars place) (body_miss place (drop place chars))
+after_two chars from place after follows two other = told_at chars from place after ∙ rw (follows, two, other) refl
 
 -- A place `used` is clean in three cases: it is `from`, or no FF stands right before it; two FF begin there; or the list ends there. What
 -- is seen from a clean place on does not depend on whether characters count from `from` on or from `used` on.

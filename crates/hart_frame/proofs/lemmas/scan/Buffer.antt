@@ -12,7 +12,8 @@ use Rattle.hart_frame.specs.private.Decision.{IsHeldSearched}
 use Rattle.hart_frame.specs.scan.Scanner.{Waits}
 use Rattle.hart_frame.proofs.lemmas.scan.Candidate.{undecided_open}
 use Rattle.hart_frame.proofs.lemmas.scan.Scan.{moves_none, moves_past}
-use Rattle.hart_frame.proofs.lemmas.scan.Search.{drop_take, take_both}
+use Rattle.hart_frame.proofs.lemmas.scan.Search.{take_both}
+use Rattle.hart_frame.proofs.lemmas.wire.Lane.{drop_take}
 
 -- A buffer after it let its first `count` held bytes go.
 abbrev pub passed : Buffer → ℕ → Buffer

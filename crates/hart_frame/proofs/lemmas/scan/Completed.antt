@@ -13,7 +13,7 @@ use Rattle.hart_frame.proofs.lemmas.heard.Front.{faultless_bytes-append}
 use Rattle.hart_frame.proofs.lemmas.heard.Missed.{none_of}
 use Rattle.hart_frame.proofs.lemmas.scan.Alone.{two_last, two_more, two_none, two_other, two_push, two_step, whole_has, whole_past}
 use Rattle.hart_frame.proofs.lemmas.scan.BodyAt.{miss_more}
-use Rattle.hart_frame.proofs.lemmas.scan.Sighted.{bool_cases}
+use Rattle.std.proofs.lemmas.Bool.{false_from_ne_true}
 use Rattle.hart_frame.proofs.lemmas.wire.Parity.{IsCheckByte-fold, fits-is, fits_at}
 use Rattle.hart_frame.proofs.lemmas.wire.Prefix.{good_prefix, length_more}
 use Rattle.hart_frame.proofs.lemmas.wire.Refusal.{says}
@@ -35,30 +35,24 @@ says_alone xs more alone =
 
 -- If bytes end too early for a body and nothing follows them, they are not a body that stands alone.
 pub not_yet : (xs : List ℕ) → IsTruncated xs → stands_alone (faultless xs ++ []) 0 ≡ false
-not_yet xs truncated = elim (bool_cases (stands_alone (faultless xs ++ []) 0)) [
-  | inr not ↦ not
-  | inl alone ↦
-      let is = says_alone xs [] alone in
-      let past = whole_past xs [] truncated is.has in
-      absurd (omega (arith, past, is.has.1, length-append xs []))
-]
+not_yet xs truncated = false_from_ne_true _ (λ alone.
+    let is = says_alone xs [] alone in
+    let past = whole_past xs [] truncated is.has in
+    omega (arith, past, is.has.1, length-append xs []))
 
 -- Bytes that end too early never become a body that stands alone if they hold two FF in a row, or lack only a second FF.
 pub never_two : (xs : List ℕ) (more : List Character) → IsTruncated xs → has_two_preambles xs ≡ true
     → stands_alone (faultless xs ++ more) 0 ≡ false
-never_two xs more truncated two = elim (bool_cases (stands_alone (faultless xs ++ more) 0)) [
-  | inr not ↦ not
-  | inl alone ↦
-      let ys : List ℕ = faultless_bytes more in
-      let is = says_alone xs more alone in
-      let past = whole_past xs ys truncated is.has in
-      let k : ℕ = body_length (xs ++ ys) + 1 - length xs in
-      let long : body_length (xs ++ ys) + 1 ≡ length xs + k = omega (arith, past) in
-      let parts : take (body_length (xs ++ ys) + 1) (xs ++ ys) ≡ xs ++ take k ys =
-      ap (λ (j : ℕ). take j (xs ++ ys)) long ∙ take-append-add xs ys k in
-      let clear = rw parts at is.clear in
-      absurd (cc (clear, two_more xs (take k ys) two))
-]
+never_two xs more truncated two = false_from_ne_true _ (λ alone.
+    let ys : List ℕ = faultless_bytes more in
+    let is = says_alone xs more alone in
+    let past = whole_past xs ys truncated is.has in
+    let k : ℕ = body_length (xs ++ ys) + 1 - length xs in
+    let long : body_length (xs ++ ys) + 1 ≡ length xs + k = omega (arith, past) in
+    let parts : take (body_length (xs ++ ys) + 1) (xs ++ ys) ≡ xs ++ take k ys =
+    ap (λ (j : ℕ). take j (xs ++ ys)) long ∙ take-append-add xs ys k in
+    let clear = rw parts at is.clear in
+    cc (clear, two_more xs (take k ys) two))
 
 lacks_next : (xs ys : List ℕ) → All (λ byte. byte < 256) xs → LacksOnePreamble xs → HasCheckByte (xs ++ ys)
     → check_miss (xs ++ ys) 0 ≡ None → has_two_preambles (take (body_length (xs ++ ys) + 1) (xs ++ ys)) ≡ true
@@ -78,12 +72,9 @@ lacks_next xs (y ∷ ys) fit lacks has check =
 
 pub never_lacks : (xs : List ℕ) (more : List Character) → All (λ byte. byte < 256) xs → LacksOnePreamble xs
     → stands_alone (faultless xs ++ more) 0 ≡ false
-never_lacks xs more fit lacks = elim (bool_cases (stands_alone (faultless xs ++ more) 0)) [
-  | inr not ↦ not
-  | inl alone ↦
-      let is = says_alone xs more alone in
-      absurd (cc (is.clear, lacks_next xs (faultless_bytes more) fit lacks is.has is.check))
-]
+never_lacks xs more fit lacks = false_from_ne_true _ (λ alone.
+    let is = says_alone xs more alone in
+    cc (is.clear, lacks_next xs (faultless_bytes more) fit lacks is.has is.check))
 
 -- A row of bytes with the value 2, followed by a check byte, has no two FF in a row.
 twos : (k check : ℕ) → has_two_preambles (replicate k 2 ++ check ∷ []) ≡ false

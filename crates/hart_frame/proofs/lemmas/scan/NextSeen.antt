@@ -14,10 +14,13 @@ use Rattle.hart_frame.specs.declared.scan.sighting.Standing.TheVariants as stand
 use Rattle.hart_frame.specs.declared.scan.sighting.Standing.TheVariants.{Nothing, Open}
 use Rattle.hart_frame.proofs.lemmas.heard.Front.{regrouped}
 use Rattle.hart_frame.proofs.lemmas.heard.Place.{StandsIn-from, stands_at}
-use Rattle.hart_frame.proofs.lemmas.heard.Seen.{Passes, NoneSeen, frame_at, message_on, missed_none, passes_miss, passes_on, passes_silent}
-use Rattle.hart_frame.proofs.lemmas.heard.Sighting.{after_one-miss, after_two-miss, follows_from, is_other_at, is_preamble_at}
+use Rattle.hart_frame.proofs.lemmas.heard.Seen.{Passes, message_on, missed_none, passes_miss, passes_on}
+use Rattle.std.proofs.Math.Nat.{eq-or-lt_of_le}
+use Rattle.std.proofs.lemmas.Bool.{cases_lt, false_from_ne_true}
+use Rattle.hart_frame.specs.heard.Sighting.{missed_at}
+use Rattle.hart_frame.proofs.lemmas.heard.Sighting.{IsClean, after_one, after_two, follows_from, is_other_at, is_preamble_at}
 use Rattle.hart_frame.proofs.lemmas.scan.BodyAt.{drop-heard}
-use Rattle.hart_frame.proofs.lemmas.scan.Sighted.{SilentBefore, bool_cases, follows_in, heard_few, known, late, none_seen, other_yes}
+use Rattle.hart_frame.proofs.lemmas.scan.Sighted.{SilentBefore, follows_in, known, late, none_seen, other_yes, passes_clean}
 use Rattle.hart_frame.proofs.lemmas.scan.Sighted.{preamble_no, preamble_yes, two_in, two_out}
 use Rattle.hart_frame.proofs.lemmas.wire.Truncated.{truncated_few}
 
@@ -35,17 +38,10 @@ sees bytes after from to given valid passes more later closed are =
     let (next, may, same) = heard_is bytes after more valid closed in
     rw same (passes_on (faultless bytes ++ next) from to given later (passes next may) (rw same at are))
 
--- If `a ≤ b`, then `b` is `a`, `a + 1`, `a + 2`, or at least `a + 3`.
-apart : (a b : ℕ) → a ≤ b → (b ≡ a) ⊎ (b ≡ a + 1) ⊎ (b ≡ a + 2) ⊎ (a + 3 ≤ b)
-apart a b order = grind arith
-
 -- Where two FF stand right before a place, the bytes from the first FF on are FF, FF and the bytes from the place on.
 pub two_parts : (bytes : List ℕ) (start : ℕ) → 2 ≤ start → start ≤ length bytes → get_or bytes (start - 2) 0 ≡ 255
     → get_or bytes (start - 1) 0 ≡ 255 → drop (start - 2) bytes ≡ 255 ∷ 255 ∷ drop start bytes
 two_parts bytes start low within first second = grind (arith, drop_more bytes (start - 2) 0, drop_more bytes (start - 1) 0)
-
-differ : (m : Option Miss) (miss : Miss) → m ≡ None → m ≡ Some miss → ⊥
-differ m miss none some = cc
 
 -- The place `start` is asked, and nothing is seen at the places asked before it.
 module _ (bytes : List ℕ) (after : After) (next : List Character) (from start : ℕ) (may : MayFollow after next)
@@ -56,92 +52,44 @@ module _ (bytes : List ℕ) (after : After) (next : List Character) (from start 
   inside : start < length (faultless bytes ++ next)
   inside = omega (arith, is.heard, (known bytes after next may).within)
 
-  before : NoneSeen (faultless bytes ++ next) from start
-  before = none_seen bytes after next from start may silent within
-
-  starts_late : (found : Found) → StandsIn found (faultless bytes ++ next) from → start ≤ found.start
-  starts_late = late bytes after next from start may silent within
-
-  no_preamble : is_preamble_at (faultless bytes ++ next) start ≡ false
-  no_preamble = preamble_no bytes after next start may is.heard is.other
-
-  other : is_other_at (faultless bytes ++ next) start ≡ true
-  other = other_yes bytes after next start may is.heard is.other
+  -- A miss that is seen at the asked place is what is seen next.
+  seen_here : (miss : Miss) → missed_at (faultless bytes ++ next) from start
+      ≡ Missed start miss (header_at (faultless bytes ++ next) start) ∷ []
+      → Passes (faultless bytes ++ next) from (start + 1) (Missed start miss (header_at (faultless bytes ++ next) start) ∷ [])
+  seen_here miss told =
+      passes_miss (faultless bytes ++ next) from start miss (omega (arith, is.order)) inside
+      (none_seen bytes after next from start may silent within) told (late bytes after next from start may silent within)
+      (preamble_no bytes after next start may is.heard is.other)
 
   follows : follows_from (faultless bytes ++ next) from start ≡ true
   follows = follows_in bytes after next from start is
 
-  -- A frame that does not start at the asked place starts at least three places later.
-  later_frames : ((found : Found) → StandsIn found (faultless bytes ++ next) from → found.start ≡ start → ⊥)
-      → (found : Found) → StandsIn found (faultless bytes ++ next) from → start + 3 ≤ found.start
-  later_frames not found stands =
-      let chars = faultless bytes ++ next in
-      let at = frame_at chars from found stands in
-      let low = starts_late found stands in
-      elim (apart start found.start low) [
-        | inl here ↦ absurd (not found stands here)
-        | inr (inl one) ↦
-            let place : found.start - 1 ≡ start = omega (arith, one) in
-            let last = rw place at at.last in absurd (cc (last, no_preamble))
-        | inr (inr (inl second)) ↦
-            let place : found.start - 2 ≡ start = omega (arith, second) in
-            let two = rw place at at.before in absurd (cc (two, no_preamble))
-        | inr (inr (inr after)) ↦ after
-      ]
-
   pub miss_two : (miss : Miss) → FollowsTwo bytes from start → body_miss start (drop start (faultless bytes ++ next)) ≡ Some miss
       → Passes (faultless bytes ++ next) from (start + 1) (Missed start miss (header_at (faultless bytes ++ next) start) ∷ [])
   miss_two miss two wrong =
-      let chars = faultless bytes ++ next in
-      let order : from ≤ start = omega (arith, is.order) in
-      passes_miss chars from start miss order inside before
-      (after_two-miss chars from start miss order follows (two_out bytes next from start is.within two) other wrong)
-      (later_frames (λ found stands here.
-      differ _ miss (rw here at (frame_at chars from found stands).body) wrong)) no_preamble
-
-  not_two : (FollowsTwo bytes from start → ⊥) → follows_from (faultless bytes ++ next) from (start - 1) ≡ false
-  not_two one = elim (bool_cases (follows_from (faultless bytes ++ next) from (start - 1))) [
-    | inl both ↦ absurd (one (two_in bytes after next from start may is.within both))
-    | inr single ↦ single
-  ]
-
-  no_frame : (FollowsTwo bytes from start → ⊥) → (found : Found) → StandsIn found (faultless bytes ++ next) from
-      → found.start ≡ start → ⊥
-  no_frame one found stands here =
-      let two = rw here at (frame_at (faultless bytes ++ next) from found stands).two in cc (two, not_two one)
+      seen_here miss (after_two (faultless bytes ++ next) from start (omega (arith, is.order)) follows
+      (two_out bytes next from start is.within two) (other_yes bytes after next start may is.heard is.other) ∙ rw wrong refl)
 
   pub miss_one : (FollowsTwo bytes from start → ⊥) → stands_alone (faultless bytes ++ next) start ≡ true
       → Passes (faultless bytes ++ next) from (start + 1) (Missed start OnePreamble (header_at (faultless bytes ++ next) start) ∷ [])
   miss_one one alone =
-      let chars = faultless bytes ++ next in
-      let order : from ≤ start = omega (arith, is.order) in
-      passes_miss chars from start OnePreamble order inside before (after_one-miss chars from start order follows (not_two one) alone)
-      (later_frames (no_frame one)) no_preamble
+      seen_here OnePreamble (after_one (faultless bytes ++ next) from start (omega (arith, is.order)) follows
+      (false_from_ne_true _ (λ both. one (two_in bytes after next from start may is.within both))) ∙ rw alone refl)
 
   pub open_two : (used : ℕ) → used + 2 ≡ start → FollowsTwo bytes from start → Passes (faultless bytes ++ next) from used []
   open_two used at (order, first) =
-      let chars = faultless bytes ++ next in
       let place : start - 2 ≡ used = omega (arith, at) in
       let second : start - 1 ≡ used + 1 = omega (arith, at) in
       let one = preamble_yes bytes next used (omega (arith, at, is.within)) (rw place at first) in
       let two = preamble_yes bytes next (used + 1) (omega (arith, at, is.within)) (rw second at is.preamble) in
-      passes_silent chars from used (omega (arith, order, at)) (omega (arith, at, inside))
-      (λ p low high. before p low (omega (arith, high, at)))
-      (λ found stands. omega (arith, at, starts_late found stands)) (inr (inl (one, two)))
+      passes_clean bytes after next from start may silent within used (omega (arith, order, at)) (omega (arith, at)) (inr (inl (one, two)))
 
   pub open_one : (used : ℕ) → used + 1 ≡ start → (FollowsTwo bytes from start → ⊥) → Passes (faultless bytes ++ next) from used []
   open_one used at one =
-      let chars = faultless bytes ++ next in
-      let clean : from < used → is_preamble_at chars (used - 1) ≡ false = λ low.
+      passes_clean bytes after next from start may silent within used (omega (arith, is.order, at)) (omega (arith, at)) (inl (λ low.
       let place : start - 2 ≡ used - 1 = omega (arith, at) in
       preamble_no bytes after next (used - 1) may (omega (arith, at, within, low))
-      (λ below same. one (omega (arith, at, low), rw place same)) in
-      passes_silent chars from used (omega (arith, is.order, at)) (omega (arith, at, inside))
-      (λ p low high. before p low (omega (arith, high, at)))
-      (λ found stands.
-      let low = starts_late found stands in
-      let here = no_frame one found stands in
-      omega (arith, at, low, here)) (inl clean)
+      (λ below same. one (omega (arith, at, low), rw place same))))
 
   -- If a body stands at the asked place after two preamble bytes, the frame of this body stands there.
   stands_there : (f : FrameParts) (stop : ℕ) → FollowsTwo bytes from start → start ≤ stop → stop ≤ length bytes
@@ -168,86 +116,37 @@ module _ (bytes : List ℕ) (after : After) (next : List Character) (from start 
   message f stop later two order fits body are =
       let chars = faultless bytes ++ next in
       let found : Found = record { start = start; stop = stop; frame = f } in
-      message_on chars from found later (missed_none chars from start before)
-      (record { stands = stands_there f stop two order fits body; least = λ other stands. starts_late other stands }) are
+      message_on chars from found later (missed_none chars from start (none_seen bytes after next from start may silent within))
+      (record { stands = stands_there f stop two order fits body; least = late bytes after next from start may silent within }) are
 
--- Beyond the last asked place: a frame that starts at or after a clean place has its two preamble bytes there or later.
-clean_frames : (chars : List Character) (from used : ℕ) (found : Found) → (from < used → is_preamble_at chars (used - 1) ≡ false)
-    → StandsIn found chars from → used ≤ found.start → used + 2 ≤ found.start
-clean_frames chars from used found clean stands low =
-    let at = frame_at chars from found stands in
-    let order = at.order in
-    let cases : (found.start ≡ used) ⊎ (found.start ≡ used + 1) ⊎ (used + 2 ≤ found.start) = grind arith in
-    elim cases [
-      | inl here ↦
-          let place : found.start - 1 ≡ used - 1 = omega (arith, here) in
-          let last = rw place at at.last in absurd (cc (last, clean (omega (arith, order, here))))
-      | inr (inl next) ↦
-          let place : found.start - 2 ≡ used - 1 = omega (arith, next) in
-          let before = rw place at at.before in absurd (cc (before, clean (omega (arith, order, next))))
-      | inr (inr after) ↦ after
-    ]
-
-module _ (bytes : List ℕ) (after : After) (next : List Character) (from used : ℕ) (may : MayFollow after next)
-    (silent : SilentBefore bytes after from (length (heard_with bytes after))) (order : from ≤ used)
-    (within : used ≤ length (heard_with bytes after)) where
-  ends_late : (found : Found) → StandsIn found (faultless bytes ++ next) from → length (heard_with bytes after) ≤ found.start
-  ends_late = late bytes after next from (length (heard_with bytes after)) may silent (omega arith)
-
-  nothing : NoneSeen (faultless bytes ++ next) from used
-  nothing = none_seen bytes after next from used may (λ place is below. silent place is (omega (arith, below, within))) within
-
-  fits_in : used ≤ length (faultless bytes ++ next)
-  fits_in = omega (arith, within, (known bytes after next may).within)
-
-  used_clean : (from < used → is_preamble_at (faultless bytes ++ next) (used - 1) ≡ false)
-      → Passes (faultless bytes ++ next) from used []
-  used_clean clean =
-      passes_silent (faultless bytes ++ next) from used order fits_in nothing
-      (λ found stands. clean_frames (faultless bytes ++ next) from used found clean stands
-      (omega (arith, within, ends_late found stands))) (inl clean)
-
-  used_two : used + 2 ≡ length bytes → get_or bytes used 0 ≡ 255 → get_or bytes (used + 1) 0 ≡ 255
-      → Passes (faultless bytes ++ next) from used []
-  used_two all one two =
-      let first = preamble_yes bytes next used (omega (arith, all)) one in
-      let second = preamble_yes bytes next (used + 1) (omega (arith, all)) two in
-      passes_silent (faultless bytes ++ next) from used order fits_in nothing
-      (λ found stands. omega (arith, all, heard_few bytes after, ends_late found stands)) (inr (inl (first, second)))
-
-  used_all : length (faultless bytes ++ next) ≤ used → Passes (faultless bytes ++ next) from used []
-  used_all all =
-      passes_silent (faultless bytes ++ next) from used order fits_in nothing
-      (λ found stands.
-      let at = (frame_at (faultless bytes ++ next) from found stands).within in
-      absurd (omega (arith, at, all, within, ends_late found stands))) (inr (inr all))
+-- A place up to which bytes are used up lies within what is heard, and is clean.
+used_clean : (bytes : List ℕ) (after : After) (next : List Character) (from used : ℕ) → MayFollow after next → from ≤ length bytes
+    → IsPassed bytes after from used
+    → (from ≤ used) × (used ≤ length (heard_with bytes after)) × IsClean (faultless bytes ++ next) from used
+used_clean bytes More next from used may order (low, cases) =
+    let long : length (heard_with bytes More) ≡ length bytes = grind (arith, length-map) in
+    let clean = λ (within : used ≤ length bytes) (last : from < used → get_or bytes (used - 1) 0 ≢ 255) (after : from < used).
+    preamble_no bytes More next (used - 1) may (omega (arith, long, within, after)) (λ below. last after) in
+    (low, omega (arith, long, cases), elim cases [
+      | inl (all, differs) ↦ inl (clean (omega (arith, all)) differs)
+      | inr (inl (last, here, differs)) ↦ inl (clean (omega (arith, last)) differs)
+      | inr (inr (last, one, two)) ↦
+          inr (inl (preamble_yes bytes next used (omega (arith, last)) one, preamble_yes bytes next (used + 1) (omega (arith, last)) two))
+    ])
+used_clean bytes End next from used ends order all =
+    let long : length (heard_with bytes End) ≡ length bytes = grind (arith, length-map) in
+    (omega (arith, order, all), omega (arith, long, all),
+    inr (inr (omega (arith, length-append (faultless bytes) next, ap length ends, long, all))))
+used_clean bytes (Damaged c) next from used may order all =
+    let long : length (heard_with bytes (Damaged c)) ≡ length bytes + 1 = grind (arith, length-append, length-map) in
+    (omega (arith, order, all), omega (arith, long, all), inl (λ low.
+    preamble_no bytes (Damaged c) next (used - 1) may (omega (arith, long, all)) (λ below. absurd (omega (arith, below, all)))))
 
 pub passed_all : (bytes : List ℕ) (after : After) (from used : ℕ) → SilentBefore bytes after from (length (heard_with bytes after))
     → from ≤ length bytes → IsPassed bytes after from used → Whatever bytes after (λ chars. Passes chars from used [])
-passed_all bytes More from used silent order (low, cases) next may =
-    let long : length (heard_with bytes More) ≡ length bytes = grind (arith, length-map) in
-    let clean = λ (within : used ≤ length bytes) (last : from < used → get_or bytes (used - 1) 0 ≢ 255).
-    used_clean bytes More next from used may silent low (omega (arith, long, within))
-    (λ after. preamble_no bytes More next (used - 1) may (omega (arith, long, within, after)) (λ below. last after)) in
-    elim cases [
-      | inl (all, differs) ↦ clean (omega (arith, all)) differs
-      | inr (inl (last, here, differs)) ↦ clean (omega (arith, last)) differs
-      | inr (inr (last, one, two)) ↦ used_two bytes More next from used may silent low (omega (arith, long, last)) last one two
-    ]
-passed_all bytes End from used silent order all next ends =
-    let long : length (heard_with bytes End) ≡ length bytes = grind (arith, length-map) in
-    used_all bytes End next from used ends silent (omega (arith, order, all)) (omega (arith, long, all))
-    (omega (arith, length-append (faultless bytes) next, ap length ends, long, all))
-passed_all bytes (Damaged c) from used silent order all next may =
-    let long : length (heard_with bytes (Damaged c)) ≡ length bytes + 1 = grind (arith, length-append, length-map) in
-    used_clean bytes (Damaged c) next from used may silent (omega (arith, order, all)) (omega (arith, long, all))
-    (λ low. preamble_no bytes (Damaged c) next (used - 1) may (omega (arith, long, all)) (λ below. absurd (omega (arith, below, all))))
-
-le_or : (a b : ℕ) → (a ≤ b) ⊎ (b < a)
-le_or a b = grind arith
-
-lt_or : (a b : ℕ) → a ≤ b → (a < b) ⊎ (a ≡ b)
-lt_or a b order = grind arith
+passed_all bytes after from used silent order is next may =
+    let (low, within, clean) = used_clean bytes after next from used may order is in
+    passes_clean bytes after next from (length (heard_with bytes after)) may silent (omega arith) used low within clean
 
 -- If a place is asked from `from` on, it is also asked from any other place before it.
 asked_after : (bytes : List ℕ) (after : After) (from place start : ℕ) → place < start → IsAsked bytes after from start
@@ -260,22 +159,22 @@ pub next_is : (bytes : List ℕ) (after : After) (from place start : ℕ) → fr
     → IsNextAsked bytes after place (Some start) → IsAsked bytes after from start × SilentBefore bytes after from start
 next_is bytes after from place start order silent (is, least) = (
   asked_after bytes after place from start (omega (arith, order, is.order)) is,
-  λ p asked below. elim (le_or p place) [
-    | inl early ↦ silent p asked early
-    | inr later ↦ absurd (omega (arith, below, least p (asked_after bytes after from place p later asked)))
+  λ p asked below. elim (cases_lt place p) [
+    | inl later ↦ absurd (omega (arith, below, least p (asked_after bytes after from place p later asked)))
+    | inr early ↦ silent p asked early
   ],
 )
 
 pub silent_all : (bytes : List ℕ) (after : After) (from place n : ℕ) → AreSilent bytes after from place
     → ((p : ℕ) → IsAsked bytes after place p → ⊥) → SilentBefore bytes after from n
 silent_all bytes after from place n silent no_more p is below =
-    elim (le_or p place) [ inl early ↦ silent p is early | inr later ↦ absurd (no_more p (asked_after bytes after from place p later is)) ]
+    elim (cases_lt place p) [ inl later ↦ absurd (no_more p (asked_after bytes after from place p later is)) | inr early ↦ silent p is early ]
 
 pub silent_on : (bytes : List ℕ) (after : After) (from start : ℕ) → SilentBefore bytes after from start
     → IsStandingAt bytes after from start Nothing → AreSilent bytes after from start
 silent_on bytes after from start silent (inl (two, never)) p is order = absurd never
 silent_on bytes after from start silent (inr (one, alone)) p is order =
-    elim (lt_or p start order) [ inl early ↦ silent p is early | inr here ↦ rw here (one, alone) ]
+    elim (eq-or-lt_of_le order) [ inl here ↦ rw here (one, alone) | inr early ↦ silent p is early ]
 
 -- A message at the asked place is seen next, whatever follows.
 pub message_seen : (bytes : List ℕ) (after : After) (from start used : ℕ) (view : FoundView) → AfterIsValid after

@@ -6,17 +6,13 @@ use Rattle.hart_frame.proofs.Common.{get_or-drop, length-take-le, take_rest, sli
 use Rattle.hart_frame.proofs.Common.{IsSearched, layout_length}
 use Rattle.std.proofs.Common.{max}
 use Rattle.std.proofs.lemmas.Bool.{cases_eq, cases_lt}
-use Rattle.std.proofs.lemmas.List.{drop-take}
+use Rattle.hart_frame.proofs.lemmas.wire.Lane.{drop_take}
 use Rattle.hart_frame.specs.declared.scan.candidate.Candidate.TheVariants.{Never, Whole}
 use Rattle.hart_frame.specs.declared.wire.prefix.Wrong.TheVariants.{BadDelimiter}
 use Rattle.hart_frame.specs.private.Candidate.{IsCandidate, MayBeginBefore, NeverBegin}
 use Rattle.hart_frame.specs.private.Search.{IsNextPair, IsOpenBefore, NoneBegin}
 use Rattle.hart_frame.proofs.lemmas.scan.Candidate.{may_begin_before, never_after, never_first, never_more, second_never}
 use Rattle.hart_frame.proofs.lemmas.wire.Truncated.{truncated_check, truncated_count}
-
--- Dropping `n` of the first `m` elements of a list leaves the first `m - n` elements from place `n` on.
-pub drop_take : (xs : List ℕ) (n m : ℕ) → n ≤ m → drop n (take m xs) ≡ take (m - n) (drop n xs)
-drop_take xs n m order = ap (λ (k : ℕ). drop n (take k xs)) (let e : m ≡ n + (m - n) = omega (arith, order) in e) ∙ drop-take n (m - n) xs
 
 -- The first `m` elements of a list are its first `n` and then the `m - n` after them.
 pub take_more : (xs : List ℕ) (n m : ℕ) → n ≤ m → take m xs ≡ take n xs ++ take (m - n) (drop n xs)
@@ -80,16 +76,10 @@ passed_never xs here within (inr (inr (inside, first, second, third))) =
 -- A place with three bytes and no pair is passed.
 pub passed_here : (xs : List ℕ) (here : ℕ) → here + 3 ≤ length xs → (HasPair xs here → ⊥) → IsPassed xs here
 passed_here xs here inside none =
-    elim (cases_eq (get_or xs here 0) 255) [
-      | inr other ↦ inl other
-      | inl first ↦ elim (cases_eq (get_or xs (here + 1) 0) 255) [
-        | inr other ↦ inr (inl (omega arith, other))
-        | inl second ↦ elim (cases_eq (get_or xs (here + 2) 0) 255) [
-          | inr other ↦ absurd (none (inside, first, second, other))
-          | inl third ↦ inr (inr (inside, first, second, third))
-        ]
-      ]
-    ]
+    let first = cases_eq (get_or xs here 0) 255 in
+    let second = cases_eq (get_or xs (here + 1) 0) 255 in
+    let third = cases_eq (get_or xs (here + 2) 0) 255 in
+    grind arith
 
 -- If no pair stands from a place on, the places before the last FF, of which at most two count, are passed.
 pub passed_to_end : (xs : List ℕ) (place count : ℕ) → place ≤ length xs → HasNoPair xs place (length xs)
@@ -133,11 +123,7 @@ pair_after xs from place (Some start) order none next = record {
 pub pair_at_end : (xs : List ℕ) (from place last : ℕ) (result : Option ℕ) → from ≤ last → last ≤ place → last + 18 ≡ length xs
     → HasNoPair xs from place → MatchOption result (HasNoPair xs last (last + 16)) (IsNextPair xs last)
     → MatchOption result (HasNoPair xs from (length xs)) (IsNextPair xs from)
-pair_at_end xs from place last None order seen all none rest =
-    λ here after before pair. elim (cases_lt here last) [
-      | inl early ↦ none here after (omega (arith, early, seen)) pair
-      | inr late ↦ rest here late (omega (arith, all, pair.0)) pair
-    ]
+pair_at_end xs from place last None order seen all none rest = grind (arith, none, rest)
 pair_at_end xs from place last (Some start) order seen all none next =
     pair_after xs from last (Some start) order (λ here after before. none here after (omega (arith, before, seen))) next
 

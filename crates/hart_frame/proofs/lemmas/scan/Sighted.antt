@@ -3,9 +3,11 @@ use Rattle.hart_frame.proofs.Common.{◌≡◌, ◌≢◌, ℕ, ◌-◌, ◌<◌
 use Rattle.hart_frame.proofs.Common.{length-append, nat_tests, get_or_append_left, get_or_at, get_or-map, length-map, Found, After, Damaged}
 use Rattle.hart_frame.proofs.Common.{Character, faultless, StandsIn, heard_with, FollowsTwo, IsAsked, MayFollow}
 use Rattle.hart_frame.specs.private.Sighting.{IsSilent}
+use Rattle.hart_frame.proofs.Common.{[], ◌+◌, ◌∙◌}
+use Rattle.std.proofs.lemmas.Bool.{cases_Bool}
 use Rattle.hart_frame.proofs.lemmas.heard.Place.{preamble}
-use Rattle.hart_frame.proofs.lemmas.heard.Seen.{NoneSeen, frame_at}
-use Rattle.hart_frame.proofs.lemmas.heard.Sighting.{after_one-none, follows_from, is_other_at, is_preamble_at, not_other, unasked}
+use Rattle.hart_frame.proofs.lemmas.heard.Seen.{NoneSeen, Passes, frame_at, passes_silent}
+use Rattle.hart_frame.proofs.lemmas.heard.Sighting.{IsClean, after_one, follows_from, is_other_at, is_preamble_at, not_other, unasked}
 use Rattle.hart_frame.proofs.lemmas.heard.Start.{tested}
 
 -- Each byte is heard at its place as a faultless character.
@@ -81,10 +83,6 @@ pub follows_in : (bytes : List ℕ) (after : After) (next : List Character) (fro
     → follows_from (faultless bytes ++ next) from place ≡ true
 follows_in bytes after next from place is = grind (arith, nat_tests, preamble_yes)
 
-pub bool_cases : (b : Bool) → (b ≡ true) ⊎ (b ≡ false)
-bool_cases true = inl refl
-bool_cases false = inr refl
-
 -- Nothing is seen at the asked places before `to`.
 abbrev pub SilentBefore : List ℕ → After → ℕ → ℕ → Type 0
 SilentBefore bytes after from to = (place : ℕ) → IsAsked bytes after from place → place < to → IsSilent bytes after from place
@@ -96,15 +94,15 @@ module _ (bytes : List ℕ) (after : After) (next : List Character) (from to : �
   none_seen place order below =
       let chars = faultless bytes ++ next in
       let here : place < length (heard_with bytes after) = omega (arith, below, within) in
-      elim (bool_cases (follows_from chars from place)) [
+      elim (cases_Bool (follows_from chars from place)) [
         | inr not ↦ unasked chars from place order not
-        | inl follows ↦ elim (bool_cases (is_other_at chars place)) [
+        | inl follows ↦ elim (cases_Bool (is_other_at chars place)) [
           | inr not ↦ not_other chars from place order not
           | inl other ↦
               let is = asked bytes after next from place may here follows other in
               let (two, alone) = silent place is below in
-              elim (bool_cases (follows_from chars from (place - 1))) [
-                | inr single ↦ after_one-none chars from place order follows single (alone next may)
+              elim (cases_Bool (follows_from chars from (place - 1))) [
+                | inr single ↦ after_one chars from place order follows single ∙ rw (alone next may) refl
                 | inl both ↦ absurd (two (two_in bytes after next from place may is.within both))
               ]
         ]
@@ -120,3 +118,10 @@ module _ (bytes : List ℕ) (after : After) (next : List Character) (from to : �
             absurd ((silent found.start is below).0 (two_in bytes after next from found.start may is.within at.two))
         | inr after ↦ after
       ]
+
+  -- With nothing seen, the list passes to each clean place up to there.
+  pub passes_clean : (used : ℕ) → from ≤ used → used ≤ to → IsClean (faultless bytes ++ next) from used
+      → Passes (faultless bytes ++ next) from used []
+  passes_clean used order before clean =
+      passes_silent (faultless bytes ++ next) from used order (omega (arith, before, within, (known bytes after next may).within))
+      (λ p low high. none_seen p low (omega (arith, high, before))) (λ found stands. omega (arith, before, late found stands)) clean

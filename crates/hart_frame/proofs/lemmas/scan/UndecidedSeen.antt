@@ -14,7 +14,7 @@ use Rattle.hart_frame.proofs.lemmas.heard.FramesFound.{AreFrames-found}
 use Rattle.hart_frame.proofs.lemmas.heard.Open.{open_begins}
 use Rattle.hart_frame.proofs.lemmas.heard.Place.{StandsIn-within}
 use Rattle.hart_frame.proofs.lemmas.heard.Seen.{message_on, missed_none, passes_on}
-use Rattle.hart_frame.proofs.lemmas.heard.Sighting.{after_one-none, not_both, not_other}
+use Rattle.hart_frame.proofs.lemmas.heard.Sighting.{after_one, not_both, not_other}
 use Rattle.hart_frame.proofs.lemmas.heard.Told.{cut_told}
 use Rattle.hart_frame.proofs.lemmas.scan.BodyAt.{miss_end}
 use Rattle.hart_frame.proofs.lemmas.scan.SightingLaws.{some as some_sightings}
@@ -115,7 +115,7 @@ module _ (rest : List ℕ) (some : 0 < length rest) (other : get_or rest 0 0 ≢
       let chars = whole ++ may.other in
       let (frames, are_frames) = AreFrames-found chars 0 in
       let two = always may.other (sightings chars 0 frames) (record { frames = frames; are_frames = are_frames; seen_is = refl }) in
-      let none = after_one-none chars 0 1 (omega arith) refl refl may.not_alone in
+      let none = after_one chars 0 1 (omega arith) refl refl ∙ rw may.not_alone refl in
       let h = header_at (whole ++ may.one) 1 in
       let same : first ≡ Missed 1 OnePreamble h = cc (one.1) in
       not_one chars frames two.0 OnePreamble h none (rw same at two.1)

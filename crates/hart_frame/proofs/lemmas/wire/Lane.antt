@@ -93,11 +93,10 @@ fold-front : (lanes front bytes : List ℕ) (n : ℕ) → length lanes ≡ lengt
 fold-front lanes front bytes n same is =
     grind (arith, fold-zip2 0 lanes front, fold-append bit_xor (fold bit_xor 0 lanes) bytes (replicate n 0), fold-zeros)
 
--- What is left of the first `len` bytes after some of them begins the bytes after those.
-rest_at : (bytes : List ℕ) (len whole : ℕ) → whole ≤ len → drop whole (take len bytes) ≡ take (len - whole) (drop whole bytes)
-rest_at bytes len whole order =
-    let all : len ≡ whole + (len - whole) = omega arith in
-    ap (λ (n : ℕ). drop whole (take n bytes)) all ∙ drop-take whole (len - whole) bytes
+-- Dropping `n` of the first `m` elements of a list leaves the first `m - n` elements from place `n` on.
+pub drop_take : (xs : List ℕ) (n m : ℕ) → n ≤ m → drop n (take m xs) ≡ take (m - n) (drop n xs)
+drop_take xs n m order =
+    let all : m ≡ n + (m - n) = omega arith in ap (λ (k : ℕ). drop n (take k xs)) all ∙ drop-take n (m - n) xs
 
 -- The lanes have the exclusive or of the first `whole` of the first `len` bytes of a list.
 module _ (len whole : ℕ) (bytes lanes : List ℕ) (order : whole ≤ len) (each : (i : ℕ) → get_or bytes i 0 < 256)
@@ -106,7 +105,7 @@ module _ (len whole : ℕ) (bytes lanes : List ℕ) (order : whole ≤ len) (eac
   pub IsCheckByte-few : (check : ℕ) → check ≡ fold bit_xor (fold_l bit_xor 0 lanes) (take (len - whole) (drop whole bytes))
       → IsCheckByte (take len bytes) check
   IsCheckByte-few check folded =
-      IsCheckByte-rest whole (take len bytes) lanes _ check (fits_take bytes len each) before (sym (rest_at bytes len whole order)) folded
+      IsCheckByte-rest whole (take len bytes) lanes _ check (fits_take bytes len each) before (sym (drop_take bytes whole len order)) folded
 
   -- With a block that begins with the other bytes and has zeros after them it is their check byte too.
   pub IsCheckByte-front : (front block : List ℕ) → len ≤ whole + 16 → block ≡ take 16 (drop whole bytes) → length block ≡ 16

@@ -1,11 +1,19 @@
 use Rattle.hart_frame.proofs.Common.{arith, take_rest, moved}
 use Rattle.hart_frame.proofs.lemmas.Laws.{every_list_has_frames}
-use Rattle.hart_frame.proofs.lemmas.heard.Delivery.{no_frame, one_frame, only_said, several_frames}
+use Rattle.hart_frame.proofs.Common.{◌≡◌, List, [], ◌∷◌, Found, Character, AreFrames, none, first}
+use Rattle.hart_frame.specs.declared.scan.first.LoneFrame.{LoneFrame}
+use Rattle.hart_frame.specs.heard.Delivery.{IsLone, lone_of}
+use Rattle.hart_frame.proofs.lemmas.heard.UnambiguousFrames.{AreFrames-one}
 use Rattle.hart_frame.proofs.lemmas.scan.First.{first_copied, first_later, no_later, some_first}
 use Rattle.hart_frame.proofs.scan.first.lone_frame.Goals as goal
 
+-- Whether a delivery has no frame, one frame alone or several follows from its list of frames.
+only_said : (delivery : List Character) (said : LoneFrame) → IsLone delivery said
+    → (frames : List Found) → AreFrames delivery 0 frames → said ≡ lone_of frames
+only_said delivery said are frames others = grind (arith, AreFrames-one)
+
 pub returns-in_default-clause-lone : goal.returns-in_default-clause-lone
-returns-in_default-clause-lone c = no_frame c.args.delivery.now c.in_default.ensures
+returns-in_default-clause-lone c = none 0 c.in_default.ensures
 
 pub returns-in_default-clause-only : goal.returns-in_default-clause-only
 returns-in_default-clause-only c =
@@ -15,12 +23,12 @@ pub returns-then-has_frame-clause-lone : goal.returns-then-has_frame-clause-lone
 returns-then-has_frame-clause-lone c =
     let delivery = c.args.delivery.now in
     let span = c.in-Some.span in
-    let (first, is_first, stop) = some_first delivery c.first_span.new.buffer span c.in-Some.ensures in
+    let (one, is_first, stop) = some_first delivery c.first_span.new.buffer span c.in-Some.ensures in
     let (rest, is_rest) = c.has_frame.ensures.some c.if-has_frame.true in
     let second = moved span.stop rest in
     let is_second = first_later delivery _ span.stop rest c.in-Some.ensures.within (grind (arith, take_rest)) is_rest in
     let later = every_list_has_frames delivery second.stop in
-    (first, second, later.0, several_frames delivery first second later.0 is_first (rw stop is_second) later.1)
+    (one, second, later.0, first 0 one (second ∷ later.0) is_first (first one.stop second later.0 (rw stop is_second) later.1))
 
 pub returns-then-has_frame-clause-only : goal.returns-then-has_frame-clause-only
 returns-then-has_frame-clause-only c =
@@ -33,9 +41,9 @@ returns-clause-lone c =
     let copied = c.found_at in
     let is_first = first_copied delivery c.first_span.new.buffer span copied.result c.in-Some.ensures copied.ensures.frame
     copied.ensures.start copied.ensures.stop in
-    let none = no_later delivery _ span.stop c.in-Some.ensures.within (grind (arith, take_rest))
+    let empty = no_later delivery _ span.stop c.in-Some.ensures.within (grind (arith, take_rest))
     (c.has_frame.ensures.none c.if-has_frame.false) in
-    one_frame delivery copied.result is_first (rw copied.ensures.stop none)
+    first 0 copied.result [] is_first (none copied.result.stop (rw copied.ensures.stop empty))
 
 pub returns-clause-only : goal.returns-clause-only
 returns-clause-only c =
