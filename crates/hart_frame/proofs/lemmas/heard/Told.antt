@@ -12,19 +12,15 @@ use Rattle.hart_frame.proofs.lemmas.wire.Parity.{odd}
 use Rattle.hart_frame.proofs.lemmas.wire.Reading.{fold_fits, whole_has}
 
 -- Whether a check byte fits does not depend on the bytes after it.
-same_check : (xs ys : List ℕ) (start : ℕ) → HasCheckByte xs → check_miss (xs ++ ys) start ≡ check_miss xs start
-same_check xs ys start has = grind (arith, get_or_append_left, take-append-le)
-
 checked : (xs ys : List ℕ) (f : Option Character) (fp start : ℕ) → HasCheckByte xs → miss_in (xs ++ ys) f fp start ≡ check_miss xs start
-checked xs ys f fp start has = grind (arith, nat_tests, length-append, get_or_append_left, same_check)
+checked xs ys f fp start has = grind (arith, nat_tests, length-append, get_or_append_left, take-append-le)
 
 -- If something is wrong with bytes, it is their miss, whatever follows.
 pub wrong_told : (xs ys : List ℕ) (w : Wrong) (f : Option Character) (fp start : ℕ) → IsWrong xs w
     → miss_in (xs ++ ys) f fp start ≡ Some (wrong_miss w start)
-wrong_told xs ys (BadDelimiter byte) f fp start is = grind (arith, nat_tests, length-append, get_or_append_left)
-wrong_told xs ys (ShortReply len count) f fp start is = grind (arith, nat_tests, length-append, get_or_append_left)
 wrong_told xs ys (BadCheck len byte fits) f fp start is =
     checked xs ys f fp start is.checked ∙ grind (arith, nat_tests, fold_fits xs len byte fits is, is.whole, is.stands, is.differs)
+wrong_told xs ys w f fp start is = grind (arith, nat_tests, length-append, get_or_append_left)
 
 -- Bytes that begin with a whole body have no miss, whatever follows.
 pub whole_told : (xs ys : List ℕ) (layout : Layout) (f : Option Character) (fp start : ℕ) → IsPrefix xs (Whole layout)
@@ -37,14 +33,8 @@ whole_told xs ys layout f fp start is =
 -- missing at the end.
 pub cut_told : (xs : List ℕ) (missing : Option ℕ) (f : Option Character) (fp start : ℕ) → IsPrefix xs (Cut missing)
     → miss_in xs f fp start ≡ Some (faulty_or f fp (cut_miss missing))
-cut_told xs None None fp start is = grind (arith, nat_tests)
-cut_told xs None (Some c) fp start is = grind (arith, nat_tests)
-cut_told xs (Some count) None fp start is = grind (arith, nat_tests)
-cut_told xs (Some count) (Some c) fp start is = grind (arith, nat_tests)
-
--- If the first `n` bytes of a list are fewer than `n`, they are the whole list.
-short_front : (xs : List ℕ) (n : ℕ) → length (take n xs) < n → take n xs ≡ xs
-short_front xs n few = take_all n xs (omega (arith, length-take n xs, few))
+cut_told xs None f fp start is = grind (arith, nat_tests)
+cut_told xs (Some count) f fp start is = grind (arith, nat_tests)
 
 -- The first `most` faultless bytes that are heard decide the miss, since no body is longer.
 module _ (heard : List Character) (start most : ℕ) (front : List ℕ) (is_front : front ≡ take most (faultless_bytes heard))
@@ -62,7 +52,7 @@ module _ (heard : List Character) (start most : ℕ) (front : List ℕ) (is_fron
 
   pub front_cut : (missing : Option ℕ) → IsPrefix front (Cut missing)
       → body_miss start heard ≡ Some (faulty_or (slice_get heard (length front)) (start + length front) (cut_miss missing))
-  front_cut missing is = grind (arith, short_front)
+  front_cut missing is = grind (arith, length-take, take_all)
 
   fits_within : (i : ℕ) → i < most → get_or (faultless_bytes heard) i 0 < 256
   fits_within i below = let same = get_or-take most (faultless_bytes heard) i 0 below in rw same at (rw is_front at (fits i))

@@ -29,9 +29,6 @@ truncated_miss xs fp start truncated =
 
 -- After two FF stand bytes that end too early for a body.
 module _ (rest : List ℕ) (fit : All (λ byte. byte < 256) rest) (truncated : IsTruncated rest) (some : 0 < length rest) where
-  bytes : List ℕ
-  bytes = 255 ∷ 255 ∷ rest
-
   asked_two : IsAsked (255 ∷ 255 ∷ rest) More 0 2
   asked_two = grind (arith, length-map)
 
@@ -39,9 +36,6 @@ module _ (rest : List ℕ) (fit : All (λ byte. byte < 256) rest) (truncated : I
   silent_two zero is below = absurd (omega (arith, is.order))
   silent_two (suc zero) is below = absurd (is.other (omega arith) refl)
   silent_two (suc (suc place)) is below = absurd (omega (arith, below))
-
-  follows_two : FollowsTwo (255 ∷ 255 ∷ rest) 0 2
-  follows_two = (omega arith, refl)
 
   heard_two : 2 ≤ length (heard_with (255 ∷ 255 ∷ rest) More)
   heard_two = omega arith
@@ -52,7 +46,7 @@ module _ (rest : List ℕ) (fit : All (λ byte. byte < 256) rest) (truncated : I
       let (miss, is) = truncated_miss rest (2 + length rest) 2 truncated in
       let wrong : body_miss 2 (drop 2 (whole ++ [])) ≡ Some miss =
       ap (λ (xs : List Character). body_miss 2 xs) (append-nil (faultless rest)) ∙ miss_end rest 2 ∙ is in
-      let passes = miss_two (255 ∷ 255 ∷ rest) More [] 0 2 tt silent_two asked_two miss follows_two wrong in
+      let passes = miss_two (255 ∷ 255 ∷ rest) More [] 0 2 tt silent_two asked_two miss (omega arith, refl) wrong in
       let (later, are) = some_sightings (whole ++ []) 3 in
       let one = always [] _ (passes_on (whole ++ []) 0 3 _ later passes are) in
       let fits : All (λ character. character.byte < 256) whole =
@@ -139,15 +133,9 @@ undecided_few bytes few preambles first always =
 
 -- No sighting is decided in what is left after the bytes are used up.
 pub undecided_used : (bytes : List ℕ) (from used : ℕ) → IsUsed bytes from used → IsUndecidedSighting (faultless (drop used bytes))
-undecided_used bytes from used (low, inl (all, other)) =
-    undecided_few (drop used bytes) (omega (arith, length-drop used bytes, all))
-    (λ i below. absurd (omega (arith, below, length-drop used bytes, all)))
-undecided_used bytes from used (low, inr (inl (last, one, other))) =
-    undecided_few (drop used bytes) (omega (arith, length-drop used bytes, last)) (λ i below.
-    let here : i ≡ 0 = omega (arith, below, length-drop used bytes, last) in grind (arith, get_or-drop))
-undecided_used bytes from used (low, inr (inr (last, one, two))) =
-    undecided_few (drop used bytes) (omega (arith, length-drop used bytes, last)) (λ i below.
+undecided_used bytes from used (low, cases) =
     let long = length-drop used bytes in
+    undecided_few (drop used bytes) (omega (arith, long, cases)) (λ i below.
     let here : (i ≡ 0) ⊎ (i ≡ 1) = grind arith in grind (arith, get_or-drop))
 
 -- Take the bytes that are left, from the preamble bytes before an open place on. No sighting is decided in them.

@@ -1,16 +1,24 @@
 use Rattle.hart_frame.proofs.Common.{[], ◌+◌, ◌<◌, arith, All-from_get_or}
-use Rattle.hart_frame.specs.private.Sighting.{IsUsed}
+use Rattle.hart_frame.specs.private.Sighting.{IsAsked, IsUsed}
+use Rattle.hart_frame.proofs.lemmas.scan.Sighted.{SilentBefore}
 use Rattle.hart_frame.proofs.lemmas.scan.NextSeen.{message_seen, message_two, missed_seen, next_is, open_few, open_seen}
 use Rattle.hart_frame.proofs.lemmas.scan.NextSeen.{passed_all, sees, silent_all, silent_on}
 use Rattle.hart_frame.proofs.lemmas.scan.UndecidedSeen.{open_undecided, undecided_used}
 use Rattle.hart_frame.proofs.scan.sighting.next_sighting.Goals as goal
+use Rattle.hart_frame.proofs.scan.sighting.next_sighting.Goals.{In-Some}
+
+-- The place that comes next is asked from `from` on, and nothing is seen before it.
+here : (c : In-Some) → IsAsked c.args.bytes.now c.args.after c.args.from c.in-Some.start
+    × SilentBefore c.args.bytes.now c.args.after c.args.from c.in-Some.start
+here c =
+    next_is c.args.bytes.now c.args.after c.args.from c.loop-start.place c.in-Some.start c.loop-start.invariant.order
+    c.loop-start.invariant.silent c.in-Some.ensures
 
 pub loop-start-preserved : goal.loop-start-preserved
 loop-start-preserved c =
     let bytes = c.args.bytes.now in
     let start = c.in-Some.start in
-    let (is, silent) = next_is bytes c.args.after c.args.from c.loop-start.place start c.loop-start.invariant.order
-    c.loop-start.invariant.silent c.in-Some.ensures in
+    let (is, silent) = here (goal.at.loop-start-preserved c).In-Some in
     record {
       order = omega (arith, is.order);
       within = is.within;
@@ -21,8 +29,7 @@ pub returns-in-Open-clause-sightings : goal.returns-in-Open-clause-sightings
 returns-in-Open-clause-sightings c =
     let bytes = c.args.bytes.now in
     let start = c.in-Some.start in
-    let (is, silent) = next_is bytes c.args.after c.args.from c.loop-start.place start c.loop-start.invariant.order
-    c.loop-start.invariant.silent c.in-Some.ensures in
+    let (is, silent) = here (goal.at.returns-in-Open-clause-sightings c).In-Some in
     rw c.none_decided-in-Open.ensures (sees bytes c.args.after c.args.from c.in-Open.used [] c.requires.valid
     (open_seen bytes c.args.after c.args.from start c.in-Open.used silent is c.in-Open.ensures))
 
@@ -44,8 +51,7 @@ pub returns-in-Message-clause-sightings : goal.returns-in-Message-clause-sightin
 returns-in-Message-clause-sightings c =
     let bytes = c.args.bytes.now in
     let start = c.in-Some.start in
-    let (is, silent) = next_is bytes c.args.after c.args.from c.loop-start.place start c.loop-start.invariant.order
-    c.loop-start.invariant.silent c.in-Some.ensures in
+    let (is, silent) = here (goal.at.returns-in-Message-clause-sightings c).In-Some in
     let two = message_two bytes c.args.after c.args.from start c.in-Message.layout c.in-Message.ensures in
     let (view, same, at) = c.message_at.ensures.message in
     rw same (message_seen bytes c.args.after c.args.from start c.message_at.result.used view c.requires.valid silent is two at)
@@ -54,8 +60,7 @@ pub returns-in-Missed-clause-sightings : goal.returns-in-Missed-clause-sightings
 returns-in-Missed-clause-sightings c =
     let bytes = c.args.bytes.now in
     let start = c.in-Some.start in
-    let (is, silent) = next_is bytes c.args.after c.args.from c.loop-start.place start c.loop-start.invariant.order
-    c.loop-start.invariant.silent c.in-Some.ensures in
+    let (is, silent) = here (goal.at.returns-in-Missed-clause-sightings c).In-Some in
     let (header, same, parts) = c.missed.ensures.miss in
     rw (same, parts, c.missed.ensures.used) (sees bytes c.args.after c.args.from (start + 1) _ c.requires.valid
     (missed_seen bytes c.args.after c.args.from start c.in-Missed.miss silent is c.in-Missed.ensures))
