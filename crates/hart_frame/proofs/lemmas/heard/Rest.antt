@@ -6,25 +6,13 @@ use Rattle.hart_frame.proofs.lemmas.heard.FramesFound.{AreFrames-found}
 use Rattle.hart_frame.proofs.lemmas.heard.Place.{HasNoFrame-end}
 use Rattle.hart_frame.proofs.lemmas.heard.UnambiguousFrames.{AreFrames-one}
 
--- A frame of a list still stands, moved, when characters are put before and after the list.
-pub stands_after : (prefix cs rest : List Character) (found : Found) (n : ℕ) → length prefix ≡ n → StandsIn found cs 0
-    → StandsIn (record { start = n + found.start; stop = n + found.stop; frame = found.frame }) (prefix ++ (cs ++ rest)) n
-stands_after prefix cs rest found n long stands =
-    let split : prefix ++ (cs ++ rest) ≡ (prefix ++ stands.prefix) ++ faultless (255 ∷ 255 ∷ stands.body) ++ (stands.rest ++ rest) =
-    grind (arith, append_assoc) in
-    grind (arith, length-append prefix stands.prefix)
-
--- A frame that stands after a prefix stands, moved back, in the list without the prefix.
-pub stands_in : (prefix cs : List Character) (found : Found) (n : ℕ) → length prefix ≡ n → StandsIn found (prefix ++ cs) n
-    → StandsIn (record { start = found.start - n; stop = found.stop - n; frame = found.frame }) cs 0
-stands_in prefix cs found n long stands = grind (arith, length-drop n stands.prefix, drop_at prefix cs n long, append_assoc, drop-append-le)
-
 -- A frame that stands in the rest from some place on stands, moved, in the whole list.
 stands_moved : (before rest : List Character) (found : Found) (n from : ℕ) → length before ≡ n → StandsIn found rest from
     → StandsIn (moved n found) (before ++ rest) (n + from)
 stands_moved before rest found n from long stands = grind (arith, append_assoc, length-append before stands.prefix)
 
-stands_back : (before rest : List Character) (found : Found) (n from : ℕ) → length before ≡ n
+-- A frame that stands after some characters stands, moved back, in the list without them.
+pub stands_back : (before rest : List Character) (found : Found) (n from : ℕ) → length before ≡ n
     → StandsIn found (before ++ rest) (n + from)
     → StandsIn (record { start = found.start - n; stop = found.stop - n; frame = found.frame }) rest from
 stands_back before rest found n from long stands =

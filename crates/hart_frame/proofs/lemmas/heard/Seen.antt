@@ -3,9 +3,9 @@ use Rattle.hart_frame.proofs.Common.{◌≡◌, ℕ, zero, suc, ◌+◌, ◌-◌
 use Rattle.hart_frame.proofs.Common.{arith, append_assoc, sym, nat_tests, append-nil, Miss, body_miss, flat_map, range_with_len, Found}
 use Rattle.hart_frame.proofs.Common.{Character, AreFrames, IsFirst, first, none, StandsIn, AreSightings, Message, Missed, Seen, header_at}
 use Rattle.hart_frame.proofs.Common.{missed_at, sightings}
-use Rattle.hart_frame.proofs.lemmas.heard.FramesFound.{body_of, start_of}
+use Rattle.hart_frame.proofs.lemmas.heard.FramesFound.{AreFrames-earlier, body_of, start_of}
 use Rattle.hart_frame.proofs.lemmas.heard.Missed.{none_of}
-use Rattle.hart_frame.proofs.lemmas.heard.Place.{preamble}
+use Rattle.hart_frame.proofs.lemmas.heard.Place.{StandsIn-from, preamble}
 use Rattle.hart_frame.proofs.Common.{◌≢◌, ◌⊎◌, ◌∙◌}
 use Rattle.hart_frame.proofs.lemmas.heard.Sighting.{after_two, not_both, IsClean, follows_from, is_other_at, is_preamble_at, same_from}
 use Rattle.hart_frame.proofs.lemmas.heard.Start.{starts_at, tested}
@@ -43,30 +43,6 @@ gap_on chars from to stop given passes before =
     let told = passes.told in
     rw (long, parts, flat_map-append, told, same_places chars from to to (stop - to) (omega arith) passes.same) refl
 
--- A frame that stands from the earlier place on also stands from the later one on.
-stands_on : (chars : List Character) (from to : ℕ) (given : List Seen) (found : Found) → Passes chars from to given
-    → StandsIn found chars from → StandsIn found chars to
-stands_on chars from to given found passes stands =
-    let late = passes.frames found stands in grind arith
-
-stands_back : (chars : List Character) (from to : ℕ) (found : Found) → from ≤ to → StandsIn found chars to → StandsIn found chars from
-stands_back chars from to found order stands = grind arith
-
-first_on : (chars : List Character) (from to : ℕ) (given : List Seen) (found : Found) → Passes chars from to given
-    → IsFirst found chars to → IsFirst found chars from
-first_on chars from to given found passes is = record {
-  stands = stands_back chars from to found passes.order is.stands;
-  least = λ other there. is.least other (stands_on chars from to given other passes there);
-}
-
--- The frames from the later place on are also the frames from the earlier one on.
-frames_on : (chars : List Character) (from to : ℕ) (given : List Seen) (frames : List Found) → Passes chars from to given
-    → AreFrames chars to frames → AreFrames chars from frames
-frames_on chars from _ given _ passes (none to empty) =
-    AreFrames.none from (λ found stands. empty found (stands_on chars from to given found passes stands))
-frames_on chars from _ given _ passes (first to found later is are) =
-    AreFrames.first from found later (first_on chars from to given found passes is) are
-
 -- What is seen from the earlier place on is `given` and then what is seen from the later one on.
 seen_on : (chars : List Character) (from to : ℕ) (given : List Seen) (frames : List Found) → Passes chars from to given
     → AreFrames chars to frames → sightings chars from frames ≡ given ++ sightings chars to frames
@@ -80,7 +56,8 @@ pub passes_on : (chars : List Character) (from to : ℕ) (given later : List See
     → AreSightings chars to later → AreSightings chars from (given ++ later)
 passes_on chars from to given later passes are = record {
   frames = are.frames;
-  are_frames = frames_on chars from to given are.frames passes are.are_frames;
+  are_frames = AreFrames-earlier chars from to are.frames passes.order
+      (λ found stands. StandsIn-from found chars from to stands (passes.frames found stands)) are.are_frames;
   seen_is = rw are.seen_is (sym (seen_on chars from to given are.frames passes are.are_frames));
 }
 

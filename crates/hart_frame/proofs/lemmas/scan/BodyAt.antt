@@ -97,10 +97,7 @@ cut_not_alone bytes End start missing within over is = not_alone bytes End start
 cut_not_alone bytes (Damaged c) start missing within over is =
     not_alone bytes (Damaged c) start _ (cut_damaged bytes c start missing within is)
 
--- If something is wrong with bytes, there is at least one byte. If the first byte is a delimiter, the bytes reach the command.
-wrong_some : (xs : List ℕ) (w : Wrong) → IsWrong xs w → 0 < length xs
-wrong_some xs w is = omega (arith, wrong_within xs w is)
-
+-- If something is wrong with bytes whose first byte is a delimiter, the bytes reach the command.
 wrong_reach : (xs : List ℕ) (w : Wrong) → IsWrong xs w → IsDelimiter (delimiter_in xs) → command_place xs < length xs
 wrong_reach xs (BadDelimiter byte) is good = absurd (is.0.1 good)
 wrong_reach xs (ShortReply len count) is good = omega (arith, is.0.0.1)
@@ -114,7 +111,7 @@ header_whatever bytes after start within sure next follows = rw (bytes_from-hear
 pub wrong_header : (bytes : List ℕ) (after : After) (start : ℕ) (w : Wrong) → start ≤ length bytes → IsWrong (drop start bytes) w
     → Whatever bytes after (KeepsHeader bytes start)
 wrong_header bytes after start w within is =
-    header_whatever bytes after start within (λ ys. header_sure (drop start bytes) ys (wrong_some (drop start bytes) w is)
+    header_whatever bytes after start within (λ ys. header_sure (drop start bytes) ys (omega (arith, wrong_within (drop start bytes) w is))
     (wrong_reach (drop start bytes) w is))
 
 pub body_header : (bytes : List ℕ) (after : After) (start : ℕ) → start ≤ length bytes

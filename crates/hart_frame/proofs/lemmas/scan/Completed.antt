@@ -60,14 +60,10 @@ lacks_next xs [] fit lacks has check =
     let same = length_more xs [] lacks.good.0.1 in absurd (omega (arith, has.1, same, lacks.last, length-append xs []))
 lacks_next xs (y ∷ ys) fit lacks has check =
     let same = length_more xs (y ∷ ys) lacks.good.0.1 in
-    let n : body_length (xs ++ y ∷ ys) - 1 ≡ length xs = omega (arith, same, lacks.last) in
     let fits : 255 ≡ fold bit_xor 0 xs = fits-is xs 255 fit lacks.check in
-    let front : take (length xs) (xs ++ y ∷ ys) ≡ xs = take_at xs (y ∷ ys) (length xs) refl in
-    let there : get_or (xs ++ y ∷ ys) (length xs) 0 ≡ y = get_or_at xs y ys 0 (length xs) refl in
-    let is : y ≡ 255 = grind (arith, nat_tests) in
-    let long : body_length (xs ++ y ∷ ys) + 1 ≡ length xs + 2 = omega (arith, same, lacks.last) in
+    let is : y ≡ 255 = grind (arith, nat_tests, take_at xs (y ∷ ys) (length xs), get_or_at xs y ys 0 (length xs)) in
     let parts : take (body_length (xs ++ y ∷ ys) + 1) (xs ++ y ∷ ys) ≡ xs ++ y ∷ take 1 ys =
-    ap (λ (j : ℕ). take j (xs ++ y ∷ ys)) long ∙ take-append-add xs (y ∷ ys) 2 in
+    grind (arith, take-append-add xs (y ∷ ys) 2) in
     rw (parts, is) (two_last xs (take 1 ys) lacks.before)
 
 pub never_lacks : (xs : List ℕ) (more : List Character) → All (λ byte. byte < 256) xs → LacksOnePreamble xs

@@ -9,7 +9,7 @@ use Rattle.hart_frame.specs.private.First.{HoldsFirst}
 use Rattle.hart_frame.specs.scan.Scanner.{Gives, finishing, new_scan}
 use Rattle.hart_frame.proofs.lemmas.heard.FramesFound.{AreFrames-found, head_first}
 use Rattle.hart_frame.proofs.lemmas.heard.Place.{StandsIn-within}
-use Rattle.hart_frame.proofs.lemmas.heard.Rest.{first_moved, stands_in}
+use Rattle.hart_frame.proofs.lemmas.heard.Rest.{first_moved, stands_back}
 use Rattle.hart_frame.proofs.lemmas.scan.Decision.{frame_of_whole}
 use Rattle.hart_frame.proofs.lemmas.scan.Scan.{moves_frames, moves_then}
 use Rattle.hart_frame.proofs.lemmas.scan.Undecided.{holds_gives, nothing_before, waits_only}
@@ -120,4 +120,4 @@ first_later chars rest from found within is least =
 pub no_later : (chars rest : List Character) (from : ℕ) → from ≤ length chars → rest ≡ drop from chars → HasNoFrame rest 0
     → HasNoFrame chars from
 no_later chars rest from within is empty found there =
-    grind (arith, stands_in (take from chars) rest found from, length-take-le, take-append-drop)
+    grind (arith, stands_back (take from chars) rest found from 0, add-zero, length-take-le, take-append-drop)

@@ -98,11 +98,10 @@ module _ (bytes : List ℕ) (after : After) (next : List Character) (from start 
   stands_there f stop two order fits body =
       let xs : List ℕ = slice_range bytes start stop in
       let ys : List ℕ = drop (stop - start) (drop start bytes) in
-      let rest : xs ++ ys ≡ drop start bytes = take-append-drop (stop - start) (drop start bytes) in
+      let rest = rw (take-append-drop (stop - start) (drop start bytes)) at (regrouped xs ys next) in
       let parts : drop (start - 2) (faultless bytes ++ next) ≡ faultless (255 ∷ 255 ∷ xs) ++ (faultless ys ++ next) =
-      drop-heard bytes next (start - 2) (omega (arith, is.within))
-      ∙ ap (λ (zs : List ℕ). faultless zs ++ next) (two_parts bytes start (omega (arith, two.0)) is.within two.1 is.preamble)
-      ∙ ap (λ (zs : List ℕ). faultless (255 ∷ 255 ∷ zs) ++ next) (sym rest) ∙ regrouped (255 ∷ 255 ∷ xs) ys next in
+      rw (drop-heard bytes next (start - 2) (omega (arith, is.within)), two_parts bytes start (omega (arith, two.0)) is.within two.1
+      is.preamble) (cc (rest)) in
       let there = stands_at (faultless bytes ++ next) (start - 2) f xs (faultless ys ++ next) (omega (arith, inside)) parts body in
       let long : length xs ≡ stop - start = length-take-le (stop - start) (drop start bytes)
       (omega (arith, fits, length-drop start bytes)) in

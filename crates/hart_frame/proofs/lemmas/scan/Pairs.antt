@@ -20,14 +20,7 @@ bytes_at bs p d i (suc n) is within = grind (arith, drop_more bs i 0, bytes_at b
 
 -- The top bit is set in what three lanes have in common exactly if each of them is all ones.
 common : (a b c : Bool) → top 7 (bit_and (bit_and (cond a 255 0) (cond b 255 0)) (cond (not c) 255 0)) ≡ (a && (b && not c))
-common true true true = refl
-common true true false = refl
-common true false true = refl
-common true false false = refl
-common false true true = refl
-common false true false = refl
-common false false true = refl
-common false false false = refl
+common a b c = grind (arith, nat_tests)
 
 under_first : (b : Bool) (n m count : ℕ) → 0 < cond b 1 0 + 2 * n → (0 < n → m < count) → cond (not b) (1 + m) 0 < suc count
 under_first true n m count some below = omega arith

@@ -96,11 +96,6 @@ passed_to_end xs place count within none other here after before =
       ]
     ]
 
--- The last elements of a list are the last of what is left from a place on, if so many are left.
-pub last_of : (xs : List ℕ) (place count : ℕ) → place ≤ length xs → count ≤ length (drop place xs)
-    → drop (length xs - count) xs ≡ drop (length (drop place xs) - count) (drop place xs)
-last_of xs place count within few = grind (arith, drop-drop, length-drop)
-
 -- One or two FF and nothing else, or no bytes, may begin a frame.
 pub may_begin_last : (xs : List ℕ) (count : ℕ) → count ≤ 2 → xs ≡ replicate count 255 → MayBegin xs
 may_begin_last xs zero few is = inl is

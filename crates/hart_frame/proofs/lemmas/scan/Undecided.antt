@@ -1,4 +1,5 @@
 -- What stays undecided when a scanner passes some characters.
+use Rattle.hart_frame.proofs.Common.{add-zero}
 use Rattle.hart_frame.proofs.Common.{◌≡◌, ℕ, ◌+◌, ◌<◌, ◌≤◌, inl, inr, false, List, [], ◌∷◌, ◌++◌, length, take, refl, sym, arith, Found}
 use Rattle.hart_frame.proofs.Common.{append_assoc, length-append, length-take-le, take-append-drop, Character, faultless, AreFrames, none}
 use Rattle.hart_frame.proofs.Common.{HasNoFrame, IsUndecided, StandsIn, AreNext, Scan, MovesPast, GivesNothing}
@@ -6,7 +7,7 @@ use Rattle.hart_frame.specs.scan.Chunk.{BeginsWithFrame}
 use Rattle.hart_frame.specs.scan.Scanner.{Gives, Waits}
 use Rattle.hart_frame.proofs.lemmas.heard.FramesFound.{AreFrames-found, head_first}
 use Rattle.hart_frame.proofs.lemmas.heard.Place.{StandsIn-within}
-use Rattle.hart_frame.proofs.lemmas.heard.Rest.{none_moved, some_moved, stands_in}
+use Rattle.hart_frame.proofs.lemmas.heard.Rest.{none_moved, some_moved, stands_back}
 use Rattle.hart_frame.proofs.lemmas.scan.Next.{next_frames, next_some}
 use Rattle.hart_frame.proofs.lemmas.scan.Scan.{moves_length}
 
@@ -32,7 +33,7 @@ still_stands s t moves found stands =
     let (g, there, early) = same_first s.held 0 n later found (next_frames s.held s.finished 0 n [] later nothing are) are stands in
     let after = (StandsIn-within g s.held n there).after in
     let front = length-take-le n s.held moves.next.within in
-    (_, stands_in (take n s.held) t.held g n front (rw (← held_parts s t moves) there), omega (arith, early, after))
+    (_, stands_back (take n s.held) t.held g n 0 front (rw (add-zero n, ← held_parts s t moves) there), omega (arith, early, after))
 
 -- If no frame is held after some characters are passed, none was held before.
 pub nothing_before : (s t : Scan) → MovesPast s t [] → HasNoFrame t.held 0 → HasNoFrame s.held 0

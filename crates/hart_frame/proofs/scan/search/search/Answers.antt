@@ -1,5 +1,6 @@
+use Rattle.hart_frame.proofs.Common.{◌≡◌, ◌-◌, drop, drop-drop, replicate}
 use Rattle.hart_frame.proofs.Common.{◌-◌, ◌≤◌, ◌∙◌, arith, drop, length, length-drop, take_rest}
-use Rattle.hart_frame.proofs.lemmas.scan.Search.{last_of, may_begin_last, passed_before, passed_to_end, searched_open, searched_stands}
+use Rattle.hart_frame.proofs.lemmas.scan.Search.{may_begin_last, passed_before, passed_to_end, searched_open, searched_stands}
 use Rattle.hart_frame.proofs.lemmas.scan.Search.{searching_on}
 use Rattle.hart_frame.proofs.scan.search.search.Goals as goal
 
@@ -33,7 +34,7 @@ returns c =
     let inside : place ≤ length bytes = omega arith in
     let rest = length-drop place bytes in
     let passed = passed_to_end bytes place count inside c.in_default.ensures last.other in
-    let ends = last_of bytes place count inside last.within ∙ last.preambles in
+    let ends : drop (length bytes - count) bytes ≡ replicate count 255 = grind (arith, drop-drop, last.within, last.preambles) in
     let may = may_begin_last (drop (length bytes - count) bytes) count last.few ends in
     rw c.open_at-2.ensures
     (searched_open bytes c.args.from c.args.seen place c.loop-start.decided (length bytes - count) c.loop-start.invariant
