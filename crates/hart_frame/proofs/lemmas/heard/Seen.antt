@@ -109,20 +109,9 @@ pub record FrameAt (chars : List Character) (from start : ℕ) : Type 0 where
 pub frame_at : (chars : List Character) (from : ℕ) (found : Found) → StandsIn found chars from → FrameAt chars from found.start
 frame_at chars from found stands =
     let at = starts_at chars found.start preamble (start_of chars found from stands) in
+    let body = none_of chars found.start (body_of chars found from stands) in
     let order : from + 2 ≤ found.start = omega (arith, stands.after, stands.start) in
-    let last : is_preamble_at chars (found.start - 1) ≡ true = grind (arith, nat_tests, tested chars (found.start - 1)) in
-    let before : is_preamble_at chars (found.start - 2) ≡ true = grind (arith, nat_tests, tested chars (found.start - 2)) in
-    let same : found.start - 1 - 1 ≡ found.start - 2 = omega arith in
-    record {
-      order = order;
-      within = at.within;
-      one = grind (arith, nat_tests);
-      two = grind (arith, nat_tests);
-      other = grind (arith, nat_tests, tested chars found.start);
-      before = before;
-      last = last;
-      body = none_of chars found.start (body_of chars found from stands);
-    }
+    grind (arith, nat_tests, tested chars (found.start - 1), tested chars (found.start - 2), tested chars found.start)
 
 -- Where a frame starts, no miss is seen.
 frame_silent : (chars : List Character) (from : ℕ) (found : Found) → StandsIn found chars from → missed_at chars from found.start ≡ []

@@ -141,13 +141,7 @@ unasked chars from place after not = told_at chars from place after ∙ rw not r
 
 no_body : (chars : List Character) (place : ℕ) → is_other_at chars place ≡ false → stands_alone chars place ≡ false
 no_body chars place is =
-    let cases : (is_preamble_at chars place ≡ true) ⊎ (length chars ≤ place) = grind (arith, nat_tests, tested chars place) in
-    elim cases [
-      | inl here ↦
-          let first : drop place chars ≡ preamble ∷ drop (place + 1) chars = grind (arith, nat_tests, tested chars place, drop_more) in
-          grind (arith, nat_tests, faultless_bytes-more preamble (drop (place + 1) chars))
-      | inr end ↦ rw (drop_all place chars end) refl
-    ]
+    grind (arith, nat_tests, tested chars place, drop_more chars place preamble, faultless_bytes-more, drop_all place chars)
 
 none_other : (place : ℕ) (h : Option HeaderParts) (one two : Bool)
     → told place h (if one then if two then None else None else None) ≡ []
@@ -192,20 +186,12 @@ same_from chars from used place order after (inl cut) =
     let two : follows_from chars used place ≡ true → follows_from chars from (place - 1) ≡ follows_from chars used (place - 1) =
     grind (arith, nat_tests) in
     same_at chars from used place (omega (arith, order, after)) after one two
-same_from chars from used place order after (inr (inl (first, second))) =
-    let cases : (place ≡ used) ⊎ (place ≡ used + 1) ⊎ (used + 2 ≤ place) = grind arith in
+same_from chars from used place order after (inr ends) =
+    let cases : (is_other_at chars place ≡ false) ⊎ (used + 2 ≤ place) = grind (arith, not_both chars place, past chars place) in
     elim cases [
-      | inl here ↦
-          let not : is_other_at chars place ≡ false = not_both chars place (rw here first) in
-          not_other chars from place (omega (arith, order, after)) not ∙ sym (not_other chars used place after not)
-      | inr (inl next) ↦
-          let not : is_other_at chars place ≡ false = not_both chars place (rw next second) in
-          not_other chars from place (omega (arith, order, after)) not ∙ sym (not_other chars used place after not)
-      | inr (inr late) ↦
+      | inl not ↦ not_other chars from place (omega (arith, order, after)) not ∙ sym (not_other chars used place after not)
+      | inr late ↦
           let one : follows_from chars from place ≡ follows_from chars used place = grind (arith, nat_tests) in
           let two : follows_from chars from (place - 1) ≡ follows_from chars used (place - 1) = grind (arith, nat_tests) in
           same_at chars from used place (omega (arith, order, after)) after one (λ _. two)
     ]
-same_from chars from used place order after (inr (inr end)) =
-    let not = past chars place (omega (arith, end, after)) in
-    not_other chars from place (omega (arith, order, after)) not ∙ sym (not_other chars used place after not)

@@ -104,21 +104,14 @@ pub lone_open : (bytes : List ℕ) (start n : ℕ) → start ≤ length bytes �
     → get_or (drop start bytes) (n - 1) 0 ≡ 255 → MayStandAlone bytes start
 lone_open bytes start n within long all whole none last =
     let xs = drop start bytes in
-    let own : take (n + 1) xs ≡ xs = take_all (n + 1) xs (omega (arith, all)) in
-    let clear : has_two_preambles xs ≡ false = rw own at none in
-    let ends : get_or xs (length xs - 1) 0 ≡ 255 = rw all at last in
-    let one : two_begin_in_body (faultless bytes ++ []) start ≡ false =
-    two_in bytes [] start n within long (omega (arith, all)) ∙ rw (append-nil xs, own) clear in
-    let longer : take (n + 1) (xs ++ 255 ∷ []) ≡ xs ++ 255 ∷ [] = take_all (n + 1) (xs ++ 255 ∷ [])
-    (omega (arith, all, length-append xs (255 ∷ []))) in
-    let two : two_begin_in_body (faultless bytes ++ preamble ∷ []) start ≡ true =
-    two_in bytes (preamble ∷ []) start n within long (omega (arith, all)) ∙ rw longer (two_last xs [] ends) in
     let stands = whole [] tt in
+    let one = two_in bytes [] start n within long (omega (arith, all)) in
+    let two = two_in bytes (preamble ∷ []) start n within long (omega (arith, all)) in
     record {
       one = [];
-      alone = grind (arith, nat_tests);
+      alone = grind (arith, nat_tests, append-nil, take_all);
       other = preamble ∷ [];
-      not_alone = grind (arith, nat_tests);
+      not_alone = grind (arith, nat_tests, take_all, two_last xs [], length-append);
     }
 
 -- Bytes without a miss reach their check byte, and it fits.
@@ -139,3 +132,16 @@ pub alone_moved : (bytes : List ℕ) (more : List Character) (start : ℕ) → s
     → stands_alone (faultless bytes ++ more) start ≡ stands_alone (faultless (drop start bytes) ++ more) 0
 alone_moved bytes more start within =
     rw (drop-heard bytes more start within, some_moved (faultless (drop start bytes) ++ more) start) refl
+
+-- Whether more characters let a body stand alone depends only on the bytes from its place on.
+pub may_moved : (bytes others : List ℕ) (start other : ℕ) → start ≤ length bytes → other ≤ length others
+    → drop start bytes ≡ drop other others → MayStandAlone bytes start → MayStandAlone others other
+may_moved bytes others start other within inside same may =
+    let moved = λ (more : List Character). alone_moved others more other inside
+    ∙ rw same at (sym (alone_moved bytes more start within)) in
+    record {
+      one = may.one;
+      alone = moved may.one ∙ may.alone;
+      other = may.other;
+      not_alone = moved may.other ∙ may.not_alone;
+    }

@@ -95,13 +95,8 @@ body_alone chars body f is all clear =
       parts = all
           ∙ sym (append-nil (faultless body));
     } in
-    let whole = none_of chars 0 has in
-    let bytes : bytes_from chars 0 ≡ body = grind (arith, append-nil, faultless_bytes-append body []) in
-    let long = (says (bytes_from chars 0) f (length body) (begins_at chars 0 has)).whole in
-    let own : take (body_length (bytes_from chars 0) + 1) (bytes_from chars 0) ≡ body =
-    take_all _ (bytes_from chars 0) (omega (arith, long, ap length bytes)) ∙ bytes in
-    let none : two_begin_in_body chars 0 ≡ false = rw own clear in
-    grind (arith, nat_tests)
+    let long = says (bytes_from chars 0) f (length body) (begins_at chars 0 has) in
+    grind (arith, nat_tests, append-nil, faultless_bytes-append body [], take_all, none_of chars 0 has)
 
 -- All other bytes that end too early may or may not become a body that stands alone.
 pub may : (xs : List ℕ) (m : ℕ) → All (λ byte. byte < 256) xs → IsTruncated xs → has_two_preambles xs ≡ false → (LacksOnePreamble xs → ⊥)

@@ -48,17 +48,8 @@ gives_span old b layout sound holds =
 
 -- If a scanner moves past no frame, and in a second step gives nothing, the two steps together give nothing.
 gives_nothing_then : (old mid new : Scan) → MovesPast old mid [] → GivesNothing mid new → GivesNothing old new
-gives_nothing_then old mid new moves (inl waits) =
-    inl (record {
-      going = sym moves.finished ∙ waits.going;
-      moves = moves_then old mid new [] [] moves waits.moves;
-      few = waits.few;
-      undecided = waits.undecided;
-      drained = waits.drained;
-    })
-gives_nothing_then old mid new moves (inr ends) =
-    let none = nothing_before old mid moves ends.none in
-    inr (record { finished = sym moves.finished ∙ ends.finished; none = none; renewed = ends.renewed })
+gives_nothing_then old mid new moves (inl waits) = let all = moves_then old mid new [] [] moves waits.moves in grind arith
+gives_nothing_then old mid new moves (inr ends) = let none = nothing_before old mid moves ends.none in grind arith
 
 -- A whole body that a layout describes is the body of a frame.
 pub frame_of_whole : (layout : Layout) (body : List ℕ) → IsWholeBody layout body → (frame : FrameParts) × IsBody frame body

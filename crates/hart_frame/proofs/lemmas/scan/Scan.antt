@@ -12,29 +12,16 @@ moves_none old new held firsts finished = grind (arith, next_nothing)
 
 -- A scanner that moves past some frames and then past others moves past them all.
 pub moves_then : (a b c : Scan) (xs ys : List Found) → MovesPast a b xs → MovesPast b c ys → MovesPast a c (xs ++ ys)
-moves_then a b c xs ys p q = record {
-  count = p.count + q.count;
-  found = p.found ++ map (moved p.count) q.found;
-  next = next_then a.held a.finished 0 p.count (p.count + q.count) p.found (map (moved p.count) q.found) p.next
-      (next_of_rest p.count a.held a.finished q.found q.count p.next.within (rw (p.held, p.finished) at q.next));
-  given_are = rw (p.given_are, q.given_are, p.first, map-append, moved_twice) refl;
-  first = omega (arith, p.first, q.first);
-  held = q.held ∙ rw p.held (drop-drop q.count p.count a.held);
-  finished = q.finished ∙ p.finished;
-}
+moves_then a b c xs ys p q =
+    let next = next_then a.held a.finished 0 p.count (p.count + q.count) p.found (map (moved p.count) q.found) p.next
+    (next_of_rest p.count a.held a.finished q.found q.count p.next.within (rw (p.held, p.finished) at q.next)) in
+    grind (arith, map-append, moved_twice, drop-drop)
 
 -- A scanner that hears more characters has still moved past the same frames.
 pub moves_hearing : (a b : Scan) (cs : List Character) (given : List Found) → a.finished ≡ false → MovesPast a b given
     → MovesPast (hearing a cs) (hearing b cs) given
-moves_hearing a b cs given going moves = record {
-  count = moves.count;
-  found = moves.found;
-  next = next_grown a.held cs a.finished 0 moves.count moves.found (rw going at moves.next);
-  given_are = moves.given_are;
-  first = moves.first;
-  held = rw moves.held (sym (drop-append-le moves.count a.held cs moves.next.within));
-  finished = moves.finished;
-}
+moves_hearing a b cs given going moves =
+    let next = next_grown a.held cs a.finished 0 moves.count moves.found (rw going at moves.next) in grind (arith, drop-append-le)
 
 -- The frames that a scanner moves past are the next frames in all that was heard. This is true whatever was let go before and whatever
 -- comes later.
@@ -57,29 +44,15 @@ moves_length a b given moves =
 pub moves_past : (old new : Scan) (count : ℕ) → count ≤ length old.held → new.held ≡ drop count old.held → new.first ≡ old.first + count
     → new.finished ≡ old.finished → ((place : ℕ) → place < count → (more : List Character) → (IsTrue old.finished → more ≡ [])
     → BeginWithNone (drop place old.held ++ more)) → MovesPast old new []
-moves_past old new count within held firsts finished never = record {
-  count = count;
-  found = [];
-  next = next_none old.held old.finished 0 count (omega arith) within (λ place since below. never place below);
-  given_are = refl;
-  first = firsts;
-  held = held;
-  finished = finished;
-}
+moves_past old new count within held firsts finished never =
+    let next = next_none old.held old.finished 0 count (omega arith) within (λ place since below. never place below) in grind arith
 
 -- A scanner that lets go of a frame at the front of what it holds moves past this frame.
 pub moves_frame : (old new : Scan) (f : FrameParts) (body : List ℕ) → old.held ≡ faultless (255 ∷ 255 ∷ body) ++ new.held → IsBody f body
     → new.first ≡ old.first + 2 + length body → new.finished ≡ old.finished
     → MovesPast old new (record { start = old.first + 2; stop = new.first; frame = f } ∷ [])
-moves_frame old new f body held is firsts finished = record {
-  count = 2 + length body;
-  found = record { start = 2; stop = 2 + length body; frame = f } ∷ [];
-  next = next_one old.held old.finished 0 f body new.held (omega arith) held is;
-  given_are = grind arith;
-  first = omega (arith, firsts);
-  held = grind (arith, length-map, drop_at);
-  finished = finished;
-}
+moves_frame old new f body held is firsts finished =
+    let next = next_one old.held old.finished 0 f body new.held (omega arith) held is in grind (arith, length-map, drop_at)
 
 -- A scanner that lets go of bytes at which no frame begins moves past no frame.
 pub moves_places : (old new : Scan) (bytes : List ℕ) (count : ℕ) → old.held ≡ faultless bytes → new.held ≡ faultless (drop count bytes)

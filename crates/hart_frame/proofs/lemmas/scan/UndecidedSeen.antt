@@ -9,7 +9,7 @@ use Rattle.std.proofs.lemmas.List.Elements.{All-cons, All-map}
 use Rattle.hart_frame.specs.heard.Sighting.{IsUndecidedSighting, seen_miss}
 use Rattle.hart_frame.specs.private.Sighting.{IsStandingAt, IsUsed}
 use Rattle.hart_frame.specs.declared.scan.sighting.Standing.TheVariants.{Open}
-use Rattle.hart_frame.proofs.lemmas.scan.Alone.{alone_moved}
+use Rattle.hart_frame.proofs.lemmas.scan.Alone.{may_moved}
 use Rattle.hart_frame.proofs.lemmas.heard.FramesFound.{AreFrames-found}
 use Rattle.hart_frame.proofs.lemmas.heard.Open.{open_begins}
 use Rattle.hart_frame.proofs.lemmas.heard.Place.{StandsIn-within}
@@ -156,10 +156,5 @@ open_undecided bytes after place from start used fit is more (inr (one, (more_is
     let parts : drop used bytes ≡ 255 ∷ drop start bytes =
     drop_more bytes used 0 (omega (arith, at, is.within)) ∙ rw (here, last) refl in
     let other : get_or (drop start bytes) 0 0 ≢ 255 = λ same. is.other (omega (arith, is.heard, heard)) (grind (arith, get_or-drop)) in
-    let moved = λ (m : List Character). alone_moved (255 ∷ drop start bytes) m 1 (omega arith) in
-    rw parts (undecided_one (drop start bytes) some other (record {
-      one = may.one;
-      alone = moved may.one ∙ sym (alone_moved bytes may.one start is.within) ∙ may.alone;
-      other = may.other;
-      not_alone = moved may.other ∙ sym (alone_moved bytes may.other start is.within) ∙ may.not_alone;
-    }))
+    rw parts (undecided_one (drop start bytes) some other
+    (may_moved bytes (255 ∷ drop start bytes) start 1 is.within (omega arith) refl may))

@@ -32,12 +32,8 @@ module _ (layout : Layout) (xs : List ℕ) (len check : ℕ) (has : HasCheckByte
 
   fitting : bit_xor check (get_or xs (len - 1) 0) ≡ fold bit_xor 0 (take (len - 1) xs)
   fitting =
-      let all : check ≡ fold bit_xor 0 (take len xs) = fits-is (take len xs) check are_bytes checks in
-      let long : 0 < len = omega (arith, same) in
-      let last : get_or (take len xs) (len - 1) 0 ≡ get_or xs (len - 1) 0 = grind (arith, get_or-take) in
-      let before = before_last (take len xs) (len - 1) (omega (arith, length-take-le len xs within, long)) in
-      let front : take (len - 1) (take len xs) ≡ take (len - 1) xs = grind (arith, take-take) in
-      rw (← last, all, before, front) refl
+      let all = fits-is (take len xs) check are_bytes checks in
+      grind (arith, get_or-take, before_last (take len xs) (len - 1), length-take-le len xs within, take-take)
 
   -- If the parity of these bytes is not even, their check byte does not fit.
   pub odd_prefix : check ≢ 0 → HasBadCheck xs len (get_or xs (len - 1) 0) (bit_xor check (get_or xs (len - 1) 0))
@@ -53,8 +49,8 @@ module _ (layout : Layout) (xs : List ℕ) (len check : ℕ) (has : HasCheckByte
 -- The check byte that would fit is the exclusive or of the bytes before it.
 pub fold_fits : (xs : List ℕ) (len byte fits : ℕ) → HasBadCheck xs len byte fits → fits ≡ fold bit_xor 0 (take (len - 1) xs)
 fold_fits xs len byte fits is =
-    let front : take (len - 1) (take len xs) ≡ take (len - 1) xs = grind (arith, take-take) in
-    fits-is (take (len - 1) xs) fits (rw front at (All-take (λ byte. byte < 256) (len - 1) (take len xs) is.are_bytes)) is.fitting
+    let checked = All-take (λ byte. byte < 256) (len - 1) (take len xs) is.are_bytes in
+    grind (arith, take-take, fits-is (take (len - 1) xs) fits)
 
 -- It takes at least one byte, and at most all of them, to show what is wrong.
 pub wrong_within : (xs : List ℕ) (w : Wrong) → IsWrong xs w → (0 < shown_by w) × (shown_by w ≤ length xs)
@@ -72,19 +68,7 @@ wrong_few xs (BadCheck len byte fit) fits is = grind (arith, fits 0, fits (byte_
 pub wrong_shown : (xs : List ℕ) (w : Wrong) → IsWrong xs w → IsWrong (take (shown_by w) xs) w
 wrong_shown xs (BadDelimiter byte) is = grind (arith, length-take-le, get_or-take)
 wrong_shown xs (ShortReply len count) is = grind (arith, length-take-le, get_or-take)
-wrong_shown xs (BadCheck len byte fits) is =
-    let inside : len ≤ length xs = omega (arith, is.whole, is.checked.1) in
-    let good = good_prefix xs len is.checked (omega (arith, is.whole)) inside in
-    let front : take (len - 1) (take len xs) ≡ take (len - 1) xs = grind (arith, take-take) in
-    let all : take len (take len xs) ≡ take len xs = grind (arith, take-take) in
-    record {
-      checked = (good.0, omega (arith, good.1, is.whole, length-take-le len xs inside));
-      whole = is.whole ∙ sym good.1;
-      stands = grind (arith, get_or-take, is.whole, is.stands);
-      fitting = rw front is.fitting;
-      differs = is.differs;
-      are_bytes = rw all is.are_bytes;
-    }
+wrong_shown xs (BadCheck len byte fits) is = grind (arith, good_prefix xs len is.checked, length-take-le, get_or-take, take-take)
 
 -- If a prefix has fewer bytes than are needed to show what is wrong, it ends too early for a body.
 pub wrong_fewer : (xs : List ℕ) (w : Wrong) → IsWrong xs w → (fewer : ℕ) → fewer < shown_by w → IsTruncated (take fewer xs)
@@ -98,11 +82,7 @@ wrong_fewer xs (BadCheck len byte fits) is fewer below =
 pub wrong_refused : (xs : List ℕ) (w : Wrong) → IsWrong xs w → IsRefusedWith xs (fault_in w)
 wrong_refused xs (BadDelimiter byte) is = is.0
 wrong_refused xs (ShortReply len count) is = is.0
-wrong_refused xs (BadCheck len byte fits) is =
-    let differs : get_or xs (len - 1) 0 ≢ fold bit_xor 0 (take (len - 1) xs) =
-    λ same. is.differs (sym is.stands ∙ same ∙ sym (fold_fits xs len byte fits is)) in
-    let odd = odd xs len is.are_bytes (omega (arith, is.whole)) (omega (arith, is.whole, is.checked.1)) differs in
-    (is.checked, rw is.whole at odd)
+wrong_refused xs (BadCheck len byte fits) is = grind (arith, fold_fits xs len byte fits is, odd xs len is.are_bytes)
 
 -- Bytes end too early for a body exactly if they begin as `Cut` says.
 pub cut_truncated : (xs : List ℕ) (missing : Option ℕ) → IsPrefix xs (Cut missing) → IsTruncated xs

@@ -1,5 +1,6 @@
+use Rattle.hart_frame.proofs.Common.{refl}
 use Rattle.hart_frame.proofs.Common.{◌∙◌, arith, drop, length-drop, take_rest, get_or-drop, MayStandAlone, Cut, IsPrefix}
-use Rattle.hart_frame.proofs.lemmas.scan.Alone.{alone_moved}
+use Rattle.hart_frame.proofs.lemmas.scan.Alone.{alone_moved, may_moved}
 use Rattle.hart_frame.proofs.lemmas.scan.BodyAt.{cut_not_alone, not_alone, whole_seen, wrong_seen}
 use Rattle.hart_frame.proofs.lemmas.wire.Reading.{cut_truncated}
 use Rattle.hart_frame.proofs.lemmas.wire.Truncated.{truncated_few}
@@ -27,12 +28,7 @@ returns-then-can_stand_alone c =
       grind arith,
       omega (arith, c.requires.one),
       omega (arith, few, length-drop start bytes, c.requires.within),
-      record {
-        one = may.one;
-        alone = alone_moved bytes may.one start c.requires.within ∙ may.alone;
-        other = may.other;
-        not_alone = alone_moved bytes may.other start c.requires.within ∙ may.not_alone;
-      },
+      may_moved (drop start bytes) bytes 0 start (omega arith) c.requires.within refl may,
     )
 
 pub returns-else-eq : goal.returns-else-eq
