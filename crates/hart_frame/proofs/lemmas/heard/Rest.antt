@@ -1,7 +1,7 @@
 -- The frames of the rest of a list, moved by the place where the rest begins, are the frames of the list from that place on.
 use Rattle.hart_frame.proofs.Common.{add-zero, ◌≡◌, ℕ, ◌+◌, ◌-◌, ◌<◌, ◌≤◌, ◌⊎◌, inl, inr, List, [], ◌∷◌, ◌++◌, length, map, take, drop}
 use Rattle.hart_frame.proofs.Common.{refl, arith, append_assoc, length-append, length-drop, take-append-drop, common_steps, drop-append-le}
-use Rattle.hart_frame.proofs.Common.{drop_at, length-take-le, Found, Character, faultless, AreFrames, IsFirst, moved, none, first, StandsIn}
+use Rattle.hart_frame.proofs.Common.{drop_at, length-take-le, Found, Character, AreFrames, IsFirst, moved, none, first, StandsIn}
 use Rattle.hart_frame.proofs.lemmas.heard.FramesFound.{AreFrames-found}
 use Rattle.hart_frame.proofs.lemmas.heard.Place.{HasNoFrame-end}
 use Rattle.hart_frame.proofs.lemmas.heard.UnambiguousFrames.{AreFrames-one}

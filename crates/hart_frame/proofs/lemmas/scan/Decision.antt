@@ -1,6 +1,6 @@
 -- What is decided about a buffer, and what it gives then.
-use Rattle.hart_frame.proofs.Common.{◌≡◌, ◌≢◌, ℕ, ◌+◌, ◌-◌, ◌↔◌, inl, inr, Bool, IsTrue, List, [], ◌∷◌, ◌++◌, length, take, drop, refl, sym}
-use Rattle.hart_frame.proofs.Common.{◌∙◌, arith, subst, append_assoc, length-append, length-drop, drop_at, map-append, Buffer, Drained}
+use Rattle.hart_frame.proofs.Common.{◌≡◌, ◌≢◌, ℕ, ◌+◌, ◌-◌, ◌↔◌, inl, inr, Bool, IsTrue, List, [], ◌∷◌, ◌++◌, length, take, drop, refl}
+use Rattle.hart_frame.proofs.Common.{arith, subst, append_assoc, length-append, length-drop, drop_at, map-append, Buffer, Drained}
 use Rattle.hart_frame.proofs.Common.{SearchResult, Layout, faultless, StandsIn, FrameParts, IsSound, IsWaiting, held_bytes, scan_of, Scan}
 use Rattle.hart_frame.proofs.Common.{IsWhole, MovesPast, GivesNothing, IsBody, IsCheckedPart, body_length, layout_length}
 use Rattle.std.specs.Option.{option_to_list}

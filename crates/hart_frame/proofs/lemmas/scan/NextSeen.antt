@@ -1,6 +1,6 @@
 -- The message or miss that the search in bytes finds next is what is seen next, whatever follows the bytes.
-use Rattle.hart_frame.proofs.Common.{◌≡◌, ◌≢◌, ℕ, ◌+◌, ◌-◌, ◌<◌, ◌≤◌, ◌⊎◌, inl, inr, true, false, List, [], ◌∷◌, ◌++◌, length, drop, get_or}
-use Rattle.hart_frame.proofs.Common.{None, Some, Option, ◌∙◌, ap, sym, arith, refl, append_assoc, length-append, length-drop, drop_more}
+use Rattle.hart_frame.proofs.Common.{◌≡◌, ◌≢◌, ℕ, ◌+◌, ◌-◌, ◌<◌, ◌≤◌, inl, inr, true, List, [], ◌∷◌, ◌++◌, length, drop, get_or}
+use Rattle.hart_frame.proofs.Common.{Some, ◌∙◌, ap, arith, refl, append_assoc, length-append, length-drop, drop_more}
 use Rattle.hart_frame.proofs.Common.{take-append-drop, get_or-drop, length-take-le, length-map, slice_range, IsTrue, Found, Miss, After}
 use Rattle.hart_frame.proofs.Common.{OnePreamble, Damaged, End, More, Character, faultless, body_miss, StandsIn, AreSightings, Message}
 use Rattle.hart_frame.proofs.Common.{Missed, Seen, header_at, heard_with, FollowsTwo, IsAsked, MayFollow, Whatever, stands_alone, parts_of}
@@ -18,7 +18,7 @@ use Rattle.hart_frame.proofs.lemmas.heard.Seen.{Passes, message_on, missed_none,
 use Rattle.std.proofs.Math.Nat.{eq-or-lt_of_le}
 use Rattle.std.proofs.lemmas.Bool.{cases_lt, false_from_ne_true}
 use Rattle.hart_frame.specs.heard.Sighting.{missed_at}
-use Rattle.hart_frame.proofs.lemmas.heard.Sighting.{IsClean, after_one, after_two, follows_from, is_other_at, is_preamble_at}
+use Rattle.hart_frame.proofs.lemmas.heard.Sighting.{IsClean, after_one, after_two, follows_from}
 use Rattle.hart_frame.proofs.lemmas.scan.BodyAt.{drop-heard}
 use Rattle.hart_frame.proofs.lemmas.scan.Sighted.{SilentBefore, follows_in, known, late, none_seen, other_yes, passes_clean}
 use Rattle.hart_frame.proofs.lemmas.scan.Sighted.{preamble_no, preamble_yes, two_in, two_out}
@@ -100,8 +100,11 @@ module _ (bytes : List ℕ) (after : After) (next : List Character) (from start 
       let ys : List ℕ = drop (stop - start) (drop start bytes) in
       let rest = rw (take-append-drop (stop - start) (drop start bytes)) at (regrouped xs ys next) in
       let parts : drop (start - 2) (faultless bytes ++ next) ≡ faultless (255 ∷ 255 ∷ xs) ++ (faultless ys ++ next) =
-      rw (drop-heard bytes next (start - 2) (omega (arith, is.within)), two_parts bytes start (omega (arith, two.0)) is.within two.1
-      is.preamble) (cc (rest)) in
+      rw (
+        drop-heard bytes next (start - 2) (omega (arith, is.within)),
+        two_parts bytes start (omega (arith, two.0)) is.within two.1
+            is.preamble,
+      ) (cc (rest)) in
       let there = stands_at (faultless bytes ++ next) (start - 2) f xs (faultless ys ++ next) (omega (arith, inside)) parts body in
       let long : length xs ≡ stop - start = length-take-le (stop - start) (drop start bytes)
       (omega (arith, fits, length-drop start bytes)) in
@@ -125,21 +128,29 @@ used_clean : (bytes : List ℕ) (after : After) (next : List Character) (from us
 used_clean bytes More next from used may order (low, cases) =
     let long : length (heard_with bytes More) ≡ length bytes = grind (arith, length-map) in
     let clean = λ (within : used ≤ length bytes) (last : from < used → get_or bytes (used - 1) 0 ≢ 255) (after : from < used).
-    preamble_no bytes More next (used - 1) may (omega (arith, long, within, after)) (λ below. last after) in
-    (low, omega (arith, long, cases), elim cases [
-      | inl (all, differs) ↦ inl (clean (omega (arith, all)) differs)
-      | inr (inl (last, here, differs)) ↦ inl (clean (omega (arith, last)) differs)
-      | inr (inr (last, one, two)) ↦
-          inr (inl (preamble_yes bytes next used (omega (arith, last)) one, preamble_yes bytes next (used + 1) (omega (arith, last)) two))
-    ])
+    preamble_no bytes More next (used - 1) may (omega (arith, long, within, after)) (λ below. last after) in (
+      low,
+      omega (arith, long, cases),
+      elim cases [
+        | inl (all, differs) ↦ inl (clean (omega (arith, all)) differs)
+        | inr (inl (last, here, differs)) ↦ inl (clean (omega (arith, last)) differs)
+        | inr (inr (last, one, two)) ↦
+            inr (inl (preamble_yes bytes next used (omega (arith, last)) one, preamble_yes bytes next (used + 1) (omega (arith, last)) two))
+      ],
+    )
 used_clean bytes End next from used ends order all =
-    let long : length (heard_with bytes End) ≡ length bytes = grind (arith, length-map) in
-    (omega (arith, order, all), omega (arith, long, all),
-    inr (inr (omega (arith, length-append (faultless bytes) next, ap length ends, long, all))))
+    let long : length (heard_with bytes End) ≡ length bytes = grind (arith, length-map) in (
+      omega (arith, order, all),
+      omega (arith, long, all),
+      inr (inr (omega (arith, length-append (faultless bytes) next, ap length ends, long, all))),
+    )
 used_clean bytes (Damaged c) next from used may order all =
-    let long : length (heard_with bytes (Damaged c)) ≡ length bytes + 1 = grind (arith, length-append, length-map) in
-    (omega (arith, order, all), omega (arith, long, all), inl (λ low.
-    preamble_no bytes (Damaged c) next (used - 1) may (omega (arith, long, all)) (λ below. absurd (omega (arith, below, all)))))
+    let long : length (heard_with bytes (Damaged c)) ≡ length bytes + 1 = grind (arith, length-append, length-map) in (
+      omega (arith, order, all),
+      omega (arith, long, all),
+      inl (λ low.
+          preamble_no bytes (Damaged c) next (used - 1) may (omega (arith, long, all)) (λ below. absurd (omega (arith, below, all)))),
+    )
 
 pub passed_all : (bytes : List ℕ) (after : After) (from used : ℕ) → SilentBefore bytes after from (length (heard_with bytes after))
     → from ≤ length bytes → IsPassed bytes after from used → Whatever bytes after (λ chars. Passes chars from used [])

@@ -1,5 +1,5 @@
 -- What a scanner moves past when it lets characters go.
-use Rattle.hart_frame.proofs.Common.{◌≡◌, ℕ, ◌+◌, ◌<◌, ◌≤◌, false, IsTrue, List, [], ◌∷◌, ◌++◌, length, map, drop, refl, sym, ◌∙◌, arith}
+use Rattle.hart_frame.proofs.Common.{◌≡◌, ℕ, ◌+◌, ◌<◌, ◌≤◌, false, IsTrue, List, [], ◌∷◌, ◌++◌, length, map, drop, arith}
 use Rattle.hart_frame.proofs.Common.{append_assoc, length-append, length-drop, drop-append-le, drop-drop, drop-map, drop_at, length-map}
 use Rattle.hart_frame.proofs.Common.{map-append, Found, Character, faultless, AreFrames, moved, BeginWithNone, MovesPast, Scan, hearing}
 use Rattle.hart_frame.proofs.Common.{IsBody, FrameParts}

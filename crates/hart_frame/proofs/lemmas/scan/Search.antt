@@ -1,7 +1,7 @@
 -- What is known of bytes while they are searched, and what a search then finds.
 use Rattle.hart_frame.proofs.Common.{Some, None, ◌≡◌, ◌≢◌, ℕ, zero, suc, ◌+◌, ◌-◌, ◌<◌, ◌≤◌, ◌⊎◌, inl, inr, List, [], ◌∷◌, ◌++◌, length, ap}
 use Rattle.hart_frame.proofs.Common.{take, drop, get_or, refl, ◌∙◌, replicate, MatchOption, Option, arith, append_assoc, length-append}
-use Rattle.hart_frame.proofs.Common.{length-drop, add-zero, take-add, take-append-add, common_steps, drop-append-le, drop-drop, drop_more}
+use Rattle.hart_frame.proofs.Common.{length-drop, add-zero, take-add, take-append-add, common_steps, drop-append-le, drop_more}
 use Rattle.hart_frame.proofs.Common.{get_or-drop, length-take-le, take_rest, slice_range, Layout, IsWhole, MayBegin, HasNoPair, HasPair}
 use Rattle.hart_frame.proofs.Common.{IsSearched, layout_length}
 use Rattle.std.proofs.Common.{max}

@@ -1,6 +1,6 @@
 -- How bytes begin as a body, and what follows from it.
 use Rattle.hart_frame.proofs.Common.{◌≡◌, ◌≢◌, ℕ, ◌-◌, ◌<◌, ◌≤◌, inl, inr, List, Option, None, Some, fold, bit_xor, get_or, length, take}
-use Rattle.hart_frame.proofs.Common.{drop, refl, sym, ◌∙◌, arith, get_or-take, get_or_past, length-take, length-take-le, take-append-drop}
+use Rattle.hart_frame.proofs.Common.{drop, refl, arith, get_or-take, get_or_past, length-take, length-take-le, take-append-drop}
 use Rattle.hart_frame.proofs.Common.{take-take, All-from_get_or, All-take, All, Layout, Cut, Wrong, Describes, layout_length, IsPrefix}
 use Rattle.hart_frame.proofs.Common.{IsWrong, body_length, byte_count_place, IsCheckByte, HasCheckByte, IsRefusedWith, IsTruncated}
 use Rattle.hart_frame.specs.declared.wire.prefix.Prefix.TheVariants.{Whole}
