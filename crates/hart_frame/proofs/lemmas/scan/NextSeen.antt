@@ -159,26 +159,17 @@ passed_all bytes after from used silent order is next may =
     passes_clean bytes after next from (length (heard_with bytes after)) may silent (omega arith) used low within clean
 
 -- If a place is asked from `from` on, it is also asked from any other place before it.
-asked_after : (bytes : List ℕ) (after : After) (from place start : ℕ) → place < start → IsAsked bytes after from start
+pub asked_after : (bytes : List ℕ) (after : After) (from place start : ℕ) → place < start → IsAsked bytes after from start
     → IsAsked bytes after place start
 asked_after bytes after from place start order is = grind arith
 
--- If nothing is seen up to `place`, the next asked place after `place` is asked from `from` on too, and nothing is seen before that
--- next place.
-pub next_is : (bytes : List ℕ) (after : After) (from place start : ℕ) → from ≤ place → AreSilent bytes after from place
-    → IsNextAsked bytes after place (Some start) → IsAsked bytes after from start × SilentBefore bytes after from start
-next_is bytes after from place start order silent (is, least) = (
-  asked_after bytes after place from start (omega (arith, order, is.order)) is,
-  λ p asked below. elim (cases_lt place p) [
-    | inl later ↦ absurd (omega (arith, below, least p (asked_after bytes after from place p later asked)))
-    | inr early ↦ silent p asked early
-  ],
-)
-
-pub silent_all : (bytes : List ℕ) (after : After) (from place n : ℕ) → AreSilent bytes after from place
-    → ((p : ℕ) → IsAsked bytes after place p → ⊥) → SilentBefore bytes after from n
-silent_all bytes after from place n silent no_more p is below =
-    elim (cases_lt place p) [ inl later ↦ absurd (no_more p (asked_after bytes after from place p later is)) | inr early ↦ silent p is early ]
+-- If nothing is seen up to `place`, and no place after it but before `n` is asked, nothing is seen before `n`.
+pub silent_before : (bytes : List ℕ) (after : After) (from place n : ℕ) → AreSilent bytes after from place
+    → ((p : ℕ) → IsAsked bytes after place p → p < n → ⊥) → SilentBefore bytes after from n
+silent_before bytes after from place n silent none p is below = elim (cases_lt place p) [
+  | inl later ↦ absurd (none p (asked_after bytes after from place p later is) below)
+  | inr early ↦ silent p is early
+]
 
 pub silent_on : (bytes : List ℕ) (after : After) (from start : ℕ) → SilentBefore bytes after from start
     → IsStandingAt bytes after from start Nothing → AreSilent bytes after from start

@@ -22,15 +22,10 @@ bytes_at bs p d i (suc n) is within = grind (arith, drop_more bs i 0, bytes_at b
 common : (a b c : Bool) → top 7 (bit_and (bit_and (cond a 255 0) (cond b 255 0)) (cond (not c) 255 0)) ≡ (a && (b && not c))
 common a b c = grind (arith, nat_tests)
 
-under_first : (b : Bool) (n m count : ℕ) → 0 < cond b 1 0 + 2 * n → (0 < n → m < count) → cond (not b) (1 + m) 0 < suc count
-under_first true n m count some below = omega arith
-under_first false n m count some below = omega (arith, below (omega arith))
-
 -- If a bit of a mask is set, some element passes the test.
 passes_some : (test : ℕ → Bool) (xs : List ℕ) → 0 < mask_l (map test xs) → prefix_len (λ x. not (test x)) xs < length xs
 passes_some test [] some = absurd (omega arith)
-passes_some test (x ∷ xs) some =
-    under_first (test x) (mask_l (map test xs)) (prefix_len (λ x. not (test x)) xs) (length xs) some (passes_some test xs)
+passes_some test (x ∷ xs) some = grind (arith, nat_tests, passes_some test xs)
 
 -- A lane is all ones if two bytes are equal, and 0 if they differ, and the other way round.
 abbrev equal : ℕ → ℕ → ℕ
@@ -97,19 +92,17 @@ module _ (bs : List ℕ) (place : ℕ) (room : place + 18 ≤ length bs) where
   hit : (k : ℕ) → k < place + 16 → hits k ≡ true → HasPair bs k
   hit k below is = grind (arith, nat_tests, hits_is k)
 
-  missed : (k : ℕ) → hits k ≡ false → HasPair bs k → ⊥
-  missed k is pair = grind (arith, nat_tests, hits_is k)
-
   abbrev before : ℕ
   before = prefix_len (λ k. not (hits k)) places
 
   passed : (k : ℕ) → place ≤ k → k < place + before → HasPair bs k → ⊥
-  passed k after below =
+  passed k after below pair =
       let few = prefix_len-le-length (λ k. not (hits k)) places in
       let at : get_or places (k - place) 0 ≡ k =
       get_or-range_with_len place 16 (k - place) 0 (omega (arith, few, sixteen)) ∙ omega arith in
-      missed k (subst (λ (x : ℕ). hits x ≡ false) at
-      (not-true _ (prefix_len_passes (λ k. not (hits k)) places (k - place) 0 (omega arith))))
+      let none = subst (λ (x : ℕ). hits x ≡ false) at
+      (not-true _ (prefix_len_passes (λ k. not (hits k)) places (k - place) 0 (omega arith))) in
+      grind (arith, nat_tests, hits_is k)
 
   -- If no lane has all three, no pair stands at these places.
   pub no_pair_in_lanes : mask ≡ 0 → HasNoPair bs place (place + 16)

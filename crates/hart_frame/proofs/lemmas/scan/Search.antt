@@ -107,12 +107,8 @@ may_begin_last xs (suc (suc (suc count))) few is = absurd (omega arith)
 pub pair_after : (xs : List ℕ) (from place : ℕ) (result : Option ℕ) → from ≤ place → HasNoPair xs from place
     → MatchOption result (HasNoPair xs place (length xs)) (IsNextPair xs place)
     → MatchOption result (HasNoPair xs from (length xs)) (IsNextPair xs from)
-pair_after xs from place None order none rest = joined (λ here. HasPair xs here → ⊥) from place (length xs) none rest
-pair_after xs from place (Some start) order none next = record {
-  after = omega (arith, order, next.after);
-  pair = next.pair;
-  passed = joined (λ here. HasPair xs here → ⊥) from place start none next.passed;
-}
+pair_after xs from place None order none rest = grind (arith, none, rest)
+pair_after xs from place (Some start) order none next = grind (arith, none, next)
 
 -- So is the next pair from the sixteenth last place with three bytes on, even if some places from there on were passed.
 pub pair_at_end : (xs : List ℕ) (from place last : ℕ) (result : Option ℕ) → from ≤ last → last ≤ place → last + 18 ≡ length xs

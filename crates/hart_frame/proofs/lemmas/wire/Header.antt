@@ -15,10 +15,8 @@ use Rattle.hart_frame.proofs.lemmas.wire.UnambiguousBodies.{address_type-lt, kin
 -- The first byte of an address has the master bit as bit 7, and six bits of the address as its lower six bits.
 first_read : (master : MasterId) (burst : Bool) (six byte : ℕ) → six < 64 → byte ≡ first_byte master burst six
     → (byte % 64 ≡ six) × (byte / 128 ≡ (elim master as (λ _. ℕ) [ Primary ↦ 1 | Secondary ↦ 0 ]))
-first_read Primary true six byte low is = grind arith
-first_read Primary false six byte low is = grind arith
-first_read Secondary true six byte low is = grind arith
-first_read Secondary false six byte low is = grind arith
+first_read Primary burst six byte low is = grind arith
+first_read Secondary burst six byte low is = grind arith
 
 -- If the address bytes of a master and an address stand after the delimiter, the bytes have this master and this address.
 pub address_read : (bytes xs : List ℕ) (master : MasterId) (burst : Bool) (address : Address) → IsAddressBytes master burst address xs

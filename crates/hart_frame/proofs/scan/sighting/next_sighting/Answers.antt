@@ -1,8 +1,8 @@
 use Rattle.hart_frame.proofs.Common.{[], ◌+◌, ◌<◌, arith, All-from_get_or}
 use Rattle.hart_frame.specs.private.Sighting.{IsAsked, IsUsed}
 use Rattle.hart_frame.proofs.lemmas.scan.Sighted.{SilentBefore}
-use Rattle.hart_frame.proofs.lemmas.scan.NextSeen.{message_seen, message_two, missed_seen, next_is, open_few, open_seen}
-use Rattle.hart_frame.proofs.lemmas.scan.NextSeen.{passed_all, sees, silent_all, silent_on}
+use Rattle.hart_frame.proofs.lemmas.scan.NextSeen.{message_seen, message_two, missed_seen, asked_after, open_few, open_seen}
+use Rattle.hart_frame.proofs.lemmas.scan.NextSeen.{passed_all, sees, silent_before, silent_on}
 use Rattle.hart_frame.proofs.lemmas.scan.UndecidedSeen.{open_undecided, undecided_used}
 use Rattle.hart_frame.proofs.scan.sighting.next_sighting.Goals as goal
 use Rattle.hart_frame.proofs.scan.sighting.next_sighting.Goals.{In-Some}
@@ -11,8 +11,13 @@ use Rattle.hart_frame.proofs.scan.sighting.next_sighting.Goals.{In-Some}
 here : (c : In-Some) → IsAsked c.args.bytes.now c.args.after c.args.from c.in-Some.start
     × SilentBefore c.args.bytes.now c.args.after c.args.from c.in-Some.start
 here c =
-    next_is c.args.bytes.now c.args.after c.args.from c.loop-start.place c.in-Some.start c.loop-start.invariant.order
-    c.loop-start.invariant.silent c.in-Some.ensures
+    let bytes = c.args.bytes.now in
+    let place = c.loop-start.place in
+    let (is, least) = c.in-Some.ensures in (
+      asked_after bytes c.args.after place c.args.from c.in-Some.start (omega (arith, c.loop-start.invariant.order, is.order)) is,
+      silent_before bytes c.args.after c.args.from place c.in-Some.start c.loop-start.invariant.silent
+          (λ p asked below. omega (arith, below, least p asked)),
+    )
 
 pub loop-start-preserved : goal.loop-start-preserved
 loop-start-preserved c =
@@ -68,7 +73,8 @@ returns-in-Missed-clause-sightings c =
 pub returns-clause-sightings : goal.returns-clause-sightings
 returns-clause-sightings c =
     let bytes = c.args.bytes.now in
-    let silent = silent_all bytes c.args.after c.args.from c.loop-start.place _ c.loop-start.invariant.silent c.in_default.ensures in
+    let silent = silent_before bytes c.args.after c.args.from c.loop-start.place _ c.loop-start.invariant.silent
+    (λ p asked below. c.in_default.ensures p asked) in
     rw c.none_decided-2.ensures (sees bytes c.args.after c.args.from c.passed.result [] c.requires.valid
     (passed_all bytes c.args.after c.args.from c.passed.result silent c.if-from-bytes.false c.passed.ensures))
 
