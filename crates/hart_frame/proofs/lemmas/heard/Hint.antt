@@ -20,24 +20,14 @@ use Rattle.hart_frame.proofs.lemmas.heard.Missed.{miss_of-some, miss_of-start, n
 use Rattle.hart_frame.proofs.lemmas.heard.Place.{preamble}
 use Rattle.hart_frame.proofs.lemmas.wire.Parity.{IsCheckByte-fold, fits-is, fits_at}
 use Rattle.hart_frame.proofs.lemmas.wire.Prefix.{HasGoodByteCount-more, good_prefix, length_more}
-use Rattle.hart_frame.proofs.lemmas.wire.Truncated.{Fitted, fitted}
-
--- The bytes before a check byte, with the check byte that fits them, are a body.
-whole_body : (bytes : List ℕ) → All (λ byte. byte < 256) (take (body_length bytes) bytes) → HasCheckByte bytes
-    → Fitted (take (body_length bytes - 1) bytes)
-whole_body bytes fit has =
-    let n = body_length bytes - 1 in
-    let good = good_prefix bytes n has (omega arith) (omega (arith, has.1)) in
-    let front : take n (take (body_length bytes) bytes) ≡ take n bytes = grind (arith, take-take) in
-    let fits = rw front at (All-take (λ byte. byte < 256) n (take (body_length bytes) bytes) fit) in
-    fitted (take n bytes) fits good.0 (grind (arith, good.1, length-take-le))
+use Rattle.hart_frame.proofs.lemmas.wire.Truncated.{completed, fitted}
 
 heard_body : (chars : List Character) (start : ℕ) → IsOfBytes (drop start chars)
     → HasCheckByte (bytes_from chars start) → check_miss (bytes_from chars start) start ≡ None → HasBodyAt chars start
 heard_body chars start fits has same =
     let bytes = bytes_from chars start in
     let n = body_length bytes in
-    let (frame, body) = whole_body bytes fits has in
+    let (frame, body) = completed bytes fits has in
     let begin : take n bytes ≡ take (n - 1) bytes ++ fold bit_xor 0 (take (n - 1) bytes) ∷ [] =
     grind (arith, nat_tests, common_steps, take_more) in
     let begins : BeginsWithBody bytes frame n = grind arith in
@@ -141,7 +131,7 @@ bad_check_fits start place byte fits chars fit is =
     grind (arith, take-append-drop n heard, take_heard heard n, drop_more heard n preamble, length-faultless_bytes) in
     let front : List Character = begins.prefix ++ (preamble ∷ preamble ∷ faultless checked) in
     let split : chars ≡ front ++ get_or heard n preamble ∷ others = grind (arith, common_steps, preamble, append_assoc) in
-    let body = whole_body bytes (All-take (λ byte. byte < 256) (body_length bytes) bytes bytes_fit) has in
+    let body = completed bytes (All-take (λ byte. byte < 256) (body_length bytes) bytes bytes_fit) has in
     let fits_is = fits-is checked fits (All-take (λ byte. byte < 256) n bytes bytes_fit) check in
     let last = fold bit_xor 0 checked in
     let changed : set chars place c ≡ begins.prefix ++ faultless (255 ∷ 255 ∷ (checked ++ last ∷ [])) ++ others =

@@ -1,4 +1,5 @@
 -- Where a body may start, the miss is what stands in the way. The bytes are refused with the fault that corresponds to this miss.
+use Rattle.hart_frame.proofs.lemmas.wire.Parity.{fit_before}
 use Rattle.hart_frame.proofs.Common.{◌≡◌, ◌≢◌, ℕ, ◌+◌, ◌-◌, ◌<◌, ◌⊎◌, List, fold, bit_xor, length, take, ◌↔◌, drop, get_or, None, Some, ◌∙◌}
 use Rattle.hart_frame.proofs.Common.{refl, arith, Option, nat_tests, common_steps, get_or-drop, length-append, length-drop, take-take, All}
 use Rattle.hart_frame.proofs.Common.{All-take, slice_get-get_or, slice_get_cases, slice_get, Miss, Faulty, OnePreamble, FrameFault, miss_in}
@@ -47,15 +48,6 @@ stops chars start at_end is =
       length-faultless_bytes (drop start chars),
     )
 
--- The bytes that the check byte covers are below 256.
-covered : (chars : List Character) (start : ℕ) → IsOfBytes (drop start chars)
-    → All (λ byte. byte < 256) (take (body_length (bytes_from chars start) - 1) (bytes_from chars start))
-covered chars start fit =
-    let bytes = bytes_from chars start in
-    let n = body_length bytes - 1 in
-    let front : take n (take (body_length bytes) bytes) ≡ take n bytes = grind (arith, take-take) in
-    rw front at (All-take (λ byte. byte < 256) n (take (body_length bytes) bytes) fit)
-
 -- The miss that is found stands in the way.
 said : (chars : List Character) (start : ℕ) (miss : Miss)
     → ((place byte fits : ℕ) → miss ≡ BadCheck place byte fits → IsOfBytes (drop start chars))
@@ -64,7 +56,7 @@ said chars start miss fit is told =
     let bytes = bytes_from chars start in
     let n = body_length bytes - 1 in
     let same : (place byte fits : ℕ) → miss ≡ BadCheck place byte fits → IsCheckByte (take n bytes) (fold bit_xor 0 (take n bytes)) =
-    λ place byte fits is. IsCheckByte-fold (take n bytes) _ (fits_at (take n bytes) (covered chars start (fit place byte fits is))) refl in
+    λ place byte fits is. IsCheckByte-fold (take n bytes) _ (fits_at (take n bytes) (fit_before bytes (body_length bytes) (fit place byte fits is))) refl in
     let missing = stops chars start (Missing (body_length bytes - length bytes)) is in
     grind (arith, nat_tests, stops chars start EndsBeforeByteCount is, heard_at chars start n, same (start + n))
 
@@ -74,7 +66,7 @@ only : (chars : List Character) (start : ℕ) (miss : Miss) → IsOfBytes (drop 
 only chars start (BadCheck place byte fits) fit is way =
     let bytes = bytes_from chars start in
     let n = body_length bytes - 1 in
-    grind (arith, nat_tests, heard_at chars start n place, fits-is (take n bytes) fits (covered chars start fit))
+    grind (arith, nat_tests, heard_at chars start n place, fits-is (take n bytes) fits (fit_before bytes (body_length bytes) fit))
 only chars start miss fit is way =
     let bytes = bytes_from chars start in
     let missing = stops chars start (Missing (body_length bytes - length bytes)) is in

@@ -17,7 +17,7 @@ use Rattle.std.proofs.lemmas.Bool.{false_from_ne_true}
 use Rattle.hart_frame.proofs.lemmas.wire.Parity.{IsCheckByte-fold, fits-is, fits_at}
 use Rattle.hart_frame.proofs.lemmas.wire.Prefix.{good_prefix, length_more}
 use Rattle.hart_frame.proofs.lemmas.wire.Refusal.{says}
-use Rattle.hart_frame.proofs.lemmas.wire.Truncated.{filled, fitted}
+use Rattle.hart_frame.proofs.lemmas.wire.Truncated.{completed, filled}
 
 -- A body that stands alone reaches its check byte, which fits, and no two FF in a row begin in it.
 pub record SaysAlone (xs ys : List ℕ) : Type 0 where
@@ -48,9 +48,7 @@ never_two xs more truncated two = false_from_ne_true _ (λ alone.
     let is = says_alone xs more alone in
     let past = whole_past xs ys truncated is.has in
     let k : ℕ = body_length (xs ++ ys) + 1 - length xs in
-    let long : body_length (xs ++ ys) + 1 ≡ length xs + k = omega (arith, past) in
-    let parts : take (body_length (xs ++ ys) + 1) (xs ++ ys) ≡ xs ++ take k ys =
-    ap (λ (j : ℕ). take j (xs ++ ys)) long ∙ take-append-add xs ys k in
+    let parts : take (body_length (xs ++ ys) + 1) (xs ++ ys) ≡ xs ++ take k ys = grind (arith, take-append-add xs ys k) in
     let clear = rw parts at is.clear in
     cc (clear, two_more xs (take k ys) two))
 
@@ -108,16 +106,12 @@ may xs m fit truncated clear not enough =
     let fits = All-append (λ byte. byte < 256) xs (replicate m 2) fit (All-replicate (λ byte. byte < 256) m 2 (omega arith)) in
     let p : List ℕ = take n whole in
     let good = good_prefix whole n has (omega arith) (omega (arith, has.1)) in
-    let fitp = All-take (λ byte. byte < 256) n whole fits in
-    let long : length p ≡ n = length-take-le n whole (omega (arith, has.1)) in
-    let (frame, is) = fitted p fitp good.0 (omega (arith, good.1, long, past)) in
+    let (frame, is) = completed whole (All-take (λ byte. byte < 256) (body_length whole) whole fits) has in
     let check : ℕ = fold bit_xor 0 p in
     let k : ℕ = n - length xs in
     let split : n ≡ length xs + k = omega (arith, past) in
-    let few : k ≤ m = omega (arith, split, has.1, length-append xs (replicate m 2), length-replicate {A = ℕ} m 2) in
     let parts : p ≡ xs ++ replicate k 2 =
-    ap (λ (j : ℕ). take j (xs ++ replicate m 2)) split ∙ take-append-add xs (replicate m 2) k
-    ∙ ap (λ (ys : List ℕ). xs ++ ys) (take-replicate k m 2 few) in
+    grind (arith, take-append-add xs (replicate m 2) k, take-replicate {X = ℕ} k m 2, length-append, length-replicate) in
     let rest : List ℕ = replicate k 2 ++ check ∷ [] in
     let body : p ++ check ∷ [] ≡ xs ++ rest = ap (λ (ys : List ℕ). ys ++ check ∷ []) parts ∙ append_assoc xs (replicate k 2) (check ∷ []) in
     let differs : k ≡ 0 → get_or xs (length xs - 1) 0 ≡ 255 → check ≢ 255 = λ none last same.

@@ -1,4 +1,5 @@
 -- What is decided about a buffer, and what it gives then.
+use Rattle.hart_frame.proofs.lemmas.heard.Place.{stands_at}
 use Rattle.hart_frame.proofs.Common.{◌≡◌, ◌≢◌, ℕ, ◌+◌, ◌-◌, ◌↔◌, inl, inr, Bool, IsTrue, List, [], ◌∷◌, ◌++◌, length, take, drop, refl}
 use Rattle.hart_frame.proofs.Common.{arith, subst, append_assoc, length-append, length-drop, drop_at, map-append, Buffer, Drained}
 use Rattle.hart_frame.proofs.Common.{SearchResult, Layout, faultless, StandsIn, FrameParts, IsSound, IsWaiting, held_bytes, scan_of, Scan}
@@ -55,20 +56,14 @@ gives_nothing_then old mid new moves (inr ends) = let none = nothing_before old 
 pub frame_of_whole : (layout : Layout) (body : List ℕ) → IsWholeBody layout body → (frame : FrameParts) × IsBody frame body
 frame_of_whole layout body is =
     let exact : body_length body ≡ length body = omega (arith, is.described.command, is.described.count, is.exact) in
-    let frame = held_frame body (λ k below. is.fits k 0 (omega (arith, below, exact))) is.checked in
-    let Part : ℕ → Type 0 = λ k. IsCheckedPart frame.frame (take (k - 1) body) in
-    (frame.frame, IsBody-whole body frame.frame (omega (arith, exact)) is.fits (subst Part exact frame.part) is.even)
+    let held = held_frame body (λ k below. is.fits k 0 (omega (arith, below, exact))) is.checked in
+    (held.frame, grind (arith, IsBody-whole body held.frame))
 
 -- If the held bytes begin with a frame of a layout, the scanner begins with a frame.
 pub holds_frame : (b : Buffer) (layout : Layout) → IsWhole layout (held_bytes b) → BeginsWithFrame (scan_of b)
 holds_frame b layout whole =
-    let body = whole.body in
-    let (frame, is_body) = frame_of_whole layout body whole.whole in
-    let rest = (scan_of (released b layout)).held in
-    let split = held_whole b layout whole in
-    let stands : StandsIn (record { start = 2; stop = 2 + length body; frame = frame }) (scan_of b).held 0 =
-    record { prefix = []; body = body; rest = rest; split = split; is_body = is_body; after = omega arith; start = refl; stop = refl } in
-    (_, stands, refl)
+    let (frame, is) = frame_of_whole layout whole.body whole.whole in
+    (_, stands_at (scan_of b).held 0 frame whole.body _ (omega arith) (held_whole b layout whole) is, refl)
 
 -- A buffer gives nothing if it gives nothing after it lets go of the bytes before the found place.
 pub given_nothing : (b mid : Buffer) (found : SearchResult) (new : Scan) → IsHeldSearched b found → mid ≡ passed b found.place

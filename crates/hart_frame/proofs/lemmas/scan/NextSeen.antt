@@ -125,32 +125,11 @@ module _ (bytes : List ℕ) (after : After) (next : List Character) (from start 
 used_clean : (bytes : List ℕ) (after : After) (next : List Character) (from used : ℕ) → MayFollow after next → from ≤ length bytes
     → IsPassed bytes after from used
     → (from ≤ used) × (used ≤ length (heard_with bytes after)) × IsClean (faultless bytes ++ next) from used
-used_clean bytes More next from used may order (low, cases) =
-    let long : length (heard_with bytes More) ≡ length bytes = grind (arith, length-map) in
-    let clean = λ (within : used ≤ length bytes) (last : from < used → get_or bytes (used - 1) 0 ≢ 255) (after : from < used).
-    preamble_no bytes More next (used - 1) may (omega (arith, long, within, after)) (λ below. last after) in (
-      low,
-      omega (arith, long, cases),
-      elim cases [
-        | inl (all, differs) ↦ inl (clean (omega (arith, all)) differs)
-        | inr (inl (last, here, differs)) ↦ inl (clean (omega (arith, last)) differs)
-        | inr (inr (last, one, two)) ↦
-            inr (inl (preamble_yes bytes next used (omega (arith, last)) one, preamble_yes bytes next (used + 1) (omega (arith, last)) two))
-      ],
-    )
-used_clean bytes End next from used ends order all =
-    let long : length (heard_with bytes End) ≡ length bytes = grind (arith, length-map) in (
-      omega (arith, order, all),
-      omega (arith, long, all),
-      inr (inr (omega (arith, length-append (faultless bytes) next, ap length ends, long, all))),
-    )
+used_clean bytes More next from used may order is =
+    grind (arith, length-map, preamble_no bytes More next (used - 1) may, preamble_yes bytes next)
+used_clean bytes End next from used ends order all = grind (arith, length-append, length-map)
 used_clean bytes (Damaged c) next from used may order all =
-    let long : length (heard_with bytes (Damaged c)) ≡ length bytes + 1 = grind (arith, length-append, length-map) in (
-      omega (arith, order, all),
-      omega (arith, long, all),
-      inl (λ low.
-          preamble_no bytes (Damaged c) next (used - 1) may (omega (arith, long, all)) (λ below. absurd (omega (arith, below, all)))),
-    )
+    grind (arith, length-append, length-map, preamble_no bytes (Damaged c) next (used - 1) may)
 
 pub passed_all : (bytes : List ℕ) (after : After) (from used : ℕ) → SilentBefore bytes after from (length (heard_with bytes after))
     → from ≤ length bytes → IsPassed bytes after from used → Whatever bytes after (λ chars. Passes chars from used [])

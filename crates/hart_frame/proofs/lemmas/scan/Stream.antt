@@ -15,20 +15,17 @@ pub record IsStreamed (past : List Character) (scan : Scan) (given : List Found)
 
 streamed_pushed : (past : List Character) (scan : Scan) (given : List Found) (cs : List Character) → scan.finished ≡ false
     → IsStreamed past scan given → IsStreamed (past ++ cs) (hearing scan cs) given
-streamed_pushed past scan given cs going streamed = record {
-  next = next_grown past cs scan.finished 0 scan.first given (rw going at streamed.next);
-  held = rw (drop-append-le scan.first past cs streamed.next.within, streamed.held) refl;
-}
+streamed_pushed past scan given cs going streamed =
+    let next = next_grown past cs scan.finished 0 scan.first given (rw going at streamed.next) in grind (arith, drop-append-le)
 
 streamed_taken : (past : List Character) (old new : Scan) (given found : List Found) → IsStreamed past old given
     → MovesPast old new found → IsStreamed past new (given ++ found)
 streamed_taken past old new given found streamed moves =
     let own = rw (← streamed.held) at moves.next in
-    let rest = next_of_rest old.first past old.finished moves.found moves.count streamed.next.within own in record {
-      next = rw (moves.first, moves.finished, moves.given_are)
-          (next_then past old.finished 0 old.first (old.first + moves.count) given (map (moved old.first) moves.found) streamed.next rest);
-      held = rw (moves.first, moves.held, ← streamed.held) (sym (drop-drop moves.count old.first past));
-    }
+    let rest = next_of_rest old.first past old.finished moves.found moves.count streamed.next.within own in
+    let next = next_then past old.finished 0 old.first (old.first + moves.count) given (map (moved old.first) moves.found)
+    streamed.next rest in
+    grind (arith, drop-drop)
 
 -- Every history of a scanner is streamed in this way.
 pub streamed : (past : List Character) (scan : Scan) (given : List Found) → IsHistory past scan given → IsStreamed past scan given

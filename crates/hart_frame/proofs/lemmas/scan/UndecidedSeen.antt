@@ -151,10 +151,7 @@ open_undecided bytes after place from start used fit is more (inl (two, (more_is
 open_undecided bytes after place from start used fit is more (inr (one, (more_is, at, few, may))) =
     let heard : length (heard_with bytes after) ≡ length bytes = rw more (grind (arith, length-map)) in
     let some : 0 < length (drop start bytes) = omega (arith, is.heard, heard, length-drop start bytes) in
-    let here : get_or bytes used 0 ≡ 255 = let same : start - 1 ≡ used = omega (arith, at) in rw same at is.preamble in
-    let last : drop (used + 1) bytes ≡ drop start bytes = rw at refl in
-    let parts : drop used bytes ≡ 255 ∷ drop start bytes =
-    drop_more bytes used 0 (omega (arith, at, is.within)) ∙ rw (here, last) refl in
+    let parts : drop used bytes ≡ 255 ∷ drop start bytes = grind (arith, drop_more bytes used 0, is.preamble, is.within) in
     let other : get_or (drop start bytes) 0 0 ≢ 255 = λ same. is.other (omega (arith, is.heard, heard)) (grind (arith, get_or-drop)) in
     rw parts (undecided_one (drop start bytes) some other
     (may_moved bytes (255 ∷ drop start bytes) start 1 is.within (omega arith) refl may))

@@ -1,4 +1,5 @@
 -- A bit of the exclusive or of bytes is set exactly if it is set in an odd number of them.
+use Rattle.hart_frame.proofs.Common.{All-take, take-take}
 use Rattle.hart_frame.proofs.Common.{◌≡◌, ◌≢◌, ℕ, ◌+◌, ◌-◌, ◌%◌, ◌<◌, ◌≤◌, List, [], ◌∷◌, ◌++◌, fold, bit_xor, drop, get_or, length, suc}
 use Rattle.hart_frame.proofs.Common.{take, arith, nat_tests, common_steps, get_or-drop, get_or-take, get_or_append_left, get_or_at, bit_at}
 use Rattle.hart_frame.proofs.Common.{get_or_past, length-take, length-take-le, take_all, take_more, All, IsCheckByte, HasEvenParity}
@@ -12,6 +13,10 @@ use Rattle.hart_frame.specs.wire.Parity.{bit_count}
 -- Each element of a list of bytes is below 256, and so is the 0 that is read past its end.
 pub fits_at : (bytes : List ℕ) → All (λ byte. byte < 256) bytes → (i : ℕ) → get_or bytes i 0 < 256
 fits_at bytes fit i = grind (arith, All-get_or, get_or_past)
+
+-- If the first `len` elements of a list are bytes, so are those before the last of them.
+pub fit_before : (xs : List ℕ) (len : ℕ) → All (λ byte. byte < 256) (take len xs) → All (λ byte. byte < 256) (take (len - 1) xs)
+fit_before xs len fit = rw (take-take (len - 1) len xs (omega arith)) at (All-take (λ byte. byte < 256) (len - 1) (take len xs) fit)
 
 pub fits_drop : (bytes : List ℕ) (n : ℕ) → ((i : ℕ) → get_or bytes i 0 < 256) → (i : ℕ) → get_or (drop n bytes) i 0 < 256
 fits_drop bytes n fits i = grind (arith, get_or-drop, fits (n + i))
@@ -76,7 +81,12 @@ pub odd : (bytes : List ℕ) (len : ℕ) → All (λ byte. byte < 256) (take len
 odd bytes len fit some within differ even =
     let n = len - 1 in
     let whole : take len bytes ≡ take n bytes ++ get_or bytes n 0 ∷ [] = grind (arith, common_steps, take_more) in
-    let each = fits_at (take len bytes) fit in
-    let small : (i : ℕ) → get_or (take n bytes) i 0 < 256 = grind (arith, each, get_or_append_left, get_or_past) in
-    let last : get_or bytes n 0 < 256 = grind (arith, each n, get_or_at, length-take-le) in
-    differ (even-is (take n bytes) (get_or bytes n 0) small last (rw whole at even))
+    grind (
+      arith,
+      even-is (take n bytes) (get_or bytes n 0),
+      fits_at (take len bytes) fit,
+      get_or_append_left,
+      get_or_past,
+      get_or_at,
+      length-take-le,
+    )

@@ -1,4 +1,5 @@
 -- How bytes begin as a body, and what follows from it.
+use Rattle.hart_frame.proofs.lemmas.wire.Parity.{fit_before}
 use Rattle.hart_frame.proofs.Common.{◌≡◌, ◌≢◌, ℕ, ◌-◌, ◌<◌, ◌≤◌, inl, inr, List, Option, None, Some, fold, bit_xor, get_or, length, take}
 use Rattle.hart_frame.proofs.Common.{drop, refl, arith, get_or-take, get_or_past, length-take, length-take-le, take-append-drop}
 use Rattle.hart_frame.proofs.Common.{take-take, All-from_get_or, All-take, All, Layout, Cut, Wrong, Describes, layout_length, IsPrefix}
@@ -48,15 +49,12 @@ module _ (layout : Layout) (xs : List ℕ) (len check : ℕ) (has : HasCheckByte
 
 -- The check byte that would fit is the exclusive or of the bytes before it.
 pub fold_fits : (xs : List ℕ) (len byte fits : ℕ) → HasBadCheck xs len byte fits → fits ≡ fold bit_xor 0 (take (len - 1) xs)
-fold_fits xs len byte fits is =
-    let checked = All-take (λ byte. byte < 256) (len - 1) (take len xs) is.are_bytes in
-    grind (arith, take-take, fits-is (take (len - 1) xs) fits)
+fold_fits xs len byte fits is = fits-is (take (len - 1) xs) fits (fit_before xs len is.are_bytes) is.fitting
 
 -- It takes at least one byte, and at most all of them, to show what is wrong.
 pub wrong_within : (xs : List ℕ) (w : Wrong) → IsWrong xs w → (0 < shown_by w) × (shown_by w ≤ length xs)
-wrong_within xs (BadDelimiter byte) is = grind arith
-wrong_within xs (ShortReply len count) is = grind arith
 wrong_within xs (BadCheck len byte fits) is = grind (arith, is.whole, is.checked)
+wrong_within xs w is = grind arith
 
 -- It takes at most 267 bytes to show what is wrong.
 pub wrong_few : (xs : List ℕ) (w : Wrong) → ((i : ℕ) → get_or xs i 0 < 256) → IsWrong xs w → shown_by w ≤ 267
@@ -66,9 +64,8 @@ wrong_few xs (BadCheck len byte fit) fits is = grind (arith, fits 0, fits (byte_
 
 -- The bytes that show what is wrong show it without the bytes after them.
 pub wrong_shown : (xs : List ℕ) (w : Wrong) → IsWrong xs w → IsWrong (take (shown_by w) xs) w
-wrong_shown xs (BadDelimiter byte) is = grind (arith, length-take-le, get_or-take)
-wrong_shown xs (ShortReply len count) is = grind (arith, length-take-le, get_or-take)
 wrong_shown xs (BadCheck len byte fits) is = grind (arith, good_prefix xs len is.checked, length-take-le, get_or-take, take-take)
+wrong_shown xs w is = grind (arith, length-take-le, get_or-take)
 
 -- If a prefix has fewer bytes than are needed to show what is wrong, it ends too early for a body.
 pub wrong_fewer : (xs : List ℕ) (w : Wrong) → IsWrong xs w → (fewer : ℕ) → fewer < shown_by w → IsTruncated (take fewer xs)
@@ -80,9 +77,8 @@ wrong_fewer xs (BadCheck len byte fits) is fewer below =
 
 -- Bytes with something wrong are refused with the fault that `fault_in` gives for it.
 pub wrong_refused : (xs : List ℕ) (w : Wrong) → IsWrong xs w → IsRefusedWith xs (fault_in w)
-wrong_refused xs (BadDelimiter byte) is = is.0
-wrong_refused xs (ShortReply len count) is = is.0
 wrong_refused xs (BadCheck len byte fits) is = grind (arith, fold_fits xs len byte fits is, odd xs len is.are_bytes)
+wrong_refused xs w is = is.0
 
 -- Bytes end too early for a body exactly if they begin as `Cut` says.
 pub cut_truncated : (xs : List ℕ) (missing : Option ℕ) → IsPrefix xs (Cut missing) → IsTruncated xs

@@ -1,4 +1,6 @@
 -- Bytes end too early for a body exactly if they can become a body and begin with no body yet.
+use Rattle.hart_frame.proofs.Common.{subst}
+use Rattle.hart_frame.proofs.lemmas.wire.Parity.{fit_before}
 use Rattle.hart_frame.proofs.Common.{◌≡◌, ℕ, fold, bit_xor, ◌+◌, ◌-◌, ◌<◌, ◌≤◌, List, [], ◌∷◌, ◌++◌, length, take, drop, get_or, replicate}
 use Rattle.hart_frame.proofs.Common.{refl, arith, length-append, take-append_seam, get_or_append_left, get_or-take, length-replicate, All}
 use Rattle.hart_frame.proofs.Common.{length-take-le, take_all, take_at, take-append-drop, take-append-le, take-take, All-append, All-take}
@@ -18,19 +20,20 @@ abbrev pub Fitted : List ℕ → Type 0
 Fitted bytes = (frame : FrameParts) × IsBody frame (bytes ++ fold bit_xor 0 bytes ∷ [])
 
 -- The bytes before a check byte are a body once the check byte that fits is appended.
-completed : (whole bytes : List ℕ) → All (λ byte. byte < 256) whole → HasCheckByte whole → take (body_length whole - 1) whole ≡ bytes
-    → Fitted bytes
-completed whole bytes fit has is =
-    let held = held_frame whole (λ k below. fits_at whole fit k) has in
-    let fits : All (λ byte. byte < 256) bytes = rw (← is) (All-take (λ byte. byte < 256) (body_length whole - 1) whole fit) in
-    (held.frame, IsBody-push held.frame bytes _ (rw is at held.part) fits (IsCheckByte-fold bytes _ (fits_at bytes fits) refl))
+pub completed : (whole : List ℕ) → All (λ byte. byte < 256) (take (body_length whole) whole) → HasCheckByte whole
+    → Fitted (take (body_length whole - 1) whole)
+completed whole fit has =
+    let held = held_frame whole (λ k below. grind (arith, fits_at (take (body_length whole) whole) fit k, get_or-take)) has in
+    let fits = fit_before whole (body_length whole) fit in
+    (held.frame, IsBody-push held.frame _ _ held.part fits (IsCheckByte-fold _ _ (fits_at _ fits) refl))
 
 pub fitted : (bytes : List ℕ) → All (λ byte. byte < 256) bytes → HasGoodByteCount bytes → body_length bytes ≡ length bytes + 1
     → Fitted bytes
 fitted bytes fit good last =
-    let fits = All-push (λ byte. byte < 256) bytes 0 fit (omega arith) in
+    let whole : List ℕ = bytes ++ 0 ∷ [] in
+    let fits = All-take (λ byte. byte < 256) (body_length whole) whole (All-push (λ byte. byte < 256) bytes 0 fit (omega arith)) in
     let len = length_more bytes (0 ∷ []) good.0.1 in
-    completed (bytes ++ 0 ∷ []) bytes fits (grind (arith, HasGoodByteCount-more, length-append)) (grind (arith, take_at))
+    subst Fitted (grind (arith, take_at)) (completed whole fits (grind (arith, HasGoodByteCount-more bytes (0 ∷ []) good, length-append)))
 
 -- Bytes that end too early reach a check byte if 300 bytes with the value 2 follow. The value 2 is the delimiter of an STX, and also a good
 -- byte count.
@@ -47,7 +50,7 @@ CanBecomeBody-truncated bytes fit truncated =
     let filled = filled bytes 300 fit truncated (omega arith) in
     let fits = All-append (λ byte. byte < 256) bytes twos fit (All-replicate (λ byte. byte < 256) 300 2 (omega arith)) in
     let prefix = take (body_length whole - 1) whole in
-    let (frame, is) = completed whole prefix fits filled.0 refl in
+    let (frame, is) = completed whole (All-take (λ byte. byte < 256) (body_length whole) whole fits) filled.0 in
     let body = prefix ++ fold bit_xor 0 prefix ∷ [] in
     let begins : take (length bytes) body ≡ bytes = grind (arith, take-append-le, length-take-le, take-take, take-append_seam) in
     let begun : BeginsWithBody (bytes ++ drop (length bytes) body) frame (length body) =
