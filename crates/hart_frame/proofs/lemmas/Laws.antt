@@ -6,7 +6,7 @@ use Rattle.hart_frame.proofs.lemmas.heard.Place.{HasNoFrame-end}
 use Rattle.hart_frame.proofs.lemmas.heard.Rest.{rest_frames, rest_only}
 use Rattle.hart_frame.proofs.lemmas.scan.Next.{next_frames}
 use Rattle.hart_frame.proofs.lemmas.scan.Stream.{history_next, next_rest}
-pub use Rattle.hart_frame.proofs.lemmas.heard.UnambiguousFrames.{AreFrames-one as frames_are_unambiguous-one_list}
+pub use Rattle.hart_frame.proofs.lemmas.heard.FramesFound.{AreFrames-one as frames_are_unambiguous-one_list}
 pub use Rattle.hart_frame.proofs.lemmas.scan.Next.{next_grown as next_frames_are_all-grown, next_of_rest as next_frames_are_all-moved}
 pub use Rattle.hart_frame.proofs.lemmas.scan.Next.{next_some as next_frames_are_all-some, next_then as next_frames_are_all-onward}
 pub use Rattle.hart_frame.proofs.lemmas.scan.Next.{next_ended as next_frames_are_all-ended, next_nothing as next_frames_are_all-nothing}

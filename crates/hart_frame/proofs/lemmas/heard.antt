@@ -1,7 +1,6 @@
 -- What was heard: characters, and where frames stand in them.
 pub mod Body
 pub mod Place
-pub mod UnambiguousFrames
 pub mod FramesFound
 pub mod Open
 pub mod Message

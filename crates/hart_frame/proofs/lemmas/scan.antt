@@ -9,7 +9,6 @@ pub mod NextSeen
 pub mod Completed
 pub mod UndecidedSeen
 pub mod SightingLaws
-pub mod ToEnd
 pub mod Undecided
 pub mod Stream
 pub mod Buffer

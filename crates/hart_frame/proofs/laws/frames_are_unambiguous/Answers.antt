@@ -1,4 +1,4 @@
-use Rattle.hart_frame.proofs.lemmas.heard.UnambiguousFrames.{AreFrames-one, IsFirst-one}
+use Rattle.hart_frame.proofs.lemmas.heard.FramesFound.{AreFrames-one, IsFirst-one}
 use Rattle.hart_frame.proofs.laws.frames_are_unambiguous.Goals as goal
 
 pub returns : goal.returns

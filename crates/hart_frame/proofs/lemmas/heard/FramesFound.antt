@@ -1,4 +1,4 @@
--- A frame stands where a body may start and a whole body stands. Every list of characters has a list of frames.
+-- A frame stands where a body may start and a whole body stands. Every list of characters has a list of frames, and only one.
 use Rattle.hart_frame.proofs.Common.{append_assoc, ◌≡◌, ℕ, zero, suc, ◌+◌, ◌≤◌, ◌⊎◌, inl, inr, List, [], ◌∷◌, length, take, drop, arith}
 use Rattle.hart_frame.proofs.Common.{◌++◌, length-append, refl, common_steps, take-append-drop, drop_at, Found, Character, faultless, none}
 use Rattle.hart_frame.proofs.Common.{faultless_bytes, first, AreFrames, IsFirst, bytes_from, HasBodyAt, HasFrameAt, StandsIn, IsStart}
@@ -9,7 +9,7 @@ use Rattle.hart_frame.proofs.lemmas.heard.Front.{heard_parts, regrouped, faultle
 use Rattle.hart_frame.proofs.lemmas.heard.Place.{preamble, StandsIn-from, StandsIn-within, HasNoFrame-end}
 use Rattle.hart_frame.proofs.lemmas.heard.Start.{start_test}
 use Rattle.hart_frame.proofs.lemmas.wire.BodiesFound.{body_decided}
-use Rattle.hart_frame.proofs.lemmas.wire.UnambiguousBodies.{BeginsWithBody-append}
+use Rattle.hart_frame.proofs.lemmas.wire.UnambiguousBodies.{BeginsWithBody-append, bodies_are_unambiguous-one_prefix}
 
 -- If the bytes from a place on begin with a body, a body stands at that place.
 pub body_at : (chars : List Character) (place : ℕ) (f : FrameParts) (len : ℕ) → BeginsWithBody (bytes_from chars place) f len
@@ -125,3 +125,24 @@ AreFrames-found chars from = frames_found chars (length chars) from (omega arith
 pub head_first : (chars : List Character) (from : ℕ) (g : Found) (later : List Found) → AreFrames chars from (g ∷ later)
     → IsFirst g chars from
 head_first chars from g later (first n h others is rest) = is
+
+-- At most one frame starts at a place.
+StandsIn-one : (f g : Found) (chars : List Character) (m n : ℕ) → StandsIn f chars m → StandsIn g chars n
+    → f.start ≡ g.start → f ≡ g
+StandsIn-one f g chars m n p q starts =
+    let one = begins_at chars f.start (body_of chars f m p) in
+    let same = bodies_are_unambiguous-one_prefix f.frame g.frame (bytes_from chars f.start) (length p.body) (length q.body) one
+    (rw starts (begins_at chars g.start (body_of chars g n q))) in grind arith
+
+pub IsFirst-one : (f g : Found) (chars : List Character) (from : ℕ) → IsFirst f chars from → IsFirst g chars from → f ≡ g
+IsFirst-one f g chars from p q =
+    StandsIn-one f g chars from from p.stands q.stands (omega (arith, p.least g q.stands, q.least f p.stands))
+
+pub AreFrames-one : (chars : List Character) (from : ℕ) (xs ys : List Found) → AreFrames chars from xs → AreFrames chars from ys
+    → xs ≡ ys
+AreFrames-one chars from xs ys (none m empty) (none n void) = refl
+AreFrames-one chars from xs ys (none m empty) (first n g more is rest) = absurd (empty g is.stands)
+AreFrames-one chars from xs ys (first m f later is rest) (none n empty) = absurd (empty f is.stands)
+AreFrames-one chars from xs ys (first m f later is rest) (first n g more also others) =
+    let same = IsFirst-one f g chars from is also in
+    let all = AreFrames-one chars f.stop later more rest (rw same others) in cc

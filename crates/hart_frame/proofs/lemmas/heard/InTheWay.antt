@@ -1,5 +1,5 @@
 -- Where a body may start, the miss is what stands in the way. The bytes are refused with the fault that corresponds to this miss.
-use Rattle.hart_frame.proofs.lemmas.wire.Parity.{fit_before}
+use Rattle.hart_frame.proofs.lemmas.wire.Parity.{fit_before, IsCheckByte-fold, fits-is, fits_at, odd}
 use Rattle.hart_frame.proofs.Common.{◌≡◌, ◌≢◌, ℕ, ◌+◌, ◌-◌, ◌<◌, ◌⊎◌, List, fold, bit_xor, length, take, ◌↔◌, drop, get_or, None, Some, ◌∙◌}
 use Rattle.hart_frame.proofs.Common.{refl, arith, Option, nat_tests, common_steps, get_or-drop, length-append, length-drop, take-take, All}
 use Rattle.hart_frame.proofs.Common.{All-take, slice_get-get_or, slice_get_cases, slice_get, Miss, Faulty, OnePreamble, FrameFault, miss_in}
@@ -11,7 +11,6 @@ use Rattle.hart_frame.specs.heard.Miss.{faulty_or}
 use Rattle.hart_frame.proofs.lemmas.heard.Front.{char_at, after_faultless, length-faultless_bytes}
 use Rattle.hart_frame.proofs.lemmas.heard.Missed.{miss_of-some, miss_of-start}
 use Rattle.hart_frame.proofs.lemmas.heard.Place.{preamble, rest_at}
-use Rattle.hart_frame.proofs.lemmas.wire.Parity.{IsCheckByte-fold, fits-is, fits_at, odd}
 use Rattle.hart_frame.proofs.lemmas.wire.Refusal.{not_refused}
 
 -- Each byte before the first character with fault bits is heard at its place as a faultless character.

@@ -2,9 +2,8 @@
 use Rattle.hart_frame.proofs.Common.{add-zero, ◌≡◌, ℕ, ◌+◌, ◌-◌, ◌<◌, ◌≤◌, ◌⊎◌, inl, inr, List, [], ◌∷◌, ◌++◌, length, map, take, drop}
 use Rattle.hart_frame.proofs.Common.{refl, arith, append_assoc, length-append, length-drop, take-append-drop, common_steps, drop-append-le}
 use Rattle.hart_frame.proofs.Common.{drop_at, length-take-le, Found, Character, AreFrames, IsFirst, moved, none, first, StandsIn}
-use Rattle.hart_frame.proofs.lemmas.heard.FramesFound.{AreFrames-found}
+use Rattle.hart_frame.proofs.lemmas.heard.FramesFound.{AreFrames-found, AreFrames-one}
 use Rattle.hart_frame.proofs.lemmas.heard.Place.{HasNoFrame-end}
-use Rattle.hart_frame.proofs.lemmas.heard.UnambiguousFrames.{AreFrames-one}
 
 -- A frame that stands in the rest from some place on stands, moved, in the whole list.
 stands_moved : (before rest : List Character) (found : Found) (n from : ℕ) → length before ≡ n → StandsIn found rest from

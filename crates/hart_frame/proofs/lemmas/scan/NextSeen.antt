@@ -1,11 +1,11 @@
 -- The message or miss that the search in bytes finds next is what is seen next, whatever follows the bytes.
-use Rattle.hart_frame.proofs.Common.{◌≡◌, ◌≢◌, ℕ, ◌+◌, ◌-◌, ◌<◌, ◌≤◌, inl, inr, true, List, [], ◌∷◌, ◌++◌, length, drop, get_or}
-use Rattle.hart_frame.proofs.Common.{Some, ◌∙◌, ap, arith, refl, append_assoc, length-append, length-drop, drop_more}
-use Rattle.hart_frame.proofs.Common.{take-append-drop, get_or-drop, length-take-le, length-map, slice_range, IsTrue, Found, Miss, After}
-use Rattle.hart_frame.proofs.Common.{OnePreamble, Damaged, End, More, Character, faultless, body_miss, StandsIn, AreSightings, Message}
-use Rattle.hart_frame.proofs.Common.{Missed, Seen, header_at, heard_with, FollowsTwo, IsAsked, MayFollow, Whatever, stands_alone, parts_of}
-use Rattle.hart_frame.proofs.Common.{Layout, IsBody, FrameParts, header_in}
-use Rattle.hart_frame.specs.heard.Sighting.{SeesOn}
+use Rattle.hart_frame.proofs.Common.{◌≡◌, ◌≢◌, ℕ, ◌+◌, ◌-◌, ◌<◌, ◌≤◌, inl, inr, true, List, [], ◌∷◌, ◌++◌, length, drop, get_or, Some, ◌∙◌}
+use Rattle.hart_frame.proofs.Common.{ap, arith, refl, append_assoc, length-append, length-drop, drop_more, take-append-drop, get_or-drop}
+use Rattle.hart_frame.proofs.Common.{length-take-le, length-map, slice_range, IsTrue, Found, Miss, After, OnePreamble, Damaged, End, More}
+use Rattle.hart_frame.proofs.Common.{Character, faultless, body_miss, StandsIn, AreSightings, Message, Missed, Seen, header_at, heard_with}
+use Rattle.hart_frame.proofs.Common.{FollowsTwo, IsAsked, MayFollow, Whatever, stands_alone, parts_of, Layout, IsBody, FrameParts}
+use Rattle.hart_frame.proofs.Common.{header_in}
+use Rattle.hart_frame.specs.heard.Sighting.{SeesOn, missed_at}
 use Rattle.hart_frame.specs.scan.Sighting.{AfterIsValid, is_end}
 use Rattle.hart_frame.specs.private.Sighting.{AreSilent, IsMessageAt, IsNextAsked, IsPassed, IsStandingAt}
 use Rattle.hart_frame.specs.scan.View.{found_of}
@@ -17,11 +17,10 @@ use Rattle.hart_frame.proofs.lemmas.heard.Place.{StandsIn-from, stands_at}
 use Rattle.hart_frame.proofs.lemmas.heard.Seen.{Passes, message_on, missed_none, passes_miss, passes_on}
 use Rattle.std.proofs.Math.Nat.{eq-or-lt_of_le}
 use Rattle.std.proofs.lemmas.Bool.{cases_lt, false_from_ne_true}
-use Rattle.hart_frame.specs.heard.Sighting.{missed_at}
 use Rattle.hart_frame.proofs.lemmas.heard.Sighting.{IsClean, after_one, after_two, follows_from}
 use Rattle.hart_frame.proofs.lemmas.scan.BodyAt.{drop-heard}
-use Rattle.hart_frame.proofs.lemmas.scan.Sighted.{SilentBefore, follows_in, known, late, none_seen, other_yes, passes_clean}
-use Rattle.hart_frame.proofs.lemmas.scan.Sighted.{preamble_no, preamble_yes, two_in, two_out}
+use Rattle.hart_frame.proofs.lemmas.scan.Sighted.{SilentBefore, follows_in, known, late, none_seen, other_yes, passes_clean, preamble_no}
+use Rattle.hart_frame.proofs.lemmas.scan.Sighted.{preamble_yes, two_in, two_out}
 use Rattle.hart_frame.proofs.lemmas.wire.Truncated.{truncated_few}
 
 -- Whatever is heard consists of these bytes, followed by characters that may come after them.

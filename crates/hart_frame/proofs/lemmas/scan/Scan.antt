@@ -1,8 +1,8 @@
 -- What a scanner moves past when it lets characters go.
-use Rattle.hart_frame.proofs.Common.{◌≡◌, ℕ, ◌+◌, ◌<◌, ◌≤◌, false, IsTrue, List, [], ◌∷◌, ◌++◌, length, map, drop, arith}
-use Rattle.hart_frame.proofs.Common.{append_assoc, length-append, length-drop, drop-append-le, drop-drop, drop-map, drop_at, length-map}
-use Rattle.hart_frame.proofs.Common.{map-append, Found, Character, faultless, AreFrames, moved, BeginWithNone, MovesPast, Scan, hearing}
-use Rattle.hart_frame.proofs.Common.{IsBody, FrameParts}
+use Rattle.hart_frame.proofs.Common.{◌≡◌, ℕ, ◌+◌, ◌<◌, ◌≤◌, false, IsTrue, List, [], ◌∷◌, ◌++◌, length, map, drop, arith, append_assoc}
+use Rattle.hart_frame.proofs.Common.{length-append, length-drop, drop-append-le, drop-drop, drop-map, drop_at, length-map, map-append}
+use Rattle.hart_frame.proofs.Common.{Found, Character, faultless, AreFrames, moved, BeginWithNone, MovesPast, Scan, hearing, IsBody}
+use Rattle.hart_frame.proofs.Common.{FrameParts}
 use Rattle.hart_frame.proofs.lemmas.heard.Rest.{moved_twice}
 use Rattle.hart_frame.proofs.lemmas.scan.Next.{next_grown, next_none, next_nothing, next_of_rest, next_one, next_then}
 

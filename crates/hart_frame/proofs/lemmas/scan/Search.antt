@@ -1,17 +1,17 @@
 -- What is known of bytes while they are searched, and what a search then finds.
 use Rattle.hart_frame.proofs.Common.{Some, None, ◌≡◌, ◌≢◌, ℕ, zero, suc, ◌+◌, ◌-◌, ◌<◌, ◌≤◌, ◌⊎◌, inl, inr, List, [], ◌∷◌, ◌++◌, length, ap}
 use Rattle.hart_frame.proofs.Common.{take, drop, get_or, refl, ◌∙◌, replicate, MatchOption, Option, arith, append_assoc, length-append}
-use Rattle.hart_frame.proofs.Common.{length-drop, add-zero, take-add, take-append-add, common_steps, drop-append-le, drop_more}
-use Rattle.hart_frame.proofs.Common.{get_or-drop, length-take-le, take_rest, slice_range, Layout, IsWhole, MayBegin, HasNoPair, HasPair}
-use Rattle.hart_frame.proofs.Common.{IsSearched, layout_length}
+use Rattle.hart_frame.proofs.Common.{length-drop, add-zero, take-add, take-append-add, common_steps, drop-append-le, drop_more, get_or-drop}
+use Rattle.hart_frame.proofs.Common.{length-take-le, take_rest, slice_range, Layout, IsWhole, MayBegin, HasNoPair, HasPair, IsSearched}
+use Rattle.hart_frame.proofs.Common.{layout_length, Bool, IsTrue, take-length, take-append-drop, SearchResult}
 use Rattle.std.proofs.Common.{max}
 use Rattle.std.proofs.lemmas.Bool.{cases_eq, cases_lt}
 use Rattle.hart_frame.proofs.lemmas.wire.Lane.{drop_take}
 use Rattle.hart_frame.specs.declared.scan.candidate.Candidate.TheVariants.{Never, Whole}
 use Rattle.hart_frame.specs.declared.wire.prefix.Wrong.TheVariants.{BadDelimiter}
 use Rattle.hart_frame.specs.private.Candidate.{IsCandidate, MayBeginBefore, NeverBegin}
-use Rattle.hart_frame.specs.private.Search.{IsNextPair, IsOpenBefore, NoneBegin}
-use Rattle.hart_frame.proofs.lemmas.scan.Candidate.{may_begin_before, never_after, never_first, never_more, second_never}
+use Rattle.hart_frame.specs.private.Search.{IsNextPair, IsOpenBefore, NoneBegin, NoneBeginThen}
+use Rattle.hart_frame.proofs.lemmas.scan.Candidate.{may_begin_before, never_after, never_first, never_more, second_never, nothing_open}
 use Rattle.hart_frame.proofs.lemmas.wire.Truncated.{truncated_check, truncated_count}
 
 -- The first `m` elements of a list are its first `n` and then the `m - n` after them.
@@ -217,3 +217,31 @@ module _ (xs : List ℕ) (from seen : ℕ) where
       omega (arith, simp length-append at (ap length whole.parts), whole.whole.exact, length-drop start xs, next.pair) in
       let stays = searching_more start needed (2 + n) more on may (omega arith) long (omega (arith, is, least, most)) in
       grind (arith, common_steps, drop_take, whole_take, length-drop)
+
+-- No frame begins in a list from `first` up to the found place. At the found place a frame stands or may begin.
+pub record IsLookedAt (bytes : List ℕ) (first : ℕ) (ended : Bool) (found : SearchResult) : Type 0 where
+  pub after : first ≤ found.place
+  pub within : found.place ≤ length bytes
+  pub none : NoneBeginThen bytes ended first found.place
+  pub stands : MatchOption found.layout ((length bytes < found.place + 269) × MayBegin (drop found.place bytes))
+      (λ layout. IsWhole layout (drop found.place bytes))
+
+-- A search from `from` on finds a place that is `IsLookedAt` from `first` on, if no frame begins from `first` up to `from`.
+pub looked_from : (bytes : List ℕ) (first from : ℕ) (ended : Bool) (found : SearchResult) → first ≤ from
+    → NoneBeginThen bytes ended first from → IsSearched bytes from from found → IsLookedAt bytes first ended found
+looked_from bytes first from ended found after before is =
+    let all = rw (take-length bytes) at
+    (none_more bytes found.decided (length bytes) from found.place is.order is.within (omega arith) is.none) in
+    let none : NoneBeginThen bytes ended first found.place =
+    joined _ first from found.place before (λ place late below next closed. all place late below next) in
+    grind (arith, common_steps, whole_append, take-append-drop found.decided bytes, length-take-le found.decided bytes)
+
+-- If nothing can follow, no frame begins where one might have begun, and the search goes on after that place.
+pub looked_on : (bytes : List ℕ) (first : ℕ) (ended : Bool) (old new : SearchResult) → IsTrue ended → IsLookedAt bytes first ended old
+    → old.layout ≡ None → IsSearched bytes (old.place + 1) (old.place + 1) new → IsLookedAt bytes first ended new
+looked_on bytes first ended old new over looked none searched =
+    let may : MayBegin (drop old.place bytes) = grind (arith, common_steps) in
+    looked_from bytes first (old.place + 1) ended new (omega (arith, looked.after))
+    (joined _ first old.place (old.place + 1) looked.none (λ here late early next closed.
+    let same : here ≡ old.place = omega (arith, late, early) in
+    rw same (nothing_open (drop old.place bytes) next may (closed over)))) searched

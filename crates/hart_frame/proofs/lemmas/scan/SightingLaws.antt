@@ -2,12 +2,11 @@
 use Rattle.hart_frame.proofs.Common.{◌≡◌, ◌≤◌, ℕ, Bool, false, List, [], ◌++◌, length, drop, map, ap, sym, arith, refl, append_assoc, Seen}
 use Rattle.hart_frame.proofs.Common.{append-nil, drop-append-le, IsTrue, Character, AreFrames, AreSightings, sightings}
 use Rattle.hart_frame.specs.heard.Sighting.{SeesOn, moved_seen}
-use Rattle.hart_frame.proofs.lemmas.heard.FramesFound.{AreFrames-found}
+use Rattle.hart_frame.proofs.lemmas.heard.FramesFound.{AreFrames-found, AreFrames-one}
 use Rattle.hart_frame.proofs.lemmas.heard.Place.{HasNoFrame-end}
 use Rattle.hart_frame.proofs.lemmas.heard.Rest.{rest_frames}
 use Rattle.hart_frame.proofs.lemmas.heard.Seen.{missed_none}
 use Rattle.hart_frame.proofs.lemmas.heard.Sighting.{sightings_moved}
-use Rattle.hart_frame.proofs.lemmas.heard.UnambiguousFrames.{AreFrames-one}
 
 pub rest : (place : ℕ) (chars : List Character) (seen : List Seen)
     → AreSightings (drop place chars) 0 seen → AreSightings chars place (map (moved_seen place) seen)

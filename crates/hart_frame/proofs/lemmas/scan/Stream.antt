@@ -3,9 +3,8 @@ use Rattle.hart_frame.proofs.Common.{◌≡◌, ◌+◌, Bool, true, false, IsTr
 use Rattle.hart_frame.proofs.Common.{length-drop, append-nil, drop-append-le, drop-drop, Found, Character, AreFrames, HasNoFrame, moved}
 use Rattle.hart_frame.proofs.Common.{AreNext, MovesPast, hearing}
 use Rattle.hart_frame.specs.scan.Streamed.{IsHistory, IsWholeHistory, begin, push, push_chars, take_view, wait, finish}
-use Rattle.hart_frame.proofs.lemmas.heard.FramesFound.{AreFrames-found}
+use Rattle.hart_frame.proofs.lemmas.heard.FramesFound.{AreFrames-found, AreFrames-one}
 use Rattle.hart_frame.proofs.lemmas.heard.Rest.{rest_frames}
-use Rattle.hart_frame.proofs.lemmas.heard.UnambiguousFrames.{AreFrames-one}
 use Rattle.hart_frame.proofs.lemmas.scan.Next.{next_ended, next_frames, next_grown, next_nothing, next_of_rest, next_then}
 
 -- The frames given so far are the next ones of what was pushed, up to the first held character, and the rest of what was pushed is held.

@@ -3,8 +3,8 @@ use Rattle.hart_frame.proofs.Common.{◌≡◌, ◌≢◌, ℕ, zero, suc, ◌+�
 use Rattle.hart_frame.proofs.Common.{None, Some, Option, ◌∙◌, ap, sym, arith, refl, length-drop, append-nil, drop_more, get_or-drop, All}
 use Rattle.hart_frame.proofs.Common.{length-map, All-drop, flat_map, range_with_len, option_map_or, Found, Miss, OnePreamble, More, miss_in}
 use Rattle.hart_frame.proofs.Common.{Character, faultless, AreFrames, body_miss, StandsIn, AreSightings, Message, Missed, Seen, header_at}
-use Rattle.hart_frame.proofs.Common.{miss_in_whole, missed_at, sightings, HeaderParts, heard_with, IsAsked, MayStandAlone}
-use Rattle.hart_frame.proofs.Common.{After, IsTruncated}
+use Rattle.hart_frame.proofs.Common.{miss_in_whole, missed_at, sightings, HeaderParts, heard_with, IsAsked, MayStandAlone, After}
+use Rattle.hart_frame.proofs.Common.{IsTruncated}
 use Rattle.std.proofs.lemmas.List.Elements.{All-cons, All-map}
 use Rattle.hart_frame.specs.heard.Sighting.{IsUndecidedSighting, seen_miss}
 use Rattle.hart_frame.specs.private.Sighting.{IsStandingAt, IsUsed}

@@ -1,17 +1,16 @@
 -- Bytes end too early for a body exactly if they can become a body and begin with no body yet.
-use Rattle.hart_frame.proofs.Common.{subst}
-use Rattle.hart_frame.proofs.lemmas.wire.Parity.{fit_before}
-use Rattle.hart_frame.proofs.Common.{◌≡◌, ℕ, fold, bit_xor, ◌+◌, ◌-◌, ◌<◌, ◌≤◌, List, [], ◌∷◌, ◌++◌, length, take, drop, get_or, replicate}
-use Rattle.hart_frame.proofs.Common.{refl, arith, length-append, take-append_seam, get_or_append_left, get_or-take, length-replicate, All}
-use Rattle.hart_frame.proofs.Common.{length-take-le, take_all, take_at, take-append-drop, take-append-le, take-take, All-append, All-take}
-use Rattle.hart_frame.proofs.Common.{IsBody, BeginsWithBody, FrameParts, byte_count_place, body_length, HasCheckByte, IsTruncated}
+use Rattle.hart_frame.proofs.Common.{subst, ◌≡◌, ℕ, fold, bit_xor, ◌+◌, ◌-◌, ◌<◌, ◌≤◌, List, [], ◌∷◌, ◌++◌, length, take, drop, get_or}
+use Rattle.hart_frame.proofs.Common.{replicate, refl, arith, length-append, take-append_seam, get_or_append_left, get_or-take}
+use Rattle.hart_frame.proofs.Common.{length-replicate, All, length-take-le, take_all, take_at, take-append-drop, take-append-le, take-take}
+use Rattle.hart_frame.proofs.Common.{All-append, All-take, IsBody, BeginsWithBody, FrameParts, byte_count_place, body_length, HasCheckByte}
+use Rattle.hart_frame.proofs.Common.{IsTruncated}
+use Rattle.hart_frame.proofs.lemmas.wire.Parity.{fit_before, IsCheckByte-fold, fits_at}
 use Rattle.std.proofs.lemmas.List.{get_or-append_right, get_or-replicate}
 use Rattle.std.proofs.lemmas.List.Elements.{All-push, All-replicate}
 use Rattle.hart_frame.specs.wire.Body.{HasNoBody, CanBecomeBody}
 use Rattle.hart_frame.specs.wire.Refusal.{HasDelimiter, HasGoodByteCount}
 use Rattle.hart_frame.proofs.lemmas.wire.BodiesFound.{held_frame}
 use Rattle.hart_frame.proofs.lemmas.wire.Body.{IsBody-push}
-use Rattle.hart_frame.proofs.lemmas.wire.Parity.{IsCheckByte-fold, fits_at}
 use Rattle.hart_frame.proofs.lemmas.wire.Prefix.{HasGoodByteCount-more, length_more}
 use Rattle.hart_frame.proofs.lemmas.wire.Refusal.{has_check, says}
 

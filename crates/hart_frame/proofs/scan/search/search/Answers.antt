@@ -1,7 +1,5 @@
-use Rattle.hart_frame.proofs.Common.{◌≡◌, ◌-◌, drop, drop-drop, replicate}
-use Rattle.hart_frame.proofs.Common.{◌-◌, ◌≤◌, arith, drop, length, length-drop, take_rest}
-use Rattle.hart_frame.proofs.lemmas.scan.Search.{may_begin_last, passed_before, passed_to_end, searched_open, searched_stands}
-use Rattle.hart_frame.proofs.lemmas.scan.Search.{searching_on}
+use Rattle.hart_frame.proofs.Common.{◌≡◌, ◌-◌, drop, drop-drop, replicate, ◌≤◌, arith, length, length-drop, take_rest}
+use Rattle.hart_frame.proofs.lemmas.scan.Search.{may_begin_last, passed_before, passed_to_end, searched_open, searched_stands, searching_on}
 use Rattle.hart_frame.proofs.scan.search.search.Goals as goal
 
 pub loop-start-preserved : goal.loop-start-preserved

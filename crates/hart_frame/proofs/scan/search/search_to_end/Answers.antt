@@ -1,5 +1,5 @@
 use Rattle.hart_frame.proofs.Common.{arith, not}
-use Rattle.hart_frame.proofs.lemmas.scan.ToEnd.{looked_from, looked_on}
+use Rattle.hart_frame.proofs.lemmas.scan.Search.{looked_from, looked_on}
 use Rattle.hart_frame.proofs.scan.search.search_to_end.Goals as goal
 
 pub loop-found-init : goal.loop-found-init

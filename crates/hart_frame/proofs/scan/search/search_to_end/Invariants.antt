@@ -1,5 +1,5 @@
 use Rattle.hart_frame.proofs.Common.{length, ◌-◌}
-use Rattle.hart_frame.proofs.lemmas.scan.ToEnd.{IsLookedAt}
+use Rattle.hart_frame.proofs.lemmas.scan.Search.{IsLookedAt}
 use Rattle.hart_frame.proofs.scan.search.search_to_end.Given as goal
 
 abbrev pub invariant-loop-found : goal.invariant-loop-found

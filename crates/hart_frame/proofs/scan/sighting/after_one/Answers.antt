@@ -1,5 +1,4 @@
-use Rattle.hart_frame.proofs.Common.{refl}
-use Rattle.hart_frame.proofs.Common.{◌∙◌, arith, drop, length-drop, take_rest, get_or-drop, MayStandAlone, Cut, IsPrefix}
+use Rattle.hart_frame.proofs.Common.{refl, ◌∙◌, arith, drop, length-drop, take_rest, get_or-drop, MayStandAlone, Cut, IsPrefix}
 use Rattle.hart_frame.proofs.lemmas.scan.Alone.{alone_moved, may_moved}
 use Rattle.hart_frame.proofs.lemmas.scan.BodyAt.{cut_not_alone, not_alone, whole_seen, wrong_seen}
 use Rattle.hart_frame.proofs.lemmas.wire.Reading.{cut_truncated}

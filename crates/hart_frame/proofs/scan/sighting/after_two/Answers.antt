@@ -2,8 +2,8 @@ use Rattle.hart_frame.proofs.Common.{◌≡◌, ◌≤◌, ℕ, List, Option, le
 use Rattle.hart_frame.proofs.Common.{Damaged, Cut, Character, IsPrefix}
 use Rattle.hart_frame.specs.declared.scan.sighting.Standing.TheVariants.{Missed}
 use Rattle.hart_frame.specs.private.Sighting.{IsAfterTwo}
-use Rattle.hart_frame.proofs.lemmas.scan.BodyAt.{cut_damaged, cut_ended, damaged_header, ended_header}
-use Rattle.hart_frame.proofs.lemmas.scan.BodyAt.{wrong_below, wrong_header, wrong_seen}
+use Rattle.hart_frame.proofs.lemmas.scan.BodyAt.{cut_damaged, cut_ended, damaged_header, ended_header, wrong_below, wrong_header}
+use Rattle.hart_frame.proofs.lemmas.scan.BodyAt.{wrong_seen}
 use Rattle.hart_frame.proofs.scan.sighting.after_two.Goals as goal
 
 pub returns-in-Wrong : goal.returns-in-Wrong
