@@ -90,8 +90,7 @@ body_alone chars body f is all clear =
       body = body;
       rest = [];
       is_body = is;
-      parts = all
-          ∙ sym (append-nil (faultless body));
+      parts = all ∙ sym (append-nil (faultless body));
     } in
     let long = says (bytes_from chars 0) f (length body) (begins_at chars 0 has) in
     grind (arith, nat_tests, append-nil, faultless_bytes-append body [], take_all, none_of chars 0 has)

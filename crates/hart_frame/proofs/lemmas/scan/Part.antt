@@ -34,10 +34,6 @@ pub record IsKept (old new : Buffer) (part : List ℕ) (found : SearchResult) : 
   pub state : new.state ≡ state_of found.layout
 
 module _ (old new : Buffer) (part : List ℕ) (found : SearchResult) (kept : IsKept old new part found) where
-  -- The scanner stops at the end of the part with nothing decided, or where a frame stands.
-  stops_kept : (count : ℕ) → IsSound new → found.decided ≡ length (held_bytes old) + count → StopsAt (scan_of new) count (length part)
-  stops_kept count sound counts = grind (arith, length-append, holds_frame, undecided_waiting)
-
   -- The scanner heard the first `count` bytes of the part.
   pub hears_kept : (count : ℕ) → IsSound new → found.decided ≡ length (held_bytes old) + count
       → Hears (scan_of old) (scan_of new) (faultless part) count
@@ -58,5 +54,5 @@ module _ (old new : Buffer) (part : List ℕ) (found : SearchResult) (kept : IsK
       (grind (arith, heard count)) (grind (arith, held_clear new kept.clear)) kept.firsts kept.finished
       (omega (arith, length-take-le found.decided total is.within, is.order))
       (λ here below more _. is.none here (omega arith) below more) in
-      let stops = stops_kept count sound counts in
+      let stops : StopsAt (scan_of new) count (length part) = grind (arith, length-append, holds_frame, undecided_waiting) in
       grind (arith, length-map, length-append)

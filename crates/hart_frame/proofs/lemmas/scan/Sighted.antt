@@ -3,7 +3,7 @@ use Rattle.hart_frame.proofs.Common.{◌≡◌, ◌≢◌, ℕ, ◌-◌, ◌<◌
 use Rattle.hart_frame.proofs.Common.{length-append, nat_tests, get_or_append_left, get_or_at, get_or-map, length-map, Found, After, Damaged}
 use Rattle.hart_frame.proofs.Common.{Character, faultless, StandsIn, heard_with, FollowsTwo, IsAsked, MayFollow, [], ◌∙◌}
 use Rattle.hart_frame.specs.private.Sighting.{IsSilent}
-use Rattle.std.proofs.lemmas.Bool.{cases_Bool}
+use Rattle.std.proofs.lemmas.Bool.{cases_Bool, false_from_ne_true}
 use Rattle.hart_frame.proofs.lemmas.heard.Place.{preamble}
 use Rattle.hart_frame.proofs.lemmas.heard.Seen.{NoneSeen, Passes, frame_at, passes_silent}
 use Rattle.hart_frame.proofs.lemmas.heard.Sighting.{IsClean, after_one, follows_from, is_other_at, is_preamble_at, not_other, unasked}
@@ -40,14 +40,6 @@ pub preamble_yes : (bytes : List ℕ) (next : List Character) (i : ℕ) → i < 
     → is_preamble_at (faultless bytes ++ next) i ≡ true
 preamble_yes bytes next i below is = grind (arith, nat_tests, chars_at, length-append, length-map, tested)
 
-pub preamble_no : (bytes : List ℕ) (after : After) (next : List Character) (i : ℕ) → MayFollow after next
-    → i < length (heard_with bytes after) → (i < length bytes → get_or bytes i 0 ≢ 255)
-    → is_preamble_at (faultless bytes ++ next) i ≡ false
-preamble_no bytes after next i follows within other =
-    let cases : (i < length bytes) ⊎ (length bytes ≤ i) = grind arith in
-    let none = (known bytes after next follows).none i in
-    grind (arith, nat_tests, tested (faultless bytes ++ next) i, chars_at bytes next i preamble, none)
-
 pub preamble_is : (bytes : List ℕ) (after : After) (next : List Character) (i : ℕ) → MayFollow after next
     → i < length (heard_with bytes after) → is_preamble_at (faultless bytes ++ next) i ≡ true
     → (i < length bytes) × (get_or bytes i 0 ≡ 255)
@@ -55,6 +47,12 @@ preamble_is bytes after next i follows within is =
     let cases : (i < length bytes) ⊎ (length bytes ≤ i) = grind arith in
     let none = (known bytes after next follows).none i in
     grind (arith, nat_tests, tested (faultless bytes ++ next) i, chars_at bytes next i preamble, none)
+
+pub preamble_no : (bytes : List ℕ) (after : After) (next : List Character) (i : ℕ) → MayFollow after next
+    → i < length (heard_with bytes after) → (i < length bytes → get_or bytes i 0 ≢ 255)
+    → is_preamble_at (faultless bytes ++ next) i ≡ false
+preamble_no bytes after next i follows within other = false_from_ne_true _ (λ yes.
+    let (below, is) = preamble_is bytes after next i follows within yes in other below is)
 
 pub other_yes : (bytes : List ℕ) (after : After) (next : List Character) (i : ℕ) → MayFollow after next
     → i < length (heard_with bytes after) → (i < length bytes → get_or bytes i 0 ≢ 255)

@@ -1,4 +1,5 @@
 -- If the characters that follow change which sighting comes first, no sighting is decided.
+use Rattle.hart_frame.specs.private.Miss.{cut_miss}
 use Rattle.hart_frame.proofs.Common.{◌≡◌, ◌≢◌, ℕ, zero, suc, ◌+◌, ◌-◌, ◌<◌, ◌≤◌, ◌⊎◌, inl, inr, List, [], ◌∷◌, ◌++◌, length, drop, get_or}
 use Rattle.hart_frame.proofs.Common.{None, Some, Option, ◌∙◌, ap, sym, arith, refl, length-drop, append-nil, drop_more, get_or-drop, All}
 use Rattle.hart_frame.proofs.Common.{length-map, All-drop, flat_map, range_with_len, option_map_or, Found, Miss, OnePreamble, More, miss_in}
@@ -22,16 +23,8 @@ use Rattle.hart_frame.proofs.lemmas.wire.Reading.{truncated_cut}
 use Rattle.hart_frame.proofs.lemmas.scan.NextSeen.{miss_one, miss_two, two_parts}
 use Rattle.hart_frame.proofs.lemmas.scan.Sighted.{SilentBefore, late, none_seen, preamble_yes}
 
--- Bytes that end too early have a miss if nothing follows them.
-truncated_miss : (xs : List ℕ) (fp start : ℕ) → IsTruncated xs → (miss : Miss) × (miss_in xs None fp start ≡ Some miss)
-truncated_miss xs fp start truncated =
-    let (missing, is) = truncated_cut xs truncated in (_, cut_told xs missing None fp start is)
-
 -- After two FF stand bytes that end too early for a body.
 module _ (rest : List ℕ) (fit : All (λ byte. byte < 256) rest) (truncated : IsTruncated rest) (some : 0 < length rest) where
-  asked_two : IsAsked (255 ∷ 255 ∷ rest) More 0 2
-  asked_two = grind (arith, length-map)
-
   silent_two : SilentBefore (255 ∷ 255 ∷ rest) More 0 2
   silent_two zero is below = absurd (omega (arith, is.order))
   silent_two (suc zero) is below = absurd (is.other (omega arith) refl)
@@ -43,10 +36,12 @@ module _ (rest : List ℕ) (fit : All (λ byte. byte < 256) rest) (truncated : I
   pub undecided_two : IsUndecidedSighting (faultless (255 ∷ 255 ∷ rest))
   undecided_two first always =
       let whole = faultless (255 ∷ 255 ∷ rest) in
-      let (miss, is) = truncated_miss rest (2 + length rest) 2 truncated in
-      let wrong : body_miss 2 (drop 2 (whole ++ [])) ≡ Some miss =
-      ap (λ (xs : List Character). body_miss 2 xs) (append-nil (faultless rest)) ∙ miss_end rest 2 ∙ is in
-      let passes = miss_two (255 ∷ 255 ∷ rest) More [] 0 2 tt silent_two asked_two miss (omega arith, refl) wrong in
+      let (missing, cut) = truncated_cut rest truncated in
+      let wrong : body_miss 2 (drop 2 (whole ++ [])) ≡ Some (cut_miss missing) =
+      ap (λ (xs : List Character). body_miss 2 xs) (append-nil (faultless rest)) ∙ miss_end rest 2
+      ∙ cut_told rest missing None (2 + length rest) 2 cut in
+      let asked : IsAsked (255 ∷ 255 ∷ rest) More 0 2 = grind (arith, length-map) in
+      let passes = miss_two (255 ∷ 255 ∷ rest) More [] 0 2 tt silent_two asked _ (omega arith, refl) wrong in
       let (later, are) = some_sightings (whole ++ []) 3 in
       let one = always [] _ (passes_on (whole ++ []) 0 3 _ later passes are) in
       let fits : All (λ character. character.byte < 256) whole =
@@ -92,9 +87,6 @@ not_one chars (found ∷ frames) later miss h none is =
 
 -- After a single FF stand bytes that may or may not become a body that stands alone.
 module _ (rest : List ℕ) (some : 0 < length rest) (other : get_or rest 0 0 ≢ 255) (may : MayStandAlone (255 ∷ rest) 1) where
-  asked_one : IsAsked (255 ∷ rest) More 0 1
-  asked_one = grind (arith, length-map)
-
   silent_one : SilentBefore (255 ∷ rest) More 0 1
   silent_one zero is below = absurd (omega (arith, is.order))
   silent_one (suc place) is below = absurd (omega (arith, below))
@@ -102,7 +94,8 @@ module _ (rest : List ℕ) (some : 0 < length rest) (other : get_or rest 0 0 ≢
   pub undecided_one : IsUndecidedSighting (faultless (255 ∷ rest))
   undecided_one first always =
       let whole = faultless (255 ∷ rest) in
-      let passes = miss_one (255 ∷ rest) More may.one 0 1 tt silent_one asked_one (λ two. omega (arith, two.0))
+      let asked : IsAsked (255 ∷ rest) More 0 1 = grind (arith, length-map) in
+      let passes = miss_one (255 ∷ rest) More may.one 0 1 tt silent_one asked (λ two. omega (arith, two.0))
       may.alone in
       let (later, are) = some_sightings (whole ++ may.one) 2 in
       let one = always may.one _ (passes_on (whole ++ may.one) 0 2 _ later passes are) in

@@ -17,10 +17,6 @@ pub record Says (bytes : List ℕ) (f : FrameParts) (len : ℕ) : Type 0 where
   pub whole : len ≡ body_length bytes
   pub within : len ≤ length bytes
 
--- The delimiter of a frame with at most 3 expansion bytes is one of this profile.
-pub IsDelimiter-of : (f : FrameParts) → length f.expansion ≤ 3 → IsDelimiter (delimiter_of f)
-IsDelimiter-of f few = grind (arith, kind_code-is, address_type-lt)
-
 pub says : (bytes : List ℕ) (f : FrameParts) (len : ℕ) → BeginsWithBody bytes f len → Says bytes f len
 says bytes f len begins =
     let whole = sym (take-append-drop len bytes) ∙ spread f (take len bytes) (drop len bytes) begins.body in
@@ -31,7 +27,7 @@ says bytes f len begins =
 
 -- A list that begins with a body reaches its check byte.
 pub has_check : (bytes : List ℕ) (f : FrameParts) (len : ℕ) → BeginsWithBody bytes f len → HasCheckByte bytes
-has_check bytes f len begins = grind (arith, says bytes f len begins, IsDelimiter-of, address_type-lt f.address)
+has_check bytes f len begins = grind (arith, says bytes f len begins, kind_code-is, address_type-lt f.address)
 
 -- A list that begins with a body is refused with no fault.
 pub not_refused : (bytes : List ℕ) (f : FrameParts) (len : ℕ) (fault : FrameFault)
