@@ -111,15 +111,6 @@ module _ (bytes : List ℕ) (after : After) (next : List Character) (from start 
       let to : start + length xs ≡ stop = omega (arith, long, order) in
       StandsIn-from _ (faultless bytes ++ next) (start - 2) from (rw (at, to) at there) (omega (arith, two.0))
 
-  pub message : (f : FrameParts) (stop : ℕ) (later : List Seen) → FollowsTwo bytes from start → start ≤ stop → stop ≤ length bytes
-      → IsBody f (slice_range bytes start stop) → AreSightings (faultless bytes ++ next) stop later
-      → AreSightings (faultless bytes ++ next) from (Message (record { start = start; stop = stop; frame = f }) ∷ later)
-  message f stop later two order fits body are =
-      let chars = faultless bytes ++ next in
-      let found : Found = record { start = start; stop = stop; frame = f } in
-      message_on chars from found later (missed_none chars from start (none_seen bytes after next from start may silent within))
-      (record { stands = stands_there f stop two order fits body; least = late bytes after next from start may silent within }) are
-
 -- A place up to which bytes are used up lies within what is heard, and is clean.
 used_clean : (bytes : List ℕ) (after : After) (next : List Character) (from used : ℕ) → MayFollow after next → from ≤ length bytes
     → IsPassed bytes after from used
@@ -161,9 +152,13 @@ pub message_seen : (bytes : List ℕ) (after : After) (from start used : ℕ) (v
     → IsMessageAt bytes start used view → SeesOn (heard_with bytes after) (is_end after) from (Message (found_of view) ∷ []) used
 message_seen bytes after from start used view valid silent is two at more later closed are =
     let (next, may, same) = heard_is bytes after more valid closed in
-    rw (same, at.start_is, at.stop_is)
-    (message bytes after next from start may silent is (parts_of view.frame) used later two (omega (arith, at.order)) at.within at.body
-    (rw same at are))
+    let chars = faultless bytes ++ next in
+    let heard : start ≤ length (heard_with bytes after) = omega (arith, is.heard) in
+    let seen = missed_none chars from start (none_seen bytes after next from start may silent heard) in
+    let stands = stands_there bytes after next from start may silent is (parts_of view.frame) used two (omega (arith, at.order)) at.within
+    at.body in
+    rw (same, at.start_is, at.stop_is) (message_on chars from _ later seen
+    (record { stands = stands; least = late bytes after next from start may silent heard }) (rw same at are))
 
 -- Whatever follows, nothing is seen up to the FF before an open place. Up to and including a missed place, only the miss of this place is
 -- seen.

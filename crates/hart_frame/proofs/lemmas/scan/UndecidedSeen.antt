@@ -102,7 +102,7 @@ module _ (rest : List ℕ) (some : 0 < length rest) (other : get_or rest 0 0 ≢
       let chars = whole ++ may.other in
       let (frames, are_frames) = AreFrames-found chars 0 in
       let two = always may.other (sightings chars 0 frames) (record { frames = frames; are_frames = are_frames; seen_is = refl }) in
-      let none = after_one chars 0 1 (omega arith) refl refl ∙ rw may.not_alone refl in
+      let none : missed_at chars 0 1 ≡ [] = after_one chars 0 1 (omega arith) refl refl ∙ rw may.not_alone refl in
       let h = header_at (whole ++ may.one) 1 in
       let same : first ≡ Missed 1 OnePreamble h = cc (one.1) in
       not_one chars frames two.0 OnePreamble h none (rw same at two.1)

@@ -4,14 +4,9 @@ use Rattle.hart_frame.proofs.scan.search.next_pair.Goals as goal
 
 pub loop-place-preserved : goal.loop-place-preserved
 loop-place-preserved c =
-    let bytes = c.args.bytes.now in
-    let place = c.loop-place.place in
     let was = c.loop-place.invariant in
     let next = c.next_preamble-place.ensures in
-    let here = joined (λ here. HasPair bytes here → ⊥) c.args.from place (place + 16) was.2 c.in_default.ensures in
-    let skipped : HasNoPair bytes (place + 16) c.next_preamble-place.result = λ k after before pair. next.others k after before pair.1 in
-    let none = joined (λ here. HasPair bytes here → ⊥) c.args.from (place + 16) c.next_preamble-place.result here skipped in
-    (omega (arith, next.after), omega (arith, next.within), none)
+    grind (arith, was.2, next.others, c.in_default.ensures)
 
 pub returns-in-Some : goal.returns-in-Some
 returns-in-Some c =

@@ -25,16 +25,11 @@ returns-then-bytes-stop c =
 
 pub returns : goal.returns
 returns c =
-    let bytes = c.args.bytes.now in
-    let start = c.args.start in
-    let n = c.args.stop - start in
-    let same = looked_at bytes start c.args.stop c.requires.order c.requires.within in
-    let not : has_two_preambles (take (n + 1) (drop start bytes)) ≡ false = grind (arith, same) in
-    let last : c.args.after.now ≡ More → n ≡ length (drop start bytes) → get_or (drop start bytes) (n - 1) 0 ≢ 255 =
-    λ more all same. grind (arith, get_or-drop, length-drop) in (
-      refl,
-      alone bytes c.args.after.now start n (omega (arith, c.requires.order, c.requires.within)) c.requires.body
-          (omega (arith, length-drop start bytes, c.requires.within)) c.requires.whole not last,
-      body_header bytes c.args.after.now start (omega (arith, c.requires.order, c.requires.within))
-          (omega (arith, c.requires.body, length-drop start bytes, c.requires.within)),
+    grind (
+      arith,
+      looked_at c.args.bytes.now c.args.start c.args.stop c.requires.order c.requires.within,
+      alone c.args.bytes.now c.args.after.now c.args.start,
+      body_header c.args.bytes.now c.args.after.now c.args.start,
+      get_or-drop,
+      length-drop c.args.start c.args.bytes.now,
     )
