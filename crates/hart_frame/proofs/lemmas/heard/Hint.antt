@@ -28,9 +28,7 @@ heard_body chars start fits has same =
     let bytes = bytes_from chars start in
     let n = body_length bytes in
     let (frame, body) = completed bytes fits has in
-    let begin : take n bytes ≡ take (n - 1) bytes ++ fold bit_xor 0 (take (n - 1) bytes) ∷ [] =
-    grind (arith, nat_tests, common_steps, take_more) in
-    let begins : BeginsWithBody bytes frame n = grind arith in
+    let begins : BeginsWithBody bytes frame n = grind (arith, nat_tests, common_steps, take_more) in
     body_at chars start frame n begins
 
 -- At each place a whole body begins, or there is a reason why no body begins.

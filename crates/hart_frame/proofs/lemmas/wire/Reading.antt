@@ -10,25 +10,17 @@ use Rattle.hart_frame.specs.private.Prefix.{HasBadCheck, fault_in, shown_by}
 use Rattle.hart_frame.proofs.lemmas.wire.Prefix.{Describes-prefix, HasCheckByte-prefix, HasGoodByteCount-more, good_prefix, length_more}
 use Rattle.hart_frame.proofs.lemmas.wire.Truncated.{truncated_check, truncated_count}
 
--- The first `len` bytes of a list end with its check byte, and a layout describes them.
-record IsCut (layout : Layout) (xs : List ℕ) (len : ℕ) : Type 0 where
-  pub described : Describes layout (take len xs)
-  pub checked : HasCheckByte (take len xs)
-  pub exact : layout_length layout ≡ length (take len xs)
-
 -- A layout describes bytes that reach their check byte.
 module _ (layout : Layout) (xs : List ℕ) (len check : ℕ) (has : HasCheckByte xs) (is : Describes layout xs)
     (same : len ≡ layout_length layout) (within : len ≤ length xs) (checks : IsCheckByte (take len xs) check)
     (fits : (i : ℕ) → get_or xs i 0 < 256) where
-  cut_off : IsCut layout xs len
-  cut_off = grind (arith, take-append-drop len xs, length-take-le, HasCheckByte-prefix, Describes-prefix)
-
   are_bytes : All (λ byte. byte < 256) (take len xs)
   are_bytes = All-from_get_or (λ byte. byte < 256) (take len xs) 0 (λ i below. grind (arith, get_or-take, length-take, fits i))
 
   -- If the parity of these bytes is even, they begin with a whole body.
   pub whole_prefix : check ≡ 0 → IsPrefix xs (Whole layout)
-  whole_prefix even = grind (arith, cut_off, are_bytes, even-check)
+  whole_prefix even =
+      grind (arith, take-append-drop len xs, length-take-le, HasCheckByte-prefix, Describes-prefix, are_bytes, even-check)
 
   fitting : bit_xor check (get_or xs (len - 1) 0) ≡ fold bit_xor 0 (take (len - 1) xs)
   fitting =

@@ -16,15 +16,5 @@ returns c =
       command = c.in_ok-command.field-0.now;
     } in
     let long = length-slice_range bytes 1 (address_end bytes) in
-    let stands : StandsAsHeader bytes parts = record {
-      delimiter = grind arith;
-      within = grind arith;
-      kind = grind arith;
-      form = grind (arith, long);
-      burst = c.in_ok-master.field-0-1;
-      address = slice_range bytes 1 (address_end bytes);
-      address_bytes = grind arith;
-      stands = λ k below. grind (arith, get_or-take, get_or_after_one bytes k 0, long);
-      command = grind arith;
-    } in
+    let stands : StandsAsHeader bytes parts = grind (arith, get_or-take, get_or_after_one bytes, long) in
     sym (header_read bytes parts stands)
