@@ -102,10 +102,6 @@ AreFrames-marked frame preambles chars damage =
     (λ other stands. marked_own frame preambles chars damage other 0 stands) (omega arith) found.0 found.1
 
 -- CHECK DAMAGE
--- A body has the delimiter, the byte count and the length that its frame implies.
-says_of : (f : FrameParts) (body : List ℕ) → IsBody f body → Says body f (length body)
-says_of f body is = says body f (length body) (rw (append-nil body) at (BeginsWithBody-append f body [] is))
-
 -- With check damage no frame is heard, since the body of such a frame would be all the bytes, and their parity is not even.
 pub AreFrames-check : (frame : FrameParts) (preambles : ℕ) (chars : List Character) → IsCheckDamage frame preambles chars
     → AreFrames chars 0 []
@@ -114,7 +110,8 @@ AreFrames-check frame preambles chars damage = none 0 (λ found stands.
     let (bytes, replaces, all, odd) = damage.heard in
     let (rest, start, same) =
     stands_there damage.left bytes chars found 0 (grind arith) (grind (arith, heard_faultless)) damage.no_two_preambles stands in
-    let sent = says_of frame damage.body damage.is_body in
+    let sent = says damage.body frame (length damage.body)
+    (rw append-nil at (BeginsWithBody-append frame damage.body [] damage.is_body)) in
     let said = says (stands.body ++ rest) found.frame (length stands.body)
     (BeginsWithBody-append found.frame stands.body rest stands.is_body) in
     let whole = nil_from_length rest (grind (arith, length-append stands.body rest)) in

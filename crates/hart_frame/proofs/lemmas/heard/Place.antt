@@ -18,17 +18,9 @@ pub stands_at : (chars : List Character) (place : ℕ) (f : FrameParts) (body : 
     → drop place chars ≡ faultless (255 ∷ 255 ∷ body) ++ rest → IsBody f body
     → StandsIn (record { start = place + 2; stop = place + 2 + length body; frame = f }) chars place
 stands_at chars place f body rest within parts is =
-    let long = length-take-le place chars within in record {
-      prefix = take place chars;
-      body = body;
-      rest = rest;
-      split = rw (append_assoc (take place chars)) (sym (take-append-drop place chars)
-          ∙ ap (λ (cs : List Character). take place chars ++ cs) parts);
-      is_body = is;
-      after = omega (arith, long);
-      start = omega (arith, long);
-      stop = omega (arith, long);
-    }
+    let split : chars ≡ take place chars ++ faultless (255 ∷ 255 ∷ body) ++ rest =
+    rw (append_assoc (take place chars)) (sym (take-append-drop place chars) ∙ ap (λ (cs : List Character). take place chars ++ cs) parts) in
+    grind (arith, length-take-le place chars within)
 
 -- If a frame stands in a list, it also stands from `from` on, for each `from` that is at least two places before its start.
 pub StandsIn-from : (found : Found) (chars : List Character) (place from : ℕ) → StandsIn found chars place → from + 2 ≤ found.start

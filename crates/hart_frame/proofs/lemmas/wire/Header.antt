@@ -62,17 +62,9 @@ headers_are_those_of_frames-body bytes f len begins =
     let split : bytes ≡ prefix ++ f.command ∷ rest = whole ∙ simp append_assoc in
     let count : length prefix ≡ command_place bytes = grind (arith, length-append, said.place) in
     let command : get_or bytes (command_place bytes) 0 ≡ f.command = grind (arith, get_or_at) in
-    header_read bytes (header_of f) (record {
-      delimiter = has.0.0.0.1;
-      within = omega (arith, has.0.0.1);
-      kind = grind (arith, said.delimiter, kind_code-is, address_type-lt, part.expansion_fits);
-      form = grind (arith, said.delimiter, kind_code-is, address_type-lt, part.expansion_fits);
-      burst = f.burst;
-      address = part.address;
-      address_bytes = part.address_bytes;
-      stands = λ k below. grind (arith, get_or_append_left);
-      command = sym command;
-    })
+    let stands : StandsAsHeader bytes (header_of f) =
+    grind (arith, get_or_append_left, said.delimiter, kind_code-is, address_type-lt, part.expansion_fits, has) in
+    header_read bytes (header_of f) stands
 
 -- Bytes have a header exactly if they begin with a delimiter of this profile and reach the command.
 pub headers_are_those_of_frames-exactly : (bytes : List ℕ)
