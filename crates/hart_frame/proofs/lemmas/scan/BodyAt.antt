@@ -38,17 +38,9 @@ miss_end xs start =
 pub miss_faulty : (xs : List ℕ) (c : Character) (more : List Character) (start : ℕ) → c.faults ≢ 0
     → body_miss start (faultless xs ++ c ∷ more) ≡ miss_in xs (Some c) (start + length xs) start
 miss_faulty xs c more start bad =
-    grind (
-      arith,
-      nat_tests,
-      append-nil,
-      faultless_bytes-append xs (c ∷ more),
-      faultless_bytes-end c more,
-      length-map,
-      length-append,
-      slice_get-get_or (faultless xs ++ c ∷ more) (length xs) c,
-      get_or_at,
-    )
+    let there = slice_get-get_or (faultless xs ++ c ∷ more) (length xs) c in
+    let bytes = faultless_bytes-append xs (c ∷ more) in
+    grind (arith, nat_tests, append-nil, faultless_bytes-end c more, length-map, length-append, get_or_at)
 
 -- If the bytes from a place on decide the miss there, the miss stays the same whatever follows.
 whatever : (bytes : List ℕ) (after : After) (start : ℕ) (miss : Option Miss) → start ≤ length bytes

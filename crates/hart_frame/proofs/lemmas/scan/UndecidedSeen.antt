@@ -52,12 +52,11 @@ module _ (rest : List ℕ) (fit : All (λ byte. byte < 256) rest) (truncated : I
       (record { prefix = []; bytes = rest; split = refl; start = refl; truncated = truncated }) in
       let chars = whole ++ more in
       let silent = none_seen (255 ∷ 255 ∷ rest) More more 0 2 tt silent_two heard_two in
-      let first_frame = λ (other : Found) (stands : StandsIn other chars 0). late (255 ∷ 255 ∷ rest) More more 0 2 tt
-      silent_two heard_two other stands in
       let (after, are_after) = some_sightings chars found.stop in
       let two = always more _ (message_on chars 0 found after
       (missed_none chars 0 found.start (λ p low high. silent p low (omega (arith, high, at))))
-      (record { stands = stands; least = λ other stands. omega (arith, at, first_frame other stands) }) are_after) in
+      (record { stands = stands; least = λ other stands.
+          omega (arith, at, late (255 ∷ 255 ∷ rest) More more 0 2 tt silent_two heard_two other stands) }) are_after) in
       cc (one.1, two.1)
 
 -- At a place either nothing or one miss is seen. If nothing is seen at a place, the first sighting is not a miss of that place.

@@ -81,12 +81,5 @@ pub odd : (bytes : List ℕ) (len : ℕ) → All (λ byte. byte < 256) (take len
 odd bytes len fit some within differ even =
     let n = len - 1 in
     let whole : take len bytes ≡ take n bytes ++ get_or bytes n 0 ∷ [] = grind (arith, common_steps, take_more) in
-    grind (
-      arith,
-      even-is (take n bytes) (get_or bytes n 0),
-      fits_at (take len bytes) fit,
-      get_or_append_left,
-      get_or_past,
-      get_or_at,
-      length-take-le,
-    )
+    let each = fits_at (take len bytes) fit in
+    grind (arith, even-is (take n bytes) (get_or bytes n 0), get_or_append_left, get_or_past, get_or_at, length-take-le)

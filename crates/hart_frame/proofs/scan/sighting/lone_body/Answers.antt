@@ -25,11 +25,7 @@ returns-then-bytes-stop c =
 
 pub returns : goal.returns
 returns c =
-    grind (
-      arith,
-      looked_at c.args.bytes.now c.args.start c.args.stop c.requires.order c.requires.within,
-      alone c.args.bytes.now c.args.after.now c.args.start,
-      body_header c.args.bytes.now c.args.after.now c.args.start,
-      get_or-drop,
-      length-drop c.args.start c.args.bytes.now,
-    )
+    let bytes = c.args.bytes.now in
+    let start = c.args.start in
+    let same = looked_at bytes start c.args.stop c.requires.order c.requires.within in
+    grind (arith, alone bytes c.args.after.now start, body_header bytes c.args.after.now start, get_or-drop, length-drop start bytes)
