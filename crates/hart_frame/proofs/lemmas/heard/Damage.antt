@@ -1,7 +1,7 @@
 -- What damage leaves of a message's frame: a body can stand only at the place of the delimiter.
 use Rattle.hart_frame.proofs.Common.{◌≡◌, ◌≢◌, ℕ, zero, suc, ◌+◌, ◌<◌, ◌≤◌, ◌⊎◌, inl, inr, List, [], ◌∷◌, ◌++◌, length, drop, replicate}
 use Rattle.hart_frame.proofs.Common.{refl, arith, append_assoc, length-append, common_steps, append-nil, drop-append-le, length-replicate}
-use Rattle.hart_frame.proofs.Common.{Found, Character, faultless, IsHeardOrMarked, AreFrames, none, first, StandsIn, IsBody, delimiter_of}
+use Rattle.hart_frame.proofs.Common.{Found, Character, faultless, IsHeardOrMarked, AreFrames, none, first, StandsIn, delimiter_of}
 use Rattle.hart_frame.proofs.Common.{FrameParts, delimiter_in}
 use Rattle.std.proofs.lemmas.List.{nil_from_length}
 use Rattle.std.proofs.lemmas.Slice.Zip.{AllZip-long}
@@ -10,7 +10,7 @@ use Rattle.hart_frame.specs.heard.Damage.{HasNoTwoPreambles, IsCheckDamage, IsMa
 use Rattle.hart_frame.proofs.lemmas.heard.Body.{head_of}
 use Rattle.hart_frame.proofs.lemmas.heard.FramesFound.{AreFrames-found}
 use Rattle.hart_frame.proofs.lemmas.heard.Place.{HasNoFrame-end}
-use Rattle.hart_frame.proofs.lemmas.wire.Refusal.{Says, says}
+use Rattle.hart_frame.proofs.lemmas.wire.Refusal.{says}
 use Rattle.hart_frame.proofs.lemmas.wire.UnambiguousBodies.{BeginsWithBody-append, bodies_are_unambiguous-no_proper_prefix}
 use Rattle.hart_frame.proofs.lemmas.wire.UnambiguousBodies.{bodies_are_unambiguous-one_frame}
 

@@ -2,8 +2,8 @@
 use Rattle.hart_frame.proofs.Common.{◌≡◌, ◌≢◌, ℕ, fold, bit_xor, ◌+◌, ◌-◌, ◌<◌, ◌⊎◌, List, [], ◌∷◌, ◌++◌, length, take, drop, get_or, true}
 use Rattle.hart_frame.proofs.Common.{ap, inl, inr, sym, ◌∙◌, None, Option, Some, refl, arith, append_assoc, length-append, ◌↔◌, nat_tests}
 use Rattle.hart_frame.proofs.Common.{common_steps, drop_all, length-drop, take_at, append-nil, drop_more, length-take-le, map-append, All}
-use Rattle.hart_frame.proofs.Common.{take-append-drop, take-take, take_more, All-append, All-drop, All-take, MatchOption, is_some, Miss}
-use Rattle.hart_frame.proofs.Common.{Faulty, OnePreamble, Character, faultless, faultless_bytes, bytes_from, HasBodyAt, HasFrameAt, miss_of}
+use Rattle.hart_frame.proofs.Common.{take-append-drop, take_more, All-append, All-drop, All-take, MatchOption, is_some, Miss, Faulty}
+use Rattle.hart_frame.proofs.Common.{OnePreamble, Character, faultless, faultless_bytes, bytes_from, HasBodyAt, HasFrameAt, miss_of}
 use Rattle.hart_frame.proofs.Common.{body_miss, check_miss, IsStart, IsOfBytes, BeginsWithBody, body_length, IsCheckByte, HasCheckByte}
 use Rattle.std.proofs.Common.{set}
 use Rattle.std.proofs.lemmas.List.{length-set, get_or-set_same, set_at}
@@ -19,7 +19,7 @@ use Rattle.hart_frame.proofs.lemmas.heard.InTheWay.{in_the_way, way_of}
 use Rattle.hart_frame.proofs.lemmas.heard.Missed.{miss_of-some, miss_of-start, none_of, one_preamble-is, one_preamble-yes}
 use Rattle.hart_frame.proofs.lemmas.heard.Place.{preamble}
 use Rattle.hart_frame.proofs.lemmas.wire.Parity.{IsCheckByte-fold, fits-is, fits_at}
-use Rattle.hart_frame.proofs.lemmas.wire.Prefix.{HasGoodByteCount-more, good_prefix, length_more}
+use Rattle.hart_frame.proofs.lemmas.wire.Prefix.{HasGoodByteCount-more, length_more}
 use Rattle.hart_frame.proofs.lemmas.wire.Truncated.{completed, fitted}
 
 heard_body : (chars : List Character) (start : ℕ) → IsOfBytes (drop start chars)

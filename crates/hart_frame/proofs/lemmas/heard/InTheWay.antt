@@ -1,8 +1,8 @@
 -- Where a body may start, the miss is what stands in the way. The bytes are refused with the fault that corresponds to this miss.
 use Rattle.hart_frame.proofs.lemmas.wire.Parity.{fit_before, IsCheckByte-fold, fits-is, fits_at, odd}
 use Rattle.hart_frame.proofs.Common.{◌≡◌, ◌≢◌, ℕ, ◌+◌, ◌-◌, ◌<◌, ◌⊎◌, List, fold, bit_xor, length, take, ◌↔◌, drop, get_or, None, Some, ◌∙◌}
-use Rattle.hart_frame.proofs.Common.{refl, arith, Option, nat_tests, common_steps, get_or-drop, length-append, length-drop, take-take, All}
-use Rattle.hart_frame.proofs.Common.{All-take, slice_get-get_or, slice_get_cases, slice_get, Miss, Faulty, OnePreamble, FrameFault, miss_in}
+use Rattle.hart_frame.proofs.Common.{refl, arith, Option, nat_tests, common_steps, get_or-drop, length-append, length-drop, All}
+use Rattle.hart_frame.proofs.Common.{slice_get-get_or, slice_get_cases, slice_get, Miss, Faulty, OnePreamble, FrameFault, miss_in}
 use Rattle.hart_frame.proofs.Common.{Character, faultless_bytes, bytes_from, body_miss, miss_of, IsStart, IsOfBytes, BeginsWithBody}
 use Rattle.hart_frame.proofs.Common.{FrameParts, body_length, IsCheckByte, IsRefusedWith}
 use Rattle.hart_frame.specs.declared.heard.miss.Miss.TheVariants.{BadCheck, EndsBeforeByteCount, Missing}
@@ -55,7 +55,8 @@ said chars start miss fit is told =
     let bytes = bytes_from chars start in
     let n = body_length bytes - 1 in
     let same : (place byte fits : ℕ) → miss ≡ BadCheck place byte fits → IsCheckByte (take n bytes) (fold bit_xor 0 (take n bytes)) =
-    λ place byte fits is. IsCheckByte-fold (take n bytes) _ (fits_at (take n bytes) (fit_before bytes (body_length bytes) (fit place byte fits is))) refl in
+    λ place byte fits is.
+    IsCheckByte-fold _ _ (fits_at (take n bytes) (fit_before bytes (body_length bytes) (fit place byte fits is))) refl in
     let missing = stops chars start (Missing (body_length bytes - length bytes)) is in
     grind (arith, nat_tests, stops chars start EndsBeforeByteCount is, heard_at chars start n, same (start + n))
 

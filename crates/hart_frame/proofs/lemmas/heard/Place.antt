@@ -19,7 +19,8 @@ pub stands_at : (chars : List Character) (place : ℕ) (f : FrameParts) (body : 
     → StandsIn (record { start = place + 2; stop = place + 2 + length body; frame = f }) chars place
 stands_at chars place f body rest within parts is =
     let split : chars ≡ take place chars ++ faultless (255 ∷ 255 ∷ body) ++ rest =
-    rw (append_assoc (take place chars)) (sym (take-append-drop place chars) ∙ ap (λ (cs : List Character). take place chars ++ cs) parts) in
+    rw (append_assoc (take place chars))
+    (sym (take-append-drop place chars) ∙ ap (λ (cs : List Character). take place chars ++ cs) parts) in
     grind (arith, length-take-le place chars within)
 
 -- If a frame stands in a list, it also stands from `from` on, for each `from` that is at least two places before its start.

@@ -1,9 +1,9 @@
 -- What is decided about a buffer, and what it gives then.
 use Rattle.hart_frame.proofs.lemmas.heard.Place.{stands_at}
-use Rattle.hart_frame.proofs.Common.{◌≡◌, ◌≢◌, ℕ, ◌+◌, ◌-◌, ◌↔◌, inl, inr, Bool, IsTrue, List, [], ◌∷◌, ◌++◌, length, take, drop, refl}
-use Rattle.hart_frame.proofs.Common.{arith, subst, append_assoc, length-append, length-drop, drop_at, map-append, Buffer, Drained}
-use Rattle.hart_frame.proofs.Common.{SearchResult, Layout, faultless, StandsIn, FrameParts, IsSound, IsWaiting, held_bytes, scan_of, Scan}
-use Rattle.hart_frame.proofs.Common.{IsWhole, MovesPast, GivesNothing, IsBody, IsCheckedPart, body_length, layout_length}
+use Rattle.hart_frame.proofs.Common.{◌≡◌, ◌≢◌, ℕ, ◌+◌, ◌↔◌, inl, inr, Bool, IsTrue, List, [], ◌∷◌, ◌++◌, length, drop, refl, arith, subst}
+use Rattle.hart_frame.proofs.Common.{append_assoc, length-append, length-drop, drop_at, map-append, Buffer, Drained, SearchResult, Layout}
+use Rattle.hart_frame.proofs.Common.{faultless, FrameParts, IsSound, IsWaiting, held_bytes, scan_of, Scan, IsWhole, MovesPast, GivesNothing}
+use Rattle.hart_frame.proofs.Common.{IsBody, body_length, layout_length}
 use Rattle.std.specs.Option.{option_to_list}
 use Rattle.hart_frame.specs.declared.scan.buffer.State.TheVariants.{Busy, Stands}
 use Rattle.hart_frame.specs.private.Buffer.{IsEnded}

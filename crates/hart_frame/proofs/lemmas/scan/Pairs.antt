@@ -1,5 +1,5 @@
 -- The next pair among sixteen places, by lanes.
-use Rattle.hart_frame.proofs.Common.{◌≡◌, ℕ, zero, suc, ◌+◌, ◌-◌, ◌*◌, ◌%◌, ◌<◌, ◌≤◌, Bool, true, false, not, ◌&&◌, List, [], ◌∷◌, map, sym}
+use Rattle.hart_frame.proofs.Common.{◌≡◌, ℕ, zero, suc, ◌+◌, ◌-◌, ◌%◌, ◌<◌, ◌≤◌, Bool, true, false, not, ◌&&◌, List, [], ◌∷◌, map, sym}
 use Rattle.hart_frame.proofs.Common.{length, take, drop, get_or, replicate, bit_and, refl, ap, ◌∙◌, subst, arith, add-zero, length-drop}
 use Rattle.hart_frame.proofs.Common.{nat_tests, drop_more, length-map, length-take-le, range_with_len, HasNoPair, HasPair}
 use Rattle.std.proofs.Common.{◌^◌, eqb, cond}

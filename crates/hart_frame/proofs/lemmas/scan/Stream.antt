@@ -1,5 +1,5 @@
 -- The frames given since a scanner was new are the next frames in what was pushed. After the end they are all frames of what was pushed.
-use Rattle.hart_frame.proofs.Common.{◌≡◌, ◌+◌, Bool, true, false, IsTrue, ℕ, List, [], ◌∷◌, ◌++◌, length, map, drop, refl, sym, arith, Scan}
+use Rattle.hart_frame.proofs.Common.{◌≡◌, ◌+◌, Bool, true, false, IsTrue, ℕ, List, [], ◌∷◌, ◌++◌, length, map, drop, refl, arith, Scan}
 use Rattle.hart_frame.proofs.Common.{length-drop, append-nil, drop-append-le, drop-drop, Found, Character, AreFrames, HasNoFrame, moved}
 use Rattle.hart_frame.proofs.Common.{AreNext, MovesPast, hearing}
 use Rattle.hart_frame.specs.scan.Streamed.{IsHistory, IsWholeHistory, begin, push, push_chars, take_view, wait, finish}

@@ -2,8 +2,8 @@
 use Rattle.hart_frame.specs.private.Miss.{cut_miss}
 use Rattle.hart_frame.proofs.Common.{◌≡◌, ◌≢◌, ℕ, zero, suc, ◌+◌, ◌-◌, ◌<◌, ◌≤◌, ◌⊎◌, inl, inr, List, [], ◌∷◌, ◌++◌, length, drop, get_or}
 use Rattle.hart_frame.proofs.Common.{None, Some, Option, ◌∙◌, ap, sym, arith, refl, length-drop, append-nil, drop_more, get_or-drop, All}
-use Rattle.hart_frame.proofs.Common.{length-map, All-drop, flat_map, range_with_len, option_map_or, Found, Miss, OnePreamble, More, miss_in}
-use Rattle.hart_frame.proofs.Common.{Character, faultless, AreFrames, body_miss, StandsIn, AreSightings, Message, Missed, Seen, header_at}
+use Rattle.hart_frame.proofs.Common.{length-map, All-drop, flat_map, range_with_len, option_map_or, Found, Miss, OnePreamble, More}
+use Rattle.hart_frame.proofs.Common.{Character, faultless, AreFrames, body_miss, AreSightings, Message, Missed, Seen, header_at}
 use Rattle.hart_frame.proofs.Common.{miss_in_whole, missed_at, sightings, HeaderParts, heard_with, IsAsked, MayStandAlone, After}
 use Rattle.hart_frame.proofs.Common.{IsTruncated}
 use Rattle.std.proofs.lemmas.List.Elements.{All-cons, All-map}
@@ -55,8 +55,11 @@ module _ (rest : List ℕ) (fit : All (λ byte. byte < 256) rest) (truncated : I
       let (after, are_after) = some_sightings chars found.stop in
       let two = always more _ (message_on chars 0 found after
       (missed_none chars 0 found.start (λ p low high. silent p low (omega (arith, high, at))))
-      (record { stands = stands; least = λ other stands.
-          omega (arith, at, late (255 ∷ 255 ∷ rest) More more 0 2 tt silent_two heard_two other stands) }) are_after) in
+      (record {
+        stands = stands;
+        least = λ other stands.
+            omega (arith, at, late (255 ∷ 255 ∷ rest) More more 0 2 tt silent_two heard_two other stands);
+      }) are_after) in
       cc (one.1, two.1)
 
 -- At a place either nothing or one miss is seen. If nothing is seen at a place, the first sighting is not a miss of that place.

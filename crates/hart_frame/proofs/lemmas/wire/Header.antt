@@ -1,6 +1,6 @@
 -- The header with which bytes begin.
-use Rattle.hart_frame.proofs.Common.{◌≡◌, ◌↔◌, ℕ, ◌+◌, ◌/◌, ◌%◌, ◌<◌, Bool, true, false, List, ◌∷◌, ◌++◌, Some, ◌∙◌, get_or, length, take}
-use Rattle.hart_frame.proofs.Common.{drop, sym, arith, append_assoc, length-append, nat_tests, get_or_append_left, get_or_at, Address}
+use Rattle.hart_frame.proofs.Common.{◌≡◌, ◌↔◌, ℕ, ◌+◌, ◌/◌, ◌%◌, ◌<◌, Bool, List, ◌∷◌, ◌++◌, Some, ◌∙◌, get_or, length, take, drop, sym}
+use Rattle.hart_frame.proofs.Common.{arith, append_assoc, length-append, nat_tests, get_or_append_left, get_or_at, Address}
 use Rattle.hart_frame.proofs.Common.{take-append-drop, IsAddressBytes, MasterId, BeginsWithBody, address_type, delimiter_of, kind_code}
 use Rattle.hart_frame.proofs.Common.{FrameParts, HeaderParts, header_in, command_place, delimiter_in, IsDelimiter}
 use Rattle.std.specs.Prelude.{IsSome}

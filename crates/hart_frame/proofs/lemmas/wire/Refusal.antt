@@ -1,8 +1,8 @@
 -- Bytes that begin with a body are not refused, and that body is decoded.
 use Rattle.hart_frame.proofs.Common.{◌≡◌, ℕ, ◌+◌, ◌*◌, ◌≤◌, List, [], ◌∷◌, ◌++◌, length, take, drop, sym, ◌∙◌, arith, append_assoc}
 use Rattle.hart_frame.proofs.Common.{length-append, common_steps, length-take-le, take-append-drop, get_or_at, FrameFault, BeginsWithBody}
-use Rattle.hart_frame.proofs.Common.{delimiter_of, address_type, FrameParts, delimiter_in, byte_count_place, body_length, IsDelimiter}
-use Rattle.hart_frame.proofs.Common.{HasCheckByte, IsRefusedWith}
+use Rattle.hart_frame.proofs.Common.{delimiter_of, address_type, FrameParts, delimiter_in, byte_count_place, body_length, HasCheckByte}
+use Rattle.hart_frame.proofs.Common.{IsRefusedWith}
 use Rattle.std.proofs.Common.{Result, Ok, Err}
 use Rattle.std.specs.Result.{IfOk, IfErr}
 use Rattle.hart_frame.specs.wire.Layout.{byte_count_in}

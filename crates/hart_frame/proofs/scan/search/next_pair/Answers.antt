@@ -1,5 +1,5 @@
-use Rattle.hart_frame.proofs.Common.{◌+◌, ◌-◌, Some, length, arith, HasNoPair, HasPair}
-use Rattle.hart_frame.proofs.lemmas.scan.Search.{joined, pair_after, pair_at_end}
+use Rattle.hart_frame.proofs.Common.{◌-◌, Some, length, arith}
+use Rattle.hart_frame.proofs.lemmas.scan.Search.{pair_after, pair_at_end}
 use Rattle.hart_frame.proofs.scan.search.next_pair.Goals as goal
 
 pub loop-place-preserved : goal.loop-place-preserved

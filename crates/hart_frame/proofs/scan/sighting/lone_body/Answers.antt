@@ -1,5 +1,4 @@
-use Rattle.hart_frame.proofs.Common.{◌≡◌, ◌≢◌, ◌+◌, ◌-◌, arith, refl, drop, get_or, length, length-drop, take, false, get_or-drop, More}
-use Rattle.hart_frame.proofs.Common.{has_two_preambles}
+use Rattle.hart_frame.proofs.Common.{arith, length-drop, get_or-drop}
 use Rattle.hart_frame.proofs.lemmas.scan.Alone.{alone, crossed, lone_open, looked_at}
 use Rattle.hart_frame.proofs.lemmas.scan.BodyAt.{body_header}
 use Rattle.hart_frame.proofs.scan.sighting.lone_body.Goals as goal

@@ -1,4 +1,4 @@
-use Rattle.hart_frame.proofs.Common.{sym, arith, get_or-take, slice_range, HeaderParts}
+use Rattle.hart_frame.proofs.Common.{sym, arith, get_or-take, HeaderParts}
 use Rattle.std.proofs.lemmas.Grind.{get_or_after_one}
 use Rattle.hart_frame.specs.wire.PlainAddress.{address_of}
 use Rattle.hart_frame.specs.wire.Layout.{address_end}
