@@ -1,6 +1,13 @@
 use Rattle.std.proofs.Common.{◌<◌, arith}
+use Rattle.std.proofs.lemmas.List.{places}
 use Rattle.std.proofs.lemmas.List.Elements.{All-from_get_or}
 use Rattle.hart_values.proofs.packed_text.packing.pack.Goals as goal
+
+pub loop-place-preserved : goal.loop-place-preserved
+loop-place-preserved c = record {
+  groups = λ k h. grind (arith, places, c.loop-place.invariant.groups k);
+  fits = λ k. omega (arith, c.type_inv.bytes k);
+}
 
 pub returns : goal.returns
 returns c = record {

@@ -1,7 +1,14 @@
 use Rattle.std.proofs.Common.{◌<◌, arith}
+use Rattle.std.proofs.lemmas.List.{places}
 use Rattle.std.proofs.lemmas.List.Elements.{All-from_get_or}
 use Rattle.hart_values.specs.packed_text.Packing.{IsCharacter}
 use Rattle.hart_values.proofs.packed_text.packing.unpack.Goals as goal
+
+pub loop-place-preserved : goal.loop-place-preserved
+loop-place-preserved c = record {
+  groups = λ k h. grind (arith, places, c.loop-place.invariant.groups k);
+  characters = λ k h. grind (arith, places, c.loop-place.invariant.characters k);
+}
 
 pub returns : goal.returns
 returns c = record {
