@@ -8,7 +8,7 @@ ANSWER = re.compile(r"(?:note: )?(?:\./)?(proofs/\S+)/(?:Answers|Invariants|Proo
 FUNCTION = re.compile(r"fn (\S+?): ((?:no proof|not proved|could not tell|proved).*)")
 UNPROVED = re.compile(r"`search` did not prove ((?:`[^`]+`(?:, )?)+)")
 # What a proof file says if it names what a mistake took away. It says nothing of a contract.
-GONE = re.compile(r"has no field|is not in scope|has no `|was not admitted|that can be named")
+GONE = re.compile(r"has no field|is not in scope|has no `|was not admitted|that can be named|: module `[^`]+`$")
 COMPILES = re.compile(r"^only=\d+ proved=\d+$", re.M)
 RETURNS = "what the function ensures holds when it returns"
 
