@@ -41,22 +41,20 @@ def judged(kit, batch, kept=None):
     return [pair if pair[1].is_refused() else judged(kit, [pair[0]], kept)[0] for pair in found]
 
 
-def judged_anew(kit, crate, batch):
-    """Returns the verdict on each mistake of a batch. The batch begins with what is kept of the crate."""
-    with kit.kept(crate) as kept:
-        return judged(kit, batch, kept)
-
-
-def judged_crate(kit, crate, mistakes):
-    """The verdict on each mistake of a crate.
-
-    Each batch begins with what is kept of the unchanged crate. After another batch it would have to prove again what that one
-    changed. If nothing is kept, a batch begins with what the batches before it proved."""
-    batches = batches_of(mistakes)
-    if kit.has_kept(crate):
-        return [pair for batch in batches for pair in judged_anew(kit, crate, batch)]
+def judged_in_turn(kit, crate, batches):
+    """Returns the verdict on each mistake of these batches, which are tried one after another. Each begins with what is kept of the crate and
+    with what those before it proved."""
     with kit.kept(crate) as kept:
         return [pair for batch in batches for pair in judged(kit, batch, kept)]
+
+
+def tasks_of(kit, crate, mistakes):
+    """The tasks by which the mistakes of a crate are tried, each as its batches.
+
+    If something is kept of the unchanged crate, each batch is a task of its own: after another batch it would have to prove again what that
+    one changed. If nothing is kept, the first batch proves it for those after it."""
+    batches = batches_of(mistakes)
+    return [[it] for it in batches] if kit.has_kept(crate) else [batches]
 
 
 def mistakes_of(edits):
@@ -78,7 +76,7 @@ def crates_with_libraries(kit, names, is_after_gate):
 
 
 def tried(kit, edits, is_after_gate, kept):
-    """Yields each edit with its functions and its verdict, as they are decided. Each crate is one task."""
+    """Yields each edit with its functions and its verdict, as they are decided."""
     mistakes, bad = mistakes_of(edits)
     yield from ((edit, (), verdict) for edit, verdict in bad)
     of_crates = {}
@@ -94,9 +92,11 @@ def tried(kit, edits, is_after_gate, kept):
     ready = crates_with_libraries(kit, list(of_crates), is_after_gate)
     for name in of_crates.keys() - ready:
         yield from ((it.edit, it.functions, Verdict((), "a library below its crate is not proved")) for it in of_crates[name])
+    tasks = [(name, batches) for name in ready for batches in tasks_of(kit, name, of_crates[name])]
+    # The longest come first: those of large crates and with many mistakes.
+    tasks.sort(key=lambda it: -kit.crates[it[0]].count(rb"\n") * sum(map(len, it[1])))
     with ThreadPoolExecutor(max_workers=int(os.environ.get("RT_JOBS") or kit.rt.processors())) as pool:
-        tasks = [pool.submit(judged_crate, kit, it, of_crates[it]) for it in sorted(ready, key=lambda it: -kit.crates[it].count(rb"\n"))]
-        for task in as_completed(tasks):
+        for task in as_completed([pool.submit(judged_in_turn, kit, *it) for it in tasks]):
             kept.keep(os.path.basename(task.result()[0][0].edit.crate), task.result())
             yield from ((mistake.edit, mistake.functions, verdict) for mistake, verdict in task.result())
 
