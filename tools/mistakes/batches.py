@@ -3,8 +3,8 @@
 from mistakes.copies import add_copy, can_be_copied
 from mistakes.edits import BadEdit, Texts
 
-# A check of 175 mistakes of the largest crate takes more than 5 GB of memory, and each task of the gate may take 4 GB.
-MOST = 110
+# A check of 110 mistakes of the largest crate takes more than 5 GB of memory, and each task of the gate may take 4 GB.
+MOST = 60
 
 
 def can_stand_beside(one, other):
