@@ -30,7 +30,8 @@ from mistakes.verdicts import Verdict, verdict_of
 
 
 def judged(kit, batch, kept=None):
-    """Returns the verdict on each mistake of a batch. A mistake that is not refused beside others is tried once more, alone."""
+    """Returns the verdict on each mistake of a batch. One that is not refused beside others, or in a copy, is tried once more, alone and in
+    its own functions."""
     crate, texts = os.path.basename(batch[0].edit.crate), texts_of(batch)
     tried_as = [as_tried(it, texts) for it in batch]
     functions = sorted({it.path for mistake in tried_as for it in mistake.functions})
