@@ -1,10 +1,10 @@
-"""Puts as many wrong bodies as can stand together into one batch, and makes the texts of a batch."""
+"""Puts wrong bodies that can stand together into few batches, and makes the texts of a batch."""
 
 from mistakes.copies import add_copy, can_be_copied
 from mistakes.edits import BadEdit, Texts
 
 # A check of 110 mistakes of the largest crate takes more than 5 GB of memory, and each task of the gate may take 4 GB.
-MOST = 60
+MOST = 64
 
 
 def can_stand_beside(one, other):
@@ -14,27 +14,39 @@ def can_stand_beside(one, other):
     return not {it.path for it in one.functions} & {it.path for it in other.functions}
 
 
-def placed(mistake, batch):
-    """The mistake as it can stand in a batch: in its own functions, or else in a copy of its one function; None if it cannot."""
-    if mistake.is_alone or batch[0].is_alone or len(batch) == MOST:
-        return None
-    if all(can_stand_beside(mistake, it) for it in batch):
-        return mistake if applies_with(mistake, batch) else None
-    return mistake._replace(copy=len(batch)) if can_be_copied(mistake) else None
+def in_its_functions(mistake, batch):
+    """The mistake, if it can stand in this batch in its own functions, or None."""
+    is_free = len(batch) < MOST and all(can_stand_beside(mistake, it) for it in batch)
+    return mistake if is_free and applies_with(mistake, batch) else None
+
+
+def in_a_copy(mistake, batch):
+    """The mistake with the number of the copy in which it can stand in this batch, or None."""
+    return mistake._replace(copy=len(batch)) if len(batch) < MOST and can_be_copied(mistake) else None
+
+
+def left_over(mistakes, batches, way):
+    """Puts each mistake, in this way, into the smallest batch that can have it, and returns those that none can have."""
+    left = []
+    for mistake in mistakes:
+        possible = [(batch, it) for batch in batches if (it := way(mistake, batch))]
+        if possible:
+            batch, found = min(possible, key=lambda it: len(it[0]))
+            batch.append(found)
+        else:
+            left.append(mistake)
+    return left
 
 
 def batches_of(mistakes):
-    """Puts mistakes into as few batches as a first fit finds. One that stands alone has a batch of its own."""
-    batches = []
-    for mistake in mistakes:
-        for batch in batches:
-            found = placed(mistake, batch)
-            if found:
-                batch.append(found)
-                break
-        else:
-            batches.append([mistake])
-    return batches
+    """Puts mistakes into as few batches as have room for them, about as many into each.
+
+    A mistake goes to a batch that does not change its functions yet, since a copy costs more. If there is none, it changes a copy. One
+    that cannot, and one that stands alone, have a batch of their own."""
+    beside = [it for it in mistakes if not it.is_alone]
+    batches = [[] for _ in range(0, len(beside), MOST)]
+    left = left_over(left_over(beside, batches, in_its_functions), batches, in_a_copy)
+    return batches + [[it] for it in mistakes if it.is_alone or it in left]
 
 
 def applies_with(mistake, batch):
