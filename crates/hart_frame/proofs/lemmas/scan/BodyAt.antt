@@ -42,58 +42,10 @@ miss_faulty xs c more start bad =
     let bytes = faultless_bytes-append xs (c ∷ more) in
     grind (arith, nat_tests, append-nil, faultless_bytes-end c more, length-map, length-append, get_or_at)
 
--- If the bytes from a place on decide the miss there, the miss stays the same whatever follows.
-whatever : (bytes : List ℕ) (after : After) (start : ℕ) (miss : Option Miss) → start ≤ length bytes
-    → ((ys : List ℕ) (f : Option Character) (fp : ℕ) → miss_in (drop start bytes ++ ys) f fp start ≡ miss)
-    → Whatever bytes after (HasBodyMiss start miss)
-whatever bytes after start miss within is next follows =
-    rw (drop-heard bytes next start within) (miss_more (drop start bytes) next start ∙ is (faultless_bytes next) _ _)
-
-pub whole_seen : (bytes : List ℕ) (after : After) (start : ℕ) (layout : Layout) → start ≤ length bytes
-    → IsPrefix (drop start bytes) (Whole layout) → Whatever bytes after (HasBodyMiss start None)
-whole_seen bytes after start layout within is =
-    whatever bytes after start None within (λ ys f fp. whole_told (drop start bytes) ys layout f fp start is)
-
-pub wrong_seen : (bytes : List ℕ) (after : After) (start : ℕ) (w : Wrong) → start ≤ length bytes → IsWrong (drop start bytes) w
-    → Whatever bytes after (HasBodyMiss start (Some (wrong_miss w start)))
-wrong_seen bytes after start w within is =
-    whatever bytes after start _ within (λ ys f fp. wrong_told (drop start bytes) ys w f fp start is)
-
--- A place that the miss names lies within what is heard.
-pub wrong_below : (bytes : List ℕ) (after : After) (start : ℕ) (w : Wrong) → start ≤ length bytes → IsWrong (drop start bytes) w
-    → NamesPlacesBelow (length (heard_with bytes after)) (wrong_miss w start)
-wrong_below bytes after start (BadDelimiter byte) within is = grind (arith, nat_tests)
-wrong_below bytes after start (ShortReply len count) within is = tt
-wrong_below bytes after start (BadCheck len byte fits) within is =
-    let inside = wrong_within (drop start bytes) (BadCheck len byte fits) is in
-    omega (arith, inside, within, length-drop start bytes, heard_few bytes after)
-
--- Where bytes end too early, the miss says what is missing at the end, or names the character with fault bits that follows.
-pub cut_ended : (bytes : List ℕ) (start : ℕ) (missing : Option ℕ) → start ≤ length bytes → IsPrefix (drop start bytes) (Cut missing)
-    → Whatever bytes End (HasBodyMiss start (Some (cut_miss missing)))
-cut_ended bytes start missing within is next ends =
-    let heard : drop start (faultless bytes ++ next) ≡ faultless (drop start bytes) = grind (arith, append-nil, drop-heard) in
-    rw heard (miss_end (drop start bytes) start ∙ cut_told (drop start bytes) missing None (start + length (drop start bytes)) start is)
-
-pub cut_damaged : (bytes : List ℕ) (c : Character) (start : ℕ) (missing : Option ℕ) → start ≤ length bytes
-    → IsPrefix (drop start bytes) (Cut missing) → Whatever bytes (Damaged c) (HasBodyMiss start (Some (Faulty (length bytes) c.faults)))
-cut_damaged bytes c start missing within is next (valid, more, same) =
-    let place : start + length (drop start bytes) ≡ length bytes = omega (arith, length-drop start bytes, within) in
-    let faulty = miss_faulty (drop start bytes) c more start valid ∙ cut_told (drop start bytes) missing (Some c)
-    (start + length (drop start bytes)) start is in
-    rw (same, drop-heard bytes (c ∷ more) start within) (rw place at faulty)
-
 -- A body with a miss does not stand alone.
 pub not_alone : (bytes : List ℕ) (after : After) (start : ℕ) (miss : Miss) → Whatever bytes after (HasBodyMiss start (Some miss))
     → Whatever bytes after (λ chars. stands_alone chars start ≡ false)
 not_alone bytes after start miss is next follows = let same = is next follows in grind arith
-
-pub cut_not_alone : (bytes : List ℕ) (after : After) (start : ℕ) (missing : Option ℕ) → start ≤ length bytes → (after ≡ More → ⊥)
-    → IsPrefix (drop start bytes) (Cut missing) → Whatever bytes after (λ chars. stands_alone chars start ≡ false)
-cut_not_alone bytes More start missing within over is = absurd (over refl)
-cut_not_alone bytes End start missing within over is = not_alone bytes End start _ (cut_ended bytes start missing within is)
-cut_not_alone bytes (Damaged c) start missing within over is =
-    not_alone bytes (Damaged c) start _ (cut_damaged bytes c start missing within is)
 
 -- If something is wrong with bytes whose first byte is a delimiter, the bytes reach the command.
 wrong_reach : (xs : List ℕ) (w : Wrong) → IsWrong xs w → IsDelimiter (delimiter_in xs) → command_place xs < length xs
@@ -101,27 +53,64 @@ wrong_reach xs (BadDelimiter byte) is good = absurd (is.0.1 good)
 wrong_reach xs (ShortReply len count) is good = omega (arith, is.0.0.1)
 wrong_reach xs (BadCheck len byte fits) is good = omega (arith, is.checked.0.0.1)
 
--- If the bytes from a place on decide the header there, it is their header whatever follows.
-header_whatever : (bytes : List ℕ) (after : After) (start : ℕ) → start ≤ length bytes
-    → ((ys : List ℕ) → header_in (drop start bytes ++ ys) ≡ header_in (drop start bytes)) → Whatever bytes after (KeepsHeader bytes start)
-header_whatever bytes after start within sure next follows = rw (bytes_from-heard bytes next start within) (sure (faultless_bytes next))
+module _ (bytes : List ℕ) (start : ℕ) (within : start ≤ length bytes) where
+  -- The bytes from the place on.
+  abbrev xs : List ℕ
+  xs = drop start bytes
 
-pub wrong_header : (bytes : List ℕ) (after : After) (start : ℕ) (w : Wrong) → start ≤ length bytes → IsWrong (drop start bytes) w
-    → Whatever bytes after (KeepsHeader bytes start)
-wrong_header bytes after start w within is =
-    header_whatever bytes after start within (λ ys. header_sure (drop start bytes) ys (omega (arith, wrong_within (drop start bytes) w is))
-    (wrong_reach (drop start bytes) w is))
+  -- If these bytes decide the miss there, the miss stays the same whatever follows.
+  whatever : (after : After) (miss : Option Miss) → ((ys : List ℕ) (f : Option Character) (fp : ℕ) → miss_in (xs ++ ys) f fp start ≡ miss)
+      → Whatever bytes after (HasBodyMiss start miss)
+  whatever after miss is next follows =
+      rw (drop-heard bytes next start within) (miss_more xs next start ∙ is (faultless_bytes next) _ _)
 
-pub body_header : (bytes : List ℕ) (after : After) (start : ℕ) → start ≤ length bytes
-    → body_length (drop start bytes) ≤ length (drop start bytes) → Whatever bytes after (KeepsHeader bytes start)
-body_header bytes after start within whole =
-    header_whatever bytes after start within (λ ys. header_sure (drop start bytes) ys (omega (arith, whole)) (λ _. omega (arith, whole)))
+  pub whole_seen : (after : After) (layout : Layout) → IsPrefix xs (Whole layout) → Whatever bytes after (HasBodyMiss start None)
+  whole_seen after layout is = whatever after None (λ ys f fp. whole_told xs ys layout f fp start is)
 
--- If nothing or a character with fault bits follows the bytes, the header that is heard is that of the bytes.
-pub ended_header : (bytes : List ℕ) (start : ℕ) → start ≤ length bytes → Whatever bytes End (KeepsHeader bytes start)
-ended_header bytes start within next ends = rw (bytes_from-heard bytes next start within, ends, append-nil (drop start bytes)) refl
+  pub wrong_seen : (after : After) (w : Wrong) → IsWrong xs w → Whatever bytes after (HasBodyMiss start (Some (wrong_miss w start)))
+  wrong_seen after w is = whatever after _ (λ ys f fp. wrong_told xs ys w f fp start is)
 
-pub damaged_header : (bytes : List ℕ) (c : Character) (start : ℕ) → start ≤ length bytes
-    → Whatever bytes (Damaged c) (KeepsHeader bytes start)
-damaged_header bytes c start within next (valid, more, same) =
-    rw (bytes_from-heard bytes next start within, same, faultless_bytes-end c more valid, append-nil (drop start bytes)) refl
+  -- A place that the miss names lies within what is heard.
+  pub wrong_below : (after : After) (w : Wrong) → IsWrong xs w → NamesPlacesBelow (length (heard_with bytes after)) (wrong_miss w start)
+  wrong_below after (BadDelimiter byte) is = grind (arith, nat_tests)
+  wrong_below after (ShortReply len count) is = tt
+  wrong_below after (BadCheck len byte fits) is =
+      omega (arith, wrong_within xs (BadCheck len byte fits) is, within, length-drop start bytes, heard_few bytes after)
+
+  -- Where bytes end too early, the miss says what is missing at the end, or names the character with fault bits that follows.
+  pub cut_ended : (missing : Option ℕ) → IsPrefix xs (Cut missing) → Whatever bytes End (HasBodyMiss start (Some (cut_miss missing)))
+  cut_ended missing is next ends =
+      let heard : drop start (faultless bytes ++ next) ≡ faultless xs = grind (arith, append-nil, drop-heard) in
+      rw heard (miss_end xs start ∙ cut_told xs missing None (start + length xs) start is)
+
+  pub cut_damaged : (c : Character) (missing : Option ℕ) → IsPrefix xs (Cut missing)
+      → Whatever bytes (Damaged c) (HasBodyMiss start (Some (Faulty (length bytes) c.faults)))
+  cut_damaged c missing is next (valid, more, same) =
+      let place : start + length xs ≡ length bytes = omega (arith, length-drop start bytes, within) in
+      let faulty = miss_faulty xs c more start valid ∙ cut_told xs missing (Some c) (start + length xs) start is in
+      rw (same, drop-heard bytes (c ∷ more) start within) (rw place at faulty)
+
+  pub cut_not_alone : (after : After) (missing : Option ℕ) → (after ≡ More → ⊥) → IsPrefix xs (Cut missing)
+      → Whatever bytes after (λ chars. stands_alone chars start ≡ false)
+  cut_not_alone More missing over is = absurd (over refl)
+  cut_not_alone End missing over is = not_alone bytes End start _ (cut_ended missing is)
+  cut_not_alone (Damaged c) missing over is = not_alone bytes (Damaged c) start _ (cut_damaged c missing is)
+
+  -- If the bytes from the place on decide the header there, it is their header whatever follows.
+  header_whatever : (after : After) → ((ys : List ℕ) → header_in (xs ++ ys) ≡ header_in xs) → Whatever bytes after (KeepsHeader bytes start)
+  header_whatever after sure next follows = rw (bytes_from-heard bytes next start within) (sure (faultless_bytes next))
+
+  pub wrong_header : (after : After) (w : Wrong) → IsWrong xs w → Whatever bytes after (KeepsHeader bytes start)
+  wrong_header after w is =
+      header_whatever after (λ ys. header_sure xs ys (omega (arith, wrong_within xs w is)) (wrong_reach xs w is))
+
+  pub body_header : (after : After) → body_length xs ≤ length xs → Whatever bytes after (KeepsHeader bytes start)
+  body_header after whole = header_whatever after (λ ys. header_sure xs ys (omega (arith, whole)) (λ _. omega (arith, whole)))
+
+  -- If nothing or a character with fault bits follows the bytes, the header that is heard is that of the bytes.
+  pub ended_header : Whatever bytes End (KeepsHeader bytes start)
+  ended_header next ends = rw (bytes_from-heard bytes next start within, ends, append-nil xs) refl
+
+  pub damaged_header : (c : Character) → Whatever bytes (Damaged c) (KeepsHeader bytes start)
+  damaged_header c next (valid, more, same) =
+      rw (bytes_from-heard bytes next start within, same, faultless_bytes-end c more valid, append-nil xs) refl

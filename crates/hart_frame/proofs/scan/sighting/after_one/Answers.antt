@@ -12,7 +12,7 @@ lone_body-requires-clause-whole c = grind (arith, whole_seen, take_rest c.args.b
 pub returns-in-Wrong : goal.returns-in-Wrong
 returns-in-Wrong c =
     not_alone c.args.bytes.now c.args.after.now c.args.start _
-    (wrong_seen c.args.bytes.now c.args.after.now c.args.start c.in-Wrong.field-0 c.requires.within
+    (wrong_seen c.args.bytes.now c.args.start c.requires.within c.args.after.now c.in-Wrong.field-0
     (rw (take_rest c.args.bytes.now c.args.start) at c.in-Wrong.ensures))
 
 pub returns-then-can_stand_alone : goal.returns-then-can_stand_alone
@@ -41,5 +41,5 @@ returns-else-eq c =
           alone_moved bytes next start c.requires.within
           ∙ rw rest at (w.can_stand_alone.ensures.never w.if-can_stand_alone.false next)
       | else-eq-via-else-eq w ↦
-          cut_not_alone bytes c.args.after.now start c.in-Cut.missing c.requires.within (grind arith) is
+          cut_not_alone bytes start c.requires.within c.args.after.now c.in-Cut.missing (grind arith) is
     ]

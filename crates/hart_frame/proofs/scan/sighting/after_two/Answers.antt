@@ -9,10 +9,11 @@ use Rattle.hart_frame.proofs.scan.sighting.after_two.Goals as goal
 pub returns-in-Wrong : goal.returns-in-Wrong
 returns-in-Wrong c =
     let is = rw (take_rest c.args.bytes.now c.args.start) at c.in-Wrong.ensures in
+    let wrong = c.in-Wrong.wrong in
     rw c.wrong_miss.ensures (
-      wrong_seen c.args.bytes.now c.args.after.now c.args.start c.in-Wrong.wrong c.requires.within is,
-      wrong_below c.args.bytes.now c.args.after.now c.args.start c.in-Wrong.wrong c.requires.within is,
-      wrong_header c.args.bytes.now c.args.after.now c.args.start c.in-Wrong.wrong c.requires.within is,
+      wrong_seen c.args.bytes.now c.args.start c.requires.within c.args.after.now wrong is,
+      wrong_below c.args.bytes.now c.args.start c.requires.within c.args.after.now wrong is,
+      wrong_header c.args.bytes.now c.args.start c.requires.within c.args.after.now wrong is,
     )
 
 -- A damaged character after bytes that end too early is the miss.
@@ -21,7 +22,7 @@ damaged_two : (bytes : List ℕ) (after : After) (start faults : ℕ) (missing :
     → IsAfterTwo bytes after start (Missed (Faulty (length bytes) faults))
 damaged_two bytes after start faults missing within is (c, same, bits) =
     rw (same, bits)
-    (cut_damaged bytes c start missing within is, grind (arith, length-append, length-map), damaged_header bytes c start within)
+    (cut_damaged bytes start within c missing is, grind (arith, length-append, length-map), damaged_header bytes start within c)
 
 pub returns-in-Damaged : goal.returns-in-Damaged
 returns-in-Damaged c =

@@ -27,4 +27,4 @@ returns c =
     let bytes = c.args.bytes.now in
     let start = c.args.start in
     let same = looked_at bytes start c.args.stop c.requires.order c.requires.within in
-    grind (arith, alone bytes c.args.after.now start, body_header bytes c.args.after.now start, get_or-drop, length-drop start bytes)
+    grind (arith, alone bytes c.args.after.now start, body_header bytes start, get_or-drop, length-drop start bytes)
