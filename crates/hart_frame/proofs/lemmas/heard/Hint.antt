@@ -87,8 +87,7 @@ miss_is start chars miss fit =
 -- A place has at most one miss.
 pub one_miss : (start : ℕ) (chars : List Character) (miss other : Miss) → All (λ c. c.byte < 256) chars → IsMiss chars start miss
     → IsMiss chars start other → miss ≡ other
-one_miss start chars miss other fit is again =
-    let same = sym ((miss_is start chars miss fit).1 is) ∙ (miss_is start chars other fit).1 again in cc
+one_miss start chars miss other fit is again = grind (arith, miss_is start chars miss fit, miss_is start chars other fit)
 
 -- If a miss is found, it is the miss of the place. If no miss is found, the place has no miss.
 pub is_told : (chars : List Character) (start : ℕ) (found : Option Miss)
@@ -149,9 +148,7 @@ fault_is_gone start place faults byte others chars is again =
 -- The character that is named as faulty stands at its place, with the fault bits that are named.
 pub fault_is_there : (start place faults : ℕ) (chars : List Character) → miss_of chars start ≡ Some (Faulty place faults)
     → HasFaultsAt chars place faults
-fault_is_there start place faults chars is =
-    let (here, (early, at, has)) =
-    way_of start chars (Faulty place faults) (λ place byte fits same. absurd cc) is (λ same. cc) in has
+fault_is_there start place faults chars is = grind (arith, way_of start chars (Faulty place faults))
 
 -- Where `count` bytes are missing, a frame stands once `count` bytes are appended and the last appended byte is the check byte that fits.
 pub missing_fits : (start count : ℕ) (chars : List Character) (bytes : List ℕ) → All (λ c. c.byte < 256) chars

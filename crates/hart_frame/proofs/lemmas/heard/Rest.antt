@@ -65,8 +65,7 @@ rest_all place chars frames are = grind (arith, common_steps, AreFrames-found (d
 
 pub rest_only : (place : ℕ) (chars : List Character) (frames : List Found) → AreFrames chars place (map (moved place) frames)
     → AreFrames (drop place chars) 0 frames
-rest_only place chars frames are =
-    let (own, is, same) = rest_all place chars (map (moved place) frames) are in rw (all_moved_one place frames own same) is
+rest_only place chars frames are = grind (arith, rest_all place chars (map (moved place) frames), all_moved_one)
 
 -- Moving frames twice moves them by the sum.
 pub moved_twice : (n m : ℕ) (frames : List Found) → map (moved n) (map (moved m) frames) ≡ map (moved (n + m)) frames

@@ -35,12 +35,7 @@ same_places chars from to a (suc k) after same = grind (arith, same a, same_plac
 gap_on : (chars : List Character) (from to stop : ℕ) (given : List Seen) → Passes chars from to given → to ≤ stop
     → missed chars from stop ≡ given ++ missed chars to stop
 gap_on chars from to stop given passes before =
-    let order = passes.order in
-    let long : stop - from ≡ (to - from) + (stop - to) = omega (arith, order, before) in
-    let at : from + (to - from) ≡ to = omega (arith, order) in
-    let parts = rw at at (range_parts from (to - from) (stop - to)) in
-    let told = passes.told in
-    rw (long, parts, flat_map-append, told, same_places chars from to to (stop - to) (omega arith) passes.same) refl
+    grind (arith, range_parts from (to - from) (stop - to), flat_map-append, same_places chars from to to (stop - to))
 
 -- What is seen from the earlier place on is `given` and then what is seen from the later one on.
 seen_on : (chars : List Character) (from to : ℕ) (given : List Seen) (frames : List Found) → Passes chars from to given
@@ -82,17 +77,12 @@ abbrev pub NoneSeen : List Character → ℕ → ℕ → Type 0
 NoneSeen chars from to = (p : ℕ) → from ≤ p → p < to → missed_at chars from p ≡ []
 
 pub missed_none : (chars : List Character) (from stop : ℕ) → NoneSeen chars from stop → missed chars from stop ≡ []
-missed_none chars from stop silent =
-    none_between chars from from (stop - from) (λ p after before. silent p after (omega (arith, before)))
+missed_none chars from stop silent = grind (arith, none_between chars from from (stop - from))
 
 pub missed_one : (chars : List Character) (from start : ℕ) → from ≤ start → NoneSeen chars from start
     → missed chars from (start + 1) ≡ missed_at chars from start
 missed_one chars from start order silent =
-    let long : start + 1 - from ≡ (start - from) + 1 = omega (arith, order) in
-    let at : from + (start - from) ≡ start = omega (arith, order) in
-    let parts = rw at at (range_parts from (start - from) 1) in
-    let before = missed_none chars from start silent in
-    rw (long, parts, flat_map-append, before, append-nil) refl
+    grind (arith, range_parts from (start - from) 1, missed_none chars from start, flat_map-append, append-nil)
 
 -- Where a frame starts, two FF stand right before the place, a character other than FF stands at it, and a whole body begins there.
 pub record FrameAt (chars : List Character) (from start : ℕ) : Type 0 where
@@ -114,9 +104,7 @@ frame_at chars from found stands =
 
 -- Where a frame starts, no miss is seen.
 frame_silent : (chars : List Character) (from : ℕ) (found : Found) → StandsIn found chars from → missed_at chars from found.start ≡ []
-frame_silent chars from found stands =
-    let at = frame_at chars from found stands in
-    after_two chars from found.start (omega (arith, at.order)) at.one at.two at.other ∙ rw at.body refl
+frame_silent chars from found stands = grind (arith, frame_at, after_two)
 
 -- A frame that starts at or after a clean place has its two preamble bytes there or later.
 clean_frames : (chars : List Character) (from used : ℕ) (found : Found) → IsClean chars from used → StandsIn found chars from

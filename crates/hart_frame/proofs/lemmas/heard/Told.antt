@@ -33,8 +33,7 @@ whole_told xs ys layout f fp start is =
 -- missing at the end.
 pub cut_told : (xs : List ℕ) (missing : Option ℕ) (f : Option Character) (fp start : ℕ) → IsPrefix xs (Cut missing)
     → miss_in xs f fp start ≡ Some (faulty_or f fp (cut_miss missing))
-cut_told xs None f fp start is = grind (arith, nat_tests)
-cut_told xs (Some count) f fp start is = grind (arith, nat_tests)
+cut_told xs missing f fp start is = grind (arith, nat_tests)
 
 -- The first `most` faultless bytes that are heard decide the miss, since no body is longer.
 module _ (heard : List Character) (start most : ℕ) (front : List ℕ) (is_front : front ≡ take most (faultless_bytes heard))
@@ -43,12 +42,10 @@ module _ (heard : List Character) (start most : ℕ) (front : List ℕ) (is_fron
   joined = rw is_front (take-append-drop most (faultless_bytes heard))
 
   pub front_wrong : (w : Wrong) → IsWrong front w → body_miss start heard ≡ Some (wrong_miss w start)
-  front_wrong w is = rw joined at (wrong_told front (drop most (faultless_bytes heard)) w
-      (slice_get heard (length (faultless_bytes heard))) (start + length (faultless_bytes heard)) start is)
+  front_wrong w is = grind (arith, joined, wrong_told)
 
   pub front_whole : (layout : Layout) → IsPrefix front (Whole layout) → body_miss start heard ≡ None
-  front_whole layout is = rw joined at (whole_told front (drop most (faultless_bytes heard)) layout
-      (slice_get heard (length (faultless_bytes heard))) (start + length (faultless_bytes heard)) start is)
+  front_whole layout is = grind (arith, joined, whole_told)
 
   pub front_cut : (missing : Option ℕ) → IsPrefix front (Cut missing)
       → body_miss start heard ≡ Some (faulty_or (slice_get heard (length front)) (start + length front) (cut_miss missing))

@@ -54,10 +54,7 @@ gives_nothing_then old mid new moves (inr ends) = let none = nothing_before old 
 
 -- A whole body that a layout describes is the body of a frame.
 pub frame_of_whole : (layout : Layout) (body : List ℕ) → IsWholeBody layout body → (frame : FrameParts) × IsBody frame body
-frame_of_whole layout body is =
-    let exact : body_length body ≡ length body = omega (arith, is.described.command, is.described.count, is.exact) in
-    let held = held_frame body (λ k below. is.fits k 0 (omega (arith, below, exact))) is.checked in
-    (held.frame, grind (arith, IsBody-whole body held.frame))
+frame_of_whole layout body is = grind (arith, held_frame body, IsBody-whole)
 
 -- If the held bytes begin with a frame of a layout, the scanner begins with a frame.
 pub holds_frame : (b : Buffer) (layout : Layout) → IsWhole layout (held_bytes b) → BeginsWithFrame (scan_of b)
@@ -68,9 +65,7 @@ holds_frame b layout whole =
 -- A buffer gives nothing if it gives nothing after it lets go of the bytes before the found place.
 pub given_nothing : (b mid : Buffer) (found : SearchResult) (new : Scan) → IsHeldSearched b found → mid ≡ passed b found.place
     → GivesNothing (scan_of mid) new → GivesNothing (scan_of b) new
-given_nothing b mid found new is same after =
-    let given = subst (λ (m : Buffer). GivesNothing (scan_of m) new) same after in
-    gives_nothing_then (scan_of b) (scan_of (passed b found.place)) new (moves_passed b found Busy is) given
+given_nothing b mid found new is same after = grind (arith, gives_nothing_then, moves_passed b found Busy)
 
 -- A buffer gives nothing if the bytes from the found place on may begin a frame.
 pub given_open : (b : Buffer) (found : SearchResult) → IsHeldSearched b found → IsHeldOpen b found.place

@@ -180,16 +180,11 @@ missed_seen bytes after from start miss silent is (inr (one, (same, alone, heade
 -- A message stands only after two preamble bytes.
 pub message_two : (bytes : List ℕ) (after : After) (from start : ℕ) (layout : Layout)
     → IsStandingAt bytes after from start (standing.Message layout) → FollowsTwo bytes from start
-message_two bytes after from start layout (inl (two, body)) = two
-message_two bytes after from start layout (inr (one, never)) = absurd never
+message_two bytes after from start layout is = grind arith
 
 -- Where something is open, fewer than 269 characters are left from `used` on.
 pub open_few : (bytes : List ℕ) (after : After) (place from start used : ℕ) → ((i : ℕ) → get_or bytes i 0 < 256)
     → IsAsked bytes after place start
     → IsStandingAt bytes after from start (Open used) → length (heard_with bytes after) < used + 269
-open_few bytes after place from start used fits is (inl (two, (more, at, truncated))) =
-    let heard : length (heard_with bytes after) ≡ length bytes = rw more (grind (arith, length-map)) in
-    let few = truncated_few (drop start bytes) (λ i. grind (arith, get_or-drop, fits)) truncated in
-    omega (arith, heard, few, at, is.within, length-drop start bytes)
-open_few bytes after place from start used fits is (inr (one, (more, at, few, may))) =
-    let heard : length (heard_with bytes after) ≡ length bytes = rw more (grind (arith, length-map)) in omega (arith, heard, few, at)
+open_few bytes after place from start used fits is stands =
+    grind (arith, length-map, truncated_few (drop start bytes), get_or-drop, length-drop)

@@ -37,8 +37,7 @@ moves_frames old new given later past more moves long closed frames =
 -- Moving past frames does not change how many characters were let go or are held in all.
 pub moves_length : (a b : Scan) (given : List Found) → MovesPast a b given
     → (b.first + length b.held ≡ a.first + length a.held) × (a.first ≤ b.first)
-moves_length a b given moves =
-    (grind (arith, moves.first, moves.held, moves.next.within, length-drop moves.count a.held), omega (arith, moves.first))
+moves_length a b given moves = grind (arith, length-drop)
 
 -- A scanner that lets go of characters at which no frame begins moves past no frame.
 pub moves_past : (old new : Scan) (count : ℕ) → count ≤ length old.held → new.held ≡ drop count old.held → new.first ≡ old.first + count

@@ -98,10 +98,7 @@ passed_to_end xs place count within none other here after before =
 
 -- One or two FF and nothing else, or no bytes, may begin a frame.
 pub may_begin_last : (xs : List ℕ) (count : ℕ) → count ≤ 2 → xs ≡ replicate count 255 → MayBegin xs
-may_begin_last xs zero few is = inl is
-may_begin_last xs (suc zero) few is = inr (inl is)
-may_begin_last xs (suc (suc zero)) few is = inr (inr ([], is, inl refl))
-may_begin_last xs (suc (suc (suc count))) few is = absurd (omega arith)
+may_begin_last xs count few is = let cases : (count ≡ 0) ⊎ (count ≡ 1) ⊎ (count ≡ 2) = grind arith in grind arith
 
 -- The next pair after places without one is the next pair from the first of these places on.
 pub pair_after : (xs : List ℕ) (from place : ℕ) (result : Option ℕ) → from ≤ place → HasNoPair xs from place
@@ -178,8 +175,7 @@ module _ (xs : List ℕ) (from seen : ℕ) where
       (more, rw (← next) at (searching_never here needed size more on never some (omega arith) refl), omega arith, omega arith)
 
   pub passed_before : (place start : ℕ) → IsNextPair xs place start → (here : ℕ) → place ≤ here → here < start → IsPassed xs here
-  passed_before place start next here after before =
-      passed_here xs here (omega (arith, next.pair, before)) (next.passed here after before)
+  passed_before place start next here after before = grind (arith, passed_here)
 
   -- A search goes on after the next pair if no frame begins there.
   pub searching_on : (place decided start count more : ℕ) → IsSearching xs from seen place decided → IsNextPair xs place start

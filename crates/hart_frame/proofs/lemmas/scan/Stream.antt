@@ -60,8 +60,7 @@ history_first past more scan given frames history ended are =
 -- The number of characters that were let go and the number that are held add up to the number that were pushed.
 pub history_length : (past : List Character) (scan : Scan) (given : List Found) → IsHistory past scan given
     → scan.first + length scan.held ≡ length past
-history_length past scan given history =
-    let is = streamed past scan given history in grind (arith, is.held, is.next.within, length-drop scan.first past)
+history_length past scan given history = grind (arith, streamed past scan given history, length-drop)
 
 -- After the end, the given frames are all frames of what was pushed.
 pub history_all : (past : List Character) (given : List Found) → IsWholeHistory past given → AreFrames past 0 given
