@@ -55,10 +55,7 @@ pub stood : (left : ℕ) (body : List ℕ) (chars : List Character) (found : Fou
     → AllZip IsHeardOrMarked (replicate left 255 ++ body) chars → (stands : StandsIn found chars from)
     → (rest : List ℕ) × ((left < length stands.prefix) ⊎ ((length stands.prefix + 2 ≡ left) × (body ≡ stands.body ++ rest)))
 stood left body chars found from delimiter heard stands =
-    let (others, begins, low) = head_of found.frame stands.body stands.is_body in
-    let (after, sent) =
-    sent_there (replicate left 255 ++ body) (255 ∷ 255 ∷ stands.body) stands.prefix stands.rest (rw stands.split at heard) in
-    grind (arith, two_there left (length stands.prefix) (delimiter_of found.frame) body (others ++ after))
+    grind (arith, two_there left (length stands.prefix) (delimiter_of found.frame) body, head_of, sent_there (replicate left 255 ++ body) (255 ∷ 255 ∷ stands.body) stands.prefix stands.rest)
 
 -- If no two FF in a row are heard after the delimiter, a frame that is heard starts at the delimiter.
 stands_there : (left : ℕ) (body : List ℕ) (chars : List Character) (found : Found) (from : ℕ) → delimiter_in body ≢ 255

@@ -15,8 +15,7 @@ use Rattle.hart_frame.specs.heard.Sighting.{missed, moved_seen, seen_miss}
 told_moved : (n from p : ℕ) (h : Option HeaderParts) (m : Option Miss)
     → option_map_or (λ miss. Missed (n + p) (miss_in_whole (n + from) miss) h ∷ []) m []
     ≡ map (moved_seen n) (option_map_or (λ miss. Missed p (miss_in_whole from miss) h ∷ []) m [])
-told_moved n from p h None = refl
-told_moved n from p h (Some miss) = grind (arith, common_steps)
+told_moved n from p h m = grind (arith, common_steps)
 
 at_moved : (chars : List Character) (n from p : ℕ) → missed_at chars (n + from) (n + p)
     ≡ map (moved_seen n) (missed_at (drop n chars) from p)
@@ -59,9 +58,7 @@ follows_from chars from place = nat_lt from place && is_preamble_at chars (place
 
 follows_at : (chars : List Character) (from place k : ℕ) → place - from ≡ k
     → follows_preamble (drop from chars) k ≡ follows_from chars from place
-follows_at chars from place zero is = grind (arith, nat_tests)
-follows_at chars from place (suc k) is =
-    let before : from + k ≡ place - 1 = omega (arith, is) in grind (arith, nat_tests, rest_at chars from k)
+follows_at chars from place k is = grind (arith, nat_tests, rest_at chars from (k - 1))
 
 follows_is : (chars : List Character) (from place : ℕ) → follows_preamble (drop from chars) (place - from) ≡ follows_from chars from place
 follows_is chars from place = follows_at chars from place (place - from) refl
@@ -78,18 +75,14 @@ abbrev pub is_other_at : List Character → ℕ → Bool
 is_other_at chars place = option_map_or (λ first. not (is_preamble first)) (slice_get chars place) false
 
 pub is_none-map : {A B : Type 0} (f : A → B) (m : Option A) → is_none (option_map f m) ≡ is_none m
-is_none-map f None = refl
-is_none-map f (Some x) = refl
+is_none-map f m = grind arith
 
 -- Renumbering the places in a miss does not change which miss is seen.
 pick : (f : Miss → Miss) (m told : Option Miss) (one two asked crossed : Bool) → option_map f m ≡ told → f OnePreamble ≡ OnePreamble
     → option_map f (if (one && not two) && crossed then None
     else if (one && two) && asked then m else if (one && not two) && is_none m then Some OnePreamble else None)
     ≡ (if one then if two then if asked then told else None else if is_none told && not crossed then Some OnePreamble else None else None)
-pick f m told true true true crossed is same = is
-pick f m told true true false crossed is same = refl
-pick f m told true false asked crossed is same = grind (arith, nat_tests, is_none-map f m)
-pick f m told false two asked crossed is same = refl
+pick f m told one two asked crossed is same = grind (arith, nat_tests, is_none-map f m)
 
 miss_is : (chars : List Character) (from place : ℕ) → from ≤ place
     → option_map (miss_in_whole from) (seen_miss (drop from chars) (place - from))
@@ -110,8 +103,7 @@ told place h m = option_map_or (λ miss. Missed place miss h ∷ []) m []
 
 told_is : (from place : ℕ) (h : Option HeaderParts) (m : Option Miss)
     → option_map_or (λ miss. Missed place (miss_in_whole from miss) h ∷ []) m [] ≡ told place h (option_map (miss_in_whole from) m)
-told_is from place h None = refl
-told_is from place h (Some miss) = refl
+told_is from place h m = grind arith
 
 told_at : (chars : List Character) (from place : ℕ) → from ≤ place → missed_at chars from place
     ≡ told place (header_at chars place)
@@ -123,16 +115,13 @@ told_at chars from place after =
 -- The second FF before a place matters only if a first one stands right before the place.
 same_miss : (chars : List Character) (place : ℕ) (one two other asked : Bool) → (one ≡ true → two ≡ other)
     → whole_miss chars place one two asked ≡ whole_miss chars place one other asked
-same_miss chars place true two other asked same = rw (same refl) refl
-same_miss chars place false two other asked same = refl
+same_miss chars place one two other asked same = grind (arith, nat_tests)
 
 same_at : (chars : List Character) (from to place : ℕ) → from ≤ place → to ≤ place
     → follows_from chars from place ≡ follows_from chars to place
     → (follows_from chars to place ≡ true → follows_from chars from (place - 1) ≡ follows_from chars to (place - 1))
     → missed_at chars from place ≡ missed_at chars to place
-same_at chars from to place after later one two =
-    rw (told_at chars from place after, told_at chars to place later, one)
-    (ap (told place (header_at chars place)) (same_miss chars place (follows_from chars to place) _ _ (is_other_at chars place) two))
+same_at chars from to place after later one two = grind (arith, told_at, same_miss)
 
 -- Nothing is seen at a place if no FF stands right before it, or if FF or nothing stands at it.
 pub unasked : (chars : List Character) (from place : ℕ) → from ≤ place → follows_from chars from place ≡ false
@@ -145,9 +134,7 @@ no_body chars place is =
 
 none_other : (place : ℕ) (h : Option HeaderParts) (one two : Bool)
     → told place h (if one then if two then None else None else None) ≡ []
-none_other place h true true = refl
-none_other place h true false = refl
-none_other place h false two = refl
+none_other place h one two = grind (arith, nat_tests)
 
 pub not_other : (chars : List Character) (from place : ℕ) → from ≤ place → is_other_at chars place ≡ false
     → missed_at chars from place ≡ []

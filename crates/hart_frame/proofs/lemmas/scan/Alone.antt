@@ -73,8 +73,7 @@ more_of (Damaged c) next (valid, more, same) some = absurd (omega (arith, rw (sa
 
 end_none : (xs ys : List ℕ) → has_two_preambles xs ≡ false → (0 < length ys → get_or xs (length xs - 1) 0 ≢ 255)
     → has_two_preambles (xs ++ take 1 ys) ≡ false
-end_none xs [] none last = rw (append-nil xs) none
-end_none xs (y ∷ ys) none last = two_end xs (y ∷ []) (last (omega arith)) (omega arith) ∙ none
+end_none xs ys none last = grind (arith, append-nil, two_end)
 
 -- A whole body of `n` bytes begins at `start`, and the lemmas say whether it stands alone.
 module _ (bytes : List ℕ) (after : After) (start n : ℕ) (within : start ≤ length bytes) (long : body_length (drop start bytes) ≡ n)
@@ -139,9 +138,4 @@ pub may_moved : (bytes others : List ℕ) (start other : ℕ) → start ≤ leng
 may_moved bytes others start other within inside same may =
     let moved = λ (more : List Character). alone_moved others more other inside
     ∙ rw same at (sym (alone_moved bytes more start within)) in
-    record {
-      one = may.one;
-      alone = moved may.one ∙ may.alone;
-      other = may.other;
-      not_alone = moved may.other ∙ may.not_alone;
-    }
+    grind (arith, moved)

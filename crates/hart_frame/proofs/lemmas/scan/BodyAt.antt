@@ -49,9 +49,7 @@ not_alone bytes after start miss is next follows = let same = is next follows in
 
 -- If something is wrong with bytes whose first byte is a delimiter, the bytes reach the command.
 wrong_reach : (xs : List ℕ) (w : Wrong) → IsWrong xs w → IsDelimiter (delimiter_in xs) → command_place xs < length xs
-wrong_reach xs (BadDelimiter byte) is good = absurd (is.0.1 good)
-wrong_reach xs (ShortReply len count) is good = omega (arith, is.0.0.1)
-wrong_reach xs (BadCheck len byte fits) is good = omega (arith, is.checked.0.0.1)
+wrong_reach xs w is good = grind arith
 
 module _ (bytes : List ℕ) (start : ℕ) (within : start ≤ length bytes) where
   -- The bytes from the place on.
@@ -72,10 +70,7 @@ module _ (bytes : List ℕ) (start : ℕ) (within : start ≤ length bytes) wher
 
   -- A place that the miss names lies within what is heard.
   pub wrong_below : (after : After) (w : Wrong) → IsWrong xs w → NamesPlacesBelow (length (heard_with bytes after)) (wrong_miss w start)
-  wrong_below after (BadDelimiter byte) is = grind (arith, nat_tests)
-  wrong_below after (ShortReply len count) is = tt
-  wrong_below after (BadCheck len byte fits) is =
-      omega (arith, wrong_within xs (BadCheck len byte fits) is, within, length-drop start bytes, heard_few bytes after)
+  wrong_below after w is = grind (arith, nat_tests, wrong_within xs w is, length-drop, heard_few)
 
   -- Where bytes end too early, the miss says what is missing at the end, or names the character with fault bits that follows.
   pub cut_ended : (missing : Option ℕ) → IsPrefix xs (Cut missing) → Whatever bytes End (HasBodyMiss start (Some (cut_miss missing)))

@@ -35,22 +35,16 @@ says_alone xs more alone =
 
 -- If bytes end too early for a body and nothing follows them, they are not a body that stands alone.
 pub not_yet : (xs : List ℕ) → IsTruncated xs → stands_alone (faultless xs ++ []) 0 ≡ false
-not_yet xs truncated = false_from_ne_true _ (λ alone.
-    let is = says_alone xs [] alone in
-    let past = whole_past xs [] truncated is.has in
-    omega (arith, past, is.has.1, length-append xs []))
+not_yet xs truncated = false_from_ne_true _ (λ alone. grind (arith, says_alone xs [] alone, whole_past xs [], length-append))
 
 -- Bytes that end too early never become a body that stands alone if they hold two FF in a row, or lack only a second FF.
 pub never_two : (xs : List ℕ) (more : List Character) → IsTruncated xs → has_two_preambles xs ≡ true
     → stands_alone (faultless xs ++ more) 0 ≡ false
-never_two xs more truncated two = false_from_ne_true _ (λ alone.
-    let ys : List ℕ = faultless_bytes more in
-    let is = says_alone xs more alone in
-    let past = whole_past xs ys truncated is.has in
-    let k : ℕ = body_length (xs ++ ys) + 1 - length xs in
-    let parts : take (body_length (xs ++ ys) + 1) (xs ++ ys) ≡ xs ++ take k ys = grind (arith, take-append-add xs ys k) in
-    let clear = rw parts at is.clear in
-    cc (clear, two_more xs (take k ys) two))
+never_two xs more truncated two =
+    false_from_ne_true _ (λ alone.
+        let is = says_alone xs more alone in
+        let k : ℕ = body_length (xs ++ faultless_bytes more) + 1 - length xs in
+        grind (arith, whole_past xs (faultless_bytes more), take-append-add xs (faultless_bytes more) k, two_more xs))
 
 lacks_next : (xs ys : List ℕ) → All (λ byte. byte < 256) xs → LacksOnePreamble xs → HasCheckByte (xs ++ ys)
     → check_miss (xs ++ ys) 0 ≡ None → has_two_preambles (take (body_length (xs ++ ys) + 1) (xs ++ ys)) ≡ true
@@ -66,9 +60,8 @@ lacks_next xs (y ∷ ys) fit lacks has check =
 
 pub never_lacks : (xs : List ℕ) (more : List Character) → All (λ byte. byte < 256) xs → LacksOnePreamble xs
     → stands_alone (faultless xs ++ more) 0 ≡ false
-never_lacks xs more fit lacks = false_from_ne_true _ (λ alone.
-    let is = says_alone xs more alone in
-    cc (is.clear, lacks_next xs (faultless_bytes more) fit lacks is.has is.check))
+never_lacks xs more fit lacks =
+    false_from_ne_true _ (λ alone. grind (arith, says_alone xs more alone, lacks_next xs (faultless_bytes more) fit lacks))
 
 -- A row of bytes with the value 2, followed by a check byte, has no two FF in a row.
 twos : (k check : ℕ) → has_two_preambles (replicate k 2 ++ check ∷ []) ≡ false
@@ -78,8 +71,7 @@ twos (suc (suc k)) check = grind (arith, nat_tests, two_step, twos (suc k) check
 
 clear_rest : (xs : List ℕ) (k check : ℕ) → has_two_preambles xs ≡ false
     → (k ≡ 0 → get_or xs (length xs - 1) 0 ≡ 255 → check ≢ 255) → has_two_preambles (xs ++ (replicate k 2 ++ check ∷ [])) ≡ false
-clear_rest xs zero check clear differs = two_push xs check clear (differs refl)
-clear_rest xs (suc k) check clear differs = two_other xs (replicate k 2 ++ check ∷ []) 2 (omega arith) clear (twos (suc k) check)
+clear_rest xs k check clear differs = grind (arith, two_push, two_other, twos)
 
 -- A body stands alone if it holds no two FF in a row and nothing follows it.
 body_alone : (chars : List Character) (body : List ℕ) (f : FrameParts) → IsBody f body → chars ≡ faultless body

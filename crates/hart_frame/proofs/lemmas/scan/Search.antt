@@ -104,16 +104,13 @@ may_begin_last xs count few is = let cases : (count ≡ 0) ⊎ (count ≡ 1) ⊎
 pub pair_after : (xs : List ℕ) (from place : ℕ) (result : Option ℕ) → from ≤ place → HasNoPair xs from place
     → MatchOption result (HasNoPair xs place (length xs)) (IsNextPair xs place)
     → MatchOption result (HasNoPair xs from (length xs)) (IsNextPair xs from)
-pair_after xs from place None order none rest = grind (arith, none, rest)
-pair_after xs from place (Some start) order none next = grind (arith, none, next)
+pair_after xs from place result order none rest = grind (arith, none, rest)
 
 -- So is the next pair from the sixteenth last place with three bytes on, even if some places from there on were passed.
 pub pair_at_end : (xs : List ℕ) (from place last : ℕ) (result : Option ℕ) → from ≤ last → last ≤ place → last + 18 ≡ length xs
     → HasNoPair xs from place → MatchOption result (HasNoPair xs last (last + 16)) (IsNextPair xs last)
     → MatchOption result (HasNoPair xs from (length xs)) (IsNextPair xs from)
-pair_at_end xs from place last None order seen all none rest = grind (arith, none, rest)
-pair_at_end xs from place last (Some start) order seen all none next =
-    pair_after xs from last (Some start) order (λ here after before. none here after (omega (arith, before, seen))) next
+pair_at_end xs from place last result order seen all none rest = grind (arith, none, rest)
 
 -- If bytes may begin a frame, so may each prefix of them.
 may_take : (xs : List ℕ) (n : ℕ) → n ≤ length xs → MayBegin xs → MayBegin (take n xs)

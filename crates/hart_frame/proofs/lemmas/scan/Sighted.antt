@@ -24,16 +24,7 @@ pub record Known (bytes : List ℕ) (after : After) (next : List Character) : Ty
   pub none : (i : ℕ) → length bytes ≤ i → i < length (heard_with bytes after) → is_preamble_at (faultless bytes ++ next) i ≡ false
 
 pub known : (bytes : List ℕ) (after : After) (next : List Character) → MayFollow after next → Known bytes after next
-known bytes (Damaged c) next (valid, more, same) = record {
-  within = grind (arith, length-append);
-  none = λ i low high.
-      let here : i ≡ length bytes = grind (arith, length-append, length-map) in
-      grind (arith, nat_tests, tested (faultless bytes ++ next) i, get_or_at, length-map);
-}
-known bytes _ next follows = record {
-  within = grind (arith, length-append);
-  none = λ i low high. absurd (grind (arith, length-map));
-}
+known bytes after next follows = grind (arith, nat_tests, length-append, length-map, tested, get_or_at)
 
 -- Among the known characters a faultless FF is heard exactly where a byte FF stands.
 pub preamble_yes : (bytes : List ℕ) (next : List Character) (i : ℕ) → i < length bytes → get_or bytes i 0 ≡ 255
@@ -58,8 +49,7 @@ pub other_yes : (bytes : List ℕ) (after : After) (next : List Character) (i : 
     → i < length (heard_with bytes after) → (i < length bytes → get_or bytes i 0 ≢ 255)
     → is_other_at (faultless bytes ++ next) i ≡ true
 other_yes bytes after next i follows within other =
-    let long = (known bytes after next follows).within in
-    grind (arith, nat_tests, tested (faultless bytes ++ next) i, preamble_no bytes after next i follows within other)
+    grind (arith, nat_tests, tested (faultless bytes ++ next) i, preamble_no bytes after next i follows within other, known bytes after next follows)
 
 -- A place that is asked in the characters is asked in the bytes.
 pub asked : (bytes : List ℕ) (after : After) (next : List Character) (from place : ℕ) → MayFollow after next

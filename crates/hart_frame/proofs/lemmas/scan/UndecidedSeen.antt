@@ -26,9 +26,7 @@ use Rattle.hart_frame.proofs.lemmas.scan.Sighted.{SilentBefore, late, none_seen,
 -- After two FF stand bytes that end too early for a body.
 module _ (rest : List ℕ) (fit : All (λ byte. byte < 256) rest) (truncated : IsTruncated rest) (some : 0 < length rest) where
   silent_two : SilentBefore (255 ∷ 255 ∷ rest) More 0 2
-  silent_two zero is below = absurd (omega (arith, is.order))
-  silent_two (suc zero) is below = absurd (is.other (omega arith) refl)
-  silent_two (suc (suc place)) is below = absurd (omega (arith, below))
+  silent_two place is below = grind arith
 
   heard_two : 2 ≤ length (heard_with (255 ∷ 255 ∷ rest) More)
   heard_two = omega arith
@@ -66,8 +64,7 @@ module _ (rest : List ℕ) (fit : All (λ byte. byte < 256) rest) (truncated : I
 form : (m : Option Miss) (h : Option HeaderParts) (from place : ℕ)
     → (option_map_or (λ miss. Missed place (miss_in_whole from miss) h ∷ []) m [] ≡ [])
     ⊎ ((miss : Miss) × (option_map_or (λ miss. Missed place (miss_in_whole from miss) h ∷ []) m [] ≡ Missed place miss h ∷ []))
-form None h from place = inl refl
-form (Some miss) h from place = inr (_, refl)
+form m h from place = grind arith
 
 not_first : (chars : List Character) (a k : ℕ) (tail later : List Seen) (miss : Miss) (h : Option HeaderParts) → missed_at chars 0 1 ≡ []
     → (tail ≡ Missed 1 miss h ∷ later → ⊥)
@@ -90,8 +87,7 @@ not_one chars (found ∷ frames) later miss h none is =
 -- After a single FF stand bytes that may or may not become a body that stands alone.
 module _ (rest : List ℕ) (some : 0 < length rest) (other : get_or rest 0 0 ≢ 255) (may : MayStandAlone (255 ∷ rest) 1) where
   silent_one : SilentBefore (255 ∷ rest) More 0 1
-  silent_one zero is below = absurd (omega (arith, is.order))
-  silent_one (suc place) is below = absurd (omega (arith, below))
+  silent_one place is below = grind arith
 
   pub undecided_one : IsUndecidedSighting (faultless (255 ∷ rest))
   undecided_one first always =

@@ -95,8 +95,7 @@ fold-front lanes front bytes n same is =
 
 -- Dropping `n` of the first `m` elements of a list leaves the first `m - n` elements from place `n` on.
 pub drop_take : (xs : List ℕ) (n m : ℕ) → n ≤ m → drop n (take m xs) ≡ take (m - n) (drop n xs)
-drop_take xs n m order =
-    let all : m ≡ n + (m - n) = omega arith in ap (λ (k : ℕ). drop n (take k xs)) all ∙ drop-take n (m - n) xs
+drop_take xs n m order = grind (arith, drop-take n (m - n) xs)
 
 -- The lanes have the exclusive or of the first `whole` of the first `len` bytes of a list.
 module _ (len whole : ℕ) (bytes lanes : List ℕ) (order : whole ≤ len) (each : (i : ℕ) → get_or bytes i 0 < 256)

@@ -44,27 +44,19 @@ fold_fits xs len byte fits is = fits-is (take (len - 1) xs) fits (fit_before xs 
 
 -- It takes at least one byte, and at most all of them, to show what is wrong.
 pub wrong_within : (xs : List ℕ) (w : Wrong) → IsWrong xs w → (0 < shown_by w) × (shown_by w ≤ length xs)
-wrong_within xs (BadCheck len byte fits) is = grind (arith, is.whole, is.checked)
 wrong_within xs w is = grind arith
 
 -- It takes at most 267 bytes to show what is wrong.
 pub wrong_few : (xs : List ℕ) (w : Wrong) → ((i : ℕ) → get_or xs i 0 < 256) → IsWrong xs w → shown_by w ≤ 267
-wrong_few xs (BadDelimiter byte) fits is = omega arith
-wrong_few xs (ShortReply len count) fits is = grind (arith, fits 0)
-wrong_few xs (BadCheck len byte fit) fits is = grind (arith, fits 0, fits (byte_count_place xs), is.whole)
+wrong_few xs w fits is = grind (arith, fits 0, fits (byte_count_place xs))
 
 -- The bytes that show what is wrong show it without the bytes after them.
 pub wrong_shown : (xs : List ℕ) (w : Wrong) → IsWrong xs w → IsWrong (take (shown_by w) xs) w
-wrong_shown xs (BadCheck len byte fits) is = grind (arith, good_prefix xs len is.checked, length-take-le, get_or-take, take-take)
-wrong_shown xs w is = grind (arith, length-take-le, get_or-take)
+wrong_shown xs w is = grind (arith, length-take-le, get_or-take, good_prefix, take-take)
 
 -- If a prefix has fewer bytes than are needed to show what is wrong, it ends too early for a body.
 pub wrong_fewer : (xs : List ℕ) (w : Wrong) → IsWrong xs w → (fewer : ℕ) → fewer < shown_by w → IsTruncated (take fewer xs)
-wrong_fewer xs (BadDelimiter byte) is fewer below = inl (grind (arith, length-take))
-wrong_fewer xs (ShortReply len count) is fewer below =
-    truncated_count xs fewer is.0.0.0 (omega (arith, below, is.1)) (omega (arith, below, is.1, is.0.0.1))
-wrong_fewer xs (BadCheck len byte fits) is fewer below =
-    truncated_check xs fewer is.checked.0 (omega (arith, below, is.whole)) (omega (arith, below, is.whole, is.checked.1))
+wrong_fewer xs w is fewer below = grind (arith, length-take, truncated_count, truncated_check)
 
 -- Bytes with something wrong are refused with the fault that `fault_in` gives for it.
 pub wrong_refused : (xs : List ℕ) (w : Wrong) → IsWrong xs w → IsRefusedWith xs (fault_in w)
@@ -73,8 +65,7 @@ wrong_refused xs w is = is.0
 
 -- Bytes end too early for a body exactly if they begin as `Cut` says.
 pub cut_truncated : (xs : List ℕ) (missing : Option ℕ) → IsPrefix xs (Cut missing) → IsTruncated xs
-cut_truncated xs None is = is.0
-cut_truncated xs (Some count) is = inr (inr (is.0, omega (arith, is.1, is.2)))
+cut_truncated xs missing is = grind arith
 
 pub truncated_cut : (xs : List ℕ) → IsTruncated xs → (missing : Option ℕ) × IsPrefix xs (Cut missing)
 truncated_cut xs (inl none) = (None, (inl none, λ has. absurd (omega (arith, none, has.1))))
