@@ -109,11 +109,7 @@ frame_silent chars from found stands = grind (arith, frame_at, after_two)
 -- A frame that starts at or after a clean place has its two preamble bytes there or later.
 clean_frames : (chars : List Character) (from used : ℕ) (found : Found) → IsClean chars from used → StandsIn found chars from
     → used ≤ found.start → used + 2 ≤ found.start
-clean_frames chars from used found clean stands low =
-    let at = frame_at chars from found stands in
-    let other : is_preamble_at chars found.start ≢ true = λ same. let no = not_both chars found.start same in cc (no, at.other) in
-    let cases : (found.start ≡ used) ⊎ (found.start ≡ used + 1) ⊎ (used + 2 ≤ found.start) = grind arith in
-    grind (arith, at)
+clean_frames chars from used found clean stands low = grind (arith, frame_at chars from found stands, not_both chars found.start)
 
 -- If no miss is seen before a clean place, and no frame starts before it, the list passes to this place with nothing seen.
 pub passes_silent : (chars : List Character) (from used : ℕ) → from ≤ used → used ≤ length chars → NoneSeen chars from used

@@ -114,11 +114,8 @@ module _ (bytes : List ℕ) (after : After) (next : List Character) (from start 
 used_clean : (bytes : List ℕ) (after : After) (next : List Character) (from used : ℕ) → MayFollow after next → from ≤ length bytes
     → IsPassed bytes after from used
     → (from ≤ used) × (used ≤ length (heard_with bytes after)) × IsClean (faultless bytes ++ next) from used
-used_clean bytes More next from used may order is =
-    grind (arith, length-map, preamble_no bytes More next (used - 1) may, preamble_yes bytes next)
-used_clean bytes End next from used ends order all = grind (arith, length-append, length-map)
-used_clean bytes (Damaged c) next from used may order all =
-    grind (arith, length-append, length-map, preamble_no bytes (Damaged c) next (used - 1) may)
+used_clean bytes after next from used may order is =
+    grind (arith, length-append, length-map, preamble_no bytes after next (used - 1) may, preamble_yes bytes next)
 
 pub passed_all : (bytes : List ℕ) (after : After) (from used : ℕ) → SilentBefore bytes after from (length (heard_with bytes after))
     → from ≤ length bytes → IsPassed bytes after from used → Whatever bytes after (λ chars. Passes chars from used [])

@@ -78,9 +78,7 @@ BodyAhead bytes = (frame : FrameParts) × (len : ℕ) × BeginsWithBody bytes fr
 -- Bytes that reach their check byte and have even parity up to it begin with a body.
 whole_body : (bytes : List ℕ) → HasCheckByte bytes → All (λ byte. byte < 256) (take (body_length bytes) bytes)
     → HasEvenParity (take (body_length bytes) bytes) → BodyAhead bytes
-whole_body bytes whole fit even =
-    let held = held_frame bytes (λ k below. grind (arith, All-get_or, get_or-take, length-take-le)) whole in
-    (held.frame, body_length bytes, grind (arith, IsBody-whole, take-take, length-take-le))
+whole_body bytes whole fit even = grind (arith, held_frame bytes, All-get_or, get_or-take, length-take-le, IsBody-whole, take-take)
 
 -- All bytes are below 256, or not all of them are.
 fit_decided : (bytes : List ℕ) → All (λ byte. byte < 256) bytes ⊎ (All (λ byte. byte < 256) bytes → ⊥)

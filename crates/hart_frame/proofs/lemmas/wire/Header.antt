@@ -15,19 +15,13 @@ use Rattle.hart_frame.proofs.lemmas.wire.UnambiguousBodies.{address_type-lt, kin
 -- The first byte of an address has the master bit as bit 7, and six bits of the address as its lower six bits.
 first_read : (master : MasterId) (burst : Bool) (six byte : ℕ) → six < 64 → byte ≡ first_byte master burst six
     → (byte % 64 ≡ six) × (byte / 128 ≡ (elim master as (λ _. ℕ) [ Primary ↦ 1 | Secondary ↦ 0 ]))
-first_read Primary burst six byte low is = grind arith
-first_read Secondary burst six byte low is = grind arith
+first_read master burst six byte low is = grind arith
 
 -- If the address bytes of a master and an address stand after the delimiter, the bytes have this master and this address.
 pub address_read : (bytes xs : List ℕ) (master : MasterId) (burst : Bool) (address : Address) → IsAddressBytes master burst address xs
     → ((k : ℕ) → k < length xs → get_or bytes (1 + k) 0 ≡ get_or xs k 0) → delimiter_in bytes / 128 ≡ address_type address
     → (master_in bytes ≡ master) × (address_in bytes ≡ address)
-address_read bytes xs master burst (Polling number) is at type =
-    let (six, top) = first_read master burst number (get_or bytes 1 0) is.0 (grind (arith, at 0)) in
-    grind (arith, nat_tests)
-address_read bytes xs master burst (Unique numbers) is at type =
-    let (six, top) = first_read master burst is.type_high (get_or bytes 1 0) is.ranges.0 (grind (arith, at 0)) in
-    grind (arith, nat_tests, at 1, at 2, at 3, at 4)
+address_read bytes xs master burst address is at type = grind (arith, nat_tests, first_read, at 0, at 1, at 2, at 3, at 4)
 
 -- These parts stand in bytes as a header: the kind in the delimiter, then the address, and the command after the expansion bytes.
 pub record StandsAsHeader (bytes : List ℕ) (parts : HeaderParts) : Type 0 where

@@ -103,8 +103,7 @@ module _ (len whole : ℕ) (bytes lanes : List ℕ) (order : whole ≤ len) (eac
   -- With the other bytes it is their check byte.
   pub IsCheckByte-few : (check : ℕ) → check ≡ fold bit_xor (fold_l bit_xor 0 lanes) (take (len - whole) (drop whole bytes))
       → IsCheckByte (take len bytes) check
-  IsCheckByte-few check folded =
-      IsCheckByte-rest whole (take len bytes) lanes _ check (fits_take bytes len each) before (sym (drop_take bytes whole len order)) folded
+  IsCheckByte-few check folded = grind (arith, IsCheckByte-rest whole (take len bytes) lanes, fits_take, drop_take)
 
   -- With a block that begins with the other bytes and has zeros after them it is their check byte too.
   pub IsCheckByte-front : (front block : List ℕ) → len ≤ whole + 16 → block ≡ take 16 (drop whole bytes) → length block ≡ 16

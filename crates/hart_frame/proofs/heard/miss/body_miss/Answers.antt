@@ -26,13 +26,10 @@ returns-in-Cut-clause-found c =
     grind (arith, is)
 
 pub returns-in-Whole-clause-fit : goal.returns-in-Whole-clause-fit
-returns-in-Whole-clause-fit c =
-    of_bytes c.args.heard.now c.args.start 267 c.as_slice.result.now (grind arith) (omega arith) (fits_at _ c.as_slice.ensures.bytes)
+returns-in-Whole-clause-fit c = grind (arith, of_bytes c.args.heard.now c.args.start 267, fits_at)
 
 pub returns-in-Wrong-clause-fit : goal.returns-in-Wrong-clause-fit
-returns-in-Wrong-clause-fit c =
-    of_bytes c.args.heard.now c.args.start 267 c.as_slice.result.now (grind arith) (omega arith) (fits_at _ c.as_slice.ensures.bytes)
+returns-in-Wrong-clause-fit c = grind (arith, of_bytes c.args.heard.now c.args.start 267, fits_at)
 
 pub returns-in-Cut-clause-fit : goal.returns-in-Cut-clause-fit
-returns-in-Cut-clause-fit c =
-    of_bytes c.args.heard.now c.args.start 267 c.as_slice.result.now (grind arith) (omega arith) (fits_at _ c.as_slice.ensures.bytes)
+returns-in-Cut-clause-fit c = grind (arith, of_bytes c.args.heard.now c.args.start 267, fits_at)

@@ -15,8 +15,7 @@ pub returns-in_default-clause-lone : goal.returns-in_default-clause-lone
 returns-in_default-clause-lone c = none 0 c.in_default.ensures
 
 pub returns-in_default-clause-only : goal.returns-in_default-clause-only
-returns-in_default-clause-only c =
-    only_said c.args.delivery.now _ (returns-in_default-clause-lone c)
+returns-in_default-clause-only c = only_said c.args.delivery.now _ (returns-in_default-clause-lone c)
 
 pub returns-then-has_frame-clause-lone : goal.returns-then-has_frame-clause-lone
 returns-then-has_frame-clause-lone c =
@@ -30,8 +29,7 @@ returns-then-has_frame-clause-lone c =
     (one, second, later.0, first 0 one (second ∷ later.0) is_first (first one.stop second later.0 (rw stop is_second) later.1))
 
 pub returns-then-has_frame-clause-only : goal.returns-then-has_frame-clause-only
-returns-then-has_frame-clause-only c =
-    only_said c.args.delivery.now _ (returns-then-has_frame-clause-lone c)
+returns-then-has_frame-clause-only c = only_said c.args.delivery.now _ (returns-then-has_frame-clause-lone c)
 
 pub returns-clause-lone : goal.returns-clause-lone
 returns-clause-lone c =
@@ -45,5 +43,4 @@ returns-clause-lone c =
     first 0 copied.result [] is_first (none copied.result.stop (rw copied.ensures.stop empty))
 
 pub returns-clause-only : goal.returns-clause-only
-returns-clause-only c =
-    only_said c.args.delivery.now _ (returns-clause-lone c)
+returns-clause-only c = only_said c.args.delivery.now _ (returns-clause-lone c)

@@ -23,8 +23,4 @@ returns-then-bytes-stop c =
     )
 
 pub returns : goal.returns
-returns c =
-    let bytes = c.args.bytes.now in
-    let start = c.args.start in
-    let same = looked_at bytes start c.args.stop c.requires.order c.requires.within in
-    grind (arith, alone bytes c.args.after.now start, body_header bytes start, get_or-drop, length-drop start bytes)
+returns c = grind (arith, looked_at c.args.bytes.now c.args.start, alone, body_header, get_or-drop, length-drop)
