@@ -22,19 +22,17 @@ use Rattle.hart_frame.proofs.lemmas.wire.Parity.{IsCheckByte-fold, fits-is, fits
 use Rattle.hart_frame.proofs.lemmas.wire.Prefix.{HasGoodByteCount-more, length_more}
 use Rattle.hart_frame.proofs.lemmas.wire.Truncated.{completed, fitted}
 
-heard_body : (chars : List Character) (start : ℕ) → IsOfBytes (drop start chars)
-    → HasCheckByte (bytes_from chars start) → check_miss (bytes_from chars start) start ≡ None → HasBodyAt chars start
-heard_body chars start fits has same =
-    let bytes = bytes_from chars start in
-    let n = body_length bytes in
-    let (frame, body) = completed bytes fits has in
-    let begins : BeginsWithBody bytes frame n = grind (arith, nat_tests, common_steps, take_more) in
-    body_at chars start frame n begins
-
 -- At each place a whole body begins, or there is a reason why no body begins.
 body_or_miss : (chars : List Character) (start : ℕ) → IsOfBytes (drop start chars)
     → HasBodyAt chars start ⊎ (is_some (body_miss start (drop start chars)) ≡ true)
-body_or_miss chars start fit = grind (arith, nat_tests, heard_body chars start fit)
+body_or_miss chars start fit =
+    let bytes = bytes_from chars start in
+    let n = body_length bytes in
+    let stands : HasCheckByte bytes → check_miss bytes start ≡ None → HasBodyAt chars start = λ has same.
+        let (frame, body) = completed bytes fit has in
+        let begins : BeginsWithBody bytes frame n = grind (arith, nat_tests, common_steps, take_more) in
+        body_at chars start frame n begins in
+    grind (arith, nat_tests)
 
 pub frame_or_miss : (place : ℕ) (chars : List Character) → All (λ c. c.byte < 256) chars → IsStart place chars
     → HasFrameAt chars place ⊎ IsSome (miss_of chars place)

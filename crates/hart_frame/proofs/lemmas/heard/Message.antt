@@ -13,20 +13,15 @@ use Rattle.hart_frame.proofs.lemmas.heard.Place.{HasNoFrame-end}
 abbrev found_in : FrameParts → ℕ → List ℕ → Found
 found_in f preambles bytes = record { start = preambles; stop = length bytes; frame = f }
 
-stands_in : (f : FrameParts) (preambles more : ℕ) (bytes : List ℕ) → preambles ≡ more + 2 → IsMessage f preambles bytes
-    → StandsIn (found_in f preambles bytes) (faultless bytes) 0
-stands_in f preambles more bytes two message =
-    let prefix : List ℕ = replicate more 255 in
-    let marked : List ℕ = 255 ∷ 255 ∷ message.body in
-    let whole : bytes ≡ prefix ++ marked =
-    grind (arith, replicate-append-replicate {A = ℕ} more 2 255, append_assoc prefix (255 ∷ 255 ∷ []) message.body) in
-    grind (arith, length-map, length-replicate, length-append, map-append, append-nil)
-
 pub AreFrames-message : (f : FrameParts) (preambles : ℕ) (bytes : List ℕ) → 2 ≤ preambles → IsMessage f preambles bytes
     → AreFrames (faultless bytes) 0 (found_in f preambles bytes ∷ [])
 AreFrames-message f preambles bytes two message =
     AreFrames.first 0 (found_in f preambles bytes) [] (record {
-      stands = stands_in f preambles (preambles - 2) bytes (omega (arith, two)) message;
+      stands =
+    let prefix : List ℕ = replicate (preambles - 2) 255 in
+    let whole : bytes ≡ prefix ++ 255 ∷ 255 ∷ message.body =
+    grind (arith, replicate-append-replicate {A = ℕ} (preambles - 2) 2 255, append_assoc prefix (255 ∷ 255 ∷ []) message.body) in
+    grind (arith, length-map, length-replicate, length-append, map-append, append-nil);
       least = λ other stands.
           let (others, begins, low) = head_of f message.body message.is_body in
           let heard = subst (λ sent. AllZip IsHeardOrMarked sent (faultless bytes)) message.parts (heard_faultless bytes) in

@@ -8,18 +8,14 @@ use Rattle.hart_frame.proofs.lemmas.heard.FramesFound.{frame_up_to}
 use Rattle.hart_frame.proofs.lemmas.heard.Place.{preamble}
 use Rattle.hart_frame.proofs.lemmas.wire.Truncated.{CanBecomeBody-truncated}
 
--- The bytes from an open place on are below 256 if the bytes of all characters are below 256.
-open_fits : (place : ℕ) (chars : List Character) → All (λ character. character.byte < 256) chars → (opened : IsOpen place chars)
-    → All (λ byte. byte < 256) opened.bytes
-open_fits place chars all opened = All-from_get_or (λ byte. byte < 256) opened.bytes 0 (λ k below.
-    let there = all (length opened.prefix + suc (suc k)) preamble (grind (arith, length-append, length-map)) in
-    grind (arith, get_or-append-add, get_or-map))
-
 -- For each open place there are characters that, appended to the list, make a frame stand there.
 pub open_begins : (place : ℕ) (chars : List Character) → All (λ character. character.byte < 256) chars → IsOpen place chars
     → (more : List Character) × (found : Found) × StandsIn found (chars ++ more) 0 × (found.start ≡ place)
 open_begins place chars all opened =
-    let can = CanBecomeBody-truncated opened.bytes (open_fits place chars all opened) opened.truncated in
+    let fits = All-from_get_or (λ byte. byte < 256) opened.bytes 0 (λ k below.
+    let there = all (length opened.prefix + suc (suc k)) preamble (grind (arith, length-append, length-map)) in
+    grind (arith, get_or-append-add, get_or-map)) in
+    let can = CanBecomeBody-truncated opened.bytes fits opened.truncated in
     let bytes = opened.bytes ++ can.rest in
     let body = take can.count bytes in
     let rest = faultless (drop can.count bytes) in

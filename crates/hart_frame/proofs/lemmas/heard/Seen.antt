@@ -79,11 +79,6 @@ NoneSeen chars from to = (p : ℕ) → from ≤ p → p < to → missed_at chars
 pub missed_none : (chars : List Character) (from stop : ℕ) → NoneSeen chars from stop → missed chars from stop ≡ []
 missed_none chars from stop silent = grind (arith, none_between chars from from (stop - from))
 
-pub missed_one : (chars : List Character) (from start : ℕ) → from ≤ start → NoneSeen chars from start
-    → missed chars from (start + 1) ≡ missed_at chars from start
-missed_one chars from start order silent =
-    grind (arith, range_parts from (start - from) 1, missed_none chars from start, flat_map-append, append-nil)
-
 -- Where a frame starts, two FF stand right before the place, a character other than FF stands at it, and a whole body begins there.
 pub record FrameAt (chars : List Character) (from start : ℕ) : Type 0 where
   pub order : from + 2 ≤ start
@@ -102,10 +97,6 @@ frame_at chars from found stands =
     let order : from + 2 ≤ found.start = omega (arith, stands.after, stands.start) in
     grind (arith, nat_tests, tested chars (found.start - 1), tested chars (found.start - 2), tested chars found.start)
 
--- Where a frame starts, no miss is seen.
-frame_silent : (chars : List Character) (from : ℕ) (found : Found) → StandsIn found chars from → missed_at chars from found.start ≡ []
-frame_silent chars from found stands = grind (arith, frame_at, after_two)
-
 -- A frame that starts at or after a clean place has its two preamble bytes there or later.
 clean_frames : (chars : List Character) (from used : ℕ) (found : Found) → IsClean chars from used → StandsIn found chars from
     → used ≤ found.start → used + 2 ≤ found.start
@@ -122,9 +113,6 @@ passes_silent chars from used order within silent frames clean = record {
   same = λ place after. same_from chars from used place order after clean;
 }
 
-differ : (xs : List Seen) (x : Seen) (later : List Seen) → xs ≡ [] → xs ≡ x ∷ later → ⊥
-differ xs x later empty some = cc
-
 -- If a miss is seen, no miss is seen before it, and no frame starts before it, the list passes to the next place with this miss seen.
 pub passes_miss : (chars : List Character) (from start : ℕ) (miss : Miss) → from ≤ start → start < length chars
     → NoneSeen chars from start → missed_at chars from start ≡ Missed start miss (header_at chars start) ∷ []
@@ -135,9 +123,10 @@ passes_miss chars from start miss order within silent is frames other =
     let clean : IsClean chars from (start + 1) = inl (λ _. rw back other) in record {
       order = omega (arith, order);
       within = omega (arith, within);
-      told = rw (missed_one chars from start order silent) is;
+      told = grind (arith, range_parts from (start - from) 1, missed_none chars from start silent, flat_map-append, append-nil);
       frames = λ found stands.
-          let here : found.start ≢ start = λ same. differ _ _ [] (rw same at (frame_silent chars from found stands)) is in
+          let at = frame_at chars from found stands in
+          let here : found.start ≢ start = λ same. grind (arith, after_two chars from start) in
           clean_frames chars from (start + 1) found clean stands (omega (arith, frames found stands, here));
       same = λ place after. same_from chars from (start + 1) place (omega (arith, order)) after clean;
     }

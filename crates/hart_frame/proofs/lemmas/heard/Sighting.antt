@@ -56,12 +56,8 @@ is_preamble_at chars place = option_map_or is_preamble (slice_get chars place) f
 abbrev pub follows_from : List Character → ℕ → ℕ → Bool
 follows_from chars from place = nat_lt from place && is_preamble_at chars (place - 1)
 
-follows_at : (chars : List Character) (from place k : ℕ) → place - from ≡ k
-    → follows_preamble (drop from chars) k ≡ follows_from chars from place
-follows_at chars from place k is = grind (arith, nat_tests, rest_at chars from (k - 1))
-
 follows_is : (chars : List Character) (from place : ℕ) → follows_preamble (drop from chars) (place - from) ≡ follows_from chars from place
-follows_is chars from place = follows_at chars from place (place - from) refl
+follows_is chars from place = grind (arith, nat_tests, rest_at chars from (place - from - 1))
 
 -- The miss that is seen at a place, in places of the whole list. It depends on whether one or two FF stand right before the place,
 -- and on whether a character other than FF stands at it.
@@ -132,14 +128,9 @@ no_body : (chars : List Character) (place : ℕ) → is_other_at chars place ≡
 no_body chars place is =
     grind (arith, nat_tests, tested chars place, drop_more chars place preamble, faultless_bytes-more, drop_all place chars)
 
-none_other : (place : ℕ) (h : Option HeaderParts) (one two : Bool)
-    → told place h (if one then if two then None else None else None) ≡ []
-none_other place h one two = grind (arith, nat_tests)
-
 pub not_other : (chars : List Character) (from place : ℕ) → from ≤ place → is_other_at chars place ≡ false
     → missed_at chars from place ≡ []
-not_other chars from place after is = told_at chars from place after ∙ rw (is, no_body chars place is)
-    (none_other place (header_at chars place) (follows_from chars from place) (follows_from chars from (place - 1)))
+not_other chars from place after is = told_at chars from place after ∙ rw (is, no_body chars place is) (grind (arith, nat_tests))
 
 -- After a single FF, a miss is seen at a place exactly if a body stands alone there.
 pub after_one : (chars : List Character) (from place : ℕ) → from ≤ place → follows_from chars from place ≡ true
@@ -163,9 +154,6 @@ IsClean chars from used = (from < used → is_preamble_at chars (used - 1) ≡ f
 pub not_both : (chars : List Character) (place : ℕ) → is_preamble_at chars place ≡ true → is_other_at chars place ≡ false
 not_both chars place is = grind (arith, nat_tests, tested chars place)
 
-past : (chars : List Character) (place : ℕ) → length chars ≤ place → is_other_at chars place ≡ false
-past chars place end = grind (arith, nat_tests, tested chars place)
-
 pub same_from : (chars : List Character) (from used place : ℕ) → from ≤ used → used ≤ place → IsClean chars from used
     → missed_at chars from place ≡ missed_at chars used place
 same_from chars from used place order after (inl cut) =
@@ -174,7 +162,7 @@ same_from chars from used place order after (inl cut) =
     grind (arith, nat_tests) in
     same_at chars from used place (omega (arith, order, after)) after one two
 same_from chars from used place order after (inr ends) =
-    let cases : (is_other_at chars place ≡ false) ⊎ (used + 2 ≤ place) = grind (arith, not_both chars place, past chars place) in
+    let cases : (is_other_at chars place ≡ false) ⊎ (used + 2 ≤ place) = grind (arith, nat_tests, not_both chars place, tested chars place) in
     elim cases [
       | inl not ↦ not_other chars from place (omega (arith, order, after)) not ∙ sym (not_other chars used place after not)
       | inr late ↦

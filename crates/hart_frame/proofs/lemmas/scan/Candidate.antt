@@ -24,16 +24,13 @@ bytes_of_append xs tail = grind (arith, map-append, bytes_of-faultless)
 pub never_first : (x : ℕ) (xs : List ℕ) → x ≢ 255 → NeverBegin (x ∷ xs)
 never_first x xs other more f body rest is same = grind arith
 
-decided : (w : Wrong) → fault_in w ≢ Truncated
-decided w same = grind arith
-
 -- Bytes with something wrong after the first two never begin a frame.
 pub never_after : (x y : ℕ) (xs : List ℕ) (w : Wrong) → IsWrong xs w → NeverBegin (x ∷ y ∷ xs)
 never_after x y xs w wrong more f body rest is same =
     let after : faultless xs ++ more ≡ faultless body ++ rest = grind arith in
     let bytes = sym (bytes_of_append xs more) ∙ ap bytes_of after ∙ bytes_of_append body rest in
     not_refused (xs ++ bytes_of more) f (length body) (fault_in w) (rw bytes (BeginsWithBody-append f body (bytes_of rest) is))
-    (refused_more xs (bytes_of more) (fault_in w) (decided w) (wrong_refused xs w wrong))
+    (refused_more xs (bytes_of more) (fault_in w) (λ same. grind arith) (wrong_refused xs w wrong))
 
 -- Bytes that never begin a frame still never begin one when more bytes follow.
 pub never_more : (xs ys : List ℕ) → NeverBegin xs → NeverBegin (xs ++ ys)

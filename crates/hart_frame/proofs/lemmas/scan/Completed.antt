@@ -33,10 +33,6 @@ says_alone xs more alone =
     let clear : two_begin_in_body (faultless xs ++ more) 0 ≡ false = grind (arith, nat_tests) in
     record { has = both.0; check = both.1; clear = rw (faultless_bytes-append xs more) at clear }
 
--- If bytes end too early for a body and nothing follows them, they are not a body that stands alone.
-pub not_yet : (xs : List ℕ) → IsTruncated xs → stands_alone (faultless xs ++ []) 0 ≡ false
-not_yet xs truncated = false_from_ne_true _ (λ alone. grind (arith, says_alone xs [] alone, whole_past xs [], length-append))
-
 -- Bytes that end too early never become a body that stands alone if they hold two FF in a row, or lack only a second FF.
 pub never_two : (xs : List ℕ) (more : List Character) → IsTruncated xs → has_two_preambles xs ≡ true
     → stands_alone (faultless xs ++ more) 0 ≡ false
@@ -118,5 +114,5 @@ may xs m fit truncated clear not enough =
       alone = body_alone (faultless xs ++ faultless rest) (xs ++ rest) frame (rw body at is) (sym (map-append _ xs rest))
           (clear_rest xs k check clear differs);
       other = [];
-      not_alone = not_yet xs truncated;
+      not_alone = false_from_ne_true _ (λ alone. grind (arith, says_alone xs [] alone, whole_past xs [], length-append));
     }

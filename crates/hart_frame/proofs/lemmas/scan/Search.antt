@@ -123,11 +123,6 @@ whole_take : (layout : Layout) (xs : List ℕ) (n : ℕ) → (whole : IsWhole la
     → IsWhole layout (take n xs)
 whole_take layout xs n whole long within = grind (arith, take_both (255 ∷ 255 ∷ whole.body) whole.rest n)
 
--- If the bytes from a place on begin with a frame, they still do when more bytes follow.
-pub whole_append : (layout : Layout) (xs ys : List ℕ) (place : ℕ) → place ≤ length xs → IsWhole layout (drop place xs)
-    → IsWhole layout (drop place (xs ++ ys))
-whole_append layout xs ys place within whole = grind (arith, drop-append-le, append_assoc)
-
 -- One list is searched from `from` on, and only prefixes of at least `seen` bytes are judged.
 module _ (xs : List ℕ) (from seen : ℕ) where
   -- A search also looks at `count` bytes from its place on if each shorter prefix of these may begin a frame.
@@ -227,7 +222,7 @@ looked_from bytes first from ended found after before is =
     (none_more bytes found.decided (length bytes) from found.place is.order is.within (omega arith) is.none) in
     let none : NoneBeginThen bytes ended first found.place =
     joined _ first from found.place before (λ place late below next closed. all place late below next) in
-    grind (arith, common_steps, whole_append, take-append-drop found.decided bytes, length-take-le found.decided bytes)
+    grind (arith, common_steps, drop-append-le, append_assoc, take-append-drop found.decided bytes, length-take-le found.decided bytes)
 
 -- If nothing can follow, no frame begins where one might have begun, and the search goes on after that place.
 pub looked_on : (bytes : List ℕ) (first : ℕ) (ended : Bool) (old new : SearchResult) → IsTrue ended → IsLookedAt bytes first ended old

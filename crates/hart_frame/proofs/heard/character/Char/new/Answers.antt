@@ -10,10 +10,6 @@ fault_bit bit below e =
     let cases : (bit ≡ 0) ⊎ (bit ≡ 1) ⊎ (bit ≡ 2) ⊎ (bit ≡ 3) ⊎ (bit ≡ 4) ⊎ (bit ≡ 5) ⊎ (bit ≡ 6) ⊎ (bit ≡ 7) = grind arith in
     grind arith
 
--- No fault bit is set in 141.
-not_set : (bit : ℕ) → IsFaultBit bit → bit_at 141 bit ≡ 0
-not_set bit is = grind arith
-
 -- A byte in which none of the bits of 141 is set has only fault bits.
 AreFaultBits-from : (faults : ℕ) → faults < 256 → bit_and faults 141 ≡ 0 → AreFaultBits faults
 AreFaultBits-from faults small none = record {
@@ -27,7 +23,7 @@ AreFaultBits-from faults small none = record {
 none_other : (faults : ℕ) → AreFaultBits faults → bit_and faults 141 ≡ 0
 none_other faults are =
     same_from_bits_below 8 (bit_and faults 141) 0 (omega (arith, and_le_l faults 141, are.byte)) (omega arith) (
-    grind (arith, common_steps, bit_at_and, bit_at-lt, bit_at-zero, not_set))
+    grind (arith, common_steps, bit_at_and, bit_at-lt, bit_at-zero))
 
 pub returns-then-faults-ne0-clause-accepted : goal.returns-then-faults-ne0-clause-accepted
 returns-then-faults-ne0-clause-accepted c = grind (arith, false≢true, none_other)
