@@ -75,9 +75,8 @@ own frame left chars = record { start = left; stop = length chars; frame = frame
 marked_own : (frame : FrameParts) (preambles : ℕ) (chars : List Character) (damage : IsMarkedDamage frame preambles chars)
     → (found : Found) (from : ℕ) → StandsIn found chars from → found ≡ own frame damage.left chars
 marked_own frame preambles chars damage found from stands =
-    let (others, begins, low) = head_of frame damage.body damage.is_body in
     let (rest, start, same) =
-    stands_there damage.left damage.body chars found from (grind arith) damage.heard damage.no_two_preambles stands in
+    stands_there damage.left damage.body chars found from (grind (arith, head_of frame)) damage.heard damage.no_two_preambles stands in
     let whole : rest ≡ [] = grind (arith, bodies_are_unambiguous-no_proper_prefix found.frame frame stands.body rest) in
     let long = AllZip-long IsHeardOrMarked (replicate damage.left 255 ++ damage.body) chars damage.heard in
     grind (arith, bodies_are_unambiguous-one_frame found.frame frame stands.body, append-nil, length-append, length-replicate)
@@ -102,14 +101,12 @@ AreFrames-marked frame preambles chars damage =
 -- With check damage no frame is heard, since the body of such a frame would be all the bytes, and their parity is not even.
 pub AreFrames-check : (frame : FrameParts) (preambles : ℕ) (chars : List Character) → IsCheckDamage frame preambles chars
     → AreFrames chars 0 []
-AreFrames-check frame preambles chars damage = none 0 (λ found stands.
-    let (others, begins, low) = head_of frame damage.body damage.is_body in
+AreFrames-check frame preambles chars damage =
+    none 0 (λ found stands.
     let (bytes, replaces, all, odd) = damage.heard in
     let (rest, start, same) =
-    stands_there damage.left bytes chars found 0 (grind arith) (grind (arith, heard_faultless)) damage.no_two_preambles stands in
-    let sent = says damage.body frame (length damage.body)
-    (rw append-nil at (BeginsWithBody-append frame damage.body [] damage.is_body)) in
+    stands_there damage.left bytes chars found 0 (grind (arith, head_of frame)) (grind (arith, heard_faultless)) damage.no_two_preambles stands in
+    let sent = says damage.body frame (length damage.body) in
     let said = says (stands.body ++ rest) found.frame (length stands.body)
     (BeginsWithBody-append found.frame stands.body rest stands.is_body) in
-    let whole = nil_from_length rest (grind (arith, length-append stands.body rest)) in
-    grind (arith, append-nil))
+    grind (arith, append-nil, sent, BeginsWithBody-append frame damage.body [], nil_from_length rest, length-append stands.body rest))

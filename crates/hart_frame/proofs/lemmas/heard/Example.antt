@@ -86,11 +86,9 @@ after_two row seven damage =
 
 pub request_is_not_check : IsCheckDamage identity_request 5 other_request → ⊥
 request_is_not_check damage =
-    let bytes = (after_two (255 ∷ 255 ∷ other_bytes 131) refl damage).1 in
     let fits = fits_at (other_bytes 131) (All-from_recursion IsByte (other_bytes 131) (grind arith)) in
     let check = IsCheckByte-fold (other_bytes 131) 0 fits refl in
-    let (own, replaces, all, odd) = damage.heard in
-    odd (subst HasEvenParity bytes (even-check (other_bytes 131) check))
+    grind (arith, after_two (255 ∷ 255 ∷ other_bytes 131) refl damage, even-check (other_bytes 131) check)
 
 pub preamble_is_not_check : IsCheckDamage identity_request 5 preamble_in_body → ⊥
 preamble_is_not_check damage =

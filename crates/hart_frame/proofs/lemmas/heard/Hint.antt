@@ -29,32 +29,23 @@ body_or_miss chars start fit =
     let bytes = bytes_from chars start in
     let n = body_length bytes in
     let stands : HasCheckByte bytes → check_miss bytes start ≡ None → HasBodyAt chars start = λ has same.
-        let (frame, body) = completed bytes fit has in
-        let begins : BeginsWithBody bytes frame n = grind (arith, nat_tests, common_steps, take_more) in
-        body_at chars start frame n begins in
+    let (frame, body) = completed bytes fit has in
+    let begins : BeginsWithBody bytes frame n = grind (arith, nat_tests, common_steps, take_more) in
+    body_at chars start frame n begins in
     grind (arith, nat_tests)
 
 pub frame_or_miss : (place : ℕ) (chars : List Character) → All (λ c. c.byte < 256) chars → IsStart place chars
     → HasFrameAt chars place ⊎ IsSome (miss_of chars place)
 frame_or_miss place chars fit is =
-    grind (
-      arith,
-      body_or_miss chars place (of_chars chars place fit),
-      body_frame chars place is,
-      miss_of-start chars (drop place chars) place refl is,
-    )
+    let either = body_or_miss chars place (of_chars chars place fit) in
+    grind (arith, body_frame chars place is, miss_of-start chars (drop place chars) place refl is)
 
 -- Where the miss is `OnePreamble`, a whole body stands after a single FF.
 one_stands : (start : ℕ) (chars : List Character) → IsOfBytes (drop start chars) → miss_of chars start ≡ Some OnePreamble
     → FollowsOnePreamble chars start × HasBodyAt chars start
 one_stands start chars fit is =
-    grind (
-      arith,
-      miss_of-some chars start OnePreamble is,
-      in_the_way start chars OnePreamble fit,
-      body_or_miss chars start fit,
-      one_preamble-is chars start,
-    )
+    let either = body_or_miss chars start fit in
+    grind (arith, miss_of-some chars start OnePreamble is, in_the_way start chars OnePreamble fit, one_preamble-is)
 
 one_told : (start : ℕ) (chars : List Character) → FollowsOnePreamble chars start → HasBodyAt chars start
     → miss_of chars start ≡ Some OnePreamble

@@ -17,14 +17,8 @@ use Rattle.hart_frame.proofs.lemmas.wire.Refusal.{not_refused}
 heard_at : (chars : List Character) (start i place : ℕ) → place ≡ start + i → i < length (bytes_from chars start)
     → slice_get chars place ≡ Some (record { byte = get_or (bytes_from chars start) i 0; faults = 0 })
 heard_at chars start i place is below =
-    grind (
-      arith,
-      slice_get-get_or chars place preamble,
-      char_at (drop start chars) i preamble below,
-      length-faultless_bytes (drop start chars),
-      length-drop start chars,
-      get_or-drop,
-    )
+    let heard = drop start chars in
+    grind (arith, slice_get-get_or chars place preamble, char_at heard i preamble below, length-faultless_bytes, length-drop, get_or-drop)
 
 -- The faultless bytes stop at the end of the list or at a character with fault bits.
 stops : (chars : List Character) (start : ℕ) (at_end : Miss) → IsStart start chars

@@ -18,10 +18,10 @@ pub AreFrames-message : (f : FrameParts) (preambles : ℕ) (bytes : List ℕ) �
 AreFrames-message f preambles bytes two message =
     AreFrames.first 0 (found_in f preambles bytes) [] (record {
       stands =
-    let prefix : List ℕ = replicate (preambles - 2) 255 in
-    let whole : bytes ≡ prefix ++ 255 ∷ 255 ∷ message.body =
-    grind (arith, replicate-append-replicate {A = ℕ} (preambles - 2) 2 255, append_assoc prefix (255 ∷ 255 ∷ []) message.body) in
-    grind (arith, length-map, length-replicate, length-append, map-append, append-nil);
+          let prefix : List ℕ = replicate (preambles - 2) 255 in
+          let whole : bytes ≡ prefix ++ 255 ∷ 255 ∷ message.body =
+          grind (arith, replicate-append-replicate {A = ℕ} (preambles - 2) 2 255, append_assoc prefix (255 ∷ 255 ∷ []) message.body) in
+          grind (arith, length-map, length-replicate, length-append, map-append, append-nil);
       least = λ other stands.
           let (others, begins, low) = head_of f message.body message.is_body in
           let heard = subst (λ sent. AllZip IsHeardOrMarked sent (faultless bytes)) message.parts (heard_faultless bytes) in

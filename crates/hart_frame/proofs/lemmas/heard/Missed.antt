@@ -55,12 +55,8 @@ one_preamble-yes chars place is =
 -- Where a whole body stands, nothing is missed.
 pub none_of : (chars : List Character) (start : ℕ) → HasBodyAt chars start → body_miss start (drop start chars) ≡ None
 none_of chars start has =
-    grind (
-      arith,
-      begins_at chars start has,
-      says (faultless_bytes (drop start chars)) has.frame (length has.body) (begins_at chars start has),
-      odd,
-    )
+    let begins = begins_at chars start has in
+    grind (arith, says (faultless_bytes (drop start chars)) has.frame (length has.body) begins, odd)
 
 -- Where a frame stands there is no miss.
 pub no_miss : (place : ℕ) (chars : List Character) → HasFrameAt chars place → miss_of chars place ≡ None

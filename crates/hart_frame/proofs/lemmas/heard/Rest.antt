@@ -50,11 +50,9 @@ pub rest_frames : (place : ℕ) (chars : List Character) (frames : List Found) �
 rest_frames place chars frames are =
     let cases : (place ≤ length chars) ⊎ (length chars < place) = grind arith in
     elim cases [
-      | inl within ↦
-          rw (take-append-drop place chars, add-zero place) at
+      | inl within ↦ rw (take-append-drop place chars, add-zero place) at
           (frames_moved (take place chars) (drop place chars) place (length-take-le place chars within) 0 frames are)
-      | inr past ↦
-          rw (frames_none (drop place chars) 0 frames (omega (arith, past, length-drop place chars)) are)
+      | inr past ↦ rw (frames_none (drop place chars) 0 frames (omega (arith, past, length-drop place chars)) are)
           (AreFrames.none place (HasNoFrame-end chars place (omega (arith, past))))
     ]
 

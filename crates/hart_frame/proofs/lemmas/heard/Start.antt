@@ -48,14 +48,7 @@ tested chars k = grind (arith, nat_tests, slice_get_cases chars k, slice_get-get
 -- The test `is_start` is true exactly at the places where a body may start.
 pub start_test : (chars : List Character) (place : ℕ) → (is_start chars place ≡ true) ↔ IsStart place chars
 start_test chars place =
-    grind (
-      arith,
-      is_start_from chars place preamble,
-      starts_at chars place preamble,
-      tested chars (place - 1),
-      tested chars (place - 2),
-      tested chars place,
-    )
+    grind (arith, is_start_from, starts_at chars place preamble, tested chars (place - 1), tested chars (place - 2), tested chars place)
 
 -- No start lies before a place.
 abbrev pub NoneBefore : List Character → ℕ → Type 0

@@ -38,9 +38,9 @@ pub never_two : (xs : List ℕ) (more : List Character) → IsTruncated xs → h
     → stands_alone (faultless xs ++ more) 0 ≡ false
 never_two xs more truncated two =
     false_from_ne_true _ (λ alone.
-        let is = says_alone xs more alone in
-        let k : ℕ = body_length (xs ++ faultless_bytes more) + 1 - length xs in
-        grind (arith, whole_past xs (faultless_bytes more), take-append-add xs (faultless_bytes more) k, two_more xs))
+    let is = says_alone xs more alone in
+    let k : ℕ = body_length (xs ++ faultless_bytes more) + 1 - length xs in
+    grind (arith, whole_past xs (faultless_bytes more), take-append-add xs (faultless_bytes more) k, two_more xs))
 
 lacks_next : (xs ys : List ℕ) → All (λ byte. byte < 256) xs → LacksOnePreamble xs → HasCheckByte (xs ++ ys)
     → check_miss (xs ++ ys) 0 ≡ None → has_two_preambles (take (body_length (xs ++ ys) + 1) (xs ++ ys)) ≡ true

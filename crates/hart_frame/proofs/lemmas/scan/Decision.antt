@@ -74,8 +74,7 @@ pub given_open : (b : Buffer) (found : SearchResult) → IsHeldSearched b found 
 given_open b found is opened some =
     let mid = record (passed b found.place) { state = Drained } in
     let waiting : IsWaiting mid = grind (arith, held_passed, length-drop) in
-    gives_nothing_then (scan_of b) (scan_of mid) (scan_of mid) (moves_passed b found Drained is)
-    (inl (waits mid (scan_of mid) waiting refl))
+    gives_nothing_then (scan_of b) (scan_of mid) (scan_of mid) (moves_passed b found Drained is) (inl (waits mid _ waiting refl))
 
 -- A buffer holds a frame if the bytes from the found place on begin with this frame.
 pub given_stands : (b : Buffer) (found : SearchResult) (layout : Layout) → b.state ≡ Busy → IsHeldSearched b found

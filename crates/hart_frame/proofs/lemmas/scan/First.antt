@@ -22,8 +22,7 @@ moves_new chars count old mid is_new moves = subst (λ (s : Scan). MovesPast (he
 -- The first of the frames of a list is its first frame, and it lies within the list.
 first_of : (chars : List Character) (found : Found) (later : List Found) → AreFrames chars 0 (found ∷ later)
     → IsFirst found chars 0 × (found.start < found.stop) × (found.stop ≤ length chars)
-first_of chars found later are =
-    let is = head_first chars 0 found later are in grind (arith, StandsIn-within found chars 0 is.stands)
+first_of chars found later are = grind (arith, head_first chars 0 found later are, StandsIn-within found chars 0)
 
 -- A buffer that gives a span holds the first frame of a list, if each frame that it may give there is the first of the list.
 holds_first : (chars : List Character) (old new : Buffer) (span : Span) → GivesSpan old new span

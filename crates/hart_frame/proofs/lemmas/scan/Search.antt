@@ -86,15 +86,9 @@ pub passed_to_end : (xs : List ℕ) (place count : ℕ) → place ≤ length xs 
     → (count < 2 → count < length (drop place xs) → get_or (drop place xs) (length (drop place xs) - count - 1) 0 ≢ 255)
     → (here : ℕ) → place ≤ here → here < length xs - count → IsPassed xs here
 passed_to_end xs place count within none other here after before =
-    let long = length-drop place xs in
     let at : (k : ℕ) → get_or (drop place xs) k 0 ≡ get_or xs (place + k) 0 = λ k. get_or-drop place xs k 0 in
-    elim (cases_lt (length xs) (here + 3)) [
-      | inr inside ↦ passed_here xs here inside (none here after (omega arith))
-      | inl near ↦ elim (cases_eq (here + count + 1) (length xs)) [
-        | inl last ↦ inl (grind (arith, at (length (drop place xs) - count - 1)))
-        | inr early ↦ inr (inl (omega arith, grind (arith, at (length (drop place xs) - count - 1))))
-      ]
-    ]
+    let last = at (length (drop place xs) - count - 1) in
+    grind (arith, length-drop place xs, passed_here xs here, none here)
 
 -- One or two FF and nothing else, or no bytes, may begin a frame.
 pub may_begin_last : (xs : List ℕ) (count : ℕ) → count ≤ 2 → xs ≡ replicate count 255 → MayBegin xs

@@ -31,15 +31,12 @@ rest_all chars more ended given later to within sees closed are =
 pub all : (chars : List Character) (ended : Bool) (given : List Seen) → SeesOn chars ended 0 given (length chars)
     → AreSightings chars 0 given
 all chars ended given sees =
-    let same : chars ++ [] ≡ chars = append-nil chars in
     let end : AreSightings (chars ++ []) (length chars) [] = record {
       frames = [];
-      are_frames = AreFrames.none (length chars) (HasNoFrame-end (chars ++ []) (length chars) (omega (arith, ap length same)));
-      seen_is = sym (missed_none (chars ++ []) (length chars) (length (chars ++ []))
-          (λ p low high. absurd (omega (arith, low, high, ap length same))));
+      are_frames = AreFrames.none (length chars) (HasNoFrame-end (chars ++ []) (length chars) (grind (arith, append-nil)));
+      seen_is = sym (missed_none (chars ++ []) (length chars) (length (chars ++ [])) (λ p low high. absurd (grind (arith, append-nil))));
     } in
-    let whole = sees [] [] (λ _. refl) end in
-    rw (append-nil given) at (rw same at whole)
+    rw append-nil at (rw append-nil at (sees [] [] (λ _. refl) end))
 
 pub one : (chars : List Character) (from : ℕ) (xs ys : List Seen) → AreSightings chars from xs → AreSightings chars from ys → xs ≡ ys
 one chars from xs ys first second = grind (arith, AreFrames-one)

@@ -54,12 +54,7 @@ fold_from start (byte ∷ bytes) =
 pub fold-rest : (start n : ℕ) (bytes lanes rest : List ℕ) → xor_of lanes ≡ xor_of (take n bytes) → rest ≡ drop n bytes
     → fold bit_xor (bit_xor start (fold_l bit_xor 0 lanes)) rest ≡ fold bit_xor start bytes
 fold-rest start n bytes lanes rest same is =
-    grind (
-      arith,
-      fold_from start (take n bytes),
-      take-append-drop n bytes,
-      fold-append bit_xor start (take n bytes) (drop n bytes),
-    )
+    grind (arith, fold_from, take-append-drop n bytes, fold-append bit_xor start (take n bytes) (drop n bytes))
 
 -- The exclusive or of the lanes and of the bytes after those that the lanes have is the check byte of all the bytes.
 pub IsCheckByte-rest : (n : ℕ) (bytes lanes rest : List ℕ) (check : ℕ) → ((i : ℕ) → get_or bytes i 0 < 256)

@@ -77,9 +77,5 @@ truncated_cut xs (inr (inr (good, early))) =
 pub whole_has : (xs : List ℕ) (layout : Layout) → IsPrefix xs (Whole layout)
     → HasCheckByte xs × (body_length xs ≡ layout_length layout) × (layout_length layout ≤ 267)
 whole_has xs layout (within, is) =
-    grind (
-      arith,
-      take-append-drop (layout_length layout) xs,
-      length_more (take (layout_length layout) xs) (drop (layout_length layout) xs) is.checked.0.0.1,
-      HasGoodByteCount-more (take (layout_length layout) xs) (drop (layout_length layout) xs) is.checked.0,
-    )
+    let n = layout_length layout in
+    grind (arith, take-append-drop n xs, length_more (take n xs) (drop n xs), HasGoodByteCount-more (take n xs) (drop n xs))
