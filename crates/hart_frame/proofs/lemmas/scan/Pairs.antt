@@ -85,9 +85,7 @@ module _ (bs : List ℕ) (place : ℕ) (room : place + 18 ≤ length bs) where
       ∙ mask_l-mod (map hits places) 64 (omega (arith, length-map places hits, sixteen))
 
   hits_is : (k : ℕ) → hits k ≡ (eqb (get_or bs k 0) 255 && (eqb (get_or bs (k + 1) 0) 255 && not (eqb (get_or bs (k + 2) 0) 255)))
-  hits_is k =
-      common (eqb (get_or bs (k + 0) 0) 255) (eqb (get_or bs (k + 1) 0) 255) (eqb (get_or bs (k + 2) 0) 255)
-      ∙ ap (λ (n : ℕ). eqb (get_or bs n 0) 255 && (eqb (get_or bs (k + 1) 0) 255 && not (eqb (get_or bs (k + 2) 0) 255))) (add-zero k)
+  hits_is k = grind (arith, nat_tests, common, add-zero)
 
   hit : (k : ℕ) → k < place + 16 → hits k ≡ true → HasPair bs k
   hit k below is = grind (arith, nat_tests, hits_is k)
@@ -106,9 +104,7 @@ module _ (bs : List ℕ) (place : ℕ) (room : place + 18 ≤ length bs) where
 
   -- If no lane has all three, no pair stands at these places.
   pub no_pair_in_lanes : mask ≡ 0 → HasNoPair bs place (place + 16)
-  no_pair_in_lanes none k after below =
-      let all = leading_from_mask_l hits places (sym mask_is ∙ none) in
-      passed k after (omega (arith, all, sixteen))
+  no_pair_in_lanes none k after below = grind (arith, nat_tests, leading_from_mask_l, mask_is, passed, sixteen)
 
   -- The lowest lane that has all three is that of the next pair.
   pub pair_in_lanes : 0 < mask → IsNextPair bs place (place + count_trailing_zeros 64 mask)

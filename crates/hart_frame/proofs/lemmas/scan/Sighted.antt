@@ -34,10 +34,7 @@ preamble_yes bytes next i below is = grind (arith, nat_tests, chars_at, length-a
 pub preamble_is : (bytes : List ℕ) (after : After) (next : List Character) (i : ℕ) → MayFollow after next
     → i < length (heard_with bytes after) → is_preamble_at (faultless bytes ++ next) i ≡ true
     → (i < length bytes) × (get_or bytes i 0 ≡ 255)
-preamble_is bytes after next i follows within is =
-    let cases : (i < length bytes) ⊎ (length bytes ≤ i) = grind arith in
-    let none = (known bytes after next follows).none i in
-    grind (arith, nat_tests, tested (faultless bytes ++ next) i, chars_at bytes next i preamble, none)
+preamble_is bytes after next i follows within is = grind (arith, nat_tests, known, tested, chars_at)
 
 pub preamble_no : (bytes : List ℕ) (after : After) (next : List Character) (i : ℕ) → MayFollow after next
     → i < length (heard_with bytes after) → (i < length bytes → get_or bytes i 0 ≢ 255)

@@ -37,10 +37,7 @@ pub record StandsAsHeader (bytes : List ℕ) (parts : HeaderParts) : Type 0 wher
 
 pub header_read : (bytes : List ℕ) (parts : HeaderParts) → StandsAsHeader bytes parts → header_in bytes ≡ Some parts
 unfolding header_in
-header_read bytes parts is =
-    let (master, address) = address_read bytes is.address parts.master is.burst parts.address is.address_bytes is.stands is.form in
-    let kind : kind_in bytes ≡ parts.kind = grind (arith, nat_tests, is.kind) in
-    grind (arith, nat_tests, is.delimiter, is.within, is.command)
+header_read bytes parts is = grind (arith, nat_tests, address_read)
 
 -- Bytes that begin with a body have the header of its frame.
 pub headers_are_those_of_frames-body : (bytes : List ℕ) (f : FrameParts) (len : ℕ) → BeginsWithBody bytes f len

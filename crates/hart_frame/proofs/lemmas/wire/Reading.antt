@@ -29,14 +29,7 @@ module _ (layout : Layout) (xs : List ℕ) (len check : ℕ) (has : HasCheckByte
 
   -- If the parity of these bytes is not even, their check byte does not fit.
   pub odd_prefix : check ≢ 0 → HasBadCheck xs len (get_or xs (len - 1) 0) (bit_xor check (get_or xs (len - 1) 0))
-  odd_prefix other = record {
-    checked = has;
-    whole = omega (arith, same, is.command, is.count);
-    stands = refl;
-    fitting = IsCheckByte-fold (take (len - 1) xs) _ (λ i. grind (arith, get_or-take, get_or_past, length-take, fits i)) fitting;
-    differs = changed check (get_or xs (len - 1) 0) other;
-    are_bytes = are_bytes;
-  }
+  odd_prefix other = grind (arith, fitting, IsCheckByte-fold, get_or-take, get_or_past, length-take, changed, are_bytes)
 
 -- The check byte that would fit is the exclusive or of the bytes before it.
 pub fold_fits : (xs : List ℕ) (len byte fits : ℕ) → HasBadCheck xs len byte fits → fits ≡ fold bit_xor 0 (take (len - 1) xs)
