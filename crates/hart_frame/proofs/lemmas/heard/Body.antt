@@ -1,7 +1,6 @@
 -- Characters that begin with a body, and their bytes.
 use Rattle.hart_frame.proofs.Common.{◌≡◌, ◌<◌, ℕ, List, [], ◌∷◌, refl, sym, ap, ◌∙◌, arith, common_steps, faultless, IsBody, delimiter_of}
-use Rattle.hart_frame.proofs.Common.{FrameParts}
-use Rattle.hart_frame.specs.private.Body.{bytes_of}
+use Rattle.hart_frame.proofs.Common.{FrameParts, bytes_of}
 use Rattle.hart_frame.proofs.lemmas.wire.UnambiguousBodies.{address_type-lt, kind_code-is}
 
 -- The bytes of faultless characters are the bytes from which the characters were made.

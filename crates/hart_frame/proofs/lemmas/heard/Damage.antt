@@ -2,10 +2,8 @@
 use Rattle.hart_frame.proofs.Common.{◌≡◌, ◌≢◌, ℕ, zero, suc, ◌+◌, ◌<◌, ◌≤◌, ◌⊎◌, inl, inr, List, [], ◌∷◌, ◌++◌, length, drop, replicate}
 use Rattle.hart_frame.proofs.Common.{refl, arith, append_assoc, length-append, common_steps, append-nil, drop-append-le, length-replicate}
 use Rattle.hart_frame.proofs.Common.{Found, Character, faultless, IsHeardOrMarked, AreFrames, none, first, StandsIn, delimiter_of}
-use Rattle.hart_frame.proofs.Common.{FrameParts, delimiter_in}
+use Rattle.hart_frame.proofs.Common.{FrameParts, delimiter_in, AllZip-long, AllZip}
 use Rattle.std.proofs.lemmas.List.{nil_from_length}
-use Rattle.std.proofs.lemmas.Slice.Zip.{AllZip-long}
-use Rattle.std.specs.List.{AllZip}
 use Rattle.hart_frame.specs.heard.Damage.{HasNoTwoPreambles, IsCheckDamage, IsMarkedDamage}
 use Rattle.hart_frame.proofs.lemmas.heard.Body.{head_of}
 use Rattle.hart_frame.proofs.lemmas.heard.FramesFound.{AreFrames-found}

@@ -1,9 +1,8 @@
 -- A message that is heard without faults has its frame alone.
-use Rattle.hart_frame.proofs.Common.{subst, ◌≡◌, ℕ, ◌+◌, ◌-◌, ◌≤◌, List, [], ◌∷◌, ◌++◌, length, replicate, arith, append_assoc, append-nil}
+use Rattle.hart_frame.proofs.Common.{subst, ◌≡◌, ℕ, ◌-◌, ◌≤◌, List, [], ◌∷◌, ◌++◌, length, replicate, arith, append_assoc, append-nil}
 use Rattle.hart_frame.proofs.Common.{length-append, map-append, length-map, length-replicate, Found, faultless, IsHeardOrMarked, AreFrames}
-use Rattle.hart_frame.proofs.Common.{StandsIn, FrameParts}
+use Rattle.hart_frame.proofs.Common.{FrameParts, AllZip}
 use Rattle.std.proofs.lemmas.List.{replicate-append-replicate}
-use Rattle.std.specs.List.{AllZip}
 use Rattle.hart_frame.specs.wire.Message.{IsMessage}
 use Rattle.hart_frame.proofs.lemmas.heard.Body.{head_of}
 use Rattle.hart_frame.proofs.lemmas.heard.Damage.{heard_faultless, stood}

@@ -2,10 +2,10 @@
 use Rattle.hart_frame.proofs.Common.{refl, ◌≡◌, ◌≢◌, ℕ, zero, suc, ◌<◌, ◌⊎◌, inl, inr, List, [], ◌∷◌, ◌++◌, length, take, drop, true, false}
 use Rattle.hart_frame.proofs.Common.{None, Some, append_assoc, arith, length-append, take-append_seam, common_steps, get_or-take, is_some}
 use Rattle.hart_frame.proofs.Common.{length-take-le, take-append-drop, Miss, OnePreamble, Character, faultless_bytes, HasBodyAt, HasFrameAt}
-use Rattle.hart_frame.proofs.Common.{body_miss, miss_of, IsStart}
+use Rattle.hart_frame.proofs.Common.{body_miss, miss_of, IsStart, follows_preamble, is_start}
 use Rattle.std.proofs.Math.Seq.{append_snoc, drop-cons, get_or-append_seam, take-suc}
 use Rattle.hart_frame.specs.heard.InTheWay.{FollowsOnePreamble}
-use Rattle.hart_frame.specs.heard.Miss.{follows_one_preamble, follows_preamble, is_start}
+use Rattle.hart_frame.specs.heard.Miss.{follows_one_preamble}
 use Rattle.hart_frame.proofs.lemmas.heard.FramesFound.{begins_at, body_of, start_of}
 use Rattle.hart_frame.proofs.lemmas.heard.Place.{preamble}
 use Rattle.hart_frame.proofs.lemmas.heard.Start.{start_test, tested}

@@ -1,8 +1,7 @@
 -- An open place can begin a frame.
 use Rattle.hart_frame.proofs.Common.{length-append, ◌≡◌, ℕ, suc, ◌+◌, ◌<◌, List, ◌++◌, length, take, drop, refl, sym, ap, ◌∙◌, arith, All}
 use Rattle.hart_frame.proofs.Common.{append_assoc, length-map, get_or-map, map-append, take-append-drop, All-from_get_or, Found, Character}
-use Rattle.hart_frame.proofs.Common.{faultless, StandsIn}
-use Rattle.std.proofs.lemmas.List.{get_or-append-add}
+use Rattle.hart_frame.proofs.Common.{faultless, StandsIn, get_or-append-add}
 use Rattle.hart_frame.specs.heard.Place.{IsOpen}
 use Rattle.hart_frame.proofs.lemmas.heard.FramesFound.{frame_up_to}
 use Rattle.hart_frame.proofs.lemmas.heard.Place.{preamble}

@@ -2,14 +2,13 @@
 use Rattle.hart_frame.proofs.Common.{◌≡◌, ℕ, zero, suc, ◌+◌, ◌-◌, ◌≤◌, List, [], ◌∷◌, ◌++◌, length, ◌<◌, drop, true, false, None, inl, refl}
 use Rattle.hart_frame.proofs.Common.{arith, append_assoc, sym, nat_tests, append-nil, Miss, body_miss, flat_map, range_with_len, Found}
 use Rattle.hart_frame.proofs.Common.{Character, AreFrames, IsFirst, first, none, StandsIn, AreSightings, Message, Missed, Seen, header_at}
-use Rattle.hart_frame.proofs.Common.{missed_at, sightings, ◌≢◌, ◌⊎◌, ◌∙◌}
+use Rattle.hart_frame.proofs.Common.{missed_at, sightings, ◌≢◌, missed}
 use Rattle.hart_frame.proofs.lemmas.heard.FramesFound.{AreFrames-earlier, body_of, start_of}
 use Rattle.hart_frame.proofs.lemmas.heard.Missed.{none_of}
 use Rattle.hart_frame.proofs.lemmas.heard.Place.{StandsIn-from, preamble}
 use Rattle.hart_frame.proofs.lemmas.heard.Sighting.{after_two, not_both, IsClean, follows_from, is_other_at, is_preamble_at, same_from}
 use Rattle.hart_frame.proofs.lemmas.heard.Start.{starts_at, tested}
 use Rattle.std.proofs.lemmas.Grind.{flat_map-append}
-use Rattle.hart_frame.specs.heard.Sighting.{missed}
 
 -- A list passes to `to` if three things hold: `given` is seen before `to`; no frame begins before `to`; and what is seen at a place from
 -- `to` on does not depend on whether characters count from `from` on or from `to` on.

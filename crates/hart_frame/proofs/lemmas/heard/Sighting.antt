@@ -3,13 +3,12 @@ use Rattle.hart_frame.proofs.Common.{◌≡◌, ℕ, zero, suc, ◌+◌, ◌-◌
 use Rattle.hart_frame.proofs.Common.{None, Some, ◌∙◌, ◌⊎◌, inl, inr, sym, arith, refl, length-drop, nat_tests, common_steps, drop_all, ◌&&◌}
 use Rattle.hart_frame.proofs.Common.{drop_more, drop-drop, map-append, flat_map, range_with_len, slice_get, option_map_or, not, Found, Miss}
 use Rattle.hart_frame.proofs.Common.{OnePreamble, Character, moved, body_miss, stands_alone, Missed, Seen, header_at, missed_at, sightings}
-use Rattle.hart_frame.proofs.Common.{miss_in_whole, two_begin_in_body, HeaderParts}
+use Rattle.hart_frame.proofs.Common.{miss_in_whole, two_begin_in_body, HeaderParts, follows_preamble, is_preamble, missed, moved_seen}
+use Rattle.hart_frame.proofs.Common.{seen_miss}
 use Rattle.hart_frame.proofs.lemmas.heard.Front.{faultless_bytes-more}
 use Rattle.hart_frame.proofs.lemmas.heard.Place.{preamble, rest_at}
 use Rattle.std.specs.Prelude.{if◌then◌else◌, is_none, nat_lt, option_map}
-use Rattle.hart_frame.specs.heard.Miss.{follows_preamble, is_preamble}
 use Rattle.hart_frame.proofs.lemmas.heard.Start.{tested}
-use Rattle.hart_frame.specs.heard.Sighting.{missed, moved_seen, seen_miss}
 
 -- What is seen at a place of the rest of a list is seen `n` places later in the list.
 told_moved : (n from p : ℕ) (h : Option HeaderParts) (m : Option Miss)

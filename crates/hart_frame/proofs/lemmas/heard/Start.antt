@@ -2,9 +2,8 @@
 use Rattle.hart_frame.proofs.Common.{◌↔◌, true, false, not, ◌≡◌, ◌≢◌, ℕ, zero, suc, ◌-◌, ◌<◌, ◌≤◌, ◌⊎◌, inl, inr, List, [], ◌∷◌, ◌++◌, take}
 use Rattle.hart_frame.proofs.Common.{length, drop, get_or, arith, length-append, append_assoc, nat_tests, slice_get-get_or, slice_get_cases}
 use Rattle.hart_frame.proofs.Common.{slice_get, option_map_or, common_steps, length-take-le, take-append-drop, Character, IsStart}
+use Rattle.hart_frame.proofs.Common.{is_preamble, is_start, get_or-append-add}
 use Rattle.std.proofs.Common.{drop-cons}
-use Rattle.hart_frame.specs.heard.Miss.{is_preamble, is_start}
-use Rattle.std.proofs.lemmas.List.{get_or-append-add}
 use Rattle.hart_frame.specs.heard.Start.{HasNoStart, IsFirstStart}
 use Rattle.hart_frame.proofs.lemmas.heard.Place.{preamble}
 

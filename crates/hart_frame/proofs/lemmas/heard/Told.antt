@@ -3,11 +3,9 @@ use Rattle.hart_frame.proofs.Common.{◌≡◌, ℕ, ◌+◌, ◌<◌, ◌≤◌
 use Rattle.hart_frame.proofs.Common.{length-append, nat_tests, get_or-take, get_or_append_left, length-take, take_all, take-append-drop}
 use Rattle.hart_frame.proofs.Common.{take-append-le, take-take, All-from_get_or, All-take, slice_get, Cut, Wrong, Character, body_miss}
 use Rattle.hart_frame.proofs.Common.{faultless_bytes, check_miss, miss_in, layout_length, IsOfBytes, IsPrefix, IsWrong, body_length}
-use Rattle.hart_frame.proofs.Common.{byte_count_place, HasCheckByte}
+use Rattle.hart_frame.proofs.Common.{byte_count_place, HasCheckByte, faulty_or, cut_miss, wrong_miss}
 use Rattle.hart_frame.specs.declared.wire.prefix.Prefix.TheVariants.{Whole}
 use Rattle.hart_frame.specs.declared.wire.prefix.Wrong.TheVariants.{BadCheck}
-use Rattle.hart_frame.specs.heard.Miss.{faulty_or}
-use Rattle.hart_frame.specs.private.Miss.{cut_miss, wrong_miss}
 use Rattle.hart_frame.proofs.lemmas.wire.Parity.{odd}
 use Rattle.hart_frame.proofs.lemmas.wire.Reading.{fold_fits, whole_has}
 

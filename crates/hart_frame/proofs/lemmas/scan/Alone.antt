@@ -4,10 +4,9 @@ use Rattle.hart_frame.proofs.Common.{◌∙◌, add-zero, sym, arith, refl, leng
 use Rattle.hart_frame.proofs.Common.{get_or_append_left, take_all, take-append-le, take-append-add, ◌&&◌, ◌||◌, After, Damaged, End, More}
 use Rattle.hart_frame.proofs.Common.{Character, faultless, faultless_bytes, body_miss, check_miss, miss_in, has_two_preambles, MayFollow}
 use Rattle.hart_frame.proofs.Common.{two_begin_in_body, miss_in_whole, MayStandAlone, Whatever, stands_alone, body_length, HasCheckByte}
-use Rattle.hart_frame.proofs.Common.{IsTruncated}
+use Rattle.hart_frame.proofs.Common.{IsTruncated, HasBodyMiss}
 use Rattle.std.proofs.Common.{min}
 use Rattle.std.specs.Prelude.{is_none}
-use Rattle.hart_frame.specs.private.Sighting.{HasBodyMiss}
 use Rattle.hart_frame.proofs.lemmas.heard.Place.{preamble}
 use Rattle.hart_frame.proofs.lemmas.heard.Front.{faultless_bytes-end}
 use Rattle.hart_frame.proofs.lemmas.heard.Sighting.{body_moved, is_none-map}

@@ -3,12 +3,11 @@ use Rattle.hart_frame.proofs.Common.{◌≡◌, ◌≢◌, ℕ, ◌+◌, ◌<◌
 use Rattle.hart_frame.proofs.Common.{refl, length-append, length-drop, nat_tests, append-nil, drop-append-le, drop-map, get_or_at, Miss}
 use Rattle.hart_frame.proofs.Common.{length-map, slice_get-get_or, slice_get_cases, slice_get, Faulty, After, Damaged, End, More, Layout}
 use Rattle.hart_frame.proofs.Common.{Cut, Wrong, Character, faultless, faultless_bytes, body_miss, miss_in, IsPrefix, IsWrong, Whatever}
-use Rattle.hart_frame.proofs.Common.{stands_alone, heard_with, header_in, body_length, command_place, delimiter_in, IsDelimiter}
+use Rattle.hart_frame.proofs.Common.{stands_alone, heard_with, header_in, body_length, command_place, delimiter_in, IsDelimiter, cut_miss}
+use Rattle.hart_frame.proofs.Common.{wrong_miss, HasBodyMiss}
 use Rattle.hart_frame.proofs.lemmas.heard.Front.{faultless_bytes-end, faultless_bytes-append}
 use Rattle.hart_frame.specs.declared.wire.prefix.Prefix.TheVariants.{Whole}
-use Rattle.hart_frame.specs.declared.wire.prefix.Wrong.TheVariants.{BadCheck, BadDelimiter, ShortReply}
-use Rattle.hart_frame.specs.private.Miss.{cut_miss, wrong_miss}
-use Rattle.hart_frame.specs.private.Sighting.{HasBodyMiss, KeepsHeader}
+use Rattle.hart_frame.specs.private.Sighting.{KeepsHeader}
 use Rattle.hart_frame.specs.scan.Sighting.{NamesPlacesBelow}
 use Rattle.hart_frame.proofs.lemmas.wire.Header.{header_sure}
 use Rattle.hart_frame.proofs.lemmas.heard.Told.{cut_told, whole_told, wrong_told}

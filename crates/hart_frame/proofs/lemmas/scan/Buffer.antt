@@ -2,14 +2,11 @@
 use Rattle.hart_frame.proofs.Common.{◌≡◌, ℕ, ◌+◌, ◌-◌, ◌≤◌, true, IsTrue, List, [], ◌++◌, length, take, drop, None, sym, refl, arith, Scan}
 use Rattle.hart_frame.proofs.Common.{append_assoc, length-append, common_steps, append-nil, drop-append-le, drop-drop, drop-map, length-map}
 use Rattle.hart_frame.proofs.Common.{Buffer, Drained, SearchResult, faultless, IsUndecided, IsSound, IsWaiting, held_bytes, scan_of}
-use Rattle.hart_frame.proofs.Common.{MovesPast}
+use Rattle.hart_frame.proofs.Common.{MovesPast, option_to_list, IsHeldSearched, Waits}
 use Rattle.std.proofs.Math.Seq.{drop-append-add, drop-append_seam}
-use Rattle.std.specs.Option.{option_to_list}
 use Rattle.hart_frame.specs.declared.scan.buffer.State.{State}
 use Rattle.hart_frame.specs.declared.scan.buffer.State.TheVariants.{Busy}
 use Rattle.hart_frame.specs.private.Buffer.{is_drained}
-use Rattle.hart_frame.specs.private.Decision.{IsHeldSearched}
-use Rattle.hart_frame.specs.scan.Scanner.{Waits}
 use Rattle.hart_frame.proofs.lemmas.scan.Candidate.{undecided_open}
 use Rattle.hart_frame.proofs.lemmas.scan.Scan.{moves_none, moves_past}
 use Rattle.hart_frame.proofs.lemmas.scan.Search.{take_both}

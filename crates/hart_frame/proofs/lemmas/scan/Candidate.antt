@@ -2,10 +2,9 @@
 use Rattle.hart_frame.proofs.Common.{◌≡◌, ◌≢◌, ℕ, zero, suc, ◌+◌, ◌<◌, ◌≤◌, inl, inr, List, [], ◌∷◌, ◌++◌, length, take, drop, get_or, refl}
 use Rattle.hart_frame.proofs.Common.{sym, ap, ◌∙◌, arith, append_assoc, take-append-add, append-nil, length-drop, map-append, take_rest}
 use Rattle.hart_frame.proofs.Common.{take-append-drop, slice_range, Truncated, Layout, Wrong, Character, faultless, faultless_bytes}
-use Rattle.hart_frame.proofs.Common.{IsUndecided, BeginWithNone, IsWhole, MayBegin, layout_length, IsPrefix, IsWrong, IsTruncated}
+use Rattle.hart_frame.proofs.Common.{IsUndecided, BeginWithNone, IsWhole, MayBegin, layout_length, IsPrefix, IsWrong, IsTruncated, bytes_of}
 use Rattle.hart_frame.specs.declared.scan.candidate.Candidate.TheVariants.{Never, Whole}
 use Rattle.hart_frame.specs.declared.wire.prefix.Prefix.TheVariants as prefix
-use Rattle.hart_frame.specs.private.Body.{bytes_of}
 use Rattle.hart_frame.specs.private.Candidate.{IsCandidate, MayBeginBefore, NothingFollows, NeverBegin}
 use Rattle.hart_frame.specs.private.Prefix.{fault_in, shown_by}
 use Rattle.hart_frame.proofs.lemmas.heard.Body.{bytes_of-faultless}

@@ -3,10 +3,9 @@ use Rattle.hart_frame.proofs.Common.{◌≡◌, ℕ, ◌+◌, ◌-◌, ◌<◌, 
 use Rattle.hart_frame.proofs.Common.{Some, drop, get_or, refl, subst, ◌∙◌, arith, append_assoc, length-drop, take-add, common_steps, Buffer}
 use Rattle.hart_frame.proofs.Common.{length-take, append-nil, take-map, take-take, length-map, length-take-le, MatchOption, Drained, Layout}
 use Rattle.hart_frame.proofs.Common.{Character, faultless, faultless_bytes, IsUndecided, IsSound, scan_of, Hears, Scan, GivesNothing}
-use Rattle.hart_frame.proofs.Common.{MovesPast, hearing}
+use Rattle.hart_frame.proofs.Common.{MovesPast, hearing, HoldsWhole}
 use Rattle.hart_frame.specs.private.Chunk.{HearsPart}
 use Rattle.hart_frame.specs.scan.Chunk.{StopsAt}
-use Rattle.hart_frame.specs.private.Decision.{HoldsWhole}
 use Rattle.hart_frame.proofs.lemmas.heard.Front.{front_heard}
 use Rattle.hart_frame.proofs.lemmas.scan.Buffer.{drained_is, undecided_waiting, waits_drained}
 use Rattle.hart_frame.proofs.lemmas.scan.Decision.{holds_frame}

@@ -1,12 +1,11 @@
 -- Whether bytes that end too early for a body may become one that stands alone.
 use Rattle.hart_frame.proofs.Common.{◌≡◌, ◌≢◌, ℕ, zero, suc, ◌+◌, ◌-◌, ◌<◌, ◌≤◌, true, false, List, [], ◌∷◌, ◌++◌, length, take, get_or}
-use Rattle.hart_frame.proofs.Common.{fold, bit_xor, None, ◌∙◌, ap, sym, arith, refl, append_assoc, length-append, replicate, All}
-use Rattle.hart_frame.proofs.Common.{take-append-add, nat_tests, append-nil, get_or_at, length-replicate, map-append, take_all, take_at}
-use Rattle.hart_frame.proofs.Common.{All-append, All-take, Character, faultless, faultless_bytes, HasBodyAt, bytes_from, body_miss}
-use Rattle.hart_frame.proofs.Common.{check_miss, has_two_preambles, two_begin_in_body, MayStandAlone, stands_alone, IsBody, FrameParts}
-use Rattle.hart_frame.proofs.Common.{body_length, HasCheckByte, IsTruncated}
+use Rattle.hart_frame.proofs.Common.{fold, bit_xor, None, ◌∙◌, ap, sym, arith, append_assoc, length-append, replicate, All, take-append-add}
+use Rattle.hart_frame.proofs.Common.{nat_tests, append-nil, get_or_at, length-replicate, map-append, take_all, take_at, All-append}
+use Rattle.hart_frame.proofs.Common.{All-take, Character, faultless, faultless_bytes, HasBodyAt, bytes_from, body_miss, check_miss}
+use Rattle.hart_frame.proofs.Common.{has_two_preambles, two_begin_in_body, MayStandAlone, stands_alone, IsBody, FrameParts, body_length}
+use Rattle.hart_frame.proofs.Common.{HasCheckByte, IsTruncated, All-replicate}
 use Rattle.std.proofs.lemmas.List.{take-replicate}
-use Rattle.std.proofs.lemmas.List.Elements.{All-replicate}
 use Rattle.hart_frame.specs.private.Sighting.{LacksOnePreamble}
 use Rattle.hart_frame.proofs.lemmas.heard.FramesFound.{begins_at}
 use Rattle.hart_frame.proofs.lemmas.heard.Front.{faultless_bytes-append}

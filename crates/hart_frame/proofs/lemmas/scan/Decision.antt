@@ -1,15 +1,14 @@
 -- What is decided about a buffer, and what it gives then.
 use Rattle.hart_frame.proofs.lemmas.heard.Place.{stands_at}
-use Rattle.hart_frame.proofs.Common.{◌≡◌, ◌≢◌, ℕ, ◌+◌, ◌↔◌, inl, inr, Bool, IsTrue, List, [], ◌∷◌, ◌++◌, length, drop, refl, arith, subst}
+use Rattle.hart_frame.proofs.Common.{◌≡◌, ◌≢◌, ℕ, ◌+◌, ◌↔◌, inl, inr, Bool, IsTrue, List, [], ◌∷◌, ◌++◌, length, drop, refl, arith}
 use Rattle.hart_frame.proofs.Common.{append_assoc, length-append, length-drop, drop_at, map-append, Buffer, Drained, SearchResult, Layout}
 use Rattle.hart_frame.proofs.Common.{faultless, FrameParts, IsSound, IsWaiting, held_bytes, scan_of, Scan, IsWhole, MovesPast, GivesNothing}
-use Rattle.hart_frame.proofs.Common.{IsBody, body_length, layout_length}
-use Rattle.std.specs.Option.{option_to_list}
+use Rattle.hart_frame.proofs.Common.{IsBody, layout_length, option_to_list, GivesSpan, HoldsWhole, IsHeldOpen, IsHeldSearched}
 use Rattle.hart_frame.specs.declared.scan.buffer.State.TheVariants.{Busy, Stands}
 use Rattle.hart_frame.specs.private.Buffer.{IsEnded}
 use Rattle.hart_frame.specs.private.Prefix.{IsWholeBody}
 use Rattle.hart_frame.specs.scan.Chunk.{BeginsWithFrame}
-use Rattle.hart_frame.specs.private.Decision.{GivesSpan, HoldsWhole, IsHeldOpen, IsHeldSearched, NoneBeginHeld}
+use Rattle.hart_frame.specs.private.Decision.{NoneBeginHeld}
 use Rattle.hart_frame.specs.private.Search.{IsSearchedToEnd}
 use Rattle.hart_frame.proofs.lemmas.scan.Buffer.{held_passed, moves_passed, passed, waits}
 use Rattle.hart_frame.proofs.lemmas.scan.Next.{body_at_place}

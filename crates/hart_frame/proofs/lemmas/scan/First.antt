@@ -2,11 +2,11 @@
 use Rattle.hart_frame.proofs.Common.{inl, inr, add-zero, ◌≡◌, ℕ, ◌<◌, ◌≤◌, false, Option, Some, None, List, [], ◌∷◌, ◌++◌, length, take}
 use Rattle.hart_frame.proofs.Common.{drop, arith, refl, subst, take-length, append-nil, length-take-le, take-append-drop, MatchOption, Scan}
 use Rattle.hart_frame.proofs.Common.{is_some, Found, Buffer, Character, AreFrames, HasNoFrame, IsFirst, moved, Hears, scan_of, GivesNothing}
-use Rattle.hart_frame.proofs.Common.{MovesPast, hearing, IsBody, FrameParts}
+use Rattle.hart_frame.proofs.Common.{MovesPast, hearing, IsBody, FrameParts, GivesSpan, Gives}
 use Rattle.hart_frame.specs.declared.scan.buffer.Span.{Span}
-use Rattle.hart_frame.specs.private.Decision.{GivesSpan, body_at}
+use Rattle.hart_frame.specs.private.Decision.{body_at}
 use Rattle.hart_frame.specs.private.First.{HoldsFirst}
-use Rattle.hart_frame.specs.scan.Scanner.{Gives, finishing, new_scan}
+use Rattle.hart_frame.specs.scan.Scanner.{finishing, new_scan}
 use Rattle.hart_frame.proofs.lemmas.heard.FramesFound.{AreFrames-found, head_first}
 use Rattle.hart_frame.proofs.lemmas.heard.Place.{StandsIn-within}
 use Rattle.hart_frame.proofs.lemmas.heard.Rest.{first_moved, stands_back}

@@ -3,8 +3,8 @@ use Rattle.hart_frame.proofs.Common.{◌≡◌, ℕ, ◌+◌, ◌-◌, ◌<◌, 
 use Rattle.hart_frame.proofs.Common.{drop, append_assoc, arith, length-append, length-drop, refl, subst, sym, ap, ◌∙◌, append-nil, drop-map}
 use Rattle.hart_frame.proofs.Common.{drop-append-le, drop-drop, length-map, length-take-le, map-append, take_at, All-append, All, Found}
 use Rattle.hart_frame.proofs.Common.{slice_range, Layout, Character, faultless, AreFrames, moved, none, first, BeginWithNone, IsWhole}
-use Rattle.hart_frame.proofs.Common.{layout_length, AreNext, IsBody, FrameParts}
-use Rattle.std.proofs.lemmas.List.Elements.{All-cons, All-map, All-nil, All-weaker}
+use Rattle.hart_frame.proofs.Common.{layout_length, AreNext, IsBody, FrameParts, All-cons, All-map}
+use Rattle.std.proofs.lemmas.List.Elements.{All-nil, All-weaker}
 use Rattle.hart_frame.specs.private.Search.{NoneBeginThen}
 use Rattle.hart_frame.proofs.lemmas.heard.FramesFound.{AreFrames-earlier, AreFrames-found, head_first}
 use Rattle.hart_frame.proofs.lemmas.heard.Place.{StandsIn-at, StandsIn-from, StandsIn-within, stands_at}

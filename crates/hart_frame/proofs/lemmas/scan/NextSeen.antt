@@ -3,10 +3,11 @@ use Rattle.hart_frame.proofs.Common.{◌≡◌, ℕ, ◌+◌, ◌-◌, ◌<◌, 
 use Rattle.hart_frame.proofs.Common.{arith, refl, append_assoc, length-append, length-drop, drop_more, take-append-drop, get_or-drop}
 use Rattle.hart_frame.proofs.Common.{length-take-le, length-map, slice_range, IsTrue, Miss, After, OnePreamble, Damaged, End, More}
 use Rattle.hart_frame.proofs.Common.{Character, faultless, body_miss, StandsIn, Message, Missed, Seen, header_at, heard_with, FollowsTwo}
-use Rattle.hart_frame.proofs.Common.{IsAsked, MayFollow, Whatever, stands_alone, parts_of, Layout, IsBody, FrameParts, header_in}
-use Rattle.hart_frame.specs.heard.Sighting.{SeesOn, missed_at}
+use Rattle.hart_frame.proofs.Common.{IsAsked, MayFollow, Whatever, stands_alone, parts_of, Layout, IsBody, FrameParts, header_in, SeesOn}
+use Rattle.hart_frame.proofs.Common.{AreSilent, IsStandingAt}
+use Rattle.hart_frame.specs.heard.Sighting.{missed_at}
 use Rattle.hart_frame.specs.scan.Sighting.{AfterIsValid, is_end}
-use Rattle.hart_frame.specs.private.Sighting.{AreSilent, IsMessageAt, IsPassed, IsStandingAt}
+use Rattle.hart_frame.specs.private.Sighting.{IsMessageAt, IsPassed}
 use Rattle.hart_frame.specs.scan.View.{found_of}
 use Rattle.hart_frame.specs.declared.scan.view.FoundView.{FoundView}
 use Rattle.hart_frame.specs.declared.scan.sighting.Standing.TheVariants as standing

@@ -1,13 +1,12 @@
 -- The next pair among sixteen places, by lanes.
 use Rattle.hart_frame.proofs.Common.{◌≡◌, ℕ, zero, suc, ◌+◌, ◌-◌, ◌%◌, ◌<◌, ◌≤◌, Bool, true, false, not, ◌&&◌, List, [], ◌∷◌, map, sym}
 use Rattle.hart_frame.proofs.Common.{length, take, drop, get_or, replicate, bit_and, refl, ap, ◌∙◌, subst, arith, add-zero, length-drop}
-use Rattle.hart_frame.proofs.Common.{nat_tests, drop_more, length-map, length-take-le, range_with_len, HasNoPair, HasPair}
+use Rattle.hart_frame.proofs.Common.{nat_tests, drop_more, length-map, length-take-le, range_with_len, HasNoPair, HasPair, prefix_len}
 use Rattle.std.proofs.Common.{◌^◌, eqb, cond}
 use Rattle.std.proofs.lemmas.Bool.{not-true, not-false}
 use Rattle.std.proofs.lemmas.List.FromFn.{get_or-range_with_len, length-range_with_len}
 use Rattle.std.proofs.lemmas.List.Sums.{prefix_len-le-length, prefix_len_passes, prefix_len_stops}
 use Rattle.std.proofs.lemmas.Simd.{leading_from_mask_l, map-map, mask_l-mod, trailing_mask_l, zip2_of_maps, zip2_splat}
-use Rattle.std.specs.List.{prefix_len}
 use Rattle.std.specs.Simd.Lanes.{mask_l, top, zip2}
 use lib.Count.{count_trailing_zeros}
 use Rattle.hart_frame.specs.private.Search.{IsNextPair}

@@ -5,7 +5,7 @@ use Rattle.hart_frame.proofs.Common.{length-drop, add-zero, take-add, take-appen
 use Rattle.hart_frame.proofs.Common.{length-take-le, take_rest, slice_range, Layout, IsWhole, MayBegin, HasNoPair, HasPair, IsSearched}
 use Rattle.hart_frame.proofs.Common.{layout_length, Bool, IsTrue, take-length, take-append-drop, SearchResult}
 use Rattle.std.proofs.Common.{max}
-use Rattle.std.proofs.lemmas.Bool.{cases_eq, cases_lt}
+use Rattle.std.proofs.lemmas.Bool.{cases_eq}
 use Rattle.hart_frame.proofs.lemmas.wire.Lane.{drop_take}
 use Rattle.hart_frame.specs.declared.scan.candidate.Candidate.TheVariants.{Never, Whole}
 use Rattle.hart_frame.specs.declared.wire.prefix.Wrong.TheVariants.{BadDelimiter}

@@ -1,10 +1,9 @@
 -- What comes next in bytes, and what is seen in the characters that are heard.
 use Rattle.hart_frame.proofs.Common.{◌≡◌, ◌≢◌, ℕ, ◌-◌, ◌<◌, ◌≤◌, ◌⊎◌, inl, inr, true, false, List, ◌++◌, length, get_or, arith, refl}
-use Rattle.hart_frame.proofs.Common.{length-append, nat_tests, get_or_append_left, get_or_at, get_or-map, length-map, Found, After, Damaged}
+use Rattle.hart_frame.proofs.Common.{length-append, nat_tests, get_or_append_left, get_or_at, get_or-map, length-map, Found, After}
 use Rattle.hart_frame.proofs.Common.{Character, faultless, StandsIn, heard_with, FollowsTwo, IsAsked, MayFollow, [], ◌∙◌}
 use Rattle.hart_frame.specs.private.Sighting.{IsSilent}
 use Rattle.std.proofs.lemmas.Bool.{cases_Bool, false_from_ne_true}
-use Rattle.hart_frame.proofs.lemmas.heard.Place.{preamble}
 use Rattle.hart_frame.proofs.lemmas.heard.Seen.{NoneSeen, Passes, frame_at, passes_silent}
 use Rattle.hart_frame.proofs.lemmas.heard.Sighting.{IsClean, after_one, follows_from, is_other_at, is_preamble_at, not_other, unasked}
 use Rattle.hart_frame.proofs.lemmas.heard.Start.{tested}

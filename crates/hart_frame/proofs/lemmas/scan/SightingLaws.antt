@@ -1,7 +1,6 @@
 -- The sightings given one after another are all sightings of a list, and a list has only one list of sightings.
-use Rattle.hart_frame.proofs.Common.{◌≡◌, ◌≤◌, ℕ, Bool, false, List, [], ◌++◌, length, drop, map, ap, sym, arith, refl, append_assoc, Seen}
-use Rattle.hart_frame.proofs.Common.{append-nil, drop-append-le, IsTrue, Character, AreFrames, AreSightings, sightings}
-use Rattle.hart_frame.specs.heard.Sighting.{SeesOn, moved_seen}
+use Rattle.hart_frame.proofs.Common.{◌≡◌, ◌≤◌, ℕ, Bool, false, List, [], ◌++◌, length, drop, map, sym, arith, refl, append_assoc, Seen}
+use Rattle.hart_frame.proofs.Common.{append-nil, drop-append-le, IsTrue, Character, AreFrames, AreSightings, sightings, SeesOn, moved_seen}
 use Rattle.hart_frame.proofs.lemmas.heard.FramesFound.{AreFrames-found, AreFrames-one}
 use Rattle.hart_frame.proofs.lemmas.heard.Place.{HasNoFrame-end}
 use Rattle.hart_frame.proofs.lemmas.heard.Rest.{rest_frames}

@@ -1,9 +1,8 @@
 -- What stays undecided when a scanner passes some characters.
 use Rattle.hart_frame.proofs.Common.{add-zero, ◌≡◌, ℕ, ◌+◌, ◌<◌, ◌≤◌, inl, inr, false, List, [], ◌∷◌, ◌++◌, length, take, refl, sym, arith}
 use Rattle.hart_frame.proofs.Common.{Found, append_assoc, length-append, length-take-le, take-append-drop, Character, faultless, AreFrames}
-use Rattle.hart_frame.proofs.Common.{none, HasNoFrame, IsUndecided, StandsIn, AreNext, Scan, MovesPast, GivesNothing}
+use Rattle.hart_frame.proofs.Common.{none, HasNoFrame, IsUndecided, StandsIn, AreNext, Scan, MovesPast, GivesNothing, Gives, Waits}
 use Rattle.hart_frame.specs.scan.Chunk.{BeginsWithFrame}
-use Rattle.hart_frame.specs.scan.Scanner.{Gives, Waits}
 use Rattle.hart_frame.proofs.lemmas.heard.FramesFound.{AreFrames-found, head_first}
 use Rattle.hart_frame.proofs.lemmas.heard.Place.{StandsIn-within}
 use Rattle.hart_frame.proofs.lemmas.heard.Rest.{none_moved, some_moved, stands_back}

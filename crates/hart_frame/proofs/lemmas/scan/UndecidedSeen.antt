@@ -1,14 +1,11 @@
 -- If the characters that follow change which sighting comes first, no sighting is decided.
-use Rattle.hart_frame.specs.private.Miss.{cut_miss}
 use Rattle.hart_frame.proofs.Common.{◌≡◌, ◌≢◌, ℕ, zero, suc, ◌+◌, ◌-◌, ◌<◌, ◌≤◌, ◌⊎◌, inl, inr, List, [], ◌∷◌, ◌++◌, length, drop, get_or}
 use Rattle.hart_frame.proofs.Common.{None, Some, Option, ◌∙◌, ap, sym, arith, refl, length-drop, append-nil, drop_more, get_or-drop, All}
 use Rattle.hart_frame.proofs.Common.{length-map, All-drop, flat_map, range_with_len, option_map_or, Found, Miss, OnePreamble, More}
 use Rattle.hart_frame.proofs.Common.{Character, faultless, AreFrames, body_miss, AreSightings, Message, Missed, Seen, header_at}
 use Rattle.hart_frame.proofs.Common.{miss_in_whole, missed_at, sightings, HeaderParts, heard_with, IsAsked, MayStandAlone, After}
-use Rattle.hart_frame.proofs.Common.{IsTruncated}
-use Rattle.std.proofs.lemmas.List.Elements.{All-cons, All-map}
-use Rattle.hart_frame.specs.heard.Sighting.{IsUndecidedSighting, seen_miss}
-use Rattle.hart_frame.specs.private.Sighting.{IsStandingAt, IsUsed}
+use Rattle.hart_frame.proofs.Common.{IsTruncated, cut_miss, All-cons, All-map, seen_miss, IsStandingAt, IsUsed}
+use Rattle.hart_frame.specs.heard.Sighting.{IsUndecidedSighting}
 use Rattle.hart_frame.specs.declared.scan.sighting.Standing.TheVariants.{Open}
 use Rattle.hart_frame.proofs.lemmas.scan.Alone.{may_moved}
 use Rattle.hart_frame.proofs.lemmas.heard.FramesFound.{AreFrames-found}

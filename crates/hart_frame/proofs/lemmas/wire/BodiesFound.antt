@@ -2,17 +2,12 @@
 use Rattle.hart_frame.proofs.Common.{◌≡◌, ℕ, fold, bit_xor, ◌+◌, ◌-◌, ◌*◌, ◌/◌, ◌%◌, ◌<◌, ◌≤◌, ◌⊎◌, inl, inr, Bool, List, [], ◌∷◌, length}
 use Rattle.hart_frame.proofs.Common.{take, get_or, ltb, ◌∙◌, arith, nat_tests, get_or-take, length-take-le, take-take, All, slice_range}
 use Rattle.hart_frame.proofs.Common.{IsAddressBytes, Address, MasterId, Layout, IsCheckedPart, BeginsWithBody, kind_code, FrameParts}
-use Rattle.hart_frame.proofs.Common.{delimiter_in, command_place, body_length, HasEvenParity, HasCheckByte}
-use Rattle.std.proofs.lemmas.Grind.{get_or_after_one}
-use Rattle.std.proofs.lemmas.List.Elements.{All-get_or}
+use Rattle.hart_frame.proofs.Common.{delimiter_in, command_place, body_length, HasEvenParity, HasCheckByte, get_or_after_one, All-get_or}
+use Rattle.hart_frame.proofs.Common.{prefix_len, first_byte, FrameKind, address_end, byte_count_in}
 use Rattle.std.proofs.lemmas.List.Sums.{prefix_len_passes, prefix_len_stops}
-use Rattle.std.specs.List.{prefix_len}
-use Rattle.hart_values.specs.address.AddressBytes.{first_byte}
 use Rattle.hart_values.specs.declared.address.Address.TheVariants.{Polling, Unique}
-use Rattle.hart_frame.specs.declared.wire.kind.FrameKind.{FrameKind}
 use Rattle.hart_frame.specs.wire.Body.{HasNoBody}
 use Rattle.hart_frame.specs.wire.FrameParts.{IsLongEnough}
-use Rattle.hart_frame.specs.wire.Layout.{address_end, byte_count_in}
 use Rattle.hart_frame.proofs.lemmas.wire.Body.{IsBody-whole}
 use Rattle.hart_frame.proofs.lemmas.wire.Layout.{IsCheckedPart-in, length-slice_range}
 use Rattle.hart_frame.proofs.lemmas.wire.Parity.{IsCheckByte-fold, check-even, even-check, fits_at}

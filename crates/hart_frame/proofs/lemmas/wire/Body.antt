@@ -1,7 +1,6 @@
 -- Which bytes are a body: the checked part with its check byte, or bytes of even parity.
 use Rattle.hart_frame.proofs.Common.{ℕ, ◌-◌, ◌<◌, ◌≤◌, List, [], ◌∷◌, ◌++◌, length, take, arith, common_steps, take_more, take_all, All}
-use Rattle.hart_frame.proofs.Common.{IsBody, IsCheckedPart, FrameParts, IsCheckByte, HasEvenParity}
-use Rattle.std.proofs.lemmas.List.Elements.{All-push}
+use Rattle.hart_frame.proofs.Common.{IsBody, IsCheckedPart, FrameParts, IsCheckByte, HasEvenParity, All-push}
 use Rattle.hart_frame.proofs.lemmas.wire.Parity.{HasEvenParity-push}
 
 -- The checked part of a frame, with its check byte, is a body.

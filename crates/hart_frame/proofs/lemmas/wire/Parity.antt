@@ -2,8 +2,7 @@
 use Rattle.hart_frame.proofs.Common.{All-take, take-take, ◌≡◌, ◌≢◌, ℕ, ◌+◌, ◌-◌, ◌%◌, ◌<◌, ◌≤◌, List, [], ◌∷◌, ◌++◌, fold, bit_xor, drop}
 use Rattle.hart_frame.proofs.Common.{get_or, length, suc, take, arith, nat_tests, common_steps, get_or-drop, get_or-take}
 use Rattle.hart_frame.proofs.Common.{get_or_append_left, get_or_at, bit_at, get_or_past, length-take, length-take-le, take_all, take_more}
-use Rattle.hart_frame.proofs.Common.{All, IsCheckByte, HasEvenParity}
-use Rattle.std.proofs.lemmas.List.Elements.{All-get_or}
+use Rattle.hart_frame.proofs.Common.{All, IsCheckByte, HasEvenParity, All-get_or}
 use Rattle.std.proofs.lemmas.List.Sums.{fold-append, sum_by_push}
 use Rattle.std.proofs.lemmas.Nat.{xor_of_8}
 use Rattle.std.proofs.lemmas.Nat.Bits.{bit_at_xor, bit_at-lt, bit_at-zero, same_from_bits_below}

@@ -1,8 +1,7 @@
 -- What bytes say about a body does not change when more bytes follow.
 use Rattle.hart_frame.proofs.Common.{◌≡◌, ◌≢◌, ℕ, ◌<◌, ◌≤◌, List, ◌++◌, length, take, arith, length-append, get_or_append_left, get_or-take}
 use Rattle.hart_frame.proofs.Common.{length-take-le, take-append-le, FrameFault, Truncated, Layout, Describes, byte_count_place}
-use Rattle.hart_frame.proofs.Common.{body_length, IsRefusedWith, HasCheckByte}
-use Rattle.hart_frame.specs.wire.Refusal.{HasGoodByteCount}
+use Rattle.hart_frame.proofs.Common.{body_length, IsRefusedWith, HasCheckByte, HasGoodByteCount}
 
 pub length_more : (xs ys : List ℕ) → byte_count_place xs < length xs → body_length (xs ++ ys) ≡ body_length xs
 length_more xs ys within = grind (arith, get_or_append_left)

@@ -1,11 +1,11 @@
 -- How bytes begin as a body, and what follows from it.
 use Rattle.hart_frame.proofs.lemmas.wire.Parity.{fit_before, IsCheckByte-fold, before_last, changed, even-check, fits-is, odd}
 use Rattle.hart_frame.proofs.Common.{◌≡◌, ◌≢◌, ℕ, ◌-◌, ◌<◌, ◌≤◌, inl, inr, List, Option, None, Some, fold, bit_xor, get_or, length, take}
-use Rattle.hart_frame.proofs.Common.{drop, refl, arith, get_or-take, get_or_past, length-take, length-take-le, take-append-drop, take-take}
+use Rattle.hart_frame.proofs.Common.{drop, arith, get_or-take, get_or_past, length-take, length-take-le, take-append-drop, take-take}
 use Rattle.hart_frame.proofs.Common.{All-from_get_or, All, Layout, Cut, Wrong, Describes, layout_length, IsPrefix, IsWrong, body_length}
 use Rattle.hart_frame.proofs.Common.{byte_count_place, IsCheckByte, HasCheckByte, IsRefusedWith, IsTruncated}
 use Rattle.hart_frame.specs.declared.wire.prefix.Prefix.TheVariants.{Whole}
-use Rattle.hart_frame.specs.declared.wire.prefix.Wrong.TheVariants.{BadCheck, BadDelimiter, ShortReply}
+use Rattle.hart_frame.specs.declared.wire.prefix.Wrong.TheVariants.{BadCheck}
 use Rattle.hart_frame.specs.private.Prefix.{HasBadCheck, fault_in, shown_by}
 use Rattle.hart_frame.proofs.lemmas.wire.Prefix.{Describes-prefix, HasCheckByte-prefix, HasGoodByteCount-more, good_prefix, length_more}
 use Rattle.hart_frame.proofs.lemmas.wire.Truncated.{truncated_check, truncated_count}

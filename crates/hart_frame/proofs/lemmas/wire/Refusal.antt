@@ -2,10 +2,9 @@
 use Rattle.hart_frame.proofs.Common.{◌≡◌, ℕ, ◌+◌, ◌*◌, ◌≤◌, List, [], ◌∷◌, ◌++◌, length, take, drop, sym, ◌∙◌, arith, append_assoc}
 use Rattle.hart_frame.proofs.Common.{length-append, common_steps, length-take-le, take-append-drop, get_or_at, FrameFault, BeginsWithBody}
 use Rattle.hart_frame.proofs.Common.{delimiter_of, address_type, FrameParts, delimiter_in, byte_count_place, body_length, HasCheckByte}
-use Rattle.hart_frame.proofs.Common.{IsRefusedWith}
+use Rattle.hart_frame.proofs.Common.{IsRefusedWith, byte_count_in}
 use Rattle.std.proofs.Common.{Result, Ok, Err}
 use Rattle.std.specs.Result.{IfOk, IfErr}
-use Rattle.hart_frame.specs.wire.Layout.{byte_count_in}
 use Rattle.hart_frame.proofs.lemmas.wire.UnambiguousBodies.{address_type-lt, bodies_are_unambiguous-one_prefix, kind_code-is}
 use Rattle.hart_frame.proofs.lemmas.wire.UnambiguousBodies.{length-address, spread}
 

@@ -3,12 +3,10 @@ use Rattle.hart_frame.proofs.Common.{subst, ◌≡◌, ℕ, fold, bit_xor, ◌+�
 use Rattle.hart_frame.proofs.Common.{replicate, refl, arith, length-append, take-append_seam, get_or_append_left, get_or-take}
 use Rattle.hart_frame.proofs.Common.{length-replicate, All, length-take-le, take_all, take_at, take-append-drop, take-append-le, take-take}
 use Rattle.hart_frame.proofs.Common.{All-append, All-take, IsBody, BeginsWithBody, FrameParts, byte_count_place, body_length, HasCheckByte}
-use Rattle.hart_frame.proofs.Common.{IsTruncated}
+use Rattle.hart_frame.proofs.Common.{IsTruncated, All-push, All-replicate, HasDelimiter, HasGoodByteCount}
 use Rattle.hart_frame.proofs.lemmas.wire.Parity.{fit_before, IsCheckByte-fold, fits_at}
 use Rattle.std.proofs.lemmas.List.{get_or-append_right, get_or-replicate}
-use Rattle.std.proofs.lemmas.List.Elements.{All-push, All-replicate}
 use Rattle.hart_frame.specs.wire.Body.{HasNoBody, CanBecomeBody}
-use Rattle.hart_frame.specs.wire.Refusal.{HasDelimiter, HasGoodByteCount}
 use Rattle.hart_frame.proofs.lemmas.wire.BodiesFound.{held_frame}
 use Rattle.hart_frame.proofs.lemmas.wire.Body.{IsBody-push}
 use Rattle.hart_frame.proofs.lemmas.wire.Prefix.{HasGoodByteCount-more, length_more}

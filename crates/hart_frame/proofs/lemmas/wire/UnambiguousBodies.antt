@@ -2,10 +2,9 @@
 use Rattle.hart_frame.proofs.Common.{◌≡◌, ℕ, ◌+◌, ◌*◌, ◌<◌, Bool, List, [], ◌∷◌, ◌++◌, fold, bit_xor, length, take, drop, refl, arith}
 use Rattle.hart_frame.proofs.Common.{append_assoc, length-append, take-append_seam, append-nil, length-take-le, take_at, take-append-drop}
 use Rattle.hart_frame.proofs.Common.{get_or_append_left, get_or_at, get_or_past, IsAddressBytes, Address, MasterId, IsBody, BeginsWithBody}
-use Rattle.hart_frame.proofs.Common.{delimiter_of, kind_code, address_type, FrameParts}
+use Rattle.hart_frame.proofs.Common.{delimiter_of, kind_code, address_type, FrameParts, FrameKind}
 use Rattle.std.proofs.Math.Seq.{drop-append_seam}
 use Rattle.hart_values.proofs.lemmas.Laws.{address_bytes_are_unambiguous-one_list}
-use Rattle.hart_frame.specs.declared.wire.kind.FrameKind.{FrameKind}
 use Rattle.hart_frame.specs.declared.wire.kind.FrameKind.TheVariants.{Stx, Ack}
 use Rattle.hart_frame.proofs.lemmas.wire.Parity.{even-is, fits_at}
 

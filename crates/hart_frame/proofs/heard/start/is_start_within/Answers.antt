@@ -1,6 +1,5 @@
-use Rattle.hart_frame.proofs.Common.{◌≡◌, ◌≢◌, ◌&&◌, not, ℕ, ◌<◌, List, length, Bool, true, false, Option, Some, sym, ◌∙◌, arith, get_or}
-use Rattle.hart_frame.proofs.Common.{nat_tests, Character}
-use Rattle.std.proofs.Common.{nat_eq, IfSome}
+use Rattle.hart_frame.proofs.Common.{◌≡◌, ◌&&◌, not, ℕ, ◌<◌, List, length, Bool, false, sym, ◌∙◌, arith, get_or, nat_tests, Character}
+use Rattle.std.proofs.Common.{nat_eq}
 use Rattle.std.proofs.lemmas.List.{get_or_default}
 use Rattle.hart_frame.proofs.lemmas.heard.Place.{preamble}
 use Rattle.hart_frame.proofs.lemmas.heard.Start.{is_start_from, starts_at}

@@ -1,4 +1,4 @@
-use Rattle.hart_frame.proofs.Common.{◌-◌, Some, length, arith}
+use Rattle.hart_frame.proofs.Common.{arith}
 use Rattle.hart_frame.proofs.lemmas.scan.Search.{pair_after, pair_at_end}
 use Rattle.hart_frame.proofs.scan.search.next_pair.Goals as goal
 

@@ -1,5 +1,5 @@
-use Rattle.hart_frame.proofs.Common.{[], ◌+◌, ◌<◌, arith, All-from_get_or}
-use Rattle.hart_frame.specs.private.Sighting.{IsAsked, IsUsed}
+use Rattle.hart_frame.proofs.Common.{[], ◌+◌, ◌<◌, arith, All-from_get_or, IsUsed}
+use Rattle.hart_frame.specs.private.Sighting.{IsAsked}
 use Rattle.hart_frame.proofs.lemmas.scan.Sighted.{SilentBefore}
 use Rattle.hart_frame.proofs.lemmas.scan.NextSeen.{message_seen, message_two, missed_seen, asked_after, open_few, open_seen, passed_all}
 use Rattle.hart_frame.proofs.lemmas.scan.NextSeen.{sees, silent_before, silent_on}

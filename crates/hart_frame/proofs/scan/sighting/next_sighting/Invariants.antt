@@ -1,5 +1,4 @@
-use Rattle.hart_frame.proofs.Common.{◌≤◌, ◌-◌, length}
-use Rattle.hart_frame.specs.private.Sighting.{AreSilent}
+use Rattle.hart_frame.proofs.Common.{◌≤◌, ◌-◌, length, AreSilent}
 use Rattle.hart_frame.proofs.scan.sighting.next_sighting.Given as goal
 
 abbrev pub invariant-loop-start : goal.invariant-loop-start

@@ -1,5 +1,4 @@
-use Rattle.hart_frame.proofs.Common.{◌<◌, length, arith, rules}
-use Rattle.hart_frame.specs.private.Decision.{IsHeldOpen}
+use Rattle.hart_frame.proofs.Common.{◌<◌, length, arith, rules, IsHeldOpen}
 use Rattle.hart_frame.proofs.lemmas.scan.Decision.{given_nothing, given_open, given_stands}
 use Rattle.hart_frame.proofs.scan.buffer.Buffer.decide_held.Goals as goal
 

@@ -1,7 +1,4 @@
-use Rattle.hart_frame.proofs.Common.{sym, arith, get_or-take, HeaderParts}
-use Rattle.std.proofs.lemmas.Grind.{get_or_after_one}
-use Rattle.hart_frame.specs.wire.PlainAddress.{address_of}
-use Rattle.hart_frame.specs.wire.Layout.{address_end}
+use Rattle.hart_frame.proofs.Common.{sym, arith, get_or-take, HeaderParts, get_or_after_one, address_of, address_end}
 use Rattle.hart_frame.proofs.lemmas.wire.Header.{StandsAsHeader, header_read}
 use Rattle.hart_frame.proofs.lemmas.wire.Layout.{length-slice_range}
 use Rattle.hart_frame.proofs.wire.header.Header.read.Goals as goal

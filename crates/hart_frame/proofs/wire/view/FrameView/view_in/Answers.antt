@@ -1,5 +1,4 @@
-use Rattle.hart_frame.proofs.Common.{◌≡◌, ◌+◌, get_or, length, arith, common_steps, slice_range, FrameParts, body_length}
-use Rattle.hart_frame.specs.wire.PlainAddress.{address_of}
+use Rattle.hart_frame.proofs.Common.{◌≡◌, ◌+◌, get_or, length, arith, common_steps, slice_range, FrameParts, body_length, address_of}
 use Rattle.hart_frame.proofs.lemmas.wire.BodiesFound.{long_enough}
 use Rattle.hart_frame.proofs.lemmas.wire.Body.{IsBody-whole}
 use Rattle.hart_frame.proofs.lemmas.wire.Layout.{IsCheckedPart-in, StandsByLayout}
