@@ -19,8 +19,8 @@ pub use Rattle.hart_frame.proofs.lemmas.scan.Undecided.{gives_onward as held_fra
 pub use Rattle.hart_frame.proofs.lemmas.heard.Damage.{AreFrames-check as damaged_messages_have_no_other_frame-check}
 pub use Rattle.hart_frame.proofs.lemmas.heard.Damage.{AreFrames-marked as damaged_messages_have_no_other_frame-marked}
 pub use Rattle.hart_frame.proofs.lemmas.heard.FramesFound.{AreFrames-found as every_list_has_frames}
-pub use Rattle.hart_frame.proofs.lemmas.heard.Message.{AreFrames-message as messages_have_their_frame_alone-message}
-pub use Rattle.hart_frame.proofs.lemmas.heard.Message.{AreFrames-nothing as messages_have_their_frame_alone-nothing}
+pub use Rattle.hart_frame.proofs.lemmas.heard.Damage.{AreFrames-message as messages_have_their_frame_alone-message}
+pub use Rattle.hart_frame.proofs.lemmas.heard.Damage.{AreFrames-nothing as messages_have_their_frame_alone-nothing}
 pub use Rattle.hart_frame.proofs.lemmas.heard.Start.{IsFirstStart-one as first_starts_are_decided-one, start_test}
 pub use Rattle.hart_frame.proofs.lemmas.heard.Start.{first_start_decided as first_starts_are_decided-decided}
 pub use Rattle.hart_frame.proofs.lemmas.scan.Stream.{history_all as frames_are_streamed-all, history_length as frames_are_streamed-pushed}

@@ -1,9 +1,7 @@
 -- What was heard: characters, and where frames stand in them.
-pub mod Body
 pub mod Place
 pub mod FramesFound
 pub mod Open
-pub mod Message
 pub mod Rest
 pub mod Sighting
 pub mod Seen

@@ -14,7 +14,6 @@ pub mod Stream
 pub mod Buffer
 pub mod Decision
 pub mod Pairs
-pub mod Part
 pub mod Chunk
 pub mod First
 pub mod Next

@@ -1,16 +1,17 @@
--- What damage leaves of a message's frame: a body can stand only at the place of the delimiter.
+-- What is heard of a message: its frame alone, or what damage leaves of it. A body can stand only at the place of the delimiter.
 use Rattle.hart_frame.proofs.Common.{◌≡◌, ◌≢◌, ℕ, zero, suc, ◌+◌, ◌<◌, ◌≤◌, ◌⊎◌, inl, inr, List, [], ◌∷◌, ◌++◌, length, drop, replicate}
 use Rattle.hart_frame.proofs.Common.{refl, arith, append_assoc, length-append, common_steps, append-nil, drop-append-le, length-replicate}
 use Rattle.hart_frame.proofs.Common.{Found, Character, faultless, IsHeardOrMarked, AreFrames, none, first, StandsIn, delimiter_of}
-use Rattle.hart_frame.proofs.Common.{FrameParts, delimiter_in, AllZip-long, AllZip}
-use Rattle.std.proofs.lemmas.List.{nil_from_length}
+use Rattle.hart_frame.proofs.Common.{FrameParts, delimiter_in, AllZip-long, AllZip, subst, ◌-◌, map-append, length-map}
+use Rattle.std.proofs.lemmas.List.{nil_from_length, replicate-append-replicate}
 use Rattle.hart_frame.specs.heard.Damage.{HasNoTwoPreambles, IsCheckDamage, IsMarkedDamage}
-use Rattle.hart_frame.proofs.lemmas.heard.Body.{head_of}
+use Rattle.hart_frame.proofs.lemmas.wire.Body.{head_of}
 use Rattle.hart_frame.proofs.lemmas.heard.FramesFound.{AreFrames-found}
 use Rattle.hart_frame.proofs.lemmas.heard.Place.{HasNoFrame-end}
 use Rattle.hart_frame.proofs.lemmas.wire.Refusal.{says}
 use Rattle.hart_frame.proofs.lemmas.wire.UnambiguousBodies.{BeginsWithBody-append, bodies_are_unambiguous-no_proper_prefix}
 use Rattle.hart_frame.proofs.lemmas.wire.UnambiguousBodies.{bodies_are_unambiguous-one_frame}
+use Rattle.hart_frame.specs.wire.Message.{IsMessage}
 
 -- The character of a byte that is heard without faults.
 abbrev pub clear : ℕ → Character
@@ -108,3 +109,28 @@ AreFrames-check frame preambles chars damage =
     let said = says (stands.body ++ rest) found.frame (length stands.body)
     (BeginsWithBody-append found.frame stands.body rest stands.is_body) in
     grind (arith, append-nil, sent, BeginsWithBody-append frame damage.body [], nil_from_length rest, length-append stands.body rest))
+
+-- NO DAMAGE
+-- A message that is heard without faults has its frame alone.
+-- The frame of a message, and where it stands in what is heard.
+abbrev found_in : FrameParts → ℕ → List ℕ → Found
+found_in f preambles bytes = record { start = preambles; stop = length bytes; frame = f }
+
+pub AreFrames-message : (f : FrameParts) (preambles : ℕ) (bytes : List ℕ) → 2 ≤ preambles → IsMessage f preambles bytes
+    → AreFrames (faultless bytes) 0 (found_in f preambles bytes ∷ [])
+AreFrames-message f preambles bytes two message =
+    AreFrames.first 0 (found_in f preambles bytes) [] (record {
+      stands =
+          let prefix : List ℕ = replicate (preambles - 2) 255 in
+          let whole : bytes ≡ prefix ++ 255 ∷ 255 ∷ message.body =
+          grind (arith, replicate-append-replicate {A = ℕ} (preambles - 2) 2 255, append_assoc prefix (255 ∷ 255 ∷ []) message.body) in
+          grind (arith, length-map, length-replicate, length-append, map-append, append-nil);
+      least = λ other stands.
+          let (others, begins, low) = head_of f message.body message.is_body in
+          let heard = subst (λ sent. AllZip IsHeardOrMarked sent (faultless bytes)) message.parts (heard_faultless bytes) in
+          let after = stood preambles message.body (faultless bytes) other 0 (grind arith) heard stands in
+          omega (arith, after, stands.start);
+    }) (AreFrames.none (length bytes) (HasNoFrame-end (faultless bytes) (length bytes) (grind (arith, length-map))))
+
+pub AreFrames-nothing : AreFrames [] 0 []
+AreFrames-nothing = AreFrames.none 0 (HasNoFrame-end [] 0 (omega arith))

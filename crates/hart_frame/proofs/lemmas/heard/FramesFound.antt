@@ -4,7 +4,7 @@ use Rattle.hart_frame.proofs.Common.{◌++◌, length-append, refl, common_steps
 use Rattle.hart_frame.proofs.Common.{faultless_bytes, first, AreFrames, IsFirst, bytes_from, HasBodyAt, HasFrameAt, StandsIn, IsStart}
 use Rattle.hart_frame.proofs.Common.{IsBody, BeginsWithBody, FrameParts}
 use Rattle.hart_frame.specs.heard.Place.{HasFrameUpTo}
-use Rattle.hart_frame.proofs.lemmas.heard.Body.{head_of}
+use Rattle.hart_frame.proofs.lemmas.wire.Body.{head_of}
 use Rattle.hart_frame.proofs.lemmas.heard.Front.{heard_parts, regrouped, faultless_bytes-append}
 use Rattle.hart_frame.proofs.lemmas.heard.Place.{preamble, StandsIn-from, StandsIn-within, HasNoFrame-end}
 use Rattle.hart_frame.proofs.lemmas.heard.Start.{start_test}

@@ -2,10 +2,19 @@
 use Rattle.hart_frame.proofs.Common.{◌≡◌, ◌≢◌, ℕ, ◌+◌, ◌<◌, ◌≤◌, List, [], ◌∷◌, ◌++◌, length, take, drop, get_or, Some, refl, arith, ◌==◌}
 use Rattle.hart_frame.proofs.Common.{append_assoc, length-append, nat_tests, common_steps, get_or_append_left, get_or-map, drop_more, All}
 use Rattle.hart_frame.proofs.Common.{length-map, length-take, map-append, take-append-le, take-map, All-drop, All-from_get_or, All-take}
-use Rattle.hart_frame.proofs.Common.{slice_get, Character, faultless, faultless_bytes, IsOfBytes, body_length}
+use Rattle.hart_frame.proofs.Common.{slice_get, Character, faultless, faultless_bytes, IsOfBytes, body_length, bytes_of, sym, ap, ◌∙◌}
 use Rattle.std.proofs.lemmas.List.{take_min}
 use Rattle.std.proofs.lemmas.List.Sums.{take_while-cons}
 use Rattle.hart_frame.proofs.lemmas.heard.Place.{preamble}
+
+-- The bytes of faultless characters are the bytes from which the characters were made.
+pub bytes_of-faultless : (bytes : List ℕ) → bytes_of (faultless bytes) ≡ bytes
+bytes_of-faultless [] = refl
+bytes_of-faultless (byte ∷ bytes) = ap (λ (xs : List ℕ). byte ∷ xs) (bytes_of-faultless bytes)
+
+-- Bytes with the same faultless characters are the same bytes.
+pub faultless-one : (bytes others : List ℕ) → faultless bytes ≡ faultless others → bytes ≡ others
+faultless-one bytes others same = sym (bytes_of-faultless bytes) ∙ ap bytes_of same ∙ bytes_of-faultless others
 
 -- A faultless character adds its byte, and a character with fault bits ends the bytes.
 pub faultless_bytes-more : (first : Character) (others : List Character) → first.faults ≡ 0

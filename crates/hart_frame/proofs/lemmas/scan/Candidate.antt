@@ -7,8 +7,7 @@ use Rattle.hart_frame.specs.declared.scan.candidate.Candidate.TheVariants.{Never
 use Rattle.hart_frame.specs.declared.wire.prefix.Prefix.TheVariants as prefix
 use Rattle.hart_frame.specs.private.Candidate.{IsCandidate, MayBeginBefore, NothingFollows, NeverBegin}
 use Rattle.hart_frame.specs.private.Prefix.{fault_in, shown_by}
-use Rattle.hart_frame.proofs.lemmas.heard.Body.{bytes_of-faultless}
-use Rattle.hart_frame.proofs.lemmas.heard.Front.{faultless_bytes-append, faultless_bytes-end}
+use Rattle.hart_frame.proofs.lemmas.heard.Front.{bytes_of-faultless, faultless_bytes-append, faultless_bytes-end}
 use Rattle.hart_frame.proofs.lemmas.heard.Place.{StandsIn-at, StandsIn-within, preamble}
 use Rattle.hart_frame.proofs.lemmas.wire.Prefix.{refused_more}
 use Rattle.hart_frame.proofs.lemmas.wire.Reading.{whole_has, wrong_fewer, wrong_refused, wrong_shown, wrong_within}

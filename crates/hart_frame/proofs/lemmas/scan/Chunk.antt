@@ -3,14 +3,18 @@ use Rattle.hart_frame.proofs.Common.{◌≡◌, ℕ, ◌+◌, ◌-◌, ◌<◌, 
 use Rattle.hart_frame.proofs.Common.{Some, drop, get_or, refl, subst, ◌∙◌, arith, append_assoc, length-drop, take-add, common_steps, Buffer}
 use Rattle.hart_frame.proofs.Common.{length-take, append-nil, take-map, take-take, length-map, length-take-le, MatchOption, Drained, Layout}
 use Rattle.hart_frame.proofs.Common.{Character, faultless, faultless_bytes, IsUndecided, IsSound, scan_of, Hears, Scan, GivesNothing}
-use Rattle.hart_frame.proofs.Common.{MovesPast, hearing, HoldsWhole}
+use Rattle.hart_frame.proofs.Common.{MovesPast, hearing, HoldsWhole, length-append, take-append-add, map-append, SearchResult, IsWaiting}
+use Rattle.hart_frame.proofs.Common.{held_bytes, IsSearched}
 use Rattle.hart_frame.specs.private.Chunk.{HearsPart}
 use Rattle.hart_frame.specs.scan.Chunk.{StopsAt}
 use Rattle.hart_frame.proofs.lemmas.heard.Front.{front_heard}
-use Rattle.hart_frame.proofs.lemmas.scan.Buffer.{drained_is, undecided_waiting, waits_drained}
+use Rattle.hart_frame.proofs.lemmas.scan.Buffer.{drained_is, undecided_waiting, waits_drained, held_clear}
 use Rattle.hart_frame.proofs.lemmas.scan.Decision.{holds_frame}
-use Rattle.hart_frame.proofs.lemmas.scan.Scan.{moves_hearing, moves_then}
+use Rattle.hart_frame.proofs.lemmas.scan.Scan.{moves_hearing, moves_then, moves_places}
 use Rattle.hart_frame.proofs.lemmas.scan.Undecided.{undecided_before, waits_only}
+use Rattle.hart_frame.specs.private.Buffer.{state_of}
+use Rattle.hart_frame.specs.private.Search.{IsOpenFrom}
+use Rattle.hart_frame.proofs.lemmas.scan.Candidate.{undecided_open}
 
 -- A buffer has heard the first `taken` characters of a chunk. After fewer characters of the chunk nothing is decided.
 pub record IsHearing (old now : Buffer) (chunk : List Character) (taken : ℕ) : Type 0 where
@@ -100,3 +104,49 @@ pub stretch_heard : (old new : Scan) (chunk : List Character) (bytes : List ℕ)
     → 0 < length bytes → Hears old new (faultless bytes) count → HearsPart old new chunk count
 stretch_heard old new chunk bytes most count is some hears =
     part_heard old new chunk (faultless bytes) count (rw (length-map, is) (front_heard chunk most)) (rw length-map some) hears
+
+-- A scanner that holds the bytes from a place on.
+abbrev scan_at : List ℕ → ℕ → Scan
+scan_at bytes place = record { first = place; held = faultless (drop place bytes); finished = false; drained = false }
+
+-- Nothing is decided in bytes if no frame begins before some place and one may begin at that place.
+undecided_from : (xs : List ℕ) → IsOpenFrom xs 0 → IsUndecided (faultless xs)
+undecided_from xs ends =
+    undecided_before (scan_at xs 0) (scan_at xs ends.place)
+    (moves_places (scan_at xs 0) (scan_at xs ends.place) xs ends.place refl refl (omega arith) refl ends.within
+    (λ place below more closed. ends.none place (omega arith) below more))
+    (undecided_open (drop ends.place xs) ends.may)
+
+-- A buffer searched the held bytes and a part after them, and kept the bytes from the found place up to the last one looked at.
+pub record IsKept (old new : Buffer) (part : List ℕ) (found : SearchResult) : Type 0 where
+  pub waiting : IsWaiting old
+  pub searched : IsSearched (held_bytes old ++ part) 0 (length (held_bytes old) + 1) found
+  pub held : held_bytes new ≡ drop found.place (take found.decided (held_bytes old ++ part))
+  pub firsts : new.first ≡ old.first + found.place
+  pub clear : new.damaged ≡ None
+  pub finished : new.finished ≡ old.finished
+  pub state : new.state ≡ state_of found.layout
+
+module _ (old new : Buffer) (part : List ℕ) (found : SearchResult) (kept : IsKept old new part found) where
+  -- The scanner heard the first `count` bytes of the part.
+  pub hears_kept : (count : ℕ) → IsSound new → found.decided ≡ length (held_bytes old) + count
+      → Hears (scan_of old) (scan_of new) (faultless part) count
+  hears_kept count sound counts =
+      let n = length (held_bytes old) in
+      let total = held_bytes old ++ part in
+      let is = kept.searched in
+      let heard : (fewer : ℕ) → (scan_of old).held ++ take fewer (faultless part) ≡ faultless (take (n + fewer) total) =
+      λ fewer. grind (arith, held_clear old kept.waiting.clear, take-map, map-append, take-append-add (held_bytes old) part fewer) in
+      let before : (fewer : ℕ) → fewer < count → IsUndecided ((scan_of old).held ++ take fewer (faultless part)) =
+      λ fewer below.
+      let cases : (fewer ≡ 0) ⊎ (0 < fewer) = grind arith in
+      elim cases [
+        | inl none ↦ rw (none, append-nil) (undecided_waiting old kept.waiting)
+        | inr some ↦ rw (heard fewer) (undecided_from (take (n + fewer) total) (is.before (n + fewer) (omega arith) (omega arith)))
+      ] in
+      let moves = moves_places (hearing (scan_of old) (take count (faultless part))) (scan_of new) (take found.decided total) found.place
+      (grind (arith, heard count)) (grind (arith, held_clear new kept.clear)) kept.firsts kept.finished
+      (omega (arith, length-take-le found.decided total is.within, is.order))
+      (λ here below more _. is.none here (omega arith) below more) in
+      let stops : StopsAt (scan_of new) count (length part) = grind (arith, length-append, holds_frame, undecided_waiting) in
+      grind (arith, length-map, length-append)

@@ -1,7 +1,8 @@
 -- Which bytes are a body: the checked part with its check byte, or bytes of even parity.
 use Rattle.hart_frame.proofs.Common.{ℕ, ◌-◌, ◌<◌, ◌≤◌, List, [], ◌∷◌, ◌++◌, length, take, arith, common_steps, take_more, take_all, All}
-use Rattle.hart_frame.proofs.Common.{IsBody, IsCheckedPart, FrameParts, IsCheckByte, HasEvenParity, All-push}
+use Rattle.hart_frame.proofs.Common.{IsBody, IsCheckedPart, FrameParts, IsCheckByte, HasEvenParity, All-push, ◌≡◌, delimiter_of}
 use Rattle.hart_frame.proofs.lemmas.wire.Parity.{HasEvenParity-push}
+use Rattle.hart_frame.proofs.lemmas.wire.UnambiguousBodies.{address_type-lt, kind_code-is}
 
 -- The checked part of a frame, with its check byte, is a body.
 pub IsBody-push : (frame : FrameParts) (checked : List ℕ) (check : ℕ) → IsCheckedPart frame checked
@@ -12,3 +13,8 @@ IsBody-push frame checked check part fits check_byte = grind (arith, common_step
 pub IsBody-whole : (bytes : List ℕ) (frame : FrameParts) → 1 ≤ length bytes → All (λ byte. byte < 256) bytes
     → IsCheckedPart frame (take (length bytes - 1) bytes) → HasEvenParity bytes → IsBody frame bytes
 IsBody-whole bytes frame some fits part even = grind (arith, take_all, take_more bytes (length bytes - 1) 0)
+
+-- A body begins with its delimiter, which is not FF.
+pub head_of : (f : FrameParts) (body : List ℕ) → IsBody f body
+    → (others : List ℕ) × (body ≡ delimiter_of f ∷ others) × (delimiter_of f < 255)
+head_of f body is = grind (arith, common_steps, kind_code-is, address_type-lt)

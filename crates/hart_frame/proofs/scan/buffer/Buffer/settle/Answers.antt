@@ -1,6 +1,6 @@
 use Rattle.hart_frame.proofs.Common.{length-drop, length-append, arith, ap, length, take-length}
 use Rattle.hart_frame.proofs.lemmas.scan.Buffer.{waits_drained}
-use Rattle.hart_frame.proofs.lemmas.scan.Part.{IsKept, hears_kept}
+use Rattle.hart_frame.proofs.lemmas.scan.Chunk.{IsKept, hears_kept}
 use Rattle.hart_frame.proofs.scan.buffer.Buffer.settle.Goals as goal
 
 kept : (c : goal.After-struct_known-1) → IsKept c.args.self.now
