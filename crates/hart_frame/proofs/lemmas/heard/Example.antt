@@ -66,7 +66,6 @@ other_is_check = record {
   body = request_body;
   is_body = request_is;
   heard =
-      let fits = All-from_recursion IsByte (other_bytes 130) (grind arith) in
       (other_bytes 130, grind arith, refl, λ even. omega (arith, even.even 0 (omega arith)));
   no_two_preambles = none_in_row _ (grind arith);
 }

@@ -113,7 +113,6 @@ frames_found chars (suc fuel) from enough = elim (frame_decided chars (from + 2)
         later.0,
         AreFrames-earlier chars from (from + 1) later.0 (omega arith) (λ found stands.
             let low = StandsIn-from found chars from 0 stands (omega (arith, stands.start)) in
-            let other : found.start ≡ from + 2 → ⊥ = λ same. nothing (found, low, same) in
             grind (arith, StandsIn-within, StandsIn-from)) later.1,
       )
 ]

@@ -50,7 +50,6 @@ said chars start miss fit is told =
     let same : (place byte fits : ℕ) → miss ≡ BadCheck place byte fits → IsCheckByte (take n bytes) (fold bit_xor 0 (take n bytes)) =
     λ place byte fits is.
     IsCheckByte-fold _ _ (fits_at (take n bytes) (fit_before bytes (body_length bytes) (fit place byte fits is))) refl in
-    let missing = stops chars start (Missing (body_length bytes - length bytes)) is in
     grind (arith, nat_tests, stops chars start EndsBeforeByteCount is, heard_at chars start n, same (start + n))
 
 -- What stands in the way is the miss that is found.
@@ -62,7 +61,6 @@ only chars start (BadCheck place byte fits) fit is way =
     grind (arith, nat_tests, heard_at chars start n place, fits-is (take n bytes) fits (fit_before bytes (body_length bytes) fit))
 only chars start miss fit is way =
     let bytes = bytes_from chars start in
-    let missing = stops chars start (Missing (body_length bytes - length bytes)) is in
     grind (arith, nat_tests, stops chars start EndsBeforeByteCount is)
 
 pub in_the_way : (start : ℕ) (chars : List Character) (miss : Miss) → IsOfBytes (drop start chars) → IsStart start chars

@@ -75,11 +75,7 @@ passed_never xs here within (inr (inr (inside, first, second, third))) =
 
 -- A place with three bytes and no pair is passed.
 pub passed_here : (xs : List ℕ) (here : ℕ) → here + 3 ≤ length xs → (HasPair xs here → ⊥) → IsPassed xs here
-passed_here xs here inside none =
-    let first = cases_eq (get_or xs here 0) 255 in
-    let second = cases_eq (get_or xs (here + 1) 0) 255 in
-    let third = cases_eq (get_or xs (here + 2) 0) 255 in
-    grind arith
+passed_here xs here inside none = grind arith
 
 -- If no pair stands from a place on, the places before the last FF, of which at most two count, are passed.
 pub passed_to_end : (xs : List ℕ) (place count : ℕ) → place ≤ length xs → HasNoPair xs place (length xs)
@@ -87,7 +83,6 @@ pub passed_to_end : (xs : List ℕ) (place count : ℕ) → place ≤ length xs 
     → (here : ℕ) → place ≤ here → here < length xs - count → IsPassed xs here
 passed_to_end xs place count within none other here after before =
     let at : (k : ℕ) → get_or (drop place xs) k 0 ≡ get_or xs (place + k) 0 = λ k. get_or-drop place xs k 0 in
-    let last = at (length (drop place xs) - count - 1) in
     grind (arith, length-drop place xs, passed_here xs here, none here)
 
 -- One or two FF and nothing else, or no bytes, may begin a frame.

@@ -36,6 +36,4 @@ pub IsCheckedPart-in : (bytes : List ℕ) (layout : Layout) (frame : FrameParts)
     → StandsByLayout bytes layout frame → IsCheckedPart frame (take (body_length bytes - 1) bytes)
 IsCheckedPart-in bytes layout frame describes whole stands =
     let k = layout.command_place + 2 + layout.byte_count in
-    let delimiter : delimiter_of frame ≡ get_or bytes 0 0 = grind (arith, length-slice_range bytes) in
-    let checked_len : body_length bytes - 1 ≡ k = omega arith in
     grind (arith, cut bytes layout.address_end layout.command_place k, length-slice_range bytes)
