@@ -58,10 +58,8 @@ one_alone start chars fit = (one_stands start chars (of_chars chars start fit), 
 -- A miss that is found is a miss of the place, and each miss of the place is found.
 found_is : (start : ℕ) (chars : List Character) (miss : Miss) → IsOfBytes (drop start chars) → miss_of chars start ≡ Some miss
     → IsMiss chars start miss
-found_is start chars miss fit told = elim (miss_of-some chars start miss told) [
-  | inl here ↦ inl (here.0, (in_the_way start chars miss fit here.0).0 told)
-  | inr lone ↦ let both = one_stands start chars fit (told ∙ ap Some lone.0) in inr (lone.0, both.0, both.1)
-]
+found_is start chars miss fit told =
+    grind (arith, miss_of-some chars start miss told, in_the_way start chars miss fit, one_stands start chars fit)
 
 is_found : (start : ℕ) (chars : List Character) (miss : Miss) → (IsStart start chars → IsOfBytes (drop start chars))
     → IsMiss chars start miss → miss_of chars start ≡ Some miss

@@ -128,8 +128,7 @@ some_moved heard start = ap is_none (sym (rw (add-zero start) at (body_moved sta
 
 pub alone_moved : (bytes : List ℕ) (more : List Character) (start : ℕ) → start ≤ length bytes
     → stands_alone (faultless bytes ++ more) start ≡ stands_alone (faultless (drop start bytes) ++ more) 0
-alone_moved bytes more start within =
-    rw (drop-heard bytes more start within, some_moved (faultless (drop start bytes) ++ more) start) refl
+alone_moved bytes more start within = grind (arith, nat_tests, drop-heard, some_moved)
 
 -- Whether more characters let a body stand alone depends only on the bytes from its place on.
 pub may_moved : (bytes others : List ℕ) (start other : ℕ) → start ≤ length bytes → other ≤ length others

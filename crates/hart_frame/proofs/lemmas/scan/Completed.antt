@@ -72,13 +72,7 @@ clear_rest xs k check clear differs = grind (arith, two_push, two_other, twos)
 body_alone : (chars : List Character) (body : List ℕ) (f : FrameParts) → IsBody f body → chars ≡ faultless body
     → has_two_preambles body ≡ false → stands_alone chars 0 ≡ true
 body_alone chars body f is all clear =
-    let has : HasBodyAt chars 0 = record {
-      frame = f;
-      body = body;
-      rest = [];
-      is_body = is;
-      parts = all ∙ sym (append-nil (faultless body));
-    } in
+    let has : HasBodyAt chars 0 = record { frame = f; body = body; rest = []; is_body = is; parts = rw append-nil all } in
     let long = says (bytes_from chars 0) f (length body) (begins_at chars 0 has) in
     grind (arith, nat_tests, append-nil, faultless_bytes-append body [], take_all, none_of chars 0 has)
 

@@ -22,8 +22,7 @@ pub held_searched : (b : Buffer) (ended : Bool) (found : SearchResult) → IsSou
     → IsSearchedToEnd (held_bytes b) 0 ended found → IsHeldSearched b found
 held_searched b ended found sound over is =
     let none : NoneBeginHeld b found.place = λ place below more closed.
-    is.none place (omega arith) below (option_to_list b.damaged ++ more) (grind arith) in
-    grind arith
+    is.none place (omega arith) below (option_to_list b.damaged ++ more) (grind arith) in grind arith
 
 -- A buffer after it gave the frame with which it began.
 abbrev released : Buffer → Layout → Buffer

@@ -106,7 +106,5 @@ module _ (len whole : ℕ) (bytes lanes : List ℕ) (order : whole ≤ len) (eac
       → IsCheckByte (take len bytes) (fold_l bit_xor 0 (zip2 bit_xor lanes front))
   IsCheckByte-front front block few is full wide parts =
       let n = len - whole in
-      let long : length front ≡ 16 = grind (arith, length-append, length-take-le n block, length-replicate) in
-      let same : take n block ≡ take n (drop whole bytes) = ap (take n) is ∙ take-take n 16 (drop whole bytes) (omega arith) in
-      IsCheckByte-few _
-      (fold-front lanes front (take n block) (16 - n) (omega arith) parts ∙ ap (fold bit_xor (fold_l bit_xor 0 lanes)) same)
+      let same : take n block ≡ take n (drop whole bytes) = grind (arith, take-take n 16 (drop whole bytes)) in
+      IsCheckByte-few _ (grind (arith, fold-front lanes front (take n block) (16 - n), length-append, length-take-le n block, length-replicate))

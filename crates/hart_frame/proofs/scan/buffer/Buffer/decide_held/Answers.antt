@@ -13,7 +13,6 @@ returns-then-is_empty-clause-seen c = search (arith, given_nothing)
 
 pub returns-else-is_empty-clause-seen : goal.returns-else-is_empty-clause-seen
 returns-else-is_empty-clause-seen c =
-    let found = c.search_held-found in
     let some : 0 < length c.held.result.now = search rules in
-    let opened : IsHeldOpen c.args.self.now found.result.place = search rules in
-    rw c.pass.ensures.passed (given_open c.args.self.now found.result found.ensures opened (search (arith, some)))
+    let opened : IsHeldOpen c.args.self.now c.search_held-found.result.place = search rules in
+    rw c.pass.ensures.passed (given_open c.args.self.now _ c.search_held-found.ensures opened (search (arith, some)))
