@@ -42,16 +42,13 @@ parity_bit bit below set =
     let cases : (bit ≡ 0) ⊎ (bit ≡ 1) ⊎ (bit ≡ 2) ⊎ (bit ≡ 3) ⊎ (bit ≡ 4) ⊎ (bit ≡ 5) ⊎ (bit ≡ 6) ⊎ (bit ≡ 7) = grind arith in
     grind arith
 
-faulty : IsHeardOrMarked 128 (record { byte = 129; faults = 64 })
-faulty = grind (arith, parity_bit)
-
 pub faulty_is_marked : IsMarkedDamage identity_request 5 faulty_address
 faulty_is_marked = record {
   left = 2;
   left_within = omega arith;
   body = request_body;
   is_body = request_is;
-  heard = (inl refl, (inl refl, (inl refl, (faulty, (inl refl, (inl refl, (inl refl, tt)))))));
+  heard = (inl refl, (inl refl, (inl refl, (grind (arith, parity_bit), (inl refl, (inl refl, (inl refl, tt)))))));
   no_two_preambles = none_in_row _ (grind arith);
 }
 

@@ -70,10 +70,6 @@ more_of More next follows some = refl
 more_of End next ends some = absurd (omega (arith, rw ends at some))
 more_of (Damaged c) next (valid, more, same) some = absurd (omega (arith, rw (same, faultless_bytes-end c more valid) at some))
 
-end_none : (xs ys : List ℕ) → has_two_preambles xs ≡ false → (0 < length ys → get_or xs (length xs - 1) 0 ≢ 255)
-    → has_two_preambles (xs ++ take 1 ys) ≡ false
-end_none xs ys none last = grind (arith, append-nil, two_end)
-
 -- A whole body of `n` bytes begins at `start`, and the lemmas say whether it stands alone.
 module _ (bytes : List ℕ) (after : After) (start n : ℕ) (within : start ≤ length bytes) (long : body_length (drop start bytes) ≡ n)
     (enough : n ≤ length (drop start bytes)) (whole : Whatever bytes after (HasBodyMiss start None)) where
@@ -89,7 +85,7 @@ module _ (bytes : List ℕ) (after : After) (start n : ℕ) (within : start ≤ 
   pub alone : has_two_preambles (take (n + 1) (drop start bytes)) ≡ false
       → (after ≡ More → n ≡ length (drop start bytes) → get_or (drop start bytes) (n - 1) 0 ≢ 255)
       → Whatever bytes after (λ chars. stands_alone chars start ≡ true)
-  alone none last next follows = grind (arith, nat_tests, two_in bytes next start n within long enough, part, end_none, more_of)
+  alone none last next follows = grind (arith, nat_tests, two_in bytes next start n within long enough, part, append-nil, two_end, more_of)
 
 -- The bytes that are looked at are those of the body and the byte after it, if there is one.
 pub looked_at : (bytes : List ℕ) (start stop : ℕ) → start < stop → stop ≤ length bytes
@@ -121,14 +117,9 @@ whole_has xs f fp start is = grind (arith, nat_tests)
 pub whole_past : (xs ys : List ℕ) → IsTruncated xs → HasCheckByte (xs ++ ys) → length xs < body_length (xs ++ ys)
 whole_past xs ys truncated has = grind (arith, length-append, get_or_append_left)
 
--- Whether a body is whole does not depend on its place.
-some_moved : (heard : List Character) (start : ℕ) → is_none (body_miss start heard) ≡ is_none (body_miss 0 heard)
-some_moved heard start = ap is_none (sym (rw (add-zero start) at (body_moved start 0 heard)))
-    ∙ is_none-map (miss_in_whole start) (body_miss 0 heard)
-
 pub alone_moved : (bytes : List ℕ) (more : List Character) (start : ℕ) → start ≤ length bytes
     → stands_alone (faultless bytes ++ more) start ≡ stands_alone (faultless (drop start bytes) ++ more) 0
-alone_moved bytes more start within = grind (arith, nat_tests, drop-heard, some_moved)
+alone_moved bytes more start within = grind (arith, nat_tests, drop-heard, body_moved start 0 (faultless (drop start bytes) ++ more), is_none-map, add-zero)
 
 -- Whether more characters let a body stand alone depends only on the bytes from its place on.
 pub may_moved : (bytes others : List ℕ) (start other : ℕ) → start ≤ length bytes → other ≤ length others

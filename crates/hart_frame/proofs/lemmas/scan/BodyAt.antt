@@ -46,10 +46,6 @@ pub not_alone : (bytes : List ℕ) (after : After) (start : ℕ) (miss : Miss) �
     → Whatever bytes after (λ chars. stands_alone chars start ≡ false)
 not_alone bytes after start miss is next follows = let same = is next follows in grind arith
 
--- If something is wrong with bytes whose first byte is a delimiter, the bytes reach the command.
-wrong_reach : (xs : List ℕ) (w : Wrong) → IsWrong xs w → IsDelimiter (delimiter_in xs) → command_place xs < length xs
-wrong_reach xs w is good = grind arith
-
 module _ (bytes : List ℕ) (start : ℕ) (within : start ≤ length bytes) where
   -- The bytes from the place on.
   abbrev xs : List ℕ
@@ -96,7 +92,7 @@ module _ (bytes : List ℕ) (start : ℕ) (within : start ≤ length bytes) wher
 
   pub wrong_header : (after : After) (w : Wrong) → IsWrong xs w → Whatever bytes after (KeepsHeader bytes start)
   wrong_header after w is =
-      header_whatever after (λ ys. header_sure xs ys (omega (arith, wrong_within xs w is)) (wrong_reach xs w is))
+      header_whatever after (λ ys. header_sure xs ys (omega (arith, wrong_within xs w is)) (λ good. grind arith))
 
   pub body_header : (after : After) → body_length xs ≤ length xs → Whatever bytes after (KeepsHeader bytes start)
   body_header after whole = header_whatever after (λ ys. header_sure xs ys (omega (arith, whole)) (λ _. omega (arith, whole)))

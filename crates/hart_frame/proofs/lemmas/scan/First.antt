@@ -86,8 +86,7 @@ last_given chars waiting old new (Some span) moves finished given =
     let (later, are) = AreFrames-found chars (scan_of new).first in
     let last = subst (λ (s : Scan). MovesPast s (scan_of new) (found ∷ [])) finished gives.moves in
     let gone = take moves.count chars in
-    let long : length gone ≡ waiting.first =
-    omega (arith, moves.first, length-take-le moves.count chars moves.next.within) in
+    let long : length gone ≡ waiting.first = grind (arith, length-take-le) in
     let parts : gone ++ (waiting.held ++ []) ≡ chars = rw (append-nil, moves.held) (take-append-drop moves.count chars) in
     let after = moves_frames (finishing waiting) (scan_of new) (found ∷ []) later gone [] last long (λ over. refl) (rw parts are) in (
       later,

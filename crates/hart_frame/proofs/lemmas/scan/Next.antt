@@ -49,8 +49,7 @@ next_of_rest n chars ended given to within next = record {
   leads = λ more later closed frames.
       let front : drop n (chars ++ more) ≡ drop n chars ++ more = drop-append-le n chars more within in
       let (own, are, same) = rest_all (n + to) (chars ++ more) later frames in
-      let rest : AreFrames (drop n chars ++ more) to (map (moved to) own) =
-      rw (← front) (rest_frames to (drop n (chars ++ more)) own (rw drop-drop are)) in
+      let rest : AreFrames (drop n chars ++ more) to (map (moved to) own) = grind (arith, rest_frames, drop-drop) in
       let whole = rest_frames n (chars ++ more) (given ++ map (moved to) own)
       (rw front (next.leads more (map (moved to) own) closed rest)) in
       let all = rw (map-append, moved_twice) at whole in

@@ -105,8 +105,7 @@ module _ (bytes : List ℕ) (after : After) (next : List Character) (from start 
             is.preamble,
       ) (cc (rest)) in
       let there = stands_at (faultless bytes ++ next) (start - 2) f xs (faultless ys ++ next) (omega (arith, inside)) parts body in
-      let long : length xs ≡ stop - start = length-take-le (stop - start) (drop start bytes)
-      (omega (arith, fits, length-drop start bytes)) in
+      let long : length xs ≡ stop - start = grind (arith, length-take-le, length-drop) in
       let at : start - 2 + 2 ≡ start = omega (arith, two.0) in
       let to : start + length xs ≡ stop = omega (arith, long, order) in
       StandsIn-from _ (faultless bytes ++ next) (start - 2) from (rw (at, to) at there) (omega (arith, two.0))

@@ -64,8 +64,7 @@ passed_never xs here within (inr (inl (inside, other))) =
       | inr differs ↦ (1, grind (arith, drop_more xs here 0, never_first), omega arith, omega arith)
     ]
 passed_never xs here within (inr (inr (inside, first, second, third))) =
-    let parts : drop here xs ≡ 255 ∷ 255 ∷ 255 ∷ drop (here + 3) xs =
-    grind (arith, drop_more xs here 0, drop_more xs (here + 1) 0, drop_more xs (here + 2) 0) in
+    let parts : drop here xs ≡ 255 ∷ 255 ∷ 255 ∷ drop (here + 3) xs = grind (arith, drop_more) in
     let never = never_after 255 255 (255 ∷ []) (BadDelimiter 255) (grind arith) in (
       3,
       rw parts (omega arith, never, may_begin_before 1 (255 ∷ drop (here + 3) xs) (grind arith)),

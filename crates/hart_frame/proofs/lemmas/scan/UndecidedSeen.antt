@@ -25,9 +25,6 @@ module _ (rest : List ℕ) (fit : All (λ byte. byte < 256) rest) (truncated : I
   silent_two : SilentBefore (255 ∷ 255 ∷ rest) More 0 2
   silent_two place is below = grind arith
 
-  heard_two : 2 ≤ length (heard_with (255 ∷ 255 ∷ rest) More)
-  heard_two = omega arith
-
   pub undecided_two : IsUndecidedSighting (faultless (255 ∷ 255 ∷ rest))
   undecided_two first always =
       let whole = faultless (255 ∷ 255 ∷ rest) in
@@ -46,14 +43,14 @@ module _ (rest : List ℕ) (fit : All (λ byte. byte < 256) rest) (truncated : I
       let (more, found, stands, at) = open_begins 2 whole fits
       (record { prefix = []; bytes = rest; split = refl; start = refl; truncated = truncated }) in
       let chars = whole ++ more in
-      let silent = none_seen (255 ∷ 255 ∷ rest) More more 0 2 tt silent_two heard_two in
+      let silent = none_seen (255 ∷ 255 ∷ rest) More more 0 2 tt silent_two (omega arith) in
       let (after, are_after) = some_sightings chars found.stop in
       let two = always more _ (message_on chars 0 found after
       (missed_none chars 0 found.start (λ p low high. silent p low (omega (arith, high, at))))
       (record {
         stands = stands;
         least = λ other stands.
-            omega (arith, at, late (255 ∷ 255 ∷ rest) More more 0 2 tt silent_two heard_two other stands);
+            omega (arith, at, late (255 ∷ 255 ∷ rest) More more 0 2 tt silent_two (omega arith) other stands);
       }) are_after) in
       cc (one.1, two.1)
 
@@ -83,14 +80,11 @@ not_one chars (found ∷ frames) later miss h none is =
 
 -- After a single FF stand bytes that may or may not become a body that stands alone.
 module _ (rest : List ℕ) (some : 0 < length rest) (other : get_or rest 0 0 ≢ 255) (may : MayStandAlone (255 ∷ rest) 1) where
-  silent_one : SilentBefore (255 ∷ rest) More 0 1
-  silent_one place is below = grind arith
-
   pub undecided_one : IsUndecidedSighting (faultless (255 ∷ rest))
   undecided_one first always =
       let whole = faultless (255 ∷ rest) in
       let asked : IsAsked (255 ∷ rest) More 0 1 = grind (arith, length-map) in
-      let passes = miss_one (255 ∷ rest) More may.one 0 1 tt silent_one asked (λ two. omega (arith, two.0))
+      let passes = miss_one (255 ∷ rest) More may.one 0 1 tt (λ place is below. grind arith) asked (λ two. omega (arith, two.0))
       may.alone in
       let (later, are) = some_sightings (whole ++ may.one) 2 in
       let one = always may.one _ (passes_on (whole ++ may.one) 0 2 _ later passes are) in

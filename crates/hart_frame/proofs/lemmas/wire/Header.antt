@@ -9,16 +9,11 @@ use Rattle.hart_frame.specs.wire.Header.{address_in, header_of, master_in}
 use Rattle.hart_frame.proofs.lemmas.wire.Refusal.{has_check, says}
 use Rattle.hart_frame.proofs.lemmas.wire.UnambiguousBodies.{address_type-lt, kind_code-is, length-address, spread}
 
--- The first byte of an address has the master bit as bit 7, and six bits of the address as its lower six bits.
-first_read : (master : MasterId) (burst : Bool) (six byte : ℕ) → six < 64 → byte ≡ first_byte master burst six
-    → (byte % 64 ≡ six) × (byte / 128 ≡ (elim master as (λ _. ℕ) [ Primary ↦ 1 | Secondary ↦ 0 ]))
-first_read master burst six byte low is = grind arith
-
 -- If the address bytes of a master and an address stand after the delimiter, the bytes have this master and this address.
 pub address_read : (bytes xs : List ℕ) (master : MasterId) (burst : Bool) (address : Address) → IsAddressBytes master burst address xs
     → ((k : ℕ) → k < length xs → get_or bytes (1 + k) 0 ≡ get_or xs k 0) → delimiter_in bytes / 128 ≡ address_type address
     → (master_in bytes ≡ master) × (address_in bytes ≡ address)
-address_read bytes xs master burst address is at type = grind (arith, nat_tests, first_read, at 0, at 1, at 2, at 3, at 4)
+address_read bytes xs master burst address is at type = grind (arith, nat_tests, at 0, at 1, at 2, at 3, at 4)
 
 -- These parts stand in bytes as a header: the kind in the delimiter, then the address, and the command after the expansion bytes.
 pub record StandsAsHeader (bytes : List ℕ) (parts : HeaderParts) : Type 0 where
@@ -50,8 +45,7 @@ headers_are_those_of_frames-body bytes f len begins =
     let split : bytes ≡ prefix ++ f.command ∷ rest = whole ∙ simp append_assoc in
     let count : length prefix ≡ command_place bytes = grind (arith, length-append, said.place) in
     let command : get_or bytes (command_place bytes) 0 ≡ f.command = grind (arith, get_or_at) in
-    let stands : StandsAsHeader bytes (header_of f) =
-    grind (arith, get_or_append_left, said.delimiter, kind_code-is, address_type-lt, part.expansion_fits, has) in
+    let stands : StandsAsHeader bytes (header_of f) = grind (arith, get_or_append_left, kind_code-is, address_type-lt) in
     header_read bytes (header_of f) stands
 
 -- Bytes have a header exactly if they begin with a delimiter of this profile and reach the command.

@@ -50,8 +50,7 @@ CanBecomeBody-truncated bytes fit truncated =
     let (frame, is) = completed whole (All-take (λ byte. byte < 256) (body_length whole) whole fits) filled.0 in
     let body = prefix ++ fold bit_xor 0 prefix ∷ [] in
     let begins : take (length bytes) body ≡ bytes = grind (arith, take-append-le, length-take-le, take-take, take-append_seam) in
-    let begun : BeginsWithBody (bytes ++ drop (length bytes) body) frame (length body) =
-    grind (arith, take-append-drop (length bytes) body, take_all (length body) body) in
+    let begun : BeginsWithBody (bytes ++ drop (length bytes) body) frame (length body) = grind (arith, take-append-drop, take_all) in
     record { rest = drop (length bytes) body; frame = frame; count = length body; begins = begun }
 
 -- A prefix that ends before the byte count ends too early, if the delimiter is good.
