@@ -98,7 +98,6 @@ pub lone_open : (bytes : List ℕ) (start n : ℕ) → start ≤ length bytes �
     → get_or (drop start bytes) (n - 1) 0 ≡ 255 → MayStandAlone bytes start
 lone_open bytes start n within long all whole none last =
     let xs = drop start bytes in
-    let stands = whole [] tt in
     let one = two_in bytes [] start n within long (omega (arith, all)) in
     let two = two_in bytes (preamble ∷ []) start n within long (omega (arith, all)) in
     record {

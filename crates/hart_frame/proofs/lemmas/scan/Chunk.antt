@@ -79,7 +79,6 @@ pub hears_first : (old mid new : Buffer) (chunk : List Character) (character : C
     → MatchOption seen (GivesNothing (scan_of mid) (scan_of new)) (HoldsWhole mid new) → HearsPart (scan_of old) (scan_of new) chunk 1
 hears_first old mid new chunk character seen sound drained some is heard given =
     let waiting = waits_drained old sound drained in
-    let one : take 1 chunk ≡ character ∷ [] = grind arith in
     let (moves, stops) = seen_one (scan_of old) mid new character seen waiting.going heard given in
     let before : (fewer : ℕ) → fewer < 1 → IsUndecided ((scan_of old).held ++ take fewer chunk) = λ fewer below.
     let none : fewer ≡ 0 = omega (arith, below) in rw (none, append-nil) (undecided_waiting old waiting) in

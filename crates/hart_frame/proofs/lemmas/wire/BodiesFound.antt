@@ -87,7 +87,6 @@ pub body_decided : (bytes : List ℕ) → BodyAhead bytes ⊎ HasNoBody bytes
 body_decided bytes =
     let prefix = take (body_length bytes) bytes in
     let check = fold bit_xor 0 prefix in
-    let parity : (check ≡ 0) ⊎ (0 < check) = grind arith in
     let is = IsCheckByte-fold prefix check in
     let cases : BodyAhead bytes ⊎ (HasCheckByte bytes → All (λ byte. byte < 256) prefix → HasEvenParity prefix → ⊥) =
     grind (arith, fit_decided prefix, fits_at prefix, even-check prefix, check-even prefix check, whole_body bytes) in

@@ -37,7 +37,6 @@ pub headers_are_those_of_frames-body : (bytes : List ℕ) (f : FrameParts) (len 
 headers_are_those_of_frames-body bytes f len begins =
     let part = begins.body.checked_part in
     let said = says bytes f len begins in
-    let has = has_check bytes f len begins in
     let whole = sym (take-append-drop len bytes) ∙ spread f (take len bytes) (drop len bytes) begins.body in
     let long = length-address f.master f.burst f.address part.address part.address_bytes in
     let prefix : List ℕ = delimiter_of f ∷ part.address ++ f.expansion in

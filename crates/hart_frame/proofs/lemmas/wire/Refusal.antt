@@ -20,7 +20,6 @@ pub says : (bytes : List ℕ) (f : FrameParts) (len : ℕ) → BeginsWithBody by
 says bytes f len begins =
     let whole = sym (take-append-drop len bytes) ∙ spread f (take len bytes) (drop len bytes) begins.body in
     let prefix : List ℕ = delimiter_of f ∷ begins.body.checked_part.address ++ f.expansion ++ f.command ∷ [] in
-    let split : bytes ≡ prefix ++ length f.payload ∷ (f.payload ++ begins.body.check ∷ drop len bytes) = whole ∙ simp append_assoc in
     let place : length prefix ≡ byte_count_place bytes = grind (arith, length-append, address_type-lt, kind_code-is, length-address) in
     search (arith, common_steps, get_or_at, length-take-le, length-append, length-address, address_type-lt)
 
