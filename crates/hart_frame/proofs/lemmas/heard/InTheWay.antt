@@ -29,16 +29,12 @@ stops : (chars : List Character) (start : ℕ) (at_end : Miss) → IsStart start
     × (faulty_or (slice_get (drop start chars) (length (bytes_from chars start))) (start + length (bytes_from chars start)) at_end
     ≡ Faulty (start + length (bytes_from chars start)) faults))
 stops chars start at_end is =
-    grind (
-      arith,
-      length-append,
-      slice_get_cases chars (start + (length (faultless_bytes (drop start chars)))),
-      slice_get-get_or chars (start + (length (faultless_bytes (drop start chars)))) preamble,
-      rest_at chars start (length (faultless_bytes (drop start chars))),
-      after_faultless (drop start chars),
-      length-drop start chars,
-      length-faultless_bytes (drop start chars),
-    )
+    let heard = drop start chars in
+    let n = length (faultless_bytes heard) in
+    let cases = slice_get_cases chars (start + n) in
+    let at = slice_get-get_or chars (start + n) preamble in
+    let long = length-faultless_bytes heard in
+    grind (arith, length-append, cases, at, rest_at chars start n, after_faultless heard, length-drop start chars, long)
 
 -- The miss that is found stands in the way.
 said : (chars : List Character) (start : ℕ) (miss : Miss)

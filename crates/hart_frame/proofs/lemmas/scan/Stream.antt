@@ -20,10 +20,8 @@ streamed_pushed past scan given cs going streamed =
 streamed_taken : (past : List Character) (old new : Scan) (given found : List Found) → IsStreamed past old given
     → MovesPast old new found → IsStreamed past new (given ++ found)
 streamed_taken past old new given found streamed moves =
-    let own = rw (← streamed.held) at moves.next in
-    let rest = next_of_rest old.first past old.finished moves.found moves.count streamed.next.within own in
-    let next = next_then past old.finished 0 old.first (old.first + moves.count) given (map (moved old.first) moves.found)
-    streamed.next rest in
+    let rest = next_of_rest old.first past old.finished moves.found moves.count streamed.next.within (rw (← streamed.held) at moves.next) in
+    let next = next_then past old.finished 0 old.first _ given _ streamed.next rest in
     grind (arith, drop-drop)
 
 -- Every history of a scanner is streamed in this way.

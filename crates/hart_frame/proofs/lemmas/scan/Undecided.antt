@@ -55,11 +55,10 @@ undecided_before s t moves (inr (place, opened, before)) =
 
 -- A scanner that gives nothing does not begin with a frame.
 pub holds_gives : (old new : Scan) → BeginsWithFrame old → GivesNothing old new → ⊥
-holds_gives old new (found, stands, start) (inl waits) =
-    elim (undecided_before old new waits.moves waits.undecided) [
-      | inl empty ↦ empty found stands
-      | inr (place, opened, before) ↦ omega (arith, before found stands, start, opened.start)
-    ]
+holds_gives old new (found, stands, start) (inl waits) = elim (undecided_before old new waits.moves waits.undecided) [
+  | inl empty ↦ empty found stands
+  | inr (place, opened, before) ↦ omega (arith, before found stands, start, opened.start)
+]
 holds_gives old new (found, stands, start) (inr ends) = ends.none found stands
 
 -- A scanner that is not finished and gives nothing waits.

@@ -30,8 +30,7 @@ module _ (rest : List ℕ) (fit : All (λ byte. byte < 256) rest) (truncated : I
       let whole = faultless (255 ∷ 255 ∷ rest) in
       let (missing, cut) = truncated_cut rest truncated in
       let wrong : body_miss 2 (drop 2 (whole ++ [])) ≡ Some (cut_miss missing) =
-      ap (λ (xs : List Character). body_miss 2 xs) (append-nil (faultless rest)) ∙ miss_end rest 2
-      ∙ cut_told rest missing None (2 + length rest) 2 cut in
+      grind (arith, append-nil, miss_end rest 2, cut_told rest missing None (2 + length rest) 2 cut) in
       let asked : IsAsked (255 ∷ 255 ∷ rest) More 0 2 = grind (arith, length-map) in
       let passes = miss_two (255 ∷ 255 ∷ rest) More [] 0 2 tt silent_two asked _ (omega arith, refl) wrong in
       let (later, are) = some_sightings (whole ++ []) 3 in

@@ -15,8 +15,7 @@ returns-in-Whole-clause-found c =
 
 pub returns-in-Wrong-clause-found : goal.returns-in-Wrong-clause-found
 returns-in-Wrong-clause-found c =
-    let is = front_wrong c.args.heard.now c.args.start 267 c.as_slice.result.now (grind arith) (omega arith)
-    (fits_at _ c.as_slice.ensures.bytes) c.in-Wrong.wrong c.in-Wrong.ensures in
+    let is = front_wrong c.args.heard.now c.args.start 267 _ (grind arith) (omega arith) (fits_at _ c.as_slice.ensures.bytes) in
     grind (arith, is)
 
 pub returns-in-Cut-clause-found : goal.returns-in-Cut-clause-found

@@ -17,8 +17,5 @@ returns-in-Some c =
 pub returns-in-None : goal.returns-in-None
 returns-in-None c =
     let bytes = c.args.bytes.now in
-    let len = c.args.len in
-    let whole = len / 16 * 16 in
-    let before = rw (length-take-le len bytes c.requires) at c.fold_blocks-lanes.ensures.front in
-    IsCheckByte-few len whole bytes c.fold_blocks-lanes.result (omega arith) (λ i. omega (arith, c.type_inv.bytes i)) before
-    c.fold_few.result c.fold_few.ensures
+    let before = rw (length-take-le c.args.len bytes c.requires) at c.fold_blocks-lanes.ensures.front in
+    grind (arith, IsCheckByte-few c.args.len (c.args.len / 16 * 16) bytes c.fold_blocks-lanes.result, c.type_inv.bytes)
