@@ -20,8 +20,7 @@ returns-in-Wrong-clause-found c =
 
 pub returns-in-Cut-clause-found : goal.returns-in-Cut-clause-found
 returns-in-Cut-clause-found c =
-    let is = front_cut c.args.heard.now c.args.start 267 c.as_slice.result.now (grind arith) (omega arith)
-    (fits_at _ c.as_slice.ensures.bytes) c.in-Cut.missing c.in-Cut.ensures in
+    let is = front_cut c.args.heard.now c.args.start 267 _ (grind arith) (omega arith) (fits_at _ c.as_slice.ensures.bytes) in
     grind (arith, is)
 
 pub returns-in-Whole-clause-fit : goal.returns-in-Whole-clause-fit

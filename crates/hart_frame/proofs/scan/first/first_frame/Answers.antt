@@ -5,9 +5,8 @@ use Rattle.hart_frame.proofs.scan.first.first_frame.Goals as goal
 -- The frame that is copied is the first frame of the rest.
 is_first : (c : goal.After-found_at-found) → IsFirst c.found_at-found.result c.in_ok-get.field-0.now 0
 is_first c =
-    let copied = c.found_at-found in
-    first_copied c.in_ok-get.field-0.now c.first_span.new.buffer c.in_ok-span.span copied.result c.in_ok-span.ensures copied.ensures.frame
-    copied.ensures.start copied.ensures.stop
+    let copied = c.found_at-found.ensures in
+    first_copied c.in_ok-get.field-0.now c.first_span.new.buffer _ _ c.in_ok-span.ensures copied.frame copied.start copied.stop
 
 pub returns-in_err-span-clause-first : goal.returns-in_err-span-clause-first
 returns-in_err-span-clause-first c =

@@ -17,16 +17,11 @@ slice_bounds-view_in-end c = grind (arith, ends_within)
 
 pub view_in-requires : goal.view_in-requires
 view_in-requires c =
-    let found = c.search_to_end-searched in
-    let whole = rw c.in-Some.is at found.ensures.stands in
-    record {
-      body = rw (body_at_place c.args.bytes.now found.result.place c.body_len.result c.in-Some.layout whole c.body_len.ensures)
-          whole.whole;
-    }
+    let whole = rw c.in-Some.is at c.search_to_end-searched.ensures.stands in
+    record { body = rw (body_at_place c.args.bytes.now _ _ c.in-Some.layout whole c.body_len.ensures) whole.whole }
 
 pub returns-clause-frames : goal.returns-clause-frames
 returns-clause-frames c =
     let found = c.search_to_end-searched.ensures in
-    next_past c.args.bytes.now c.args.ended c.args.from c.search_to_end-searched.result.place c.body_len.result c.in-Some.layout
-    (parts_of c.view_in.result) found.after found.within found.none (rw c.in-Some.is at found.stands) c.body_len.ensures
-    c.view_in.ensures
+    next_past c.args.bytes.now c.args.ended c.args.from _ _ c.in-Some.layout _ found.after found.within found.none
+    (rw c.in-Some.is at found.stands) c.body_len.ensures c.view_in.ensures

@@ -11,9 +11,8 @@ lone_body-requires-clause-whole c = grind (arith, whole_seen, take_rest c.args.b
 
 pub returns-in-Wrong : goal.returns-in-Wrong
 returns-in-Wrong c =
-    not_alone c.args.bytes.now c.args.after.now c.args.start _
-    (wrong_seen c.args.bytes.now c.args.start c.requires.within c.args.after.now c.in-Wrong.field-0
-    (rw (take_rest c.args.bytes.now c.args.start) at c.in-Wrong.ensures))
+    let is = rw (take_rest c.args.bytes.now c.args.start) at c.in-Wrong.ensures in
+    not_alone c.args.bytes.now c.args.after.now c.args.start _ (wrong_seen _ _ c.requires.within _ _ is)
 
 pub returns-then-can_stand_alone : goal.returns-then-can_stand_alone
 returns-then-can_stand_alone c =

@@ -21,22 +21,17 @@ here c =
 
 pub loop-start-preserved : goal.loop-start-preserved
 loop-start-preserved c =
-    let bytes = c.args.bytes.now in
-    let start = c.in-Some.start in
-    let (is, silent) = here (goal.at.loop-start-preserved c).In-Some in
-    record {
+    let (is, silent) = here (goal.at.loop-start-preserved c).In-Some in record {
       order = omega (arith, is.order);
       within = is.within;
-      silent = silent_on bytes c.args.after c.args.from start silent c.in-Nothing.ensures;
+      silent = silent_on c.args.bytes.now c.args.after c.args.from c.in-Some.start silent c.in-Nothing.ensures;
     }
 
 pub returns-in-Open-clause-sightings : goal.returns-in-Open-clause-sightings
 returns-in-Open-clause-sightings c =
-    let bytes = c.args.bytes.now in
-    let start = c.in-Some.start in
     let (is, silent) = here (goal.at.returns-in-Open-clause-sightings c).In-Some in
-    rw c.none_decided-in-Open.ensures (sees bytes c.args.after c.args.from c.in-Open.used [] c.requires.valid
-    (open_seen bytes c.args.after c.args.from start c.in-Open.used silent is c.in-Open.ensures))
+    rw c.none_decided-in-Open.ensures (sees c.args.bytes.now c.args.after c.args.from c.in-Open.used [] c.requires.valid
+    (open_seen c.args.bytes.now c.args.after _ _ _ silent is c.in-Open.ensures))
 
 pub returns-in-Open-clause-few : goal.returns-in-Open-clause-few
 returns-in-Open-clause-few c = λ none.
@@ -52,29 +47,24 @@ returns-in-Open-clause-undecided c =
 
 pub returns-in-Message-clause-sightings : goal.returns-in-Message-clause-sightings
 returns-in-Message-clause-sightings c =
-    let bytes = c.args.bytes.now in
-    let start = c.in-Some.start in
     let (is, silent) = here (goal.at.returns-in-Message-clause-sightings c).In-Some in
-    let two = message_two bytes c.args.after c.args.from start c.in-Message.layout c.in-Message.ensures in
+    let two = message_two c.args.bytes.now c.args.after c.args.from _ c.in-Message.layout c.in-Message.ensures in
     let (view, same, at) = c.message_at.ensures.message in
-    rw same (message_seen bytes c.args.after c.args.from start c.message_at.result.used view c.requires.valid silent is two at)
+    rw same (message_seen c.args.bytes.now c.args.after _ _ _ view c.requires.valid silent is two at)
 
 pub returns-in-Missed-clause-sightings : goal.returns-in-Missed-clause-sightings
 returns-in-Missed-clause-sightings c =
-    let bytes = c.args.bytes.now in
-    let start = c.in-Some.start in
     let (is, silent) = here (goal.at.returns-in-Missed-clause-sightings c).In-Some in
     let (header, same, parts) = c.missed.ensures.miss in
-    rw (same, parts, c.missed.ensures.used) (sees bytes c.args.after c.args.from (start + 1) _ c.requires.valid
-    (missed_seen bytes c.args.after c.args.from start c.in-Missed.miss silent is c.in-Missed.ensures))
+    rw (same, parts, c.missed.ensures.used) (sees c.args.bytes.now c.args.after c.args.from (c.in-Some.start + 1) _ c.requires.valid
+    (missed_seen c.args.bytes.now c.args.after _ _ c.in-Missed.miss silent is c.in-Missed.ensures))
 
 pub returns-clause-sightings : goal.returns-clause-sightings
 returns-clause-sightings c =
-    let bytes = c.args.bytes.now in
-    let silent = silent_before bytes c.args.after c.args.from c.loop-start.place _ c.loop-start.invariant.silent
+    let silent = silent_before c.args.bytes.now c.args.after c.args.from c.loop-start.place _ c.loop-start.invariant.silent
     (λ p asked below. c.in_default.ensures p asked) in
-    rw c.none_decided-2.ensures (sees bytes c.args.after c.args.from c.passed.result [] c.requires.valid
-    (passed_all bytes c.args.after c.args.from c.passed.result silent c.if-from-bytes.false c.passed.ensures))
+    rw c.none_decided-2.ensures (sees _ c.args.after c.args.from c.passed.result [] c.requires.valid
+    (passed_all c.args.bytes.now _ _ _ silent c.if-from-bytes.false c.passed.ensures))
 
 pub returns-clause-undecided : goal.returns-clause-undecided
 returns-clause-undecided c = λ none more.

@@ -5,12 +5,10 @@ use Rattle.hart_frame.proofs.wire.parity.front_check.Goals as goal
 pub returns-in-Some : goal.returns-in-Some
 returns-in-Some c =
     let bytes = c.args.bytes.now in
-    let len = c.args.len in
-    let whole = len / 16 * 16 in
-    let before = rw (length-take-le len bytes c.requires) at c.fold_blocks-lanes.ensures.front in
+    let whole = c.args.len / 16 * 16 in
+    let before = rw (length-take-le c.args.len bytes c.requires) at c.fold_blocks-lanes.ensures.front in
     let block = rw (take_rest bytes whole) at c.in-Some.ensures.cases in
-    IsCheckByte-front len whole bytes c.fold_blocks-lanes.result (omega arith) (λ i. omega (arith, c.type_inv.bytes i)) before
-    c.front_lanes.result c.in-Some.last.now (omega arith) block.same
+    IsCheckByte-front c.args.len whole bytes _ (omega arith) (λ i. omega (arith, c.type_inv.bytes i)) before _ _ (omega arith) block.same
     (omega (arith, ap length block.same, length-take-le 16 (drop whole bytes) block.enough)) c.fold_blocks-lanes.ensures.lanes
     c.front_lanes.ensures
 

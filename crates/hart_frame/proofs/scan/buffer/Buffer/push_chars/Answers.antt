@@ -11,12 +11,10 @@ returns-then-not-is_drained-clause-hears c =
 
 pub loop-taken-preserved : goal.loop-taken-preserved
 loop-taken-preserved c =
-    let on = hearing_on c.args.self.now c.loop-taken.self c.push_stretch-taken.new.self c.args.chunk.now _ c.loop-taken.taken
-    c.push_stretch-taken.result c.loop-taken.invariant.2 (take_rest c.args.chunk.now c.loop-taken.taken)
-    c.push_stretch-taken.ensures.hears in grind arith
+    let on = hearing_on c.args.self.now _ c.push_stretch-taken.new.self c.args.chunk.now _ _ _ c.loop-taken.invariant.2
+    (take_rest c.args.chunk.now c.loop-taken.taken) c.push_stretch-taken.ensures.hears in grind arith
 
 pub returns-clause-hears : goal.returns-clause-hears
 returns-clause-hears c =
     let (sound, drained, so) = c.loop-taken.invariant in
-    hears_all c.args.self.now c.loop-taken.self c.args.chunk.now c.loop-taken.taken so sound drained
-    (omega (arith, c.loop-taken-test.false))
+    hears_all c.args.self.now _ c.args.chunk.now _ so sound drained (omega (arith, c.loop-taken-test.false))
