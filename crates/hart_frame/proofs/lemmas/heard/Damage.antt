@@ -54,7 +54,9 @@ pub stood : (left : ℕ) (body : List ℕ) (chars : List Character) (found : Fou
     → AllZip IsHeardOrMarked (replicate left 255 ++ body) chars → (stands : StandsIn found chars from)
     → (rest : List ℕ) × ((left < length stands.prefix) ⊎ ((length stands.prefix + 2 ≡ left) × (body ≡ stands.body ++ rest)))
 stood left body chars found from delimiter heard stands =
-    grind (arith, two_there left (length stands.prefix) (delimiter_of found.frame) body, head_of, sent_there (replicate left 255 ++ body) (255 ∷ 255 ∷ stands.body) stands.prefix stands.rest)
+    let there = two_there left (length stands.prefix) (delimiter_of found.frame) body in
+    let sent = sent_there (replicate left 255 ++ body) (255 ∷ 255 ∷ stands.body) stands.prefix stands.rest in
+    grind (arith, there, sent, head_of)
 
 -- If no two FF in a row are heard after the delimiter, a frame that is heard starts at the delimiter.
 stands_there : (left : ℕ) (body : List ℕ) (chars : List Character) (found : Found) (from : ℕ) → delimiter_in body ≢ 255
@@ -104,7 +106,8 @@ AreFrames-check frame preambles chars damage =
     none 0 (λ found stands.
     let (bytes, replaces, all, odd) = damage.heard in
     let (rest, start, same) =
-    stands_there damage.left bytes chars found 0 (grind (arith, head_of frame)) (grind (arith, heard_faultless)) damage.no_two_preambles stands in
+    stands_there damage.left bytes chars found 0 (grind (arith, head_of frame)) (grind (arith, heard_faultless))
+    damage.no_two_preambles stands in
     let sent = says damage.body frame (length damage.body) in
     let said = says (stands.body ++ rest) found.frame (length stands.body)
     (BeginsWithBody-append found.frame stands.body rest stands.is_body) in

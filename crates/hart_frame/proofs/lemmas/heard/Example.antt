@@ -1,6 +1,6 @@
 -- The request that serves as the example of damage.
 use Rattle.hart_frame.proofs.Common.{◌⊎◌, ◌≡◌, ℕ, ◌<◌, inl, List, [], ◌∷◌, ◌++◌, length, drop, replicate, refl, ap, arith, length-append}
-use Rattle.hart_frame.proofs.Common.{drop_at, length-replicate, bit_at, Character, faultless, IsHeardOrMarked, IsBody, AllZip-long}
+use Rattle.hart_frame.proofs.Common.{drop_at, length-replicate, bit_at, Character, faultless, IsBody, AllZip-long}
 use Rattle.std.proofs.lemmas.List.Elements.{All-from_recursion}
 use Rattle.std.specs.List.{AllByRecursion}
 use Rattle.hart_frame.specs.heard.Character.{IsFaultBit}

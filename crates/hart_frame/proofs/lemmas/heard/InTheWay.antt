@@ -5,7 +5,7 @@ use Rattle.hart_frame.proofs.Common.{refl, arith, Option, nat_tests, common_step
 use Rattle.hart_frame.proofs.Common.{slice_get-get_or, slice_get_cases, slice_get, Miss, Faulty, OnePreamble, FrameFault, miss_in}
 use Rattle.hart_frame.proofs.Common.{Character, faultless_bytes, bytes_from, body_miss, miss_of, IsStart, IsOfBytes, BeginsWithBody}
 use Rattle.hart_frame.proofs.Common.{FrameParts, body_length, IsCheckByte, IsRefusedWith, faulty_or}
-use Rattle.hart_frame.specs.declared.heard.miss.Miss.TheVariants.{BadCheck, EndsBeforeByteCount, Missing}
+use Rattle.hart_frame.specs.declared.heard.miss.Miss.TheVariants.{BadCheck, EndsBeforeByteCount}
 use Rattle.hart_frame.specs.heard.InTheWay.{ComeToTheEnd, HasFaultsAt, IsInTheWay, fault_of}
 use Rattle.hart_frame.proofs.lemmas.heard.Front.{char_at, after_faultless, length-faultless_bytes}
 use Rattle.hart_frame.proofs.lemmas.heard.Missed.{miss_of-some, miss_of-start}

@@ -161,7 +161,8 @@ same_from chars from used place order after (inl cut) =
     grind (arith, nat_tests) in
     same_at chars from used place (omega (arith, order, after)) after one two
 same_from chars from used place order after (inr ends) =
-    let cases : (is_other_at chars place ≡ false) ⊎ (used + 2 ≤ place) = grind (arith, nat_tests, not_both chars place, tested chars place) in
+    let cases : (is_other_at chars place ≡ false) ⊎ (used + 2 ≤ place) =
+    grind (arith, nat_tests, not_both chars place, tested chars place) in
     elim cases [
       | inl not ↦ not_other chars from place (omega (arith, order, after)) not ∙ sym (not_other chars used place after not)
       | inr late ↦

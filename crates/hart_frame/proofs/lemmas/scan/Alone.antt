@@ -1,12 +1,11 @@
 -- Lemmas about when two FF in a row begin in a whole body, and when they do not.
-use Rattle.hart_frame.proofs.Common.{◌≡◌, ◌≢◌, ℕ, ◌+◌, ◌-◌, ◌<◌, ◌≤◌, ◌⊎◌, true, false, List, [], ◌∷◌, ◌++◌, length, take, drop, get_or, ap}
+use Rattle.hart_frame.proofs.Common.{◌≡◌, ◌≢◌, ℕ, ◌+◌, ◌-◌, ◌<◌, ◌≤◌, ◌⊎◌, true, false, List, [], ◌∷◌, ◌++◌, length, take, drop, get_or}
 use Rattle.hart_frame.proofs.Common.{◌∙◌, add-zero, sym, arith, refl, length-append, length-drop, None, Option, nat_tests, append-nil, ◌==◌}
 use Rattle.hart_frame.proofs.Common.{get_or_append_left, take_all, take-append-le, take-append-add, ◌&&◌, ◌||◌, After, Damaged, End, More}
-use Rattle.hart_frame.proofs.Common.{Character, faultless, faultless_bytes, body_miss, check_miss, miss_in, has_two_preambles, MayFollow}
-use Rattle.hart_frame.proofs.Common.{two_begin_in_body, miss_in_whole, MayStandAlone, Whatever, stands_alone, body_length, HasCheckByte}
+use Rattle.hart_frame.proofs.Common.{Character, faultless, faultless_bytes, check_miss, miss_in, has_two_preambles, MayFollow}
+use Rattle.hart_frame.proofs.Common.{two_begin_in_body, MayStandAlone, Whatever, stands_alone, body_length, HasCheckByte}
 use Rattle.hart_frame.proofs.Common.{IsTruncated, HasBodyMiss}
 use Rattle.std.proofs.Common.{min}
-use Rattle.std.specs.Prelude.{is_none}
 use Rattle.hart_frame.proofs.lemmas.heard.Place.{preamble}
 use Rattle.hart_frame.proofs.lemmas.heard.Front.{faultless_bytes-end}
 use Rattle.hart_frame.proofs.lemmas.heard.Sighting.{body_moved, is_none-map}
@@ -118,7 +117,9 @@ whole_past xs ys truncated has = grind (arith, length-append, get_or_append_left
 
 pub alone_moved : (bytes : List ℕ) (more : List Character) (start : ℕ) → start ≤ length bytes
     → stands_alone (faultless bytes ++ more) start ≡ stands_alone (faultless (drop start bytes) ++ more) 0
-alone_moved bytes more start within = grind (arith, nat_tests, drop-heard, body_moved start 0 (faultless (drop start bytes) ++ more), is_none-map, add-zero)
+alone_moved bytes more start within =
+    let moved = body_moved start 0 (faultless (drop start bytes) ++ more) in
+    grind (arith, nat_tests, drop-heard, moved, is_none-map, add-zero)
 
 -- Whether more characters let a body stand alone depends only on the bytes from its place on.
 pub may_moved : (bytes others : List ℕ) (start other : ℕ) → start ≤ length bytes → other ≤ length others

@@ -45,7 +45,8 @@ pub other_yes : (bytes : List ℕ) (after : After) (next : List Character) (i : 
     → i < length (heard_with bytes after) → (i < length bytes → get_or bytes i 0 ≢ 255)
     → is_other_at (faultless bytes ++ next) i ≡ true
 other_yes bytes after next i follows within other =
-    grind (arith, nat_tests, tested (faultless bytes ++ next) i, preamble_no bytes after next i follows within other, known bytes after next follows)
+    let no = preamble_no bytes after next i follows within other in
+    grind (arith, nat_tests, no, tested (faultless bytes ++ next) i, known bytes after next follows)
 
 -- A place that is asked in the characters is asked in the bytes.
 pub asked : (bytes : List ℕ) (after : After) (next : List Character) (from place : ℕ) → MayFollow after next

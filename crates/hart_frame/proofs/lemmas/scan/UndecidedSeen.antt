@@ -1,6 +1,6 @@
 -- If the characters that follow change which sighting comes first, no sighting is decided.
 use Rattle.hart_frame.proofs.Common.{◌≡◌, ◌≢◌, ℕ, zero, suc, ◌+◌, ◌-◌, ◌<◌, ◌≤◌, ◌⊎◌, inl, inr, List, [], ◌∷◌, ◌++◌, length, drop, get_or}
-use Rattle.hart_frame.proofs.Common.{None, Some, Option, ◌∙◌, ap, sym, arith, refl, length-drop, append-nil, drop_more, get_or-drop, All}
+use Rattle.hart_frame.proofs.Common.{None, Some, Option, ◌∙◌, sym, arith, refl, length-drop, append-nil, drop_more, get_or-drop, All}
 use Rattle.hart_frame.proofs.Common.{length-map, All-drop, flat_map, range_with_len, option_map_or, Found, Miss, OnePreamble, More}
 use Rattle.hart_frame.proofs.Common.{Character, faultless, AreFrames, body_miss, AreSightings, Message, Missed, Seen, header_at}
 use Rattle.hart_frame.proofs.Common.{miss_in_whole, missed_at, sightings, HeaderParts, heard_with, IsAsked, MayStandAlone, After}

@@ -2,11 +2,10 @@
 use Rattle.hart_frame.proofs.Common.{◌≡◌, ◌↔◌, ℕ, ◌+◌, ◌/◌, ◌%◌, ◌<◌, Bool, List, ◌∷◌, ◌++◌, Some, ◌∙◌, get_or, length, take, drop, sym}
 use Rattle.hart_frame.proofs.Common.{arith, append_assoc, length-append, nat_tests, get_or_append_left, get_or_at, Address}
 use Rattle.hart_frame.proofs.Common.{take-append-drop, IsAddressBytes, MasterId, BeginsWithBody, address_type, delimiter_of, kind_code}
-use Rattle.hart_frame.proofs.Common.{FrameParts, HeaderParts, header_in, command_place, delimiter_in, IsDelimiter, first_byte, HasDelimiter}
+use Rattle.hart_frame.proofs.Common.{FrameParts, HeaderParts, header_in, command_place, delimiter_in, IsDelimiter, HasDelimiter}
 use Rattle.std.specs.Prelude.{IsSome}
-use Rattle.hart_values.specs.declared.master_id.MasterId.TheVariants.{Primary, Secondary}
 use Rattle.hart_frame.specs.wire.Header.{address_in, header_of, master_in}
-use Rattle.hart_frame.proofs.lemmas.wire.Refusal.{has_check, says}
+use Rattle.hart_frame.proofs.lemmas.wire.Refusal.{says}
 use Rattle.hart_frame.proofs.lemmas.wire.UnambiguousBodies.{address_type-lt, kind_code-is, length-address, spread}
 
 -- If the address bytes of a master and an address stand after the delimiter, the bytes have this master and this address.

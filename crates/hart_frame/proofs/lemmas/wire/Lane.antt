@@ -107,4 +107,5 @@ module _ (len whole : ℕ) (bytes lanes : List ℕ) (order : whole ≤ len) (eac
   IsCheckByte-front front block few is full wide parts =
       let n = len - whole in
       let same : take n block ≡ take n (drop whole bytes) = grind (arith, take-take n 16 (drop whole bytes)) in
-      IsCheckByte-few _ (grind (arith, fold-front lanes front (take n block) (16 - n), length-append, length-take-le n block, length-replicate))
+      IsCheckByte-few _
+      (grind (arith, fold-front lanes front (take n block) (16 - n), length-append, length-take-le n block, length-replicate))

@@ -1,5 +1,5 @@
 -- The parts into which a layout cuts bytes, joined again, are the bytes.
-use Rattle.hart_frame.proofs.Common.{delimiter_of, ◌≡◌, ℕ, ◌+◌, ◌-◌, ◌<◌, ◌≤◌, List, ◌∷◌, ◌++◌, length, take, drop, get_or, arith, take-add}
+use Rattle.hart_frame.proofs.Common.{◌≡◌, ℕ, ◌+◌, ◌-◌, ◌<◌, ◌≤◌, List, ◌∷◌, ◌++◌, length, take, drop, get_or, arith, take-add}
 use Rattle.hart_frame.proofs.Common.{length-drop, drop_more, drop-drop, length-take-le, slice_range, IsAddressBytes, Layout, IsCheckedPart}
 use Rattle.hart_frame.proofs.Common.{FrameParts, Describes, body_length, HasCheckByte}
 use Rattle.hart_frame.specs.wire.FrameParts.{IsLongEnough}

@@ -1,5 +1,5 @@
 -- Bytes that begin with a body are not refused, and that body is decoded.
-use Rattle.hart_frame.proofs.Common.{◌≡◌, ℕ, ◌+◌, ◌*◌, ◌≤◌, List, [], ◌∷◌, ◌++◌, length, take, drop, sym, ◌∙◌, arith, append_assoc}
+use Rattle.hart_frame.proofs.Common.{◌≡◌, ℕ, ◌+◌, ◌*◌, ◌≤◌, List, [], ◌∷◌, ◌++◌, length, take, drop, sym, ◌∙◌, arith}
 use Rattle.hart_frame.proofs.Common.{length-append, common_steps, length-take-le, take-append-drop, get_or_at, FrameFault, BeginsWithBody}
 use Rattle.hart_frame.proofs.Common.{delimiter_of, address_type, FrameParts, delimiter_in, byte_count_place, body_length, HasCheckByte}
 use Rattle.hart_frame.proofs.Common.{IsRefusedWith, byte_count_in}

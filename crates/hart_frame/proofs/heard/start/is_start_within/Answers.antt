@@ -1,4 +1,4 @@
-use Rattle.hart_frame.proofs.Common.{◌≡◌, ◌&&◌, not, ℕ, ◌<◌, List, length, Bool, false, sym, ◌∙◌, arith, get_or, nat_tests, Character}
+use Rattle.hart_frame.proofs.Common.{◌≡◌, ◌&&◌, not, ℕ, ◌<◌, List, length, Bool, sym, ◌∙◌, arith, get_or, nat_tests, Character}
 use Rattle.std.proofs.Common.{nat_eq}
 use Rattle.std.proofs.lemmas.List.{get_or_default}
 use Rattle.hart_frame.proofs.lemmas.heard.Place.{preamble}

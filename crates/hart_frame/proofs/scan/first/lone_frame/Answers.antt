@@ -1,4 +1,4 @@
-use Rattle.hart_frame.proofs.Common.{arith, take_rest, moved, ◌≡◌, List, [], ◌∷◌, Found, Character, AreFrames, none, first}
+use Rattle.hart_frame.proofs.Common.{arith, take_rest, moved, ◌≡◌, List, [], Found, Character, AreFrames, none, first}
 use Rattle.hart_frame.proofs.lemmas.Laws.{every_list_has_frames}
 use Rattle.hart_frame.specs.declared.scan.first.LoneFrame.{LoneFrame}
 use Rattle.hart_frame.specs.heard.Delivery.{IsLone, lone_of}
@@ -20,27 +20,23 @@ returns-in_default-clause-only c = only_said c.args.delivery.now _ (returns-in_d
 pub returns-then-has_frame-clause-lone : goal.returns-then-has_frame-clause-lone
 returns-then-has_frame-clause-lone c =
     let delivery = c.args.delivery.now in
-    let span = c.in-Some.span in
-    let (one, is_first, stop) = some_first delivery c.first_span.new.buffer span c.in-Some.ensures in
+    let stop = c.in-Some.span.stop in
+    let (one, is_first, same) = some_first delivery c.first_span.new.buffer c.in-Some.span c.in-Some.ensures in
     let (rest, is_rest) = c.has_frame.ensures.some c.if-has_frame.true in
-    let second = moved span.stop rest in
-    let is_second = first_later delivery _ span.stop rest c.in-Some.ensures.within (grind (arith, take_rest)) is_rest in
-    let later = every_list_has_frames delivery second.stop in
-    (one, second, later.0, first 0 one (second ∷ later.0) is_first (first one.stop second later.0 (rw stop is_second) later.1))
+    let is_second = first_later delivery _ stop rest c.in-Some.ensures.within (grind (arith, take_rest)) is_rest in
+    let later = every_list_has_frames delivery (moved stop rest).stop in
+    (one, moved stop rest, later.0, first 0 one _ is_first (first one.stop _ later.0 (rw same is_second) later.1))
 
 pub returns-then-has_frame-clause-only : goal.returns-then-has_frame-clause-only
 returns-then-has_frame-clause-only c = only_said c.args.delivery.now _ (returns-then-has_frame-clause-lone c)
 
 pub returns-clause-lone : goal.returns-clause-lone
 returns-clause-lone c =
-    let delivery = c.args.delivery.now in
-    let span = c.in-Some.span in
-    let copied = c.found_at in
-    let is_first = first_copied delivery c.first_span.new.buffer span copied.result c.in-Some.ensures copied.ensures.frame
-    copied.ensures.start copied.ensures.stop in
-    let empty = no_later delivery _ span.stop c.in-Some.ensures.within (grind (arith, take_rest))
+    let copied = c.found_at.ensures in
+    let is_first = first_copied c.args.delivery.now c.first_span.new.buffer _ _ c.in-Some.ensures copied.frame copied.start copied.stop in
+    let empty = no_later c.args.delivery.now _ c.in-Some.span.stop c.in-Some.ensures.within (grind (arith, take_rest))
     (c.has_frame.ensures.none c.if-has_frame.false) in
-    first 0 copied.result [] is_first (none copied.result.stop (rw copied.ensures.stop empty))
+    first 0 _ [] is_first (none c.found_at.result.stop (rw copied.stop empty))
 
 pub returns-clause-only : goal.returns-clause-only
 returns-clause-only c = only_said c.args.delivery.now _ (returns-clause-lone c)

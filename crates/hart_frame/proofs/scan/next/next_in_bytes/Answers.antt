@@ -1,4 +1,4 @@
-use Rattle.hart_frame.proofs.Common.{arith, drop, drop_all, MayBegin, parts_of}
+use Rattle.hart_frame.proofs.Common.{arith, drop, drop_all, MayBegin}
 use Rattle.hart_frame.proofs.lemmas.scan.Candidate.{undecided_open}
 use Rattle.hart_frame.proofs.lemmas.scan.Next.{body_at_place, ends_within, next_past, next_to}
 use Rattle.hart_frame.proofs.scan.next.next_in_bytes.Goals as goal

@@ -19,8 +19,7 @@ returns-then-can_stand_alone c =
     let bytes = c.args.bytes.now in
     let start = c.args.start in
     let rest = take_rest bytes start in
-    let is : IsPrefix (drop start bytes) (Cut c.in-Cut.missing) = grind (arith, rest) in
-    let truncated = cut_truncated (drop start bytes) c.in-Cut.missing is in
+    let truncated = cut_truncated (drop start bytes) c.in-Cut.missing (grind (arith, rest)) in
     let few = truncated_few (drop start bytes) (λ i. grind (arith, get_or-drop, c.type_inv.bytes)) truncated in
     let may : MayStandAlone (drop start bytes) 0 = rw rest at (c.can_stand_alone.ensures.may (grind arith)) in (
       grind arith,

@@ -1,4 +1,4 @@
-use Rattle.hart_frame.proofs.Common.{◌≡◌, ◌<◌, true, false, arith, All-from_get_or, has_two_preambles}
+use Rattle.hart_frame.proofs.Common.{◌≡◌, ◌<◌, false, arith, All-from_get_or, has_two_preambles}
 use Rattle.hart_frame.proofs.lemmas.scan.Completed.{may, never_lacks, never_two}
 use Rattle.hart_frame.proofs.lemmas.wire.Reading.{cut_truncated}
 use Rattle.hart_frame.proofs.scan.sighting.can_stand_alone.Goals as goal

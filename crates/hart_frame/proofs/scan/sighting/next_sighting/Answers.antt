@@ -43,7 +43,8 @@ pub returns-in-Open-clause-undecided : goal.returns-in-Open-clause-undecided
 returns-in-Open-clause-undecided c =
     λ none more.
     let fit = All-from_get_or (λ byte. byte < 256) c.args.bytes.now 0 (λ i below. omega (arith, c.type_inv.bytes i)) in
-    rw c.none_decided-in-Open.ensures (open_undecided c.args.bytes.now c.args.after _ c.args.from _ _ fit c.in-Some.ensures.0 more c.in-Open.ensures)
+    rw c.none_decided-in-Open.ensures
+    (open_undecided c.args.bytes.now c.args.after _ c.args.from _ _ fit c.in-Some.ensures.0 more c.in-Open.ensures)
 
 pub returns-in-Message-clause-sightings : goal.returns-in-Message-clause-sightings
 returns-in-Message-clause-sightings c =

@@ -10,18 +10,16 @@ rest_of chunk n = grind (arith, take_rest, drop-map)
 pub returns-then-not-is_drained-clause-hears : goal.returns-then-not-is_drained-clause-hears
 returns-then-not-is_drained-clause-hears c =
     let (sound, drained, so) = c.loop-taken.invariant in
-    hears_until c.args.self.now c.loop-taken.self c.push_part-taken.new.self (faultless c.args.chunk.now) _ c.loop-taken.taken
-    c.push_part-taken.result so sound drained (λ is. false≢true (sym c.if-not-is_drained.true ∙ c.is_drained.ensures.1 is))
-    (rest_of c.args.chunk.now c.loop-taken.taken) c.push_part-taken.ensures.hears
+    hears_until c.args.self.now _ c.push_part-taken.new.self (faultless c.args.chunk.now) _ _ _ so sound drained
+    (λ is. false≢true (sym c.if-not-is_drained.true ∙ c.is_drained.ensures.1 is))
+    (rest_of _ c.loop-taken.taken) c.push_part-taken.ensures.hears
 
 pub loop-taken-preserved : goal.loop-taken-preserved
 loop-taken-preserved c =
-    let on = hearing_on c.args.self.now c.loop-taken.self c.push_part-taken.new.self (faultless c.args.chunk.now) _ c.loop-taken.taken
-    c.push_part-taken.result c.loop-taken.invariant.2 (rest_of c.args.chunk.now c.loop-taken.taken) c.push_part-taken.ensures.hears in
-    grind arith
+    let on = hearing_on c.args.self.now _ c.push_part-taken.new.self (faultless c.args.chunk.now) _ _ _ c.loop-taken.invariant.2
+    (rest_of _ c.loop-taken.taken) c.push_part-taken.ensures.hears in grind arith
 
 pub returns-clause-hears : goal.returns-clause-hears
 returns-clause-hears c =
     let (sound, drained, so) = c.loop-taken.invariant in
-    hears_all c.args.self.now c.loop-taken.self (faultless c.args.chunk.now) c.loop-taken.taken so sound drained
-    (rw length-map (omega (arith, c.loop-taken-test.false)))
+    hears_all c.args.self.now _ (faultless c.args.chunk.now) _ so sound drained (rw length-map (omega (arith, c.loop-taken-test.false)))

@@ -5,9 +5,9 @@ use Rattle.hart_frame.proofs.scan.buffer.Buffer.push_chars.Goals as goal
 pub returns-then-not-is_drained-clause-hears : goal.returns-then-not-is_drained-clause-hears
 returns-then-not-is_drained-clause-hears c =
     let (sound, drained, so) = c.loop-taken.invariant in
-    hears_until c.args.self.now c.loop-taken.self c.push_stretch-taken.new.self c.args.chunk.now _ c.loop-taken.taken
-    c.push_stretch-taken.result so sound drained (λ is. false≢true (sym c.if-not-is_drained.true ∙ c.is_drained.ensures.1 is))
-    (take_rest c.args.chunk.now c.loop-taken.taken) c.push_stretch-taken.ensures.hears
+    hears_until c.args.self.now _ c.push_stretch-taken.new.self c.args.chunk.now _ _ _ so sound drained
+    (λ is. false≢true (sym c.if-not-is_drained.true ∙ c.is_drained.ensures.1 is))
+    (take_rest _ c.loop-taken.taken) c.push_stretch-taken.ensures.hears
 
 pub loop-taken-preserved : goal.loop-taken-preserved
 loop-taken-preserved c =
