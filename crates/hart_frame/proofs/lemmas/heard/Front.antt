@@ -1,4 +1,4 @@
--- The bytes up to the first character with fault bits.
+-- The bytes of characters, up to the first character with fault bits.
 use Rattle.hart_frame.proofs.Common.{◌≡◌, ◌≢◌, ℕ, ◌+◌, ◌<◌, ◌≤◌, List, [], ◌∷◌, ◌++◌, length, take, drop, get_or, Some, refl, arith, ◌==◌}
 use Rattle.hart_frame.proofs.Common.{append_assoc, length-append, nat_tests, common_steps, get_or_append_left, get_or-map, drop_more, All}
 use Rattle.hart_frame.proofs.Common.{length-map, length-take, map-append, take-append-le, take-map, All-drop, All-from_get_or, All-take}

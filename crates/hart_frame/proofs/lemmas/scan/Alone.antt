@@ -115,6 +115,7 @@ whole_has xs f fp start is = grind (arith, nat_tests)
 pub whole_past : (xs ys : List ℕ) → IsTruncated xs → HasCheckByte (xs ++ ys) → length xs < body_length (xs ++ ys)
 whole_past xs ys truncated has = grind (arith, length-append, get_or_append_left)
 
+-- Whether a body stands alone does not depend on its place.
 pub alone_moved : (bytes : List ℕ) (more : List Character) (start : ℕ) → start ≤ length bytes
     → stands_alone (faultless bytes ++ more) start ≡ stands_alone (faultless (drop start bytes) ++ more) 0
 alone_moved bytes more start within =

@@ -1,4 +1,4 @@
--- Which bytes are a body: the checked part with its check byte, or bytes of even parity.
+-- Which bytes are a body: the checked part with its check byte, or bytes of even parity. A body begins with its delimiter.
 use Rattle.hart_frame.proofs.Common.{ℕ, ◌-◌, ◌<◌, ◌≤◌, List, [], ◌∷◌, ◌++◌, length, take, arith, common_steps, take_more, take_all, All}
 use Rattle.hart_frame.proofs.Common.{IsBody, IsCheckedPart, FrameParts, IsCheckByte, HasEvenParity, All-push, ◌≡◌, delimiter_of}
 use Rattle.hart_frame.proofs.lemmas.wire.Parity.{HasEvenParity-push}
