@@ -2,7 +2,7 @@
 use Rattle.hart_frame.proofs.Common.{◌≡◌, ◌≢◌, ℕ, ◌+◌, ◌<◌, ◌≤◌, List, [], ◌∷◌, ◌++◌, length, take, drop, get_or, Some, refl, arith, ◌==◌}
 use Rattle.hart_frame.proofs.Common.{append_assoc, length-append, nat_tests, common_steps, get_or_append_left, get_or-map, drop_more, All}
 use Rattle.hart_frame.proofs.Common.{length-map, length-take, map-append, take-append-le, take-map, All-drop, All-from_get_or, All-take}
-use Rattle.hart_frame.proofs.Common.{slice_get, Character, faultless, faultless_bytes, IsOfBytes, body_length, bytes_of, sym, ap, ◌∙◌}
+use Rattle.hart_frame.proofs.Common.{slice_get, Character, faultless, faultless_bytes, IsOfBytes, bytes_of, sym, ap, ◌∙◌}
 use Rattle.std.proofs.lemmas.List.{take_min}
 use Rattle.std.proofs.lemmas.List.Sums.{take_while-cons}
 use Rattle.hart_frame.proofs.lemmas.heard.Place.{preamble}
@@ -42,8 +42,7 @@ pub record Front (heard : List Character) (count : ℕ) (bytes : List ℕ) : Typ
 
 pub Front-more : (heard : List Character) (count : ℕ) (bytes : List ℕ) (c : Character) → count < length heard
     → c ≡ get_or heard count c → c.faults ≡ 0 → Front heard count bytes → Front heard (count + 1) (bytes ++ c.byte ∷ [])
-Front-more heard count bytes c within is good front =
-    grind (arith, drop_more heard count c within, faultless_bytes-more, append_assoc, length-append)
+Front-more heard count bytes c within is good front = grind (arith, drop_more, faultless_bytes-more, append_assoc, length-append)
 
 -- What is heard is the run of faultless bytes at its front, as characters, and then the other characters.
 pub heard_parts : (heard : List Character)
@@ -74,9 +73,7 @@ faultless_fit heard fit =
     (λ i below. grind (arith, char_at heard i preamble below, fit i preamble, length-faultless_bytes heard))
 
 pub of_chars : (chars : List Character) (start : ℕ) → All (λ c. c.byte < 256) chars → IsOfBytes (drop start chars)
-of_chars chars start fit =
-    All-take (λ byte. byte < 256) (body_length (faultless_bytes (drop start chars))) (faultless_bytes (drop start chars))
-    (faultless_fit (drop start chars) (All-drop (λ (c : Character). c.byte < 256) start chars fit))
+of_chars chars start fit = grind (arith, common_steps, All-take, faultless_fit, All-drop)
 
 -- The faultless characters of two joined lists, before a tail, are those of the first list and then those of the second.
 pub regrouped : (xs ys : List ℕ) (tail : List Character) → faultless (xs ++ ys) ++ tail ≡ faultless xs ++ (faultless ys ++ tail)

@@ -29,12 +29,7 @@ stops : (chars : List Character) (start : ℕ) (at_end : Miss) → IsStart start
     × (faulty_or (slice_get (drop start chars) (length (bytes_from chars start))) (start + length (bytes_from chars start)) at_end
     ≡ Faulty (start + length (bytes_from chars start)) faults))
 stops chars start at_end is =
-    let heard = drop start chars in
-    let n = length (faultless_bytes heard) in
-    let cases = slice_get_cases chars (start + n) in
-    let at = slice_get-get_or chars (start + n) preamble in
-    let long = length-faultless_bytes heard in
-    grind (arith, length-append, cases, at, rest_at chars start n, after_faultless heard, length-drop start chars, long)
+    grind (arith, slice_get_cases, slice_get-get_or, length-faultless_bytes, length-append, rest_at, after_faultless, length-drop)
 
 -- The miss that is found stands in the way.
 said : (chars : List Character) (start : ℕ) (miss : Miss)
@@ -61,8 +56,7 @@ only chars start miss fit is way =
 
 pub in_the_way : (start : ℕ) (chars : List Character) (miss : Miss) → IsOfBytes (drop start chars) → IsStart start chars
     → (miss_of chars start ≡ Some miss) ↔ IsInTheWay chars start miss
-in_the_way start chars miss fit is =
-    grind (arith, nat_tests, common_steps, miss_of-start chars (drop start chars) start, said, only chars start miss fit is)
+in_the_way start chars miss fit is = grind (arith, common_steps, nat_tests, miss_of-start, said, only)
 
 -- A miss other than `OnePreamble` belongs to a place where a body may start, and stands in the way there.
 pub way_of : (start : ℕ) (chars : List Character) (miss : Miss)

@@ -43,14 +43,10 @@ one_preamble-is chars (suc k) one =
 
 no_second : (chars prefix rest : List Character) (k : ℕ) → chars ≡ prefix ++ preamble ∷ rest → k ≡ length prefix
     → ((earlier : List Character) → prefix ≢ earlier ++ preamble ∷ []) → follows_preamble chars k ≡ false
-no_second chars prefix rest zero split place alone = refl
-no_second chars prefix rest (suc j) split place alone =
-    let at = tested chars j in search (arith, common_steps, take-append_seam, preamble, take-suc)
+no_second chars prefix rest k split place alone = grind (arith, common_steps, tested, take-append_seam, take-suc)
 
 pub one_preamble-yes : (chars : List Character) (place : ℕ) → FollowsOnePreamble chars place → follows_one_preamble chars place ≡ true
-one_preamble-yes chars place is =
-    let at = tested chars (length is.prefix) in
-    grind (arith, no_second chars is.prefix is.rest, length-append, preamble, append_assoc, get_or-append_seam)
+one_preamble-yes chars place is = grind (arith, common_steps, tested, no_second, length-append, append_assoc, get_or-append_seam)
 
 -- Where a whole body stands, nothing is missed.
 pub none_of : (chars : List Character) (start : ℕ) → HasBodyAt chars start → body_miss start (drop start chars) ≡ None

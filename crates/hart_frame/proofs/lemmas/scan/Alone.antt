@@ -1,10 +1,10 @@
 -- Lemmas about when two FF in a row begin in a whole body, and when they do not.
 use Rattle.hart_frame.proofs.Common.{◌≡◌, ◌≢◌, ℕ, ◌+◌, ◌-◌, ◌<◌, ◌≤◌, ◌⊎◌, true, false, List, [], ◌∷◌, ◌++◌, length, take, drop, get_or}
 use Rattle.hart_frame.proofs.Common.{◌∙◌, add-zero, sym, arith, refl, length-append, length-drop, None, Option, nat_tests, append-nil, ◌==◌}
-use Rattle.hart_frame.proofs.Common.{get_or_append_left, take_all, take-append-le, take-append-add, ◌&&◌, ◌||◌, After, Damaged, End, More}
+use Rattle.hart_frame.proofs.Common.{get_or_append_left, take_all, take-append-le, take-append-add, ◌&&◌, ◌||◌, After, More}
 use Rattle.hart_frame.proofs.Common.{Character, faultless, faultless_bytes, check_miss, miss_in, has_two_preambles, MayFollow}
 use Rattle.hart_frame.proofs.Common.{two_begin_in_body, MayStandAlone, Whatever, stands_alone, body_length, HasCheckByte}
-use Rattle.hart_frame.proofs.Common.{IsTruncated, HasBodyMiss}
+use Rattle.hart_frame.proofs.Common.{IsTruncated, HasBodyMiss, common_steps}
 use Rattle.std.proofs.Common.{min}
 use Rattle.hart_frame.proofs.lemmas.heard.Place.{preamble}
 use Rattle.hart_frame.proofs.lemmas.heard.Front.{faultless_bytes-end}
@@ -19,8 +19,7 @@ two_none = refl
 
 pub two_step : (x : ℕ) (xs : List ℕ) → has_two_preambles (x ∷ xs) ≡ (((x == 255) && (get_or xs 0 0 == 255)) || has_two_preambles xs)
 unfolding has_two_preambles
-two_step x [] = grind (arith, nat_tests)
-two_step x (y ∷ xs) = refl
+two_step x xs = grind (arith, common_steps, nat_tests)
 
 -- If bytes have two FF in a row, they still have them when more bytes follow.
 pub two_more : (xs ys : List ℕ) → has_two_preambles xs ≡ true → has_two_preambles (xs ++ ys) ≡ true
@@ -65,9 +64,7 @@ two_in bytes next start n within long whole = grind (arith, nat_tests, bytes_fro
 
 -- A faultless byte follows only if more may come.
 more_of : (after : After) (next : List Character) → MayFollow after next → 0 < length (faultless_bytes next) → after ≡ More
-more_of More next follows some = refl
-more_of End next ends some = absurd (omega (arith, rw ends at some))
-more_of (Damaged c) next (valid, more, same) some = absurd (omega (arith, rw (same, faultless_bytes-end c more valid) at some))
+more_of after next follows some = grind (arith, common_steps, faultless_bytes-end)
 
 -- A whole body of `n` bytes begins at `start`, and the lemmas say whether it stands alone.
 module _ (bytes : List ℕ) (after : After) (start n : ℕ) (within : start ≤ length bytes) (long : body_length (drop start bytes) ≡ n)

@@ -4,7 +4,7 @@ use Rattle.hart_frame.proofs.Common.{refl, length-append, length-drop, nat_tests
 use Rattle.hart_frame.proofs.Common.{length-map, slice_get-get_or, slice_get_cases, slice_get, Faulty, After, Damaged, End, More, Layout}
 use Rattle.hart_frame.proofs.Common.{Cut, Wrong, Character, faultless, faultless_bytes, body_miss, miss_in, IsPrefix, IsWrong, Whatever}
 use Rattle.hart_frame.proofs.Common.{stands_alone, heard_with, header_in, body_length, cut_miss}
-use Rattle.hart_frame.proofs.Common.{wrong_miss, HasBodyMiss}
+use Rattle.hart_frame.proofs.Common.{wrong_miss, HasBodyMiss, common_steps}
 use Rattle.hart_frame.proofs.lemmas.heard.Front.{faultless_bytes-end, faultless_bytes-append}
 use Rattle.hart_frame.specs.declared.wire.prefix.Prefix.TheVariants.{Whole}
 use Rattle.hart_frame.specs.private.Sighting.{KeepsHeader}
@@ -54,8 +54,7 @@ module _ (bytes : List ℕ) (start : ℕ) (within : start ≤ length bytes) wher
   -- If these bytes decide the miss there, the miss stays the same whatever follows.
   whatever : (after : After) (miss : Option Miss) → ((ys : List ℕ) (f : Option Character) (fp : ℕ) → miss_in (xs ++ ys) f fp start ≡ miss)
       → Whatever bytes after (HasBodyMiss start miss)
-  whatever after miss is next follows =
-      rw (drop-heard bytes next start within) (miss_more xs next start ∙ is (faultless_bytes next) _ _)
+  whatever after miss is next follows = grind (arith, common_steps, drop-heard, within, miss_more)
 
   pub whole_seen : (after : After) (layout : Layout) → IsPrefix xs (Whole layout) → Whatever bytes after (HasBodyMiss start None)
   whole_seen after layout is = whatever after None (λ ys f fp. whole_told xs ys layout f fp start is)
@@ -91,8 +90,7 @@ module _ (bytes : List ℕ) (start : ℕ) (within : start ≤ length bytes) wher
   header_whatever after sure next follows = rw (bytes_from-heard bytes next start within) (sure (faultless_bytes next))
 
   pub wrong_header : (after : After) (w : Wrong) → IsWrong xs w → Whatever bytes after (KeepsHeader bytes start)
-  wrong_header after w is =
-      header_whatever after (λ ys. header_sure xs ys (omega (arith, wrong_within xs w is)) (λ good. grind arith))
+  wrong_header after w is = grind (arith, common_steps, header_whatever, header_sure, wrong_within)
 
   pub body_header : (after : After) → body_length xs ≤ length xs → Whatever bytes after (KeepsHeader bytes start)
   body_header after whole = header_whatever after (λ ys. header_sure xs ys (omega (arith, whole)) (λ _. omega (arith, whole)))
@@ -102,5 +100,4 @@ module _ (bytes : List ℕ) (start : ℕ) (within : start ≤ length bytes) wher
   ended_header next ends = rw (bytes_from-heard bytes next start within, ends, append-nil xs) refl
 
   pub damaged_header : (c : Character) → Whatever bytes (Damaged c) (KeepsHeader bytes start)
-  damaged_header c next (valid, more, same) =
-      rw (bytes_from-heard bytes next start within, same, faultless_bytes-end c more valid, append-nil xs) refl
+  damaged_header c next (valid, more, same) = grind (arith, common_steps, bytes_from-heard, within, faultless_bytes-end, append-nil)

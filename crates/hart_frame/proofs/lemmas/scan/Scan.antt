@@ -2,7 +2,7 @@
 use Rattle.hart_frame.proofs.Common.{◌≡◌, ℕ, ◌+◌, ◌<◌, ◌≤◌, false, IsTrue, List, [], ◌∷◌, ◌++◌, length, map, drop, arith, append_assoc}
 use Rattle.hart_frame.proofs.Common.{length-append, length-drop, drop-append-le, drop-drop, drop-map, drop_at, length-map, map-append}
 use Rattle.hart_frame.proofs.Common.{Found, Character, faultless, AreFrames, moved, BeginWithNone, MovesPast, Scan, hearing, IsBody}
-use Rattle.hart_frame.proofs.Common.{FrameParts}
+use Rattle.hart_frame.proofs.Common.{FrameParts, common_steps}
 use Rattle.hart_frame.proofs.lemmas.heard.Rest.{moved_twice}
 use Rattle.hart_frame.proofs.lemmas.scan.Next.{next_grown, next_none, next_nothing, next_of_rest, next_one, next_then}
 
@@ -20,8 +20,7 @@ moves_then a b c xs ys p q =
 -- A scanner that hears more characters has still moved past the same frames.
 pub moves_hearing : (a b : Scan) (cs : List Character) (given : List Found) → a.finished ≡ false → MovesPast a b given
     → MovesPast (hearing a cs) (hearing b cs) given
-moves_hearing a b cs given going moves =
-    let next = next_grown a.held cs a.finished 0 moves.count moves.found (rw going at moves.next) in grind (arith, drop-append-le)
+moves_hearing a b cs given going moves = grind (arith, common_steps, next_grown, drop-append-le)
 
 -- The frames that a scanner moves past are the next frames in all that was heard. This is true whatever was let go before and whatever
 -- comes later.

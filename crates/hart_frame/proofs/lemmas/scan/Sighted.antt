@@ -1,7 +1,7 @@
 -- What comes next in bytes, and what is seen in the characters that are heard.
 use Rattle.hart_frame.proofs.Common.{◌≡◌, ◌≢◌, ℕ, ◌-◌, ◌<◌, ◌≤◌, ◌⊎◌, inl, inr, true, false, List, ◌++◌, length, get_or, arith, refl}
 use Rattle.hart_frame.proofs.Common.{length-append, nat_tests, get_or_append_left, get_or_at, get_or-map, length-map, Found, After}
-use Rattle.hart_frame.proofs.Common.{Character, faultless, StandsIn, heard_with, FollowsTwo, IsAsked, MayFollow, [], ◌∙◌}
+use Rattle.hart_frame.proofs.Common.{Character, faultless, StandsIn, heard_with, FollowsTwo, IsAsked, MayFollow, [], ◌∙◌, common_steps}
 use Rattle.hart_frame.specs.private.Sighting.{IsSilent}
 use Rattle.std.proofs.lemmas.Bool.{cases_Bool, false_from_ne_true}
 use Rattle.hart_frame.proofs.lemmas.heard.Seen.{NoneSeen, Passes, frame_at, passes_silent}
@@ -38,8 +38,7 @@ preamble_is bytes after next i follows within is = grind (arith, nat_tests, know
 pub preamble_no : (bytes : List ℕ) (after : After) (next : List Character) (i : ℕ) → MayFollow after next
     → i < length (heard_with bytes after) → (i < length bytes → get_or bytes i 0 ≢ 255)
     → is_preamble_at (faultless bytes ++ next) i ≡ false
-preamble_no bytes after next i follows within other = false_from_ne_true _ (λ yes.
-    let (below, is) = preamble_is bytes after next i follows within yes in other below is)
+preamble_no bytes after next i follows within other = grind (arith, common_steps, false_from_ne_true, preamble_is)
 
 pub other_yes : (bytes : List ℕ) (after : After) (next : List Character) (i : ℕ) → MayFollow after next
     → i < length (heard_with bytes after) → (i < length bytes → get_or bytes i 0 ≢ 255)

@@ -1,6 +1,7 @@
 -- The sightings given one after another are all sightings of a list, and a list has only one list of sightings.
 use Rattle.hart_frame.proofs.Common.{◌≡◌, ◌≤◌, ℕ, Bool, false, List, [], ◌++◌, length, drop, map, sym, arith, refl, append_assoc, Seen}
 use Rattle.hart_frame.proofs.Common.{append-nil, drop-append-le, IsTrue, Character, AreFrames, AreSightings, sightings, SeesOn, moved_seen}
+use Rattle.hart_frame.proofs.Common.{common_steps}
 use Rattle.hart_frame.proofs.lemmas.heard.FramesFound.{AreFrames-found, AreFrames-one}
 use Rattle.hart_frame.proofs.lemmas.heard.Place.{HasNoFrame-end}
 use Rattle.hart_frame.proofs.lemmas.heard.Rest.{rest_frames}
@@ -13,13 +14,11 @@ rest place chars seen are = grind (arith, rest_frames place chars are.frames, si
 
 pub onward : (chars : List Character) (ended : Bool) (from to after : ℕ) (given found : List Seen)
     → SeesOn chars ended from given to → SeesOn chars ended to found after → SeesOn chars ended from (given ++ found) after
-onward chars ended from to after given found first second more later closed are =
-    rw (append_assoc given found later) (first more (found ++ later) closed (second more later closed are))
+onward chars ended from to after given found first second more later closed are = grind (arith, common_steps, append_assoc)
 
 pub grown : (chars piece : List Character) (ended : Bool) (from to : ℕ) (given : List Seen)
     → SeesOn chars false from given to → SeesOn (chars ++ piece) ended from given to
-grown chars piece ended from to given sees more later closed are =
-    rw (append_assoc chars piece more) (sees (piece ++ more) later (λ never. absurd cc) (rw (append_assoc chars piece more) at are))
+grown chars piece ended from to given sees more later closed are = grind (arith, common_steps, append_assoc)
 
 pub rest_all : (chars more : List Character) (ended : Bool) (given later : List Seen) (to : ℕ) → to ≤ length chars
     → SeesOn chars ended 0 given to → (IsTrue ended → more ≡ []) → AreSightings (drop to chars ++ more) 0 later

@@ -1,7 +1,7 @@
 -- The frames given since a scanner was new are the next frames in what was pushed. After the end they are all frames of what was pushed.
 use Rattle.hart_frame.proofs.Common.{◌≡◌, ◌+◌, Bool, true, false, IsTrue, ℕ, List, [], ◌∷◌, ◌++◌, length, map, drop, refl, arith, Scan}
 use Rattle.hart_frame.proofs.Common.{length-drop, append-nil, drop-append-le, drop-drop, Found, Character, AreFrames, HasNoFrame, moved}
-use Rattle.hart_frame.proofs.Common.{AreNext, MovesPast, hearing}
+use Rattle.hart_frame.proofs.Common.{AreNext, MovesPast, hearing, common_steps}
 use Rattle.hart_frame.specs.scan.Streamed.{IsHistory, IsWholeHistory, begin, push, push_chars, take_view, wait, finish}
 use Rattle.hart_frame.proofs.lemmas.heard.FramesFound.{AreFrames-found, AreFrames-one}
 use Rattle.hart_frame.proofs.lemmas.heard.Rest.{rest_frames}
@@ -14,8 +14,7 @@ pub record IsStreamed (past : List Character) (scan : Scan) (given : List Found)
 
 streamed_pushed : (past : List Character) (scan : Scan) (given : List Found) (cs : List Character) → scan.finished ≡ false
     → IsStreamed past scan given → IsStreamed (past ++ cs) (hearing scan cs) given
-streamed_pushed past scan given cs going streamed =
-    let next = next_grown past cs scan.finished 0 scan.first given (rw going at streamed.next) in grind (arith, drop-append-le)
+streamed_pushed past scan given cs going streamed = grind (arith, common_steps, next_grown, drop-append-le)
 
 streamed_taken : (past : List Character) (old new : Scan) (given found : List Found) → IsStreamed past old given
     → MovesPast old new found → IsStreamed past new (given ++ found)

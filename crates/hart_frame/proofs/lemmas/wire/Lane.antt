@@ -85,8 +85,7 @@ fold-zeros start (suc n) = ap (λ (s : ℕ). fold bit_xor s (replicate n 0)) (xo
 -- The exclusive or of lanes and of bytes with zeros after them is that of the lanes and of the bytes.
 fold-front : (lanes front bytes : List ℕ) (n : ℕ) → length lanes ≡ length front → front ≡ bytes ++ replicate n 0
     → fold_l bit_xor 0 (zip2 bit_xor lanes front) ≡ fold bit_xor (fold_l bit_xor 0 lanes) bytes
-fold-front lanes front bytes n same is =
-    grind (arith, fold-zip2 0 lanes front, fold-append bit_xor (fold bit_xor 0 lanes) bytes (replicate n 0), fold-zeros)
+fold-front lanes front bytes n same is = grind (arith, common_steps, fold-zip2, fold-append, fold-zeros)
 
 -- Dropping `n` of the first `m` elements of a list leaves the first `m - n` elements from place `n` on.
 pub drop_take : (xs : List ℕ) (n m : ℕ) → n ≤ m → drop n (take m xs) ≡ take (m - n) (drop n xs)

@@ -1,13 +1,12 @@
-use Rattle.hart_frame.proofs.Common.{◌≡◌, ◌<◌, ℕ, zero, suc, inl, inr, List, None, drop, length, refl, arith, take_rest, Character, miss_of}
-use Rattle.hart_frame.proofs.Common.{IsOfBytes}
+use Rattle.hart_frame.proofs.Common.{◌≡◌, ◌<◌, ℕ, inl, inr, List, None, drop, length, arith, take_rest, Character, miss_of}
+use Rattle.hart_frame.proofs.Common.{IsOfBytes, common_steps}
 use Rattle.hart_frame.proofs.lemmas.heard.Hint.{is_told}
 use Rattle.hart_frame.proofs.lemmas.heard.Start.{start_test, tested}
 use Rattle.hart_frame.proofs.heard.miss.why_none.Goals as goal
 
 -- Past the end of a list there is no miss.
 none_past : (chars : List Character) (start : ℕ) → length chars < start → miss_of chars start ≡ None
-none_past chars zero past = refl
-none_past chars (suc k) past = grind (arith, tested chars (suc k), tested chars k)
+none_past chars start past = grind (arith, common_steps, tested)
 
 pub returns-in_err-heard-clause-found : goal.returns-in_err-heard-clause-found
 returns-in_err-heard-clause-found c = grind (arith, none_past)

@@ -38,6 +38,5 @@ returns-else-eq c =
       | else-eq-via-then-eq+else-can_stand_alone w ↦ λ next follows.
           alone_moved bytes next start c.requires.within
           ∙ rw rest at (w.can_stand_alone.ensures.never w.if-can_stand_alone.false next)
-      | else-eq-via-else-eq w ↦
-          cut_not_alone bytes start c.requires.within c.args.after.now c.in-Cut.missing (grind arith) is
+      | else-eq-via-else-eq w ↦ cut_not_alone bytes start c.requires.within c.args.after.now c.in-Cut.missing (grind arith) is
     ]

@@ -1,5 +1,5 @@
 use Rattle.hart_frame.proofs.Common.{◌≡◌, ◌≤◌, ℕ, List, Option, length, drop, arith, length-append, length-map, take_rest, Faulty, After}
-use Rattle.hart_frame.proofs.Common.{Damaged, Cut, Character, IsPrefix}
+use Rattle.hart_frame.proofs.Common.{Damaged, Cut, Character, IsPrefix, common_steps}
 use Rattle.hart_frame.specs.declared.scan.sighting.Standing.TheVariants.{Missed}
 use Rattle.hart_frame.specs.private.Sighting.{IsAfterTwo}
 use Rattle.hart_frame.proofs.lemmas.scan.BodyAt.{cut_damaged, cut_ended, damaged_header, ended_header, wrong_below, wrong_header}
@@ -7,14 +7,7 @@ use Rattle.hart_frame.proofs.lemmas.scan.BodyAt.{wrong_seen}
 use Rattle.hart_frame.proofs.scan.sighting.after_two.Goals as goal
 
 pub returns-in-Wrong : goal.returns-in-Wrong
-returns-in-Wrong c =
-    let is = rw (take_rest c.args.bytes.now c.args.start) at c.in-Wrong.ensures in
-    let wrong = c.in-Wrong.wrong in
-    rw c.wrong_miss.ensures (
-      wrong_seen c.args.bytes.now c.args.start c.requires.within c.args.after.now wrong is,
-      wrong_below c.args.bytes.now c.args.start c.requires.within c.args.after.now wrong is,
-      wrong_header c.args.bytes.now c.args.start c.requires.within c.args.after.now wrong is,
-    )
+returns-in-Wrong c = grind (arith, common_steps, take_rest, wrong_seen, wrong_below, wrong_header)
 
 -- A damaged character after bytes that end too early is the miss.
 damaged_two : (bytes : List ℕ) (after : After) (start faults : ℕ) (missing : Option ℕ) → start ≤ length bytes

@@ -1,4 +1,4 @@
-use Rattle.hart_frame.proofs.Common.{[], ◌+◌, ◌<◌, arith, All-from_get_or, IsUsed}
+use Rattle.hart_frame.proofs.Common.{[], ◌+◌, ◌<◌, arith, All-from_get_or}
 use Rattle.hart_frame.specs.private.Sighting.{IsAsked}
 use Rattle.hart_frame.proofs.lemmas.scan.Sighted.{SilentBefore}
 use Rattle.hart_frame.proofs.lemmas.scan.NextSeen.{message_seen, message_two, missed_seen, asked_after, open_few, open_seen, passed_all}
@@ -68,6 +68,6 @@ returns-clause-sightings c =
     (passed_all c.args.bytes.now _ _ _ silent c.if-from-bytes.false c.passed.ensures))
 
 pub returns-clause-undecided : goal.returns-clause-undecided
-returns-clause-undecided c = λ none more.
-    let used : IsUsed c.args.bytes.now c.args.from c.passed.result = rw more at c.passed.ensures in
-    rw c.none_decided-2.ensures (undecided_used c.args.bytes.now c.args.from c.passed.result used)
+returns-clause-undecided c =
+    λ none more.
+    rw c.none_decided-2.ensures (undecided_used c.args.bytes.now c.args.from c.passed.result (grind arith))

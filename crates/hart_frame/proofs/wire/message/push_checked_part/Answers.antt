@@ -1,4 +1,4 @@
-use Rattle.hart_frame.proofs.Common.{length, ap, arith, append_assoc, length-append, rules}
+use Rattle.hart_frame.proofs.Common.{arith, append_assoc, length-append, rules, common_steps}
 use Rattle.hart_frame.proofs.wire.message.push_checked_part.Goals as goal
 
 -- Each part fits after the parts before it, as their lengths show.
@@ -18,9 +18,7 @@ pub extend_from_slice-requires-2 : goal.extend_from_slice-requires-2
 extend_from_slice-requires-2 g c = grind (arith, length-append)
 
 pub returns-clause-room : goal.returns-clause-room
-returns-clause-room g c =
-    let long = simp length-append at (ap length c.extend_from_slice-2.ensures) in
-    grind (arith, long, length-append)
+returns-clause-room g c = grind (arith, common_steps, length-append)
 
 pub returns-clause-parts : goal.returns-clause-parts
 returns-clause-parts g c = search (rules, append_assoc)

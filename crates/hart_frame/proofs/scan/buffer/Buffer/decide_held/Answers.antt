@@ -1,12 +1,9 @@
-use Rattle.hart_frame.proofs.Common.{◌<◌, length, arith, rules, IsHeldOpen}
+use Rattle.hart_frame.proofs.Common.{◌<◌, length, arith, rules, IsHeldOpen, common_steps}
 use Rattle.hart_frame.proofs.lemmas.scan.Decision.{given_nothing, given_open, given_stands}
 use Rattle.hart_frame.proofs.scan.buffer.Buffer.decide_held.Goals as goal
 
 pub returns-in-Some-clause-seen : goal.returns-in-Some-clause-seen
-returns-in-Some-clause-seen c =
-    let is = c.search_held-found.ensures in
-    rw c.pass.ensures.passed
-    (given_stands c.args.self.now c.search_held-found.result c.in-Some.layout c.requires.busy is (rw c.in-Some.is at is.stands))
+returns-in-Some-clause-seen c = grind (arith, common_steps, given_stands)
 
 pub returns-then-is_empty-clause-seen : goal.returns-then-is_empty-clause-seen
 returns-then-is_empty-clause-seen c = search (arith, given_nothing)

@@ -1,4 +1,4 @@
-use Rattle.hart_frame.proofs.Common.{arith, refl, scan_of}
+use Rattle.hart_frame.proofs.Common.{arith, common_steps}
 use Rattle.hart_frame.proofs.lemmas.scan.Buffer.{waits, waits_drained}
 use Rattle.hart_frame.proofs.lemmas.scan.Scan.{moves_none}
 use Rattle.hart_frame.proofs.scan.buffer.Buffer.peek.Goals as goal
@@ -7,5 +7,4 @@ pub returns-in-Drained-clause-seen : goal.returns-in-Drained-clause-seen
 returns-in-Drained-clause-seen c = grind (arith, waits, waits_drained)
 
 pub returns-in-Stands-clause-seen : goal.returns-in-Stands-clause-seen
-returns-in-Stands-clause-seen c =
-    let stays = moves_none (scan_of c.args.self.now) (scan_of c.args.self.now) refl refl refl in grind (arith, stays)
+returns-in-Stands-clause-seen c = grind (arith, common_steps, moves_none)
