@@ -1,14 +1,13 @@
 -- Lemmas about when two FF in a row begin in a whole body, and when they do not.
-use Rattle.hart_frame.proofs.Common.{◌≡◌, ◌≢◌, ℕ, ◌+◌, ◌-◌, ◌<◌, ◌≤◌, ◌⊎◌, true, false, List, [], ◌∷◌, ◌++◌, length, take, drop, get_or}
-use Rattle.hart_frame.proofs.Common.{◌∙◌, add-zero, sym, arith, refl, length-append, length-drop, None, Option, nat_tests, append-nil, ◌==◌}
-use Rattle.hart_frame.proofs.Common.{get_or_append_left, take_all, take-append-le, take-append-add, ◌&&◌, ◌||◌, After, More}
-use Rattle.hart_frame.proofs.Common.{Character, faultless, faultless_bytes, check_miss, miss_in, has_two_preambles, MayFollow}
-use Rattle.hart_frame.proofs.Common.{two_begin_in_body, MayStandAlone, Whatever, stands_alone, body_length, HasCheckByte}
-use Rattle.hart_frame.proofs.Common.{IsTruncated, HasBodyMiss, common_steps}
+use Rattle.hart_frame.proofs.Common.{◌≡◌, true, false, List, ◌++◌, length, take, get_or, add-zero, arith, Option, take_all, After, Whatever}
+use Rattle.hart_frame.proofs.Common.{◌≢◌, ◌+◌, ◌-◌, ◌<◌, ◌≤◌, ◌⊎◌, [], ◌∷◌, drop, ◌∙◌, sym, refl, None, ◌==◌, ◌&&◌, ◌||◌, More}
+use Rattle.hart_frame.proofs.Common.{ℕ, length-append, length-drop, take-append-le, MayStandAlone, stands_alone, HasCheckByte, common_steps}
+use Rattle.hart_frame.proofs.Common.{nat_tests, Character, faultless, check_miss, miss_in, MayFollow, body_length, IsTruncated, HasBodyMiss}
+use Rattle.hart_frame.proofs.Common.{append-nil, get_or_append_left, take-append-add, faultless_bytes, has_two_preambles, two_begin_in_body}
 use Rattle.std.proofs.Common.{min}
 use Rattle.hart_frame.proofs.lemmas.heard.Place.{preamble}
 use Rattle.hart_frame.proofs.lemmas.heard.Front.{faultless_bytes-end}
-use Rattle.hart_frame.proofs.lemmas.heard.Sighting.{body_moved, is_none-map}
+use Rattle.hart_frame.proofs.lemmas.heard.Sighting.{is_none-map}
 use Rattle.hart_frame.proofs.lemmas.scan.BodyAt.{bytes_from-heard, drop-heard}
 use Rattle.hart_frame.proofs.lemmas.wire.Prefix.{length_more}
 
@@ -116,8 +115,7 @@ whole_past xs ys truncated has = grind (arith, length-append, get_or_append_left
 pub alone_moved : (bytes : List ℕ) (more : List Character) (start : ℕ) → start ≤ length bytes
     → stands_alone (faultless bytes ++ more) start ≡ stands_alone (faultless (drop start bytes) ++ more) 0
 alone_moved bytes more start within =
-    let moved = body_moved start 0 (faultless (drop start bytes) ++ more) in
-    grind (arith, nat_tests, drop-heard, moved, is_none-map, add-zero)
+    grind (arith, nat_tests, drop-heard, is_none-map, add-zero)
 
 -- Whether more characters let a body stand alone depends only on the bytes from its place on.
 pub may_moved : (bytes others : List ℕ) (start other : ℕ) → start ≤ length bytes → other ≤ length others

@@ -1,10 +1,9 @@
 -- What stands at a place of bytes, whatever comes after them.
-use Rattle.hart_frame.proofs.Common.{◌≡◌, ◌≢◌, ℕ, ◌+◌, ◌≤◌, false, List, [], ◌∷◌, ◌++◌, length, drop, None, Some, Option, ◌∙◌, arith}
-use Rattle.hart_frame.proofs.Common.{refl, length-append, length-drop, nat_tests, append-nil, drop-append-le, drop-map, get_or_at, Miss}
+use Rattle.hart_frame.proofs.Common.{◌≡◌, ◌≢◌, ℕ, ◌+◌, ◌≤◌, false, List, [], ◌∷◌, ◌++◌, length, drop, None, Some, Option, ◌∙◌, arith, refl}
+use Rattle.hart_frame.proofs.Common.{length-append, length-drop, nat_tests, append-nil, drop-append-le, drop-map, get_or_at, Miss}
 use Rattle.hart_frame.proofs.Common.{length-map, slice_get-get_or, slice_get_cases, slice_get, Faulty, After, Damaged, End, More, Layout}
 use Rattle.hart_frame.proofs.Common.{Cut, Wrong, Character, faultless, faultless_bytes, body_miss, miss_in, IsPrefix, IsWrong, Whatever}
-use Rattle.hart_frame.proofs.Common.{stands_alone, heard_with, header_in, body_length, cut_miss}
-use Rattle.hart_frame.proofs.Common.{wrong_miss, HasBodyMiss, common_steps}
+use Rattle.hart_frame.proofs.Common.{stands_alone, heard_with, header_in, body_length, cut_miss, wrong_miss, HasBodyMiss, common_steps}
 use Rattle.hart_frame.proofs.lemmas.heard.Front.{faultless_bytes-end, faultless_bytes-append}
 use Rattle.hart_frame.specs.declared.wire.prefix.Prefix.TheVariants.{Whole}
 use Rattle.hart_frame.specs.private.Sighting.{KeepsHeader}

@@ -64,10 +64,7 @@ hears_all old now chunk n hears sound drained ended = grind (arith, waits_draine
 seen_one : (old : Scan) (mid new : Buffer) (character : Character) (seen : Option Layout) → old.finished ≡ false
     → scan_of mid ≡ hearing old (character ∷ []) → MatchOption seen (GivesNothing (scan_of mid) (scan_of new)) (HoldsWhole mid new)
     → MovesPast (hearing old (character ∷ [])) (scan_of new) [] × StopsAt (scan_of new) 1 1
-seen_one old mid new character None going heard given =
-    let nothing = subst (λ (s : Scan). GivesNothing s (scan_of new)) heard given in
-    let waits = waits_only (hearing old (character ∷ [])) (scan_of new) going nothing in
-    (waits.moves, inl (waits.drained, waits.undecided, refl))
+seen_one old mid new character None going heard given = grind (arith, common_steps, waits_only)
 seen_one old mid new character (Some layout) going heard given =
     let moves = subst (λ (s : Scan). MovesPast s (scan_of new) []) heard given.moves in
     (moves, inr (given.undrained, holds_frame new layout given.begins))

@@ -1,10 +1,9 @@
 -- The message or miss that the search in bytes finds next is what is seen next, whatever follows the bytes.
-use Rattle.hart_frame.proofs.Common.{◌≡◌, ℕ, ◌+◌, ◌-◌, ◌<◌, ◌≤◌, inl, inr, true, List, [], ◌∷◌, ◌++◌, length, drop, get_or, Some, ◌∙◌}
-use Rattle.hart_frame.proofs.Common.{arith, refl, append_assoc, length-append, length-drop, drop_more, take-append-drop, get_or-drop}
-use Rattle.hart_frame.proofs.Common.{length-take-le, length-map, slice_range, IsTrue, Miss, After, OnePreamble, Damaged, End, More}
-use Rattle.hart_frame.proofs.Common.{Character, faultless, body_miss, StandsIn, Message, Missed, Seen, header_at, heard_with, FollowsTwo}
-use Rattle.hart_frame.proofs.Common.{IsAsked, MayFollow, Whatever, stands_alone, parts_of, Layout, IsBody, FrameParts, header_in, SeesOn}
-use Rattle.hart_frame.proofs.Common.{AreSilent, IsStandingAt}
+use Rattle.hart_frame.proofs.Common.{◌≡◌, ℕ, ◌+◌, ◌-◌, ◌<◌, ◌≤◌, inl, inr, List, ◌∷◌, ◌++◌, drop, Some, ◌∙◌, refl, Miss, End, More, Seen}
+use Rattle.hart_frame.proofs.Common.{true, drop_more, get_or-drop, length-map, slice_range, OnePreamble, heard_with, FollowsTwo, FrameParts}
+use Rattle.hart_frame.proofs.Common.{[], length, get_or, IsTrue, After, Damaged, Message, Missed, IsAsked, parts_of, Layout, IsBody, SeesOn}
+use Rattle.hart_frame.proofs.Common.{arith, Character, faultless, body_miss, StandsIn, header_at, MayFollow, Whatever, header_in, AreSilent}
+use Rattle.hart_frame.proofs.Common.{append_assoc, length-append, length-drop, take-append-drop, length-take-le, stands_alone, IsStandingAt}
 use Rattle.hart_frame.specs.heard.Sighting.{missed_at}
 use Rattle.hart_frame.specs.scan.Sighting.{AfterIsValid, is_end}
 use Rattle.hart_frame.specs.private.Sighting.{IsMessageAt, IsPassed}

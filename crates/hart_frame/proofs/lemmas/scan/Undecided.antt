@@ -4,7 +4,6 @@ use Rattle.hart_frame.proofs.Common.{Found, append_assoc, length-append, length-
 use Rattle.hart_frame.proofs.Common.{none, HasNoFrame, IsUndecided, StandsIn, AreNext, Scan, MovesPast, GivesNothing, Gives, Waits}
 use Rattle.hart_frame.specs.scan.Chunk.{BeginsWithFrame}
 use Rattle.hart_frame.proofs.lemmas.heard.FramesFound.{AreFrames-found, head_first}
-use Rattle.hart_frame.proofs.lemmas.heard.Place.{StandsIn-within}
 use Rattle.hart_frame.proofs.lemmas.heard.Rest.{none_moved, some_moved, stands_back}
 use Rattle.hart_frame.proofs.lemmas.scan.Next.{next_frames, next_some}
 use Rattle.hart_frame.proofs.lemmas.scan.Scan.{moves_length}
@@ -29,9 +28,8 @@ still_stands s t moves found stands =
     let (later, are) = AreFrames-found s.held n in
     let nothing : AreNext s.held s.finished 0 [] n = rw (none_moved s.first moves.found moves.given_are) at moves.next in
     let (g, there, early) = same_first s.held 0 n later found (next_frames s.held s.finished 0 n [] later nothing are) are stands in
-    let after = (StandsIn-within g s.held n there).after in
     let front = length-take-le n s.held moves.next.within in
-    (_, stands_back (take n s.held) t.held g n 0 front (rw (add-zero n, ← held_parts s t moves) there), omega (arith, early, after))
+    (_, stands_back (take n s.held) t.held g n 0 front (rw (add-zero n, ← held_parts s t moves) there), omega (arith, early))
 
 -- If no frame is held after some characters are passed, none was held before.
 pub nothing_before : (s t : Scan) → MovesPast s t [] → HasNoFrame t.held 0 → HasNoFrame s.held 0

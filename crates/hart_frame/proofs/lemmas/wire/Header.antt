@@ -6,7 +6,7 @@ use Rattle.hart_frame.proofs.Common.{FrameParts, HeaderParts, header_in, command
 use Rattle.std.specs.Prelude.{IsSome}
 use Rattle.hart_frame.specs.wire.Header.{address_in, header_of, master_in}
 use Rattle.hart_frame.proofs.lemmas.wire.Refusal.{says}
-use Rattle.hart_frame.proofs.lemmas.wire.UnambiguousBodies.{address_type-lt, kind_code-is, length-address, spread}
+use Rattle.hart_frame.proofs.lemmas.wire.UnambiguousBodies.{address_type-lt, kind_code-is, spread}
 
 -- If the address bytes of a master and an address stand after the delimiter, the bytes have this master and this address.
 pub address_read : (bytes xs : List ℕ) (master : MasterId) (burst : Bool) (address : Address) → IsAddressBytes master burst address xs
@@ -37,7 +37,6 @@ headers_are_those_of_frames-body bytes f len begins =
     let part = begins.body.checked_part in
     let said = says bytes f len begins in
     let whole = sym (take-append-drop len bytes) ∙ spread f (take len bytes) (drop len bytes) begins.body in
-    let long = length-address f.master f.burst f.address part.address part.address_bytes in
     let prefix : List ℕ = delimiter_of f ∷ part.address ++ f.expansion in
     let rest : List ℕ = length f.payload ∷ (f.payload ++ begins.body.check ∷ drop len bytes) in
     let split : bytes ≡ prefix ++ f.command ∷ rest = whole ∙ simp append_assoc in

@@ -1,8 +1,7 @@
 -- Bytes that begin with a body are not refused, and that body is decoded.
-use Rattle.hart_frame.proofs.Common.{◌≡◌, ℕ, ◌+◌, ◌*◌, ◌≤◌, List, [], ◌∷◌, ◌++◌, length, take, drop, sym, ◌∙◌, arith}
-use Rattle.hart_frame.proofs.Common.{length-append, common_steps, length-take-le, take-append-drop, get_or_at, FrameFault, BeginsWithBody}
-use Rattle.hart_frame.proofs.Common.{delimiter_of, address_type, FrameParts, delimiter_in, byte_count_place, body_length, HasCheckByte}
-use Rattle.hart_frame.proofs.Common.{IsRefusedWith, byte_count_in}
+use Rattle.hart_frame.proofs.Common.{◌≡◌, ℕ, ◌+◌, ◌*◌, ◌≤◌, [], ◌∷◌, length, take, drop, sym, ◌∙◌, arith, get_or_at, FrameFault, FrameParts}
+use Rattle.hart_frame.proofs.Common.{List, length-append, length-take-le, take-append-drop, BeginsWithBody, byte_count_place, IsRefusedWith}
+use Rattle.hart_frame.proofs.Common.{◌++◌, common_steps, delimiter_of, address_type, delimiter_in, body_length, HasCheckByte, byte_count_in}
 use Rattle.std.proofs.Common.{Result, Ok, Err}
 use Rattle.std.specs.Result.{IfOk, IfErr}
 use Rattle.hart_frame.proofs.lemmas.wire.UnambiguousBodies.{address_type-lt, bodies_are_unambiguous-one_prefix, kind_code-is}

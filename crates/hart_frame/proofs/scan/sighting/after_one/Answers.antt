@@ -1,4 +1,4 @@
-use Rattle.hart_frame.proofs.Common.{refl, ◌∙◌, arith, drop, length-drop, take_rest, get_or-drop, MayStandAlone, Cut, IsPrefix}
+use Rattle.hart_frame.proofs.Common.{refl, arith, drop, length-drop, take_rest, get_or-drop, MayStandAlone}
 use Rattle.hart_frame.proofs.lemmas.scan.Alone.{alone_moved, may_moved}
 use Rattle.hart_frame.proofs.lemmas.scan.BodyAt.{cut_not_alone, not_alone, whole_seen, wrong_seen}
 use Rattle.hart_frame.proofs.lemmas.wire.Reading.{cut_truncated}
@@ -29,14 +29,4 @@ returns-then-can_stand_alone c =
     )
 
 pub returns-else-eq : goal.returns-else-eq
-returns-else-eq c =
-    let bytes = c.args.bytes.now in
-    let start = c.args.start in
-    let rest = take_rest bytes start in
-    let is : IsPrefix (drop start bytes) (Cut c.in-Cut.missing) = grind (arith, rest) in
-    elim c.else-eq.branch [
-      | else-eq-via-then-eq+else-can_stand_alone w ↦ λ next follows.
-          alone_moved bytes next start c.requires.within
-          ∙ rw rest at (w.can_stand_alone.ensures.never w.if-can_stand_alone.false next)
-      | else-eq-via-else-eq w ↦ cut_not_alone bytes start c.requires.within c.args.after.now c.in-Cut.missing (grind arith) is
-    ]
+returns-else-eq c = grind (arith, take_rest, alone_moved, cut_not_alone)

@@ -1,6 +1,5 @@
-use Rattle.hart_frame.proofs.Common.{sym, arith, get_or-take, HeaderParts, get_or_after_one, address_of, address_end}
+use Rattle.hart_frame.proofs.Common.{sym, arith, get_or-take, HeaderParts, get_or_after_one, address_of}
 use Rattle.hart_frame.proofs.lemmas.wire.Header.{StandsAsHeader, header_read}
-use Rattle.hart_frame.proofs.lemmas.wire.Layout.{length-slice_range}
 use Rattle.hart_frame.proofs.wire.header.Header.read.Goals as goal
 
 pub returns : goal.returns
@@ -12,6 +11,5 @@ returns c =
       address = address_of c.plain_of.result;
       command = c.in_ok-command.field-0.now;
     } in
-    let long = length-slice_range bytes 1 (address_end bytes) in
-    let stands : StandsAsHeader bytes parts = grind (arith, get_or-take, get_or_after_one bytes, long) in
+    let stands : StandsAsHeader bytes parts = grind (arith, get_or-take, get_or_after_one bytes) in
     sym (header_read bytes parts stands)
