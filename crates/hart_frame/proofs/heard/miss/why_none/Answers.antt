@@ -1,5 +1,4 @@
-use Rattle.hart_frame.proofs.Common.{◌≡◌, ◌<◌, ℕ, inl, inr, List, None, drop, length, arith, take_rest, Character, miss_of}
-use Rattle.hart_frame.proofs.Common.{IsOfBytes, common_steps}
+use Rattle.hart_frame.proofs.Common.{◌≡◌, ◌<◌, ℕ, List, None, length, arith, take_rest, Character, miss_of, common_steps}
 use Rattle.hart_frame.proofs.lemmas.heard.Hint.{is_told}
 use Rattle.hart_frame.proofs.lemmas.heard.Start.{start_test, tested}
 use Rattle.hart_frame.proofs.heard.miss.why_none.Goals as goal
@@ -25,12 +24,7 @@ returns-then-is_start-clause-miss c = grind (arith, take_rest, is_told, returns-
 
 pub returns-then-is_none-clause-miss : goal.returns-then-is_none-clause-miss
 returns-then-is_none-clause-miss c =
-    let heard : c.in_ok-heard.heard.now ≡ drop c.args.start c.args.chars.now = grind (arith, take_rest) in
-    let fit : IsOfBytes (drop c.args.start c.args.chars.now) = rw heard at c.body_miss-then-follows_one_preamble.ensures.fit in
-    is_told c.args.chars.now c.args.start _ (λ either. fit) (returns-then-is_none-clause-found c)
+    is_told c.args.chars.now c.args.start _ (λ either. grind (arith, take_rest)) (returns-then-is_none-clause-found c)
 
 pub returns-clause-miss : goal.returns-clause-miss
-returns-clause-miss c =
-    is_told c.args.chars.now c.args.start _
-    (λ either. elim either [ inl is ↦ absurd (grind arith) | inr some ↦ absurd (grind arith) ])
-    (returns-clause-found c)
+returns-clause-miss c = is_told c.args.chars.now c.args.start _ (λ either. absurd (grind arith)) (returns-clause-found c)
