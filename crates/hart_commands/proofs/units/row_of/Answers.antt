@@ -1,4 +1,3 @@
-use Rattle.std.proofs.Common.{◌==◌}
 use Rattle.hart_commands.specs.Fields.{text}
 use Rattle.hart_commands.specs.Units.{unit_row}
 use Rattle.hart_commands.proofs.units.row_of.Goals as goal

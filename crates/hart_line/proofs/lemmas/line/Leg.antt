@@ -2,7 +2,7 @@
 use Rattle.hart_line.proofs.Common.{Bool, IsTrue, IsSome, IfSome, frame_if, ◌≡◌, ℕ, ◌≤◌, ap, refl, arith, Option, None, Some, List, [], ◌∷◌}
 use Rattle.hart_line.proofs.Common.{◌++◌, replicate, common_steps, MatchOption, option_to_list, MasterId, Character, FrameParts}
 use Rattle.hart_line.proofs.Common.{DeviceState, Brought, BringsBy, Garbled, NoMessage, OneFrame, IdentityParts, Process, Heard, Chars}
-use Rattle.hart_line.proofs.Common.{Clean, Spoken, length-append, Party, AnswersTo, IsSent, IsSpeakable, AreHeard, Arrives, ArrivesAmong}
+use Rattle.hart_line.proofs.Common.{Clean, Spoken, Party, AnswersTo, IsSent, IsSpeakable, AreHeard, Arrives, ArrivesAmong}
 use Rattle.hart_line.proofs.Common.{Reaches, ReachesAmong, SpokenFrame, Speaks, frame_of, master_preambles, party_of, spoken_by, AreSpoken}
 use Rattle.hart_line.proofs.Common.{sent_by, InHand, messages_have_their_frame_alone-message, messages_have_their_frame_alone-nothing}
 use Rattle.hart_frame.specs.heard.Character.{faultless}
