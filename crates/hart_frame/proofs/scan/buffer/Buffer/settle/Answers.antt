@@ -12,5 +12,6 @@ returns-clause-sound c = grind (arith, kept, take-length, length-drop, length-ap
 
 pub returns-clause-hears : goal.returns-clause-hears
 returns-clause-hears c =
-    hears_kept c.args.self.now _ c.args.part.now c.args.found (kept c) _ (returns-clause-sound c)
-    (omega (arith, (kept c).searched.late, ap length c.held-held.ensures.held))
+    let is = kept c in
+    hears_kept c.args.self.now _ c.args.part.now c.args.found is _ (returns-clause-sound c)
+    (omega (arith, is.searched.late, ap length c.held-held.ensures.held))
