@@ -7,6 +7,7 @@ use Rattle.hart_frame.specs.private.Decision.{body_at}
 use Rattle.hart_frame.specs.wire.Body.{IsBody}
 use Rattle.hart_frame.specs.wire.FrameParts.{FrameParts}
 use Rattle.hart_frame.specs.private.Layout.{layout_length}
+use Rattle.hart_frame.specs.declared.heard.found.Found.{Found}
 use Rattle.hart_frame.specs.declared.scan.buffer.Buffer.{Buffer}
 use Rattle.hart_frame.specs.declared.scan.buffer.Span.{Span}
 
@@ -18,3 +19,9 @@ pub record HoldsFirst (buffer : Buffer) (chars : List Character) (span : Span) :
   pub within : span.stop ≤ length chars
   pub first : (frame : FrameParts) → IsBody frame (body_at buffer span)
       → IsFirst (record { start = span.start; stop = span.stop; frame = frame }) chars 0
+
+-- The first frame of a list, with its places in that list.
+pub record IsFirstIn (found : Found) (chars : List Character) : Type 0 where
+  pub first : IsFirst found chars 0
+  pub order : found.start < found.stop
+  pub within : found.stop ≤ length chars

@@ -73,3 +73,14 @@ pub record IsNextPair (bytes : List ℕ) (from start : ℕ) : Type 0 where
   pub after : from ≤ start
   pub pair : HasPair bytes start
   pub passed : HasNoPair bytes from start
+
+-- A search at `place` has looked at the first `decided` bytes: in these no frame begins before `place`, and a prefix of at least
+-- `seen` but fewer than `decided` bytes decides nothing.
+pub record IsSearching (bytes : List ℕ) (from seen place decided : ℕ) : Type 0 where
+  pub after : from ≤ place
+  pub order : place ≤ decided
+  pub late : seen ≤ decided
+  pub within : decided ≤ length bytes
+  pub few : decided ≤ place + 269
+  pub none : NoneBegin (take decided bytes) from place
+  pub before : IsOpenBefore bytes from seen decided

@@ -1,18 +1,18 @@
-//! The first frame of what was heard, found with a scanner's buffer.
+//! The first frame of what was heard.
 ghost use Rattle.std.specs.Prelude.{◌≡◌, ◌+◌, ◌<◌, ◌≤◌, List, false, length, IsTrue, MatchOption, IfSome};
 ghost use Rattle.hart_frame.specs.heard.Delivery.{IsLone, lone_of};
 ghost use Rattle.hart_frame.specs.heard.Frames.{AreFrames, HasNoFrame, IsFirst};
 ghost use Rattle.hart_frame.specs.private.Buffer.{IsSound, scan_of};
 ghost use Rattle.hart_frame.specs.private.Prefix.{IsWholeBody};
 ghost use Rattle.hart_frame.specs.private.Decision.{body_at};
-ghost use Rattle.hart_frame.specs.private.First.{HoldsFirst};
-ghost use Rattle.hart_frame.specs.scan.Scanner.{new_scan};
+ghost use Rattle.hart_frame.specs.private.First.{HoldsFirst, IsFirstIn};
+ghost use Rattle.hart_frame.specs.scan.Scanner.{Gives, GivesNothing, new_scan};
 ghost use Rattle.hart_frame.specs.wire.Body.{IsBody};
 ghost use Rattle.hart_frame.specs.private.Layout.{layout_length};
 ghost use Rattle.hart_frame.specs.declared.heard.found.Found.{Found};
 
 use crate::scan::buffer::{Buffer, Span};
-use crate::{Char, Found};
+use crate::{Char, Found, Scanner};
 
 /// Whether a delivery has no frame, one frame or several frames. A delivery is what is heard at once.
 #[derive(Debug, Drop, PartialEq, Eq)]
@@ -43,13 +43,37 @@ pub fn first_frame(chars: &[Char], from: usize) -> Option<Found>
     ensures order { IfSome result (λ found. found.start < found.stop) }
     ensures within { IfSome result (λ found. found.stop ≤ length chars.now) }
 {
-    let mut buffer = Buffer::new();
-    let span = first_span(&mut buffer, chars.get(from..)?)?;
-    let found = found_at(&buffer, span);
+    let mut scanner = Scanner::new();
+    let found = first_found(&mut scanner, chars.get(from..)?)?;
     Some(Found {
         start: from + found.start,
         stop: from + found.stop,
         frame: found.frame,
+    })
+}
+
+/// Pushes a list to a new scanner until its first frame is decided. Returns a copy of that frame, or `None` if the list has no frame.
+fn first_found(scanner: &mut Scanner, chars: &[Char]) -> Option<Found>
+    requires { scanner.old ≡ new_scan }
+    ensures { MatchOption result (HasNoFrame chars.now 0) (λ found. IsFirstIn found chars.now) }
+{
+    scanner.push_chars(chars);
+    if let Some(found) = next_found(scanner) {
+        return Some(found);
+    }
+    scanner.finish();
+    next_found(scanner)
+}
+
+/// Returns a copy of the next frame that a scanner gives.
+fn next_found(scanner: &mut Scanner) -> Option<Found>
+    ensures { MatchOption result (GivesNothing scanner.old scanner.new) (Gives scanner.old scanner.new) }
+{
+    let view = scanner.take()?;
+    Some(Found {
+        start: view.start as usize,
+        stop: view.stop as usize,
+        frame: view.frame.to_frame(),
     })
 }
 

@@ -1,6 +1,9 @@
 //! The search for frames in faultless bytes, without a copy.
-ghost use Rattle.std.specs.Prelude.{None, ◌≡◌, ◌≢◌, ◌<◌, ◌≤◌, ◌+◌, ◌-◌, ℕ, All, MatchOption, drop, length, replicate, slice_index, take};
-ghost use Rattle.hart_frame.specs.private.Search.{HasNoPair, IsNextPair, IsSearched, IsSearchedToEnd};
+ghost use Rattle.std.specs.Prelude.{None, ◌≡◌, ◌≢◌, ◌<◌, ◌≤◌, ◌+◌, ◌-◌, ℕ, All, MatchOption, drop, length, replicate, slice_index};
+ghost use Rattle.std.specs.Prelude.{slice_range, take};
+ghost use Rattle.hart_frame.specs.private.Candidate.{IsCandidate};
+ghost use Rattle.hart_frame.specs.private.Search.{HasNoPair, IsNextPair, IsSearched, IsSearchedToEnd, IsSearching};
+ghost use Rattle.hart_frame.specs.declared.scan.candidate.Candidate.TheVariants.{Never};
 
 use crate::scan::candidate::{Candidate, candidate_in};
 use crate::wire::layout::Layout;
@@ -38,7 +41,7 @@ pub(crate) fn search(bytes: &[u8], from: usize, seen: usize) -> SearchResult
     while let Some(start) = next_pair(bytes, place) {
         match candidate_in(&bytes[start..]) {
             Candidate::Never(count) => {
-                decided = decided.max(start + count);
+                decided = looked_at(bytes, from, seen, place, decided, start, count);
                 place = start + 1;
             }
             Candidate::Open => return open_at(bytes, start),
@@ -52,6 +55,27 @@ pub(crate) fn search(bytes: &[u8], from: usize, seen: usize) -> SearchResult
         }
     }
     open_at(bytes, bytes.len() - last_preambles(&bytes[place..]))
+}
+
+/// Returns how many bytes at the front a search has looked at once `count` bytes from the pair at `start` on show that no frame begins
+/// there. Before, the search had looked at the first `decided` bytes and came from `place` to that pair. It goes on right after `start`.
+#[inline(always)]
+fn looked_at(
+    bytes: &[u8],
+    from: usize,
+    seen: usize,
+    place: usize,
+    decided: usize,
+    start: usize,
+    count: usize,
+) -> usize
+    requires searching { IsSearching bytes.now from seen place decided }
+    requires next { IsNextPair bytes.now place start }
+    requires never { IsCandidate (slice_range bytes.now start (length bytes.now)) (Never count) }
+    requires few { (2 ≤ count) × (count ≤ 269) }
+    ensures { IsSearching bytes.now from seen (start + 1) result }
+{
+    decided.max(start + count)
 }
 
 /// Searches for a frame from the place `from` on. If `ended` is true, nothing can follow the bytes. The search then goes on after a place

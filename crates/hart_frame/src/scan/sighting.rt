@@ -20,7 +20,7 @@ use crate::heard::miss::{cut_miss, wrong_miss};
 use crate::scan::search::{next_preamble, preamble_end};
 use crate::wire::layout::Layout;
 use crate::wire::message::PREAMBLE;
-use crate::wire::parity::check_byte;
+use crate::wire::parity::body_check;
 use crate::wire::prefix::{Prefix, prefix_of};
 use crate::{Char, FoundView, FrameView, Header, Miss};
 
@@ -250,7 +250,7 @@ fn lacks_one_preamble(bytes: &[u8], missing: Option<usize>) -> bool
     let Some(1) = missing else {
         return false;
     };
-    bytes.last() == Some(&PREAMBLE) && check_byte(bytes) == PREAMBLE
+    bytes.last() == Some(&PREAMBLE) && body_check(bytes) == PREAMBLE
 }
 
 /// Returns true if two preamble bytes stand in a row.

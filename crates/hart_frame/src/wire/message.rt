@@ -3,7 +3,8 @@ ghost use Rattle.hart_frame.specs.wire.Body.{IsBody, IsCheckedPart};
 ghost use Rattle.hart_frame.specs.wire.Message.{IsMessage, IsPreambleCount};
 
 use crate::wire::delimiter::delimiter_byte;
-use crate::{Frame, FrameFault, check_byte};
+use crate::wire::parity::body_check;
+use crate::{Frame, FrameFault};
 use hart_values::ByteList;
 
 /// A message on the line: at most 20 preamble bytes and a body of at most 267 bytes.
@@ -72,7 +73,7 @@ pub(crate) fn push_body<const N: usize>(frame: &Frame, output: &mut ByteList<N>)
 {
     let start = output.len();
     push_checked_part(frame, output);
-    let check = check_byte(&output.as_slice()[start..]);
+    let check = body_check(&output.as_slice()[start..]);
     output.push(check);
 }
 

@@ -1,6 +1,8 @@
 //! Decides whether bytes begin with a body, may still become a body, or never become a body. No other module of this crate decides this.
 ghost use Rattle.std.specs.Prelude.{◌≡◌};
+ghost use Rattle.hart_frame.specs.private.Layout.{Describes};
 ghost use Rattle.hart_frame.specs.private.Prefix.{IsPrefix, fault_in, shown_by};
+ghost use Rattle.hart_frame.specs.wire.Refusal.{HasCheckByte};
 
 use crate::FrameFault;
 use crate::wire::delimiter::read_delimiter;
@@ -78,6 +80,18 @@ pub(crate) fn prefix_of(bytes: &[u8]) -> Prefix
     if bytes.len() < len {
         return Prefix::Cut(Some(len - bytes.len()));
     }
+    checked_prefix(bytes, layout)
+}
+
+/// Decides by parity whether bytes that reach the check byte of a body with this layout begin with that body.
+#[inline(always)]
+#[tactic(auto, using(crate::proofs::lemmas::wire::Reading::whole_even, crate::proofs::lemmas::wire::Reading::odd_check))]
+fn checked_prefix(bytes: &[u8], layout: Layout) -> Prefix
+    requires reaches { HasCheckByte bytes.now }
+    requires described { Describes layout bytes.now }
+    ensures { IsPrefix bytes.now result }
+{
+    let len = layout.body_len();
     let check = front_check(bytes, len);
     if check == 0 {
         return Prefix::Whole(layout);

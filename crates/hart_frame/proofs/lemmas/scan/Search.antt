@@ -10,7 +10,7 @@ use Rattle.hart_frame.proofs.lemmas.wire.Lane.{drop_take}
 use Rattle.hart_frame.specs.declared.scan.candidate.Candidate.TheVariants.{Never, Whole}
 use Rattle.hart_frame.specs.declared.wire.prefix.Wrong.TheVariants.{BadDelimiter}
 use Rattle.hart_frame.specs.private.Candidate.{IsCandidate, MayBeginBefore, NeverBegin}
-use Rattle.hart_frame.specs.private.Search.{IsNextPair, IsOpenBefore, NoneBegin, NoneBeginThen}
+use Rattle.hart_frame.specs.private.Search.{IsNextPair, IsOpenBefore, IsSearching, NoneBegin, NoneBeginThen}
 use Rattle.hart_frame.proofs.lemmas.scan.Candidate.{may_begin_before, never_after, never_first, never_more, second_never, nothing_open}
 use Rattle.hart_frame.proofs.lemmas.wire.Truncated.{truncated_check, truncated_count}
 
@@ -28,17 +28,6 @@ pub none_more : (xs : List ℕ) (n m from to : ℕ) → to ≤ n → n ≤ m →
 none_more xs n m from to within order long none place after before =
     let inside : place ≤ length (take n xs) = omega (arith, before, within, order, long, length-take-le n xs) in
     rw (take_more xs n m order, drop-append-le) (never_more _ _ (none place after before))
-
--- A search at `place` has looked at the first `decided` bytes: in these no frame begins before `place`, and a prefix of at least
--- `seen` but fewer than `decided` bytes decides nothing.
-pub record IsSearching (bytes : List ℕ) (from seen place decided : ℕ) : Type 0 where
-  pub after : from ≤ place
-  pub order : place ≤ decided
-  pub late : seen ≤ decided
-  pub within : decided ≤ length bytes
-  pub few : decided ≤ place + 269
-  pub none : NoneBegin (take decided bytes) from place
-  pub before : IsOpenBefore bytes from seen decided
 
 -- What is true of each place before `mid`, and of each place from `mid` on, is true of all these places.
 pub joined : (Of : ℕ → Type 0) (from mid to : ℕ) → ((place : ℕ) → from ≤ place → place < mid → Of place)

@@ -56,11 +56,11 @@ pub fold-rest : (start n : ℕ) (bytes lanes rest : List ℕ) → xor_of lanes �
 fold-rest start n bytes lanes rest same is =
     grind (arith, fold_from, take-append-drop n bytes, fold-append bit_xor start (take n bytes) (drop n bytes))
 
--- The exclusive or of the lanes and of the bytes after those that the lanes have is the check byte of all the bytes.
-pub IsCheckByte-rest : (n : ℕ) (bytes lanes rest : List ℕ) (check : ℕ) → ((i : ℕ) → get_or bytes i 0 < 256)
-    → xor_of lanes ≡ xor_of (take n bytes) → rest ≡ drop n bytes → check ≡ fold bit_xor (fold_l bit_xor 0 lanes) rest
-    → IsCheckByte bytes check
-IsCheckByte-rest n bytes lanes rest check each before is folded =
+-- An exclusive or that begins with that of the bytes before a place, and then takes in the bytes from there on, is the check byte of all
+-- the bytes.
+pub checked_rest : (n start : ℕ) (bytes : List ℕ) → start ≡ fold bit_xor 0 (take n bytes) → ((i : ℕ) → get_or bytes i 0 < 256)
+    → IsCheckByte bytes (fold bit_xor start (drop n bytes))
+checked_rest n start bytes before each =
     grind (arith, IsCheckByte-fold, take-append-drop n bytes, fold-append bit_xor 0 (take n bytes) (drop n bytes))
 
 -- If the first place is not below a limit, no lane is kept: all become 0.
@@ -97,7 +97,7 @@ module _ (len whole : ℕ) (bytes lanes : List ℕ) (order : whole ≤ len) (eac
   -- With the other bytes it is their check byte.
   pub IsCheckByte-few : (check : ℕ) → check ≡ fold bit_xor (fold_l bit_xor 0 lanes) (take (len - whole) (drop whole bytes))
       → IsCheckByte (take len bytes) check
-  IsCheckByte-few check folded = grind (arith, IsCheckByte-rest whole (take len bytes) lanes, fits_take, drop_take)
+  IsCheckByte-few check folded = grind (arith, checked_rest whole (xor_of lanes) (take len bytes), fits_take, drop_take)
 
   -- With a block that begins with the other bytes and has zeros after them it is their check byte too.
   pub IsCheckByte-front : (front block : List ℕ) → len ≤ whole + 16 → block ≡ take 16 (drop whole bytes) → length block ≡ 16

@@ -1,12 +1,12 @@
 -- How bytes begin as a body, and what follows from it.
 use Rattle.hart_frame.proofs.lemmas.wire.Parity.{fit_before, IsCheckByte-fold, before_last, changed, even-check, fits-is, odd}
-use Rattle.hart_frame.proofs.Common.{◌≡◌, ◌≢◌, ℕ, ◌-◌, ◌<◌, ◌≤◌, inl, inr, List, Option, None, Some, fold, bit_xor, get_or, length, take}
-use Rattle.hart_frame.proofs.Common.{drop, arith, get_or-take, get_or_past, length-take, length-take-le, take-append-drop, take-take}
+use Rattle.hart_frame.proofs.Common.{◌≡◌, ◌≢◌, ℕ, ◌-◌, ◌<◌, ◌≤◌, inl, inr, List, Option, None, Some, refl, fold, bit_xor, get_or, length}
+use Rattle.hart_frame.proofs.Common.{take, drop, arith, get_or-take, get_or_past, length-take, length-take-le, take-append-drop, take-take}
 use Rattle.hart_frame.proofs.Common.{All-from_get_or, All, Layout, Cut, Wrong, Describes, layout_length, IsPrefix, IsWrong, body_length}
 use Rattle.hart_frame.proofs.Common.{byte_count_place, IsCheckByte, HasCheckByte, IsRefusedWith, IsTruncated}
 use Rattle.hart_frame.specs.declared.wire.prefix.Prefix.TheVariants.{Whole}
 use Rattle.hart_frame.specs.declared.wire.prefix.Wrong.TheVariants.{BadCheck}
-use Rattle.hart_frame.specs.private.Prefix.{HasBadCheck, fault_in, shown_by}
+use Rattle.hart_frame.specs.private.Prefix.{HasBadCheck, IsWholeBody, fault_in, shown_by}
 use Rattle.hart_frame.proofs.lemmas.wire.Prefix.{Describes-prefix, HasCheckByte-prefix, HasGoodByteCount-more, good_prefix, length_more}
 use Rattle.hart_frame.proofs.lemmas.wire.Truncated.{truncated_check, truncated_count}
 
@@ -30,6 +30,19 @@ module _ (layout : Layout) (xs : List ℕ) (len check : ℕ) (has : HasCheckByte
   -- If the parity of these bytes is not even, their check byte does not fit.
   pub odd_prefix : check ≢ 0 → HasBadCheck xs len (get_or xs (len - 1) 0) (bit_xor check (get_or xs (len - 1) 0))
   odd_prefix other = grind (arith, fitting, IsCheckByte-fold, get_or-take, get_or_past, length-take, changed, are_bytes)
+
+-- Bytes that reach their check byte begin with a whole body if their parity is even.
+pub whole_even : (layout : Layout) (xs : List ℕ) → HasCheckByte xs → Describes layout xs → layout_length layout ≤ length xs
+    → IsCheckByte (take (layout_length layout) xs) 0 → ((i : ℕ) → get_or xs i 0 < 256) → IsWholeBody layout (take (layout_length layout) xs)
+whole_even layout xs has is within checks fits = (whole_prefix layout xs (layout_length layout) 0 has is refl within checks fits refl).1
+
+-- If their parity is not even, their check byte does not fit.
+pub odd_check : (layout : Layout) (xs : List ℕ) (check : ℕ) → HasCheckByte xs → Describes layout xs → layout_length layout ≤ length xs
+    → IsCheckByte (take (layout_length layout) xs) check → ((i : ℕ) → get_or xs i 0 < 256) → check ≢ 0
+    → HasBadCheck xs (layout_length layout) (get_or xs (layout_length layout - 1) 0)
+    (bit_xor check (get_or xs (layout_length layout - 1) 0))
+odd_check layout xs check has is within checks fits other =
+    odd_prefix layout xs (layout_length layout) check has is refl within checks fits other
 
 -- The check byte that would fit is the exclusive or of the bytes before it.
 pub fold_fits : (xs : List ℕ) (len byte fits : ℕ) → HasBadCheck xs len byte fits → fits ≡ fold bit_xor 0 (take (len - 1) xs)

@@ -1,11 +1,6 @@
 use Rattle.hart_frame.proofs.Common.{◌≡◌, ◌-◌, drop, drop-drop, replicate, ◌≤◌, arith, length, length-drop, take_rest}
-use Rattle.hart_frame.proofs.lemmas.scan.Search.{may_begin_last, passed_before, passed_to_end, searched_open, searched_stands, searching_on}
+use Rattle.hart_frame.proofs.lemmas.scan.Search.{may_begin_last, passed_before, passed_to_end, searched_open, searched_stands}
 use Rattle.hart_frame.proofs.scan.search.search.Goals as goal
-
-pub loop-start-preserved : goal.loop-start-preserved
-loop-start-preserved c =
-    searching_on c.args.bytes.now c.args.from c.args.seen c.loop-start.place c.loop-start.decided c.in-Some.start c.in-Never.count
-    c.max-decided.result c.loop-start.invariant c.in-Some.ensures c.in-Never.ensures.candidate c.in-Never.ensures.few c.max-decided.ensures
 
 pub returns-in-Open : goal.returns-in-Open
 returns-in-Open c =

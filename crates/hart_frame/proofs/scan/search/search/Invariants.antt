@@ -1,5 +1,5 @@
 use Rattle.hart_frame.proofs.Common.{length, ◌-◌}
-use Rattle.hart_frame.proofs.lemmas.scan.Search.{IsSearching}
+use Rattle.hart_frame.specs.private.Search.{IsSearching}
 use Rattle.hart_frame.proofs.scan.search.search.Given as goal
 
 abbrev pub invariant-loop-start : goal.invariant-loop-start
