@@ -114,6 +114,11 @@ part_for register _ _ = None
 abbrev pub named_in : Overwrite → Register → Option (List ℕ)
 named_in overwrite register = part_for register (written_by (command_of overwrite)) (request_parts overwrite)
 
+-- The bytes that a list of registers with their bytes gives a register, or `None` if the list does not name the register.
+abbrev pub set_by : List (Register × List ℕ) → Register → Option (List ℕ)
+set_by [] register = None
+set_by ((named, bytes) ∷ others) register = if place_of named == place_of register then Some bytes else set_by others register
+
 -- An overwrite names valid bytes if all new bytes that it has for a register are valid in that register.
 abbrev pub NamesValid : Overwrite → Type 0
 NamesValid overwrite = (register : Register) → IfSome (named_in overwrite register) (IsValidIn register)

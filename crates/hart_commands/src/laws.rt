@@ -1,6 +1,6 @@
 //! Laws: facts about the definitions, not about code. They are for the crates that use this crate.
-ghost use Rattle.std.specs.Prelude.{◌≡◌, ◌≢◌, ◌==◌, ◌||◌, ◌<◌, ◌≤◌, All, AllPairs, Contains, ◌↔◌, ◌++◌, List, ℕ, false, true, Ok, Err};
-ghost use Rattle.std.specs.Prelude.{Some, IsTrue, IsSome, drop, is_some, length, slice_get, take};
+ghost use Rattle.std.specs.Prelude.{◌≡◌, ◌≢◌, ◌==◌, ◌||◌, ◌<◌, ◌≤◌, ◌↔◌, ◌++◌, All, AllPairs, Contains, List, [], ◌∷◌, ℕ, false, true};
+ghost use Rattle.std.specs.Prelude.{Ok, Err, None, Some, IsTrue, IsSome, drop, is_some, length, slice_get, take};
 ghost use Rattle.hart_commands.specs.RequestData.{IsRequest, MayFollow, command_of, is_known, request_data, request_reading};
 ghost use Rattle.hart_commands.specs.Commands.{command_name, reply_rows, request_rows, written_by};
 ghost use Rattle.hart_commands.specs.Fields.{bytes_of, field_bytes, fields_of};
@@ -8,7 +8,13 @@ ghost use Rattle.hart_commands.specs.FieldWidths.{HasWidthOfKind};
 ghost use Rattle.hart_commands.specs.NeededData.{AreTooFew, needed_data};
 ghost use Rattle.hart_commands.specs.Parts.{content_bytes, content_parts, request_parts};
 ghost use Rattle.hart_commands.specs.RequestCode.{is_write};
-ghost use Rattle.hart_commands.specs.Registers.{AreValid, Contents, named_in, overwrite_of, overwritten, place_of, registers};
+ghost use Rattle.hart_commands.specs.Registers.{AreValid, Contents, named_in, overwrite_of, overwritten, place_of, registers, set_by};
+ghost use Rattle.hart_commands.specs.Values.{one};
+ghost use Rattle.hart_values.specs.LoopMode.{mode_byte};
+ghost use Rattle.hart_values.specs.declared.loop_mode.LoopMode.{LoopMode};
+ghost use Rattle.hart_commands.specs.declared.register.Register.TheVariants.{Polling, Mode, Message, Tag, Descriptor, Date};
+ghost use Rattle.hart_commands.specs.declared.register.Register.TheVariants.{Assembly, LongTag};
+ghost use Rattle.hart_commands.specs.declared.request.Request.TheVariants.{SetPolling, WriteMessage, WriteTag, WriteAssembly, WriteLongTag};
 ghost use Rattle.hart_commands.specs.ReplyData.{IsReply, reply_payload, reply_reading};
 ghost use Rattle.hart_commands.specs.declared.register.Register.{Register};
 ghost use Rattle.hart_commands.specs.declared.request.Request.{Request};
@@ -95,6 +101,26 @@ pub fn writes_have_overwrites()
         → length (written_by (command_of request)) ≡ length (request_parts request) }
     ensures only_writes { (request : Request) (register : Register) → IsSome (named_in request register)
         → IsTrue (is_write (command_of request)) }
+{}
+
+/// Each configuration write sets these registers to these bytes, and no other register: Command 6 the polling address and the loop current
+/// mode, Command 17 the message, Command 18 the tag, the descriptor and the date, Command 19 the final assembly number, and Command 22 the
+/// long tag. No other command sets a register.
+#[tactic(auto, unfolding(crate::specs::Commands::written_by))]
+pub fn writes_set_these_registers()
+    ensures polling { (address : ℕ) (mode : LoopMode) (register : Register) → named_in (SetPolling address mode) register
+        ≡ set_by ((Polling, one address) ∷ (Mode, one (mode_byte mode)) ∷ []) register }
+    ensures message { (message : List ℕ) (register : Register) → named_in (WriteMessage message) register
+        ≡ set_by ((Message, message) ∷ []) register }
+    ensures tag { (tag descriptor date : List ℕ) (register : Register) → named_in (WriteTag tag descriptor date) register
+        ≡ set_by ((Tag, tag) ∷ (Descriptor, descriptor) ∷ (Date, date) ∷ []) register }
+    ensures assembly { (assembly : List ℕ) (register : Register) → named_in (WriteAssembly assembly) register
+        ≡ set_by ((Assembly, assembly) ∷ []) register }
+    ensures long_tag { (long_tag : List ℕ) (register : Register) → named_in (WriteLongTag long_tag) register
+        ≡ set_by ((LongTag, long_tag) ∷ []) register }
+    ensures others { (request : Request) (register : Register) → ((command_of request == 6) || (command_of request == 17)
+        || (command_of request == 18) || (command_of request == 19) || (command_of request == 22)) ≡ false
+        → named_in request register ≡ None }
 {}
 
 /// The configuration writes are Commands 6, 17, 18, 19 and 22.

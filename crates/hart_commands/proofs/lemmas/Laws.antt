@@ -1,20 +1,22 @@
 -- The laws of requests, of replies, of fields, of registers and of overwrites, for the proofs of this crate and of the crates above
 -- it.
-use Rattle.std.proofs.Common.{arith, ◌≡◌, ◌≢◌, ℕ, AllPairs, Contains, IsSome, IsTrue, List, [], ◌∷◌, ◌++◌, Ok, Some, length, take, refl}
-use Rattle.std.proofs.Common.{lit<, rules, slice_get}
-use Rattle.std.proofs.Common.{ap, append-nil}
+use Rattle.std.proofs.Common.{arith, ◌≡◌, ◌≢◌, ◌==◌, ◌||◌, false, ℕ, AllPairs, Contains, IsSome, IsTrue, List, [], ◌∷◌, ◌++◌, refl}
+use Rattle.std.proofs.Common.{None, Ok, Some, ap, append-nil, length, lit<, rules, slice_get, take}
 use Rattle.std.proofs.lemmas.Grind.{common_steps}
 use Rattle.hart_commands.specs.Commands.{reply_rows, request_rows, written_by}
 use Rattle.hart_commands.specs.Fields.{Field, bytes_of, field_bytes, fields_of}
-use Rattle.hart_commands.specs.Registers.{AreValid, Contents, overwrite_of, overwritten, place_of, registers}
+use Rattle.hart_commands.specs.Registers.{AreValid, Contents, named_in, overwrite_of, overwritten, place_of, registers, set_by}
 use Rattle.hart_commands.specs.ReplyData.{IsReply, content_bytes, reply_payload, reply_reading}
 use Rattle.hart_commands.specs.RequestCode.{is_write}
 use Rattle.hart_commands.specs.RequestData.{IsRequest, command_of, request_data, request_reading}
-use Rattle.hart_commands.specs.Values.{joined}
+use Rattle.hart_commands.specs.Values.{joined, one}
 use Rattle.hart_commands.specs.declared.register.Register.{Register}
 use Rattle.hart_commands.specs.declared.register.Register.TheVariants.{Polling, Mode, Message, Tag, Descriptor, Date, Assembly, LongTag}
 use Rattle.hart_commands.specs.declared.reply.Reply.{Reply}
 use Rattle.hart_commands.specs.declared.request.Request.{Request}
+use Rattle.hart_commands.specs.declared.request.Request.TheVariants.{SetPolling, WriteMessage, WriteTag, WriteAssembly, WriteLongTag}
+use Rattle.hart_values.specs.LoopMode.{mode_byte}
+use Rattle.hart_values.specs.declared.loop_mode.LoopMode.{LoopMode}
 use Rattle.hart_commands.proofs.lemmas.Reply.{kept, parts_of_reply}
 use Rattle.hart_commands.proofs.lemmas.Request.{written_is_own}
 use Rattle.hart_commands.proofs.lemmas.RequestFields.{parts_of_request}
@@ -75,3 +77,35 @@ pub writes_have_overwrites-exactly : (request : Request)
     → (IsTrue (is_write (command_of request)) → IsSome (overwrite_of request))
     × (IsSome (overwrite_of request) → IsTrue (is_write (command_of request)))
 writes_have_overwrites-exactly request = search rules
+
+-- Each configuration write sets its registers to their bytes, and no other register.
+pub writes_set_these_registers-polling : (address : ℕ) (mode : LoopMode) (register : Register) → named_in (SetPolling address mode) register
+    ≡ set_by ((Polling, one address) ∷ (Mode, one (mode_byte mode)) ∷ []) register
+unfolding written_by
+writes_set_these_registers-polling address mode register = search rules
+
+pub writes_set_these_registers-message : (message : List ℕ) (register : Register) → named_in (WriteMessage message) register
+    ≡ set_by ((Message, message) ∷ []) register
+unfolding written_by
+writes_set_these_registers-message message register = search rules
+
+pub writes_set_these_registers-tag : (tag descriptor date : List ℕ) (register : Register)
+    → named_in (WriteTag tag descriptor date) register ≡ set_by ((Tag, tag) ∷ (Descriptor, descriptor) ∷ (Date, date) ∷ []) register
+unfolding written_by
+writes_set_these_registers-tag tag descriptor date register = search rules
+
+pub writes_set_these_registers-assembly : (assembly : List ℕ) (register : Register) → named_in (WriteAssembly assembly) register
+    ≡ set_by ((Assembly, assembly) ∷ []) register
+unfolding written_by
+writes_set_these_registers-assembly assembly register = search rules
+
+pub writes_set_these_registers-long_tag : (long_tag : List ℕ) (register : Register) → named_in (WriteLongTag long_tag) register
+    ≡ set_by ((LongTag, long_tag) ∷ []) register
+unfolding written_by
+writes_set_these_registers-long_tag long_tag register = search rules
+
+-- No other command sets a register.
+pub writes_set_these_registers-others : (request : Request) (register : Register) → ((command_of request == 6) || (command_of request == 17)
+    || (command_of request == 18) || (command_of request == 19) || (command_of request == 22)) ≡ false → named_in request register ≡ None
+unfolding written_by
+writes_set_these_registers-others request register other = search rules
