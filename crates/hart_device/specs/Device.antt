@@ -50,16 +50,20 @@ pub data Effect : Type 0 where
   Executes : (overwrite : Overwrite) → Effect
   Resets : Effect
 
--- An execution overwrites the registers, adds one to the counter (65535 is followed by 0) and sets both masters'
--- configuration-changed bits, even if the registers held the same bytes before. A reset clears only the bit of the asking master.
--- Nothing else changes.
-abbrev pub after : MasterId → Effect → DeviceState → DeviceState
-after master Nothing state = state
-after master (Executes overwrite) state = record state {
+-- The state after a configuration write overwrote the registers: the counter is one more (65535 is followed by 0), and both masters'
+-- configuration-changed bits are set, even if the registers held the same bytes before. Nothing else changes.
+abbrev pub written : Overwrite → DeviceState → DeviceState
+written overwrite state = record state {
   contents = overwritten overwrite state.contents;
   counter = (state.counter + 1) % 2 ^ 16;
   changed = for_both true;
 }
+
+-- The state after a command. A command without effect changes nothing. A reset clears only the configuration-changed bit of the asking
+-- master.
+abbrev pub after : MasterId → Effect → DeviceState → DeviceState
+after master Nothing state = state
+after master (Executes overwrite) state = written overwrite state
 after master Resets state = record state { changed = with_master master false state.changed }
 
 -- A restart after the device was without power sets both masters' cold start bits. Nothing else changes.

@@ -1,7 +1,8 @@
 //! The answers of a device to what it hears, and how the device changes.
 ghost use Rattle.std.specs.Prelude.{◌≡◌, ◌≤◌, ◌↔◌, length, false, true, IsSome, IsTrue, IfSome, MatchOption, None, Ok};
 ghost use Rattle.hart_commands.specs.ReplyData.{reply_payload};
-ghost use Rattle.hart_device.specs.Device.{after};
+ghost use Rattle.hart_commands.specs.Registers.{NamesValid};
+ghost use Rattle.hart_device.specs.Device.{after, written};
 ghost use Rattle.hart_device.specs.answer.Answer.{answer_of, asked_effect, code_of, is_addressed, is_answered, is_paired};
 ghost use Rattle.hart_device.specs.answer.Answer.{judged_of, names_another, reading_of, reply_of, reply_with, state_after};
 ghost use Rattle.hart_device.specs.answer.Delivery.{Brings, Brought, answer_to, state_after_delivery};
@@ -11,7 +12,7 @@ ghost use Rattle.hart_device.specs.declared.answer.garbled.GarbledRequest.{Garbl
 use crate::answer::garbled::garbled_in;
 use crate::{Device, Process, RegisterStore};
 use hart_commands::{
-    Register, Reply, ReplyContent, Request, may_be_broadcast, request_code, writes_of,
+    Overwrite, Register, Reply, ReplyContent, Request, may_be_broadcast, request_code, writes_of,
 };
 use hart_frame::{Char, Frame, FrameKind, LoneFrame, Payload, lone_frame};
 use hart_values::{Address, EachMaster, MasterId, ResponseCode};
@@ -196,19 +197,28 @@ impl<S: RegisterStore> Device<S> {
     }
 
     /// Carries out a request that has code 0.
+    #[tactic(auto, using(crate::proofs::lemmas::answer::Effect::write_is_executed))]
     fn execute(&mut self, master: MasterId, request: &Request)
         ensures { self.new ≡ after master (asked_effect (Ok request.now)) self.old }
     {
         if let Some(overwrite) = writes_of(request) {
-            self.registers.overwrite(&overwrite);
-            self.counter = self.counter.wrapping_add(1);
-            self.changed = EachMaster {
-                primary: true,
-                secondary: true,
-            };
+            self.write(&overwrite);
         } else if let Request::ResetChanged(_) = request {
             self.changed.set(master, false);
         }
+    }
+
+    /// Executes a configuration write: sets the registers that it names, counts it, and sets the configuration-changed bits.
+    fn write(&mut self, overwrite: &Overwrite)
+        requires { NamesValid overwrite.now }
+        ensures { self.new ≡ written overwrite.now self.old }
+    {
+        self.registers.overwrite(overwrite);
+        self.counter = self.counter.wrapping_add(1);
+        self.changed = EachMaster {
+            primary: true,
+            secondary: true,
+        };
     }
 
     /// Replaces `payload` by the payload of the reply to a judged frame.

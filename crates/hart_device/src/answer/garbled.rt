@@ -1,8 +1,9 @@
 //! Requests that a device heard with faults.
-ghost use Rattle.std.specs.Prelude.{◌≡◌, ◌==◌, ◌^◌, ◌↔◌, ℕ, not, bit_and, IsTrue, MatchOption};
+ghost use Rattle.std.specs.Prelude.{◌≡◌, ◌==◌, ◌^◌, ◌↔◌, ℕ, All, length, not, bit_and, IfSome, IsSome, IsTrue, MatchOption};
 ghost use Rattle.std.specs.List.{list_any};
 ghost use Rattle.hart_values.specs.declared.address.Address.TheVariants.{Unique};
 ghost use Rattle.hart_values.specs.declared.master_id.MasterId.{MasterId};
+ghost use Rattle.hart_frame.specs.heard.Character.{faultless};
 ghost use Rattle.hart_device.specs.answer.Garbled.{BeginsWithGarbled, HasGarbled, IsAsking, communication_faults, garbled_reply};
 ghost use Rattle.hart_device.specs.answer.Garbled.{has_fault, has_odd_bit};
 ghost use Rattle.hart_device.specs.Bits.{bit_if};
@@ -72,23 +73,34 @@ fn garbled_at(identity: &Identity, chars: &[Char]) -> Option<GarbledRequest>
 fn asking_master(identity: &Identity, head: &[Char]) -> Option<MasterId>
     ensures { MatchOption result ((master : MasterId) → IsAsking identity.now head.now master → ⊥) (IsAsking identity.now head.now) }
 {
+    let [delimiter, first, second, third, fourth, fifth] = bytes_of_head(head)?;
+    let (master, _burst, address) = Address::read(&[first, second, third, fourth, fifth])?;
+    if delimiter != UNIQUE_REQUEST || !is_own(identity, address) {
+        return None;
+    }
+    Some(master)
+}
+
+/// Returns the bytes of six characters without faults. Otherwise the result is `None`.
+#[tactic(auto, using(std::proofs::lemmas::Grind::common_steps, std::proofs::lemmas::Bool::Decides::nat_tests))]
+fn bytes_of_head(head: &[Char]) -> Option<[u8; 6]>
+    ensures bytes { IfSome result (λ bytes. head.now ≡ faultless bytes) }
+    ensures all { length head.now ≡ 6 → All (λ character. character.faults ≡ 0) head.now → IsSome result }
+{
     let [delimiter, first, second, third, fourth, fifth] = head else {
         return None;
     };
     if !are_faultless(head) {
         return None;
     }
-    let (master, _burst, address) = Address::read(&[
+    Some([
+        delimiter.byte(),
         first.byte(),
         second.byte(),
         third.byte(),
         fourth.byte(),
         fifth.byte(),
-    ])?;
-    if delimiter.byte() != UNIQUE_REQUEST || !is_own(identity, address) {
-        return None;
-    }
-    Some(master)
+    ])
 }
 
 /// Returns true for the unique address of the device with this identity.

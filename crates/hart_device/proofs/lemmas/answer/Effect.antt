@@ -13,7 +13,7 @@ use Rattle.hart_commands.specs.declared.reply.Reply.{Reply}
 use Rattle.hart_commands.specs.declared.request.Request.{Request}
 use Rattle.hart_commands.specs.declared.request.Request.TheVariants.{ResetChanged}
 use Rattle.hart_commands.proofs.lemmas.Laws.{requests_have_their_command}
-use Rattle.hart_device.specs.Device.{DeviceState, Effect, Nothing, Executes, Resets, after, after_reply}
+use Rattle.hart_device.specs.Device.{DeviceState, Effect, Nothing, Executes, Resets, after, after_reply, written}
 use Rattle.hart_device.specs.answer.Answer.{asked_effect, code_of, effect_of, is_answered, judged_code}
 use Rattle.hart_device.specs.answer.Answer.{judged_of, reading_of}
 
@@ -37,6 +37,12 @@ pub write_executes : (request : Request) (overwrite : Overwrite) → overwrite_o
     → asked_effect (Ok request) ≡ Executes overwrite
 unfolding written_by
 write_executes request overwrite is = grind arith
+
+-- After a write request was carried out, its overwrite is written.
+pub write_is_executed : (master : MasterId) (request overwrite : Request) (state : DeviceState) → Some overwrite ≡ overwrite_of request
+    → after master (asked_effect (Ok request)) state ≡ written overwrite state
+unfolding written_by
+write_is_executed master request overwrite state is = grind arith
 
 -- Only the overwrite of the requested write is executed, and only if the answer has code 0.
 executes_if : (reading : Reading) (answered : Bool) (code : ℕ) (overwrite : Overwrite)
