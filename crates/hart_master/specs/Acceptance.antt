@@ -1,5 +1,5 @@
 -- Which deliveries a master accepts as the reply to its request (HCF_SPEC-081; own profile: the burst bit is ignored).
-use Rattle.std.specs.Prelude.{◌≡◌, List, [], ◌∷◌, Some}
+use Rattle.std.specs.Prelude.{◌≡◌, ◌<◌, ℕ, List, [], ◌∷◌, Some, IsSome, slice_index}
 use Rattle.hart_values.specs.declared.master_id.MasterId.{MasterId}
 use Rattle.hart_values.specs.declared.address.Address.{Address}
 use Rattle.hart_frame.specs.declared.wire.kind.FrameKind.TheVariants.{Ack}
@@ -7,19 +7,28 @@ use Rattle.hart_frame.specs.declared.heard.found.Found.{Found}
 use Rattle.hart_frame.specs.heard.Character.{Character}
 use Rattle.hart_frame.specs.wire.FrameParts.{FrameParts}
 use Rattle.hart_frame.specs.heard.Frames.{AreFrames}
+use Rattle.hart_commands.specs.Commands.{command_name}
 use Rattle.hart_commands.specs.RequestData.{command_of}
 use Rattle.hart_commands.specs.ReplyData.{reply_reading}
 use Rattle.hart_commands.specs.declared.request.Request.{Request}
 use Rattle.hart_commands.specs.declared.reply.Reply.{Reply}
 
--- A frame answers a request of a master to an address if the frame is an ACK without expansion bytes, and has this master's bit, this
--- address and the request's command. The burst bit is ignored.
-pub record MatchesRequest (id : MasterId) (address : Address) (request : Request) (frame : FrameParts) : Type 0 where
+-- A request has a master, an address and a command number. A frame answers the request if it is an ACK without expansion bytes, and has
+-- the same master bit, address and command number. The burst bit is ignored.
+pub record Matches (id : MasterId) (address : Address) (number : ℕ) (frame : FrameParts) : Type 0 where
   pub kind : frame.kind ≡ Ack
   pub expansion : frame.expansion ≡ []
   pub receiver : frame.master ≡ id
   pub sender : frame.address ≡ address
-  pub command : frame.command ≡ command_of request
+  pub command : frame.command ≡ number
+
+-- The same for a listed request: the command number is the request's.
+abbrev pub MatchesRequest : MasterId → Address → Request → FrameParts → Type 0
+MatchesRequest id address request = Matches id address (command_of request)
+
+-- The same for a request frame of any command: master, address and command number are those of the request frame.
+abbrev pub MatchesFrame : FrameParts → FrameParts → Type 0
+MatchesFrame request = Matches request.master request.address request.command
 
 -- A frame is a reply to the request if it answers the request and its payload is read as this reply. A payload with communication
 -- faults is not read as a reply.
@@ -32,3 +41,10 @@ pub record IsAccepted (id : MasterId) (address : Address) (request : Request) (d
   pub found : Found
   pub alone : AreFrames delivery 0 (found ∷ [])
   pub is_reply : IsReplyTo id address request found.frame reply
+
+-- A frame is the reply to a request frame if it answers the request and has no communication faults. The payload of a known command must
+-- also be read as a reply.
+pub record IsReplyFrame (request frame : FrameParts) : Type 0 where
+  pub answers : MatchesFrame request frame
+  pub heard : slice_index frame.payload 0 < 128
+  pub read : IsSome (command_name frame.command) → IsSome (reply_reading frame.command frame.payload)

@@ -1,14 +1,22 @@
 -- Which requests are sent to which addresses (own profile).
-use Rattle.std.specs.Prelude.{◌==◌, ◌||◌, not, Bool}
+use Rattle.std.specs.Prelude.{◌==◌, ◌||◌, not, ℕ, Bool, is_some}
 use Rattle.hart_values.specs.address.AddressBytes.{is_broadcast}
 use Rattle.hart_values.specs.declared.address.Address.{Address}
 use Rattle.hart_values.specs.declared.address.Address.TheVariants.{Polling, Unique}
-use Rattle.hart_commands.specs.Commands.{may_be_broadcast}
+use Rattle.hart_frame.specs.wire.FrameParts.{FrameParts}
+use Rattle.hart_commands.specs.Commands.{command_name, may_be_broadcast}
 use Rattle.hart_commands.specs.RequestData.{command_of}
 use Rattle.hart_commands.specs.declared.request.Request.{Request}
 
 -- Only Command 0 is sent to a polling address, only Commands 11 and 21 by broadcast, and every command to any other unique address.
+abbrev pub may_go_to : Address → ℕ → Bool
+may_go_to (Polling polling) number = number == 0
+may_go_to (Unique numbers) number = not (is_broadcast (Unique numbers)) || may_be_broadcast number
+
+-- A request may be sent where its command may go.
 abbrev pub may_ask : Address → Request → Bool
-may_ask (Polling number) request = command_of request == 0
-may_ask (Unique numbers) request =
-    not (is_broadcast (Unique numbers)) || may_be_broadcast (command_of request)
+may_ask address request = may_go_to address (command_of request)
+
+-- The frame of a known command may be sent where this command may go. A frame of any other command may be sent to any address.
+abbrev pub may_send : FrameParts → Bool
+may_send frame = not (is_some (command_name frame.command)) || may_go_to frame.address frame.command

@@ -1,5 +1,5 @@
 //! Laws about the definitions alone, for the crates that use this one.
-ghost use Rattle.std.specs.Prelude.{◌≡◌, ◌≤◌, ◌⊎◌, ◌∷◌, [], List, slice_index};
+ghost use Rattle.std.specs.Prelude.{◌≡◌, ◌≤◌, ◌⊎◌, ◌↔◌, ◌∷◌, [], ℕ, List, Err, slice_index};
 ghost use Rattle.hart_values.specs.declared.master_id.MasterId.{MasterId};
 ghost use Rattle.hart_values.specs.declared.address.Address.{Address};
 ghost use Rattle.hart_frame.specs.heard.Character.{Character};
@@ -9,6 +9,13 @@ ghost use Rattle.hart_frame.specs.declared.heard.found.Found.{Found};
 ghost use Rattle.hart_commands.specs.declared.reply.Reply.{Reply};
 ghost use Rattle.hart_commands.specs.declared.request.Request.{Request};
 ghost use Rattle.hart_master.specs.Acceptance.{IsAccepted, IsReplyTo};
+ghost use Rattle.hart_master.specs.FrameMaster as frames;
+ghost use Rattle.hart_master.specs.Master as masters;
+ghost use Rattle.hart_master.specs.declared.event.MasterEvent.{MasterEvent};
+ghost use Rattle.hart_master.specs.declared.fault.MasterFault.{MasterFault};
+ghost use Rattle.hart_master.specs.declared.frame_event.FrameEvent.{FrameEvent};
+ghost use Rattle.hart_master.specs.declared.frame_hand.FrameHand.{FrameHand};
+ghost use Rattle.hart_master.specs.declared.hand.Hand.{Hand};
 
 use hart_frame::laws::{every_list_has_frames, frames_are_unambiguous};
 
@@ -53,3 +60,37 @@ pub fn communication_faults_are_no_reply()
     // This call does nothing: only its contract is needed.
     acceptance_is_decided();
 }
+
+/// A master over frames decides as a [`Master`](crate::Master) does. If both have the same in hand, they take and refuse the same requests,
+/// send the same frames, and return the same events for the same frames and the same time; then both again have the same in hand. A
+/// request that was answered counts as no longer in hand.
+///
+/// The requests are listed ones, and their frames have exactly the data that a `Master` sends. The law is about one frame at a time: it
+/// does not compare [`Master::hear`](crate::Master::hear), which may get several frames at once. Nor is it about
+/// [`FrameMaster::again`](crate::FrameMaster::again), which a `Master` does not have.
+#[tactic(auto, using(crate::proofs::lemmas::Alike::has_name))]
+pub fn masters_over_frames_decide_alike()
+    ensures refused { (id : MasterId) (hand : Hand) (other : FrameHand) (address : Address) (request : Request) (fault : MasterFault)
+        → frames.AreAlike id hand other
+        → (masters.result_submitted hand address request ≡ Err (record { fault = fault; request = request }))
+        ↔ (frames.result_submitted other (frames.frame_of id address request)
+        ≡ Err (record { fault = fault; request = frames.frame_of id address request })) }
+    ensures taken { (id : MasterId) (hand : Hand) (other : FrameHand) (address : Address) (request : Request)
+        → frames.AreAlike id hand other
+        → frames.AreAlike id (masters.hand_submitted hand address request)
+        (frames.hand_submitted other (frames.frame_of id address request)) }
+    ensures frame { (id : MasterId) (hand : Hand) (other : FrameHand) → frames.AreAlike id hand other
+        → masters.frame_sent id hand ≡ frames.frame_due other }
+    ensures sent { (id : MasterId) (hand : Hand) (other : FrameHand) → frames.AreAlike id hand other
+        → frames.AreAlike id (masters.hand_sent hand) (frames.hand_sent other) }
+    ensures received { (id : MasterId) (hand : Hand) (other : FrameHand) (frame : FrameParts) (event : MasterEvent) (told : FrameEvent)
+        → frames.AreAlike id hand other
+        → masters.IsHeard hand (masters.FrameBrings id hand frame) event → frames.IsReceived other frame told
+        → (told ≡ frames.event_of event)
+        × frames.AreAlike id (masters.hand_heard hand event) (frames.hand_received other told) }
+    ensures ticked { (id : MasterId) (hand : Hand) (other : FrameHand) (retries reply_limit time : ℕ) → frames.AreAlike id hand other
+        → frames.event_ticked retries reply_limit other time ≡ frames.event_of (masters.event_ticked retries reply_limit hand time) }
+    ensures time { (id : MasterId) (hand : Hand) (other : FrameHand) (retries reply_limit time : ℕ) → frames.AreAlike id hand other
+        → frames.AreAlike id (masters.hand_ticked retries reply_limit hand time)
+        (frames.hand_ticked retries reply_limit other time) }
+{}

@@ -13,6 +13,9 @@
 //! assert_eq!(rt; master.tick(33), MasterEvent::NoReply(2));
 //! ```
 //!
+//! A [`FrameMaster`] is such a master over frames of any command, known or not. It reads the reply data of known commands, but only to
+//! decide whether a frame is the reply.
+//!
 //! The program `hart` does not call [`unique_of`]. This function is for programs that search for devices with this library.
 //!
 //! No call of this crate allocates.
@@ -21,13 +24,21 @@
 mod acceptance;
 mod event;
 mod fault;
+mod frame_event;
+mod frame_hand;
+mod frame_master;
 mod hand;
 pub mod laws;
 mod master;
 mod pairing;
 mod unique;
 
+pub use acceptance::{matches, matches_frame};
 pub use event::MasterEvent;
 pub use fault::{MasterFault, Rejected};
+pub use frame_event::{FrameEvent, RejectedFrame};
+pub use frame_hand::{FrameHand, FrameTransaction};
+pub use frame_master::{FrameMaster, is_request};
 pub use master::Master;
+pub use pairing::may_ask;
 pub use unique::unique_of;

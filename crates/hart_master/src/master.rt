@@ -17,7 +17,7 @@ use std::marker::Model;
 use std::mem;
 
 /// The highest retry limit that a master can have.
-const MOST_RETRIES: u8 = 15;
+pub(crate) const MOST_RETRIES: u8 = 15;
 
 /// One of the two masters, with one request in hand or none.
 ///
