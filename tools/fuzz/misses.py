@@ -15,7 +15,7 @@ WORDS = {
     "short_reply": "it is a reply, and its byte count {byte_count} is below 2",
     "missing": "it lacks {count} characters, the last of them its check byte",
     "bad_check": "the check byte is 0x{byte:02X} at {at}, and 0x{fits:02X} would fit",
-    "one_preamble": "only one 0xFF stands before it",
+    "one_preamble": "only one intact preamble byte stands directly before it",
 }
 ONLY_CHECK_BYTE = "it lacks 1 character, its check byte"
 

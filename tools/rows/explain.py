@@ -171,7 +171,7 @@ ROWS = (
     (
         "FF FF 02 80 7D 00 FF FF 02 00 00 00 02",
         "2-7: request of the primary master to the device at polling address 0, Command 125\n"
-        "8: no message: only one 0xFF stands before it\n"
+        "8: no message: only one intact preamble byte stands directly before it\n"
         "    seems: request of the secondary master to the device at polling address 0, Command 0, read unique identifier\n",
         "",
     ),
@@ -201,7 +201,11 @@ ROWS = (
     ("FF FF 02 80 00 00 82/", IDENTIFY, ""),
     ("FF FF 02 80/00 00 82", "2: no message: it ends before its byte count\n", ""),
     ("FF FF 02 80 00/00 82", "2: no message: it ends before its byte count\n" + SEEMS_IDENTIFY, ""),
-    ("FF FF/02 80 00 00 82 FF/FF 02 80 00 00 82", "9: no message: only one 0xFF stands before it\n" + SEEMS_IDENTIFY, ""),
+    (
+        "FF FF/02 80 00 00 82 FF/FF 02 80 00 00 82",
+        "9: no message: only one intact preamble byte stands directly before it\n" + SEEMS_IDENTIFY,
+        "",
+    ),
     (
         "FF FF 82 B7 42 / FF FF 02 80 00 00 82 / FF FF 02 80 00 00 83",
         "2: no message: it ends before its byte count\n"
@@ -269,7 +273,7 @@ RAW_FAILED_READS = (
     (b"\xFF\xFF\x02\x80\x00\x00", "2: no message: it lacks 1 character, its check byte\n" + SEEMS_IDENTIFY, "read fault\n"),
 )
 
-ONE_PREAMBLE = "8: no message: only one 0xFF stands before it\n" + SEEMS_IDENTIFY
+ONE_PREAMBLE = "8: no message: only one intact preamble byte stands directly before it\n" + SEEMS_IDENTIFY
 
 # Two messages, the second with one preamble byte alone. What follows the last digits of an item makes it whole.
 MESSAGES = "FF FF 02 80 00 00 82 FF 02 80 00 00 82 "

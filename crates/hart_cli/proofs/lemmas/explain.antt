@@ -4,6 +4,7 @@ pub mod Objects
 pub mod Rows
 pub mod Units
 pub mod Gaps
+pub mod OnePreamble
 pub mod OneLine
 pub mod Header
 pub mod Seems

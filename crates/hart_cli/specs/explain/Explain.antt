@@ -12,8 +12,7 @@ use Rattle.hart_cli.specs.input.LiveInput.{HasText, LiveOutcome}
 abbrev pub IsExplanation : List ℕ → Ending → Option CliFault → List ℕ → Type 0
 IsExplanation = HasText heard_decoding IsExplanationOf
 
--- A call of `explain` reads an input of at most 2^64 - 1 bytes, and writes each part of its explanation as soon as that part is
--- decided.
+-- A call of `explain` reads an input of at most 2^64 - 1 bytes, and writes its explanation. `LiveOutcome` says when the parts are written.
 abbrev pub ExplainOutcome : OutcomeRelation
 ExplainOutcome = LiveOutcome heard_decoding stream_limit IsExplanationOf IsDecidedExplanation
 
@@ -21,8 +20,7 @@ ExplainOutcome = LiveOutcome heard_decoding stream_limit IsExplanationOf IsDecid
 abbrev pub IsRawExplanation : List ℕ → Ending → Option CliFault → List ℕ → Type 0
 IsRawExplanation = HasText raw_decoding IsExplanationOf
 
--- A call of `explain --raw` reads a raw input of at most 2^64 - 2 bytes, and writes each part of its explanation as soon as that
--- part is decided.
+-- A call of `explain --raw` reads a raw input of at most 2^64 - 2 bytes, and writes its explanation, each part when `LiveOutcome` says.
 abbrev pub RawExplainOutcome : OutcomeRelation
 RawExplainOutcome = LiveOutcome raw_decoding raw_limit IsExplanationOf IsDecidedExplanation
 
@@ -30,7 +28,7 @@ RawExplainOutcome = LiveOutcome raw_decoding raw_limit IsExplanationOf IsDecided
 abbrev pub IsJson : List ℕ → Ending → Option CliFault → List ℕ → Type 0
 IsJson = HasText heard_decoding IsJsonOf
 
--- A call of `explain --json` reads an input as `explain` does, and writes the line of each sighting as soon as it is decided.
+-- A call of `explain --json` reads an input as `explain` does, and writes the line of each sighting, when `LiveOutcome` says.
 abbrev pub JsonOutcome : OutcomeRelation
 JsonOutcome = LiveOutcome heard_decoding stream_limit IsJsonOf IsDecidedJson
 
@@ -38,17 +36,17 @@ JsonOutcome = LiveOutcome heard_decoding stream_limit IsJsonOf IsDecidedJson
 abbrev pub IsRawJson : List ℕ → Ending → Option CliFault → List ℕ → Type 0
 IsRawJson = HasText raw_decoding IsJsonOf
 
--- A call of `explain --json --raw` reads a raw input as `explain --raw` does, and writes the line of each sighting as soon as it is
--- decided.
+-- A call of `explain --json --raw` reads a raw input as `explain --raw` does, and writes the line of each sighting, when `LiveOutcome`
+-- says.
 abbrev pub RawJsonOutcome : OutcomeRelation
 RawJsonOutcome = LiveOutcome raw_decoding raw_limit IsJsonOf IsDecidedJson
 
 -- Only private calls use the definitions from here on.
 
--- A call reads an input of at most 2^64 - 1 bytes, and writes each part of its text in a style as soon as that part is decided.
+-- A call reads an input of at most 2^64 - 1 bytes, and writes its text in a style, each part when `LiveOutcome` says.
 abbrev pub TextOutcome : Style → OutcomeRelation
 TextOutcome style = LiveOutcome heard_decoding stream_limit (IsTextIn style) (IsDecidedIn style)
 
--- A call reads a raw input of at most 2^64 - 2 bytes, and writes each part of its text in a style as soon as that part is decided.
+-- A call reads a raw input of at most 2^64 - 2 bytes, and writes its text in a style, each part when `LiveOutcome` says.
 abbrev pub RawTextOutcome : Style → OutcomeRelation
 RawTextOutcome style = LiveOutcome raw_decoding raw_limit (IsTextIn style) (IsDecidedIn style)

@@ -1,5 +1,5 @@
 -- The places outside all messages, and the lines of the places at which a message seems to start (own profile).
-use Rattle.std.specs.Prelude.{◌≡◌, ◌≢◌, ◌⊎◌, ◌++◌, [], ◌∷◌, ℕ, All, List, length}
+use Rattle.std.specs.Prelude.{◌≡◌, ◌≢◌, ◌≤◌, ◌<◌, ◌+◌, ◌⊎◌, ◌++◌, [], ◌∷◌, ℕ, All, Contains, List, Some, length, slice_get}
 use Rattle.hart_frame.specs.heard.Character.{Character}
 use Rattle.hart_frame.specs.heard.Sighting.{Message, Missed, Seen}
 use Rattle.hart_frame.specs.declared.heard.found.Found.{Found}
@@ -10,6 +10,16 @@ use Rattle.hart_frame.specs.declared.heard.found.Found.{Found}
 abbrev pub IsGap : List Character → ℕ → List Found → (from stop : ℕ) → Type 0
 IsGap chars place [] from stop = (from ≡ place) × (stop ≡ length chars)
 IsGap chars place (found ∷ later) from stop = ((from ≡ place) × (stop ≡ found.start)) ⊎ IsGap chars found.stop later from stop
+
+-- Only one intact preamble byte stands directly before a place. Right before the place a faultless FF was heard that is in no frame's body.
+-- If the character before this FF is a faultless FF too, that one is the check byte of a frame.
+pub record HasOnePreamble (chars : List Character) (frames : List Found) (place : ℕ) : Type 0 where
+  pub before : ℕ
+  pub place_is : place ≡ before + 1
+  pub heard : slice_get chars before ≡ Some (record { byte = 255; faults = 0 })
+  pub outside : All (λ found. (found.stop ≤ before) ⊎ (place < found.start)) frames
+  pub alone : (earlier : ℕ) → before ≡ earlier + 1 → slice_get chars earlier ≡ Some (record { byte = 255; faults = 0 })
+      → (found : Found) × Contains frames found × (found.stop ≡ before)
 
 -- The place of a sighting.
 abbrev pub seen_place : Seen → ℕ

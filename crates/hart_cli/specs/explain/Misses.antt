@@ -27,7 +27,7 @@ miss_words (Missing count) = missing_words count
 miss_words (BadCheck place byte fits) =
     codes "the check byte is " ++ byte_value byte ++ codes " at " ++ decimal place ++ codes ", and " ++ byte_value fits
     ++ codes " would fit"
-miss_words OnePreamble = codes "only one 0xFF stands before it"
+miss_words OnePreamble = codes "only one intact preamble byte stands directly before it"
 
 -- The line of a miss has the place where a message seems to start, in decimal, the words of the miss, and a line feed.
 abbrev pub miss_line : ℕ → Miss → List ℕ

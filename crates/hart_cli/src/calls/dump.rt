@@ -18,10 +18,11 @@ use std::alloc::Global;
 mod frame_lines;
 mod text;
 
-/// Reads the characters heard on a HART line as hex items. Writes a line of text for each frame, as soon as the frame is decided.
+/// Reads the characters heard on a HART line as hex items, and writes a line of text for each frame.
 ///
-/// The call reads a portion at a time. Before each read it has written the lines of all frames decided by then. So a live HART line is
-/// dumped while it is heard, up to the limit of an input. The call allocates nothing.
+/// The call reads a portion at a time. If a write fails, only lines that were decided by the last 16,384 bytes read can be missing. The
+/// contract says no more about when a line is written. Tests show that before each read the lines of all frames decided by then are
+/// written. So a live HART line is dumped while it is heard, up to the limit of an input. The call allocates nothing.
 ///
 /// # Errors
 ///
@@ -40,8 +41,7 @@ pub fn dump<R: Source, W: Sink>(
 {
     let mut frames = FrameLines::new();
     let fault = scan_input(reader, writer, &mut frames)?;
-    frames.finish();
-    write_all(writer, frames.lines.as_slice())?;
+    frames.finish(writer)?;
     match fault {
         Some(fault) => Err(fault),
         None => Ok(()),

@@ -37,16 +37,16 @@ mod words;
 const RAW_LIMIT: usize = usize::MAX - 1;
 
 /// Reads the characters heard on a HART line as hex items, and writes in words what each message says. For a place where a message
-/// only seems to start, it writes why no message stands there and, if a header was heard, what the message seems to be. It writes
-/// each part as soon as that part is decided.
+/// only seems to start, it writes why no message stands there and, if a header was heard, what the message seems to be.
 ///
 /// A `/` says that the line fell silent. What was heard before the silence is explained as ended, and no message crosses the silence. A
 /// `@` and a word give the date of what follows. Each message, and each place where a message only seems to start, has the last date
 /// before it.
 ///
-/// The call reads a portion at a time. Before each read it has written all that is decided by then, so a live HART line is explained
-/// while it is heard. From one read to the next it keeps at most 268 characters that decide nothing yet, and their dates. It allocates
-/// nothing.
+/// The call reads a portion at a time. If a write fails, only text that was decided by the last 16,384 bytes read can be missing. The
+/// contract says no more about when a part of the text is written. Tests show that before each read all that is decided by then is
+/// written. So a live HART line is explained while it is heard. From one read to the next the call keeps at most 268 characters that
+/// decide nothing yet, and their dates. It allocates nothing.
 ///
 /// # Errors
 ///
@@ -67,9 +67,9 @@ pub fn explain<R: Source, W: Sink>(
     explain_heard(Style::Words, reader, writer)
 }
 
-/// Reads the characters that [`explain`] reads. For each part of the text of `explain` it writes a JSON object as one line, at the moment
-/// at which `explain` writes that part. The object of a reply also says which request the reply answers. The object of a request also says
-/// how many times in a row the request has been sent.
+/// Reads the characters that [`explain`] reads. For each part of the text of `explain` it writes a JSON object as one line. Contract and
+/// tests say when a line is written, as for `explain`. The object of a reply also says which request the reply answers. The object of a
+/// request also says how many times in a row the request has been sent.
 ///
 /// # Errors
 ///
@@ -89,7 +89,7 @@ pub fn explain_json<R: Source, W: Sink>(
 
 /// Reads the bytes heard on a HART line as raw bytes, and explains them in the words of [`explain`].
 ///
-/// It reads a portion at a time. Before each read it has written all that is decided by then. It allocates nothing.
+/// It reads a portion at a time, and allocates nothing. Contract and tests say when a part of the text is written, as for `explain`.
 ///
 /// # Errors
 ///

@@ -17,7 +17,10 @@ use std::alloc::Global;
 mod line;
 mod server;
 
-/// Reads lines until the input ends, and writes the answer to each line before it reads on.
+/// Reads lines until the input ends, and writes the answer to each line.
+///
+/// If a write fails, only answers to lines that end within the last 16,384 bytes read can be missing. The contract says no more about when
+/// an answer is written. Tests show that before each read the answers to all whole lines read by then are written.
 ///
 /// The bench device hears all items of a line at once. The line written for them is the reply in hex, or `-` for silence. `restart`,
 /// `protect on` and `protect off` give `ok`, `image` gives the image of the device, and `counter` its counter. Any other line, or a line of

@@ -157,6 +157,13 @@ missed_are chars from stop place miss header has =
     header has in
     let own = own_miss (miss_in_whole from) (seen_miss (drop from chars) (place - from)) miss is.2 in (is.0, own.0, own.1, own.2)
 
+-- each miss told of a gap stands in the gap
+pub missed_within : (chars : List Character) (from stop place : ℕ) (miss : Miss) (header : Option HeaderParts)
+    → Contains (missed chars from stop) (Missed place miss header) → (from ≤ place) × (place < stop)
+missed_within chars from stop place miss header has =
+    let is = told_is (miss_in_whole from) (λ at. seen_miss (drop from chars) (at - from)) (header_at chars) from (stop - from) place miss
+    header has in (is.0, omega (arith, is.0, is.1))
+
 -- a miss is told with the header that stands at its place
 pub missed_header : (chars : List Character) (from stop place : ℕ) (miss : Miss) (header : Option HeaderParts)
     → Contains (missed chars from stop) (Missed place miss header) → header_at chars place ≡ header

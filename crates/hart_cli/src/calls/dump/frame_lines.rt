@@ -1,14 +1,17 @@
 //! What is heard and still undecided, and lines of the frames that were found in it.
-ghost use Rattle.std.specs.Prelude.{◌≡◌, ◌≢◌, ◌+◌, ◌*◌, ◌<◌, ◌≤◌, ◌^◌, ◌∷◌, [], drop, length, false, true};
+ghost use Rattle.std.specs.Prelude.{◌≡◌, ◌≢◌, ◌+◌, ◌*◌, ◌<◌, ◌≤◌, ◌^◌, ◌∷◌, [], ℕ, List, drop, length, false, true};
 ghost use Rattle.std.specs.Option.{option_to_list};
 ghost use Rattle.hart_frame.specs.heard.Character.{Character, faultless};
 ghost use Rattle.hart_cli.specs.dump.FrameLines.{AddsDecided, AddsRest, HasRoomFor, Hears, HearsText, IsWaiting};
 ghost use Rattle.hart_cli.specs.input.Decoding.{most_ahead};
+ghost use Rattle.hart_cli.specs.stream.Stream.{Writes};
 ghost use Rattle.hart_cli.specs.text.Items.{NoPieceBegins};
 
 use crate::calls::dump::text::push_frame_line;
 use crate::held;
 use crate::held::Held;
+use crate::output::write_all;
+use crate::stream::{Failed, Sink};
 use crate::text::chunk::{Chunk, read_chunk};
 use crate::text::items::next_piece;
 use crate::text::pairs::Pairs;
@@ -149,15 +152,21 @@ impl FrameLines {
         self.first += used as u64 + 1;
     }
 
-    /// Keeps a line for each frame in the held characters. No character comes after the held ones.
-    pub fn finish(&mut self)
-        requires waiting { IsWaiting self.old.held }
-        requires none_kept { self.old.lines ≡ [] }
-        requires places { self.old.first + length self.old.held < 2 ^ 64 }
-        ensures { AddsRest self.old.first self.old.held [] self.new.lines }
+    /// Writes the line of each frame in the held characters, since no character comes after them.
+    ///
+    /// # Errors
+    ///
+    /// `Failed` at the first write that fails.
+    pub fn finish<W: Sink>(mut self, writer: &mut W) -> Result<(), Failed>
+        requires waiting { IsWaiting self.held }
+        requires none_kept { self.lines ≡ [] }
+        requires places { self.first + length self.held < 2 ^ 64 }
+        ensures { (lines : List ℕ) × AddsRest self.first self.held [] lines
+            × Writes (W.stream writer.old) (W.stream writer.new) lines result }
     {
         let held = self.held.as_slice();
         push_decided(&mut self.lines, &self.pairs, self.first, held, true);
+        write_all(writer, self.lines.as_slice())
     }
 
     /// Drops the first `used` characters.

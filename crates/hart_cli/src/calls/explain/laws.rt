@@ -4,7 +4,7 @@ ghost use Rattle.std.specs.Prelude.{Option, Some};
 ghost use Rattle.std.specs.Prelude.{drop, length, option_map, set, take};
 ghost use Rattle.hart_frame.specs.heard.Character.{Character, faultless};
 ghost use Rattle.hart_frame.specs.heard.Frames.{AreFrames};
-ghost use Rattle.hart_frame.specs.heard.InTheWay.{FollowsOnePreamble, HasBodyAt, HasFaultsAt, IsInTheWay, bytes_from};
+ghost use Rattle.hart_frame.specs.heard.InTheWay.{HasBodyAt, HasFaultsAt, IsInTheWay, bytes_from};
 ghost use Rattle.hart_frame.specs.heard.Place.{HasFrameUpTo};
 ghost use Rattle.hart_frame.specs.heard.Sighting.{Missed, Seen, header_at, miss_in_whole, missed, seen_miss, sightings, two_begin_in_body};
 ghost use Rattle.hart_frame.specs.heard.Start.{IsStart};
@@ -20,7 +20,7 @@ ghost use Rattle.hart_cli.specs.explain.Dumped.{AreOfOneHearing};
 ghost use Rattle.hart_cli.specs.explain.Explain.{IsExplanation, IsJson, IsRawExplanation, IsRawJson};
 ghost use Rattle.hart_cli.specs.explain.Explanation.{ComeFirst, IsDecidedExplanation, IsDecidedJson, IsExplanationOf, IsJsonOf, date_of};
 ghost use Rattle.hart_cli.specs.explain.Explanation.{date_words, explanation, object_lines};
-ghost use Rattle.hart_cli.specs.explain.Gaps.{IsGap, IsOneLine, seen_place};
+ghost use Rattle.hart_cli.specs.explain.Gaps.{HasOnePreamble, IsGap, IsOneLine, seen_place};
 ghost use Rattle.hart_cli.specs.explain.Message.{paragraph};
 ghost use Rattle.hart_cli.specs.explain.Misses.{miss_line, seems_line};
 ghost use Rattle.hart_cli.specs.explain.Told.{AreOfOneTelling};
@@ -103,8 +103,8 @@ pub fn explanations_name_the_messages_of_dump()
 ///
 /// A gap between messages has one line for each place where the definition has a miss, in the order of the places. If a header is heard
 /// at such a place, and only then, a second line follows. Let the tail be the characters from the beginning of the gap on. Each place of
-/// the gap where a body may start in the tail has a line. If any other place of the gap has a line, the line says that only one `FF`
-/// stands before the place.
+/// the gap where a body may start in the tail has a line. If any other place of the gap has a line, the line says that only one
+/// intact preamble byte stands directly before the place.
 pub fn every_start_outside_messages_has_one_line()
     ensures by_message { (date : ℕ → List ℕ) (chars : List Character) (from : ℕ) (found : Found) (later : List Found)
         → explanation date (sightings chars from (found ∷ later))
@@ -138,10 +138,11 @@ pub fn every_start_outside_messages_has_one_line()
 /// in the way in the whole input, too. If a line names a check byte that would fit, put this byte in place of the check byte that was
 /// heard: a frame then stands at the line's place and ends with this byte. A character that a line names as damaged has exactly the fault
 /// bits that the line says. If a line counts missing characters, let this number of characters follow: any bytes, and last the right check
-/// byte. A frame then stands at the line's place and ends with this check byte. If a line says that only one `FF` stands before its place,
-/// exactly one stands right before this place in the tail. A whole body stands at this place, and no two `FF` in a row begin in the body.
-/// A second line stays right if the characters after the command are replaced: a body at the place then has the header that the second
-/// line says.
+/// byte. A frame then stands at the line's place and ends with this check byte. If a line says that only one intact preamble byte
+/// stands directly before its place, this is so in the whole input: a faultless `FF` of no message stands there, and the character before
+/// it, if any, is no faultless `FF`, or is the check byte of a message. A whole body stands at this place, and no two `FF` in a row begin
+/// in the body. A second line stays right if the characters after the command are replaced: a body at the place then has the header that
+/// the second line says.
 pub fn hints_of_explanations_are_right()
     ensures in_the_way { (chars : List Character) (from stop place : ℕ) (miss : Miss) (header : Option HeaderParts)
         → All (λ character. character.byte < 256) chars
@@ -159,11 +160,10 @@ pub fn hints_of_explanations_are_right()
         → Contains (missed chars from stop) (Missed place (Missing count) header) → count ≡ length bytes + 1
         → (last : ℕ) × IsCheckByte (bytes_from chars place ++ bytes) last
         × HasFrameUpTo (chars ++ faultless (bytes ++ last ∷ [])) place (length chars + count) }
-    ensures alone { (chars : List Character) (from stop place : ℕ) (header : Option HeaderParts)
-        → All (λ character. character.byte < 256) chars
+    ensures alone { (chars : List Character) (frames : List Found) (from stop place : ℕ) (header : Option HeaderParts)
+        → All (λ character. character.byte < 256) chars → AreFrames chars 0 frames → IsGap chars 0 frames from stop
         → Contains (missed chars from stop) (Missed place OnePreamble header)
-        → FollowsOnePreamble (drop from chars) (place - from) × HasBodyAt chars place
-        × (two_begin_in_body (drop from chars) (place - from) ≡ false) }
+        → HasOnePreamble chars frames place × HasBodyAt chars place × (two_begin_in_body chars place ≡ false) }
     ensures seems { (chars others : List Character) (from stop place : ℕ) (miss : Miss) (header : HeaderParts)
         → Contains (missed chars from stop) (Missed place miss (Some header))
         → take (command_place (bytes_from chars place) + 1) (drop place others)

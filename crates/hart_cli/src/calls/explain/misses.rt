@@ -76,7 +76,10 @@ fn push_miss(text: &mut Kept, pairs: &Pairs, first: u64, miss: Miss)
         Miss::BadCheck { place, byte, fits } => {
             push_check(text, pairs, first + place as u64, byte, fits);
         }
-        Miss::OnePreamble => push_text(text, "only one 0xFF stands before it"),
+        Miss::OnePreamble => push_text(
+            text,
+            "only one intact preamble byte stands directly before it",
+        ),
     }
 }
 

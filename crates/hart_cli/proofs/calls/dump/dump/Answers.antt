@@ -21,22 +21,23 @@ has_dump : {r r' w w1 : Stream} {frames : FrameLines} {fault : Option CliFault} 
 has_dump w' all adds wrote =
     (_, grind (arith, all_lines all.chars _ _ all.text _ all.has adds), WritesAll-on _ _ w' all.text _ all.wrote wrote)
 
-pub returns-in_err-write_all : goal.returns-in_err-write_all
-returns-in_err-write_all g c =
+pub returns-in_err-finish : goal.returns-in_err-finish
+returns-in_err-finish g c =
     let all = c.in_ok-fault.ensures in
-    let fails = rw c.as_slice.ensures.value at c.in_err-write_all.ensures in
-    let stop = err_from_is_err_and c.from_residual-in_err-write_all.result c.from_residual-in_err-write_all.ensures.1 in
+    let (lines, adds, fails) = c.in_err-finish.ensures in
+    let stop = err_from_is_err_and c.from_residual-in_err-finish.result c.from_residual-in_err-finish.ensures.1 in
     rw (stop.1, stop.2)
     (stops_in item_decoding input_limit AreFrameLines AreDecidedLines _ _ _ _ _ all.input all.decodes.ending all.chars _ _ all.decodes.reads
-    all.decodes.decoded (all_lines all.chars _ _ all.text _ all.has c.finish.ensures) all.in_time
+    all.decodes.decoded (all_lines all.chars _ _ all.text _ all.has adds) all.in_time
     (FailsToWrite-on _ _ _ all.text _ all.wrote fails) fails)
 
 pub returns-in-Some : goal.returns-in-Some
 returns-in-Some g c =
     let all = rw c.in-Some.is at c.in_ok-fault.ensures in
-    let (lines, dump, wrote) = has_dump _ all c.finish.ensures (rw c.as_slice.ensures.value at c.in_ok-write_all.ensures) in
+    let (last, adds, writes) = c.in_ok-finish.ensures in
+    let (lines, dump, wrote) = has_dump _ all adds writes in
     ends_with ReadsUpTo NoPieceBegins most_ahead input_limit AreFrameLines AreDecidedLines _ _ _ _ c.in-Some.fault lines dump wrote
 
 pub returns-in-None : goal.returns-in-None
 returns-in-None g c =
-    has_dump _ (rw c.in-None.is at c.in_ok-fault.ensures) c.finish.ensures (rw c.as_slice.ensures.value at c.in_ok-write_all.ensures)
+    let (last, adds, writes) = c.in_ok-finish.ensures in has_dump _ (rw c.in-None.is at c.in_ok-fault.ensures) adds writes

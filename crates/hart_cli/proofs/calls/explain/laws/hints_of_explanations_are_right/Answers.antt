@@ -16,7 +16,8 @@ use Rattle.hart_frame.specs.heard.Start.{IsStart}
 use Rattle.hart_frame.specs.heard.Sighting.{Missed, miss_in_whole, missed, seen_miss, two_begin_in_body}
 use Rattle.hart_frame.specs.wire.Header.{HeaderParts}
 use Rattle.hart_frame.proofs.lemmas.heard.Missed.{one_preamble-yes}
-use Rattle.hart_cli.proofs.lemmas.explain.Gaps.{missed_are, missed_header, seen_is_miss, stands_in_rest}
+use Rattle.hart_cli.proofs.lemmas.explain.Gaps.{missed_are, missed_header, missed_within, seen_is_miss, stands_in_rest}
+use Rattle.hart_cli.proofs.lemmas.explain.OnePreamble.{has_one_preamble}
 use Rattle.hart_cli.proofs.lemmas.explain.Seems.{header_of_all}
 use Rattle.hart_cli.proofs.calls.explain.laws.hints_of_explanations_are_right.Goals as goal
 
@@ -150,13 +151,15 @@ returns-clause-missing c chars from stop place count bytes header small fit has 
     (c.misses_say_what_is_wrong.ensures.missing (place - from) count (drop from chars) bytes k.small fit is long)
 
 pub returns-clause-alone : goal.returns-clause-alone
-returns-clause-alone c chars from stop place header small has =
+returns-clause-alone c chars frames from stop place header small are gap has =
     let k = known chars from stop place OnePreamble header small has in
+    let within = missed_within chars from stop place OnePreamble header has in
     let one = own_one from k.own k.told in
     let (alone, body) = (c.misses_are_in_the_way.ensures.one_alone (place - from) (drop from chars) k.small).0 (rw one at k.is) in (
-      alone,
+      has_one_preamble chars frames from stop place are gap within.0 within.1 (one_preamble-yes (drop from chars) (place - from) alone),
       body_in_rest chars from (place - from) place k.placed body,
-      alone_is (drop from chars) (place - from) (rw one at k.seen) alone,
+      rw (bytes_in_rest chars from (place - from) place k.placed) at
+          (alone_is (drop from chars) (place - from) (rw one at k.seen) alone),
     )
 
 pub returns-clause-seems : goal.returns-clause-seems
