@@ -17,6 +17,7 @@
 #include <stdbool.h>
 #include <stddef.h>
 #include <stdint.h>
+#include <string.h>
 
 #ifdef __cplusplus
 extern "C" {
@@ -65,6 +66,38 @@ enum {
     HART_NO_REQUEST = 23,     /* a frame that is a reply, has expansion bytes or the burst bit, or has refused data */
     HART_WRONG_ADDRESS = 24   /* a command not allowed at this kind of address */
 };
+
+/* Returns an English text of a fault, for logs. This is plain C: nothing of it is proved. */
+static inline const char *hart_fault_text(uint8_t fault)
+{
+    static const char *const texts[] = {
+        "no fault", "a reply without its status bytes", "a number of preamble bytes outside 5 to 20", "no delimiter", "too few bytes",
+        "a bad check byte", "a byte count of a reply below 2", NULL, NULL, NULL, "a number of an address out of range",
+        "more than three expansion bytes", "no room in the output", "an unknown fault bit", "no reply to the command",
+        "no such command or field", "a number of an identity out of range", "an identity with the broadcast address",
+        "an image of an unknown version", "an image of a bad length", "a bad value of a register", "no dynamic variable, or more than four",
+        "more than 1,024 characters", "no request of a master", "a command not allowed at this address"};
+    const char *text = fault < sizeof texts / sizeof texts[0] ? texts[fault] : NULL;
+    return text ? text : "an unknown fault";
+}
+
+/* Returns the number that four bytes stand for as a float of IEEE 754, the most significant byte first. Plain C, not proved. */
+static inline float hart_float(const uint8_t bytes[4])
+{
+    uint32_t bits = (uint32_t)bytes[0] << 24 | (uint32_t)bytes[1] << 16 | (uint32_t)bytes[2] << 8 | bytes[3];
+    float value;
+    memcpy(&value, &bits, sizeof value);
+    return value;
+}
+
+/* Writes a number as a float in four bytes, the most significant byte first. Plain C, not proved. */
+static inline void hart_put_float(float value, uint8_t bytes[4])
+{
+    uint32_t bits;
+    memcpy(&bits, &value, sizeof bits);
+    for (int i = 0; i < 4; i++)
+        bytes[i] = (uint8_t)(bits >> (24 - 8 * i));
+}
 
 /* A character that was heard. */
 typedef struct hart_char {
@@ -256,12 +289,23 @@ void hart_restart(hart_device *device);
 hart_outcome hart_hear(const hart_identity *identity, const hart_process *process, const hart_char *heard, size_t heard_len,
                        hart_device *device, uint8_t *reply, size_t reply_len);
 
+/* Why no reply was accepted. */
+enum {
+    HART_NO_REASON = 0,            /* a reply was accepted, or the call has a fault */
+    HART_NO_FRAME = 1,             /* nothing that was heard is a frame */
+    HART_SEVERAL_FRAMES = 2,       /* several frames were heard at once */
+    HART_OTHER_FRAME = 3,          /* the frame answers another request, or it is no reply */
+    HART_COMMUNICATION_FAULTS = 4, /* the device heard the request with communication faults: bit 0x80 of payload[0] is set */
+    HART_UNFIT_DATA = 5            /* the data of the reply do not fit its command */
+};
+
 /* Whether a request was answered. */
 typedef struct hart_acceptance {
     bool is_accepted; /* true if a reply to the request was accepted */
     uint8_t code;     /* the response code of the accepted reply, where 0 is success; also 0 if none was accepted */
     uint8_t status;   /* the device status of the accepted reply; 0 if none was accepted */
     uint8_t fault;    /* HART_OK, or why nothing was done */
+    uint8_t reason;   /* why no reply was accepted, HART_NO_FRAME to HART_UNFIT_DATA; otherwise HART_NO_REASON */
 } hart_acceptance;
 
 /* Returns whether a master accepts a delivery as the reply to a request. If so, writes the frame of the reply to `reply`, which must not be
@@ -270,6 +314,22 @@ typedef struct hart_acceptance {
  * HART_WRONG_ADDRESS (a command other than 0 at a polling address, or other than 11 and 21 by broadcast); HART_BAD_FAULT_BITS,
  * HART_TOO_LONG. */
 hart_acceptance hart_accept(const hart_frame *request, const hart_char *heard, size_t heard_len, hart_frame *reply);
+
+/* Like hart_accept, for a frame that hart_find has found: whether this frame is the reply. The reason is never HART_NO_FRAME or
+ * HART_SEVERAL_FRAMES. Faults: those of hart_accept for the request; then HART_BAD_ADDRESS, HART_LONG_EXPANSION, HART_TOO_SHORT_REPLY for
+ * the frame. */
+hart_acceptance hart_accept_frame(const hart_frame *request, const hart_frame *frame);
+
+/* Whether a frame is a reply to a request. */
+typedef struct hart_match {
+    bool is_reply; /* true if the frame is a reply to the request */
+    uint8_t fault; /* HART_OK, or why nothing was done */
+} hart_match;
+
+/* Returns whether a frame is a reply to a request of any command, known or not: an ACK without expansion bytes, with the request's master,
+ * address and command. The payload is not read: payload[0] is a response code, or has bit 0x80 and communication faults. Faults: those of
+ * hart_encode for the request's frame, HART_NO_REQUEST (a reply, expansion bytes or the burst bit), those of hart_encode for the frame. */
+hart_match hart_matches(const hart_frame *request, const hart_frame *frame);
 
 /* The unique address in a reply. */
 typedef struct hart_unique {

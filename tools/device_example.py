@@ -1,43 +1,46 @@
 """Holds the device of examples/c/device.c against the program: at a pseudo-terminal it replies byte for byte what the program says.
 
 Each request of docs/COMMANDS.md, as `hart encode` makes it, goes to a new device, which must reply as `hart answer` does. The parts
-of each case in tools/restarts.py go to one device, which is restarted where the case says so: it must reply as `hart sim` does, and
-hold the same image at the end. All devices run at once.
+of each case in tools/restarts.py go to one device, which is restarted where the case says so: it must reply as `hart serve` does, and
+hold the image at the end that `hart sim` shows. All devices run at once. Bytes become lines by the bridge of hart-bench.
 
 Usage: tools/device_example.py PROGRAM DEVICE
 """
 
 import contextlib
 import os
-import select
 import signal
 import subprocess
 import sys
-import time
 import tty
 
 sys.dont_write_bytecode = True
 
 from cases import lone  # noqa: E402
 from fuzz import texts, worked  # noqa: E402
-from restarts import RESTART, runs, script_of  # noqa: E402
+from hart_bench.bridge import Port, now  # noqa: E402
+from hart_bench.vectors import RESTART  # noqa: E402
+from restarts import runs, script_of  # noqa: E402
 from vectors import call, replies_of  # noqa: E402
 
 SECONDS = "60"
 # How many seconds of silence are waited for: much longer than the device waits for a byte.
 QUIET = 0.5
 PATIENCE = 20
+# A reply that comes in pieces further apart is put together here.
+GAP = 0.005
 
 
 class Played:
     """A running device, what it hears in turn, what it must reply, and the image that it must show at the end, if it is known."""
 
     def __init__(self, device, parts, replies, image=None):
-        self.parts, self.replies, self.image = parts, [bytes.fromhex(reply) for reply in replies], image
+        self.parts, self.replies, self.image = parts, list(replies), image
         self.process = subprocess.Popen([device, SECONDS], stdout=subprocess.PIPE, text=True)
-        self.port = os.open(self.process.stdout.readline().strip(), os.O_RDWR | os.O_NOCTTY)
-        if tty.tcgetattr(self.port)[3] & (tty.ECHO | tty.ICANON):
+        port = os.open(self.process.stdout.readline().strip(), os.O_RDWR | os.O_NOCTTY)
+        if tty.tcgetattr(port)[3] & (tty.ECHO | tty.ICANON):
             self.fail("a port that changes bytes")
+        self.port = Port(port, GAP, has_marks=False)
 
     def fail(self, what):
         """Ends the run."""
@@ -49,30 +52,21 @@ class Played:
             self.process.send_signal(signal.SIGUSR1)
             return
         heard = bytes.fromhex(self.parts[turn])
-        os.write(self.port, heard[:8])
-        os.write(self.port, heard[8:])
-
-    def read(self, until):
-        """What comes in by a time; b"" if nothing does, or if the device has ended."""
-        if not select.select([self.port], [], [], max(until - time.monotonic(), 0))[0]:
-            return b""
-        try:
-            return os.read(self.port, 4096)
-        except OSError:
-            return b""
+        self.port.send(heard[:8])
+        self.port.send(heard[8:])
 
     def listen(self, turn, quiet):
         """Holds the device to its reply to a part. Where no reply is wanted, none may come before the time `quiet`."""
-        wanted, replied = self.replies[turn], b""
-        until = time.monotonic() + PATIENCE if wanted else quiet
-        while len(replied) < max(len(wanted), 1) and (more := self.read(until)):
-            replied += more
+        wanted, replied = self.replies[turn], ""
+        until = now() + PATIENCE if wanted else quiet
+        while len(replied) < max(len(wanted), 1) and (more := self.port.hear(max(until - now(), 0))):
+            replied = f"{replied} {more}".strip()
         if replied != wanted:
-            self.fail(f"the reply {replied.hex(' ').upper()!r} to part {turn}, and not {wanted.hex(' ').upper()!r}")
+            self.fail(f"the reply {replied!r} to part {turn}, and not {wanted!r}")
 
     def end(self):
         """Closes the port, after which the device ends by itself and shows its image."""
-        os.close(self.port)
+        self.port.close()
         said, _ = self.process.communicate(timeout=PATIENCE)
         if self.process.returncode or self.image not in (None, said.strip()):
             self.fail(f"status {self.process.returncode} and image {said.strip()}, and not {self.image}")
@@ -115,7 +109,7 @@ def main():
             going = [one for one in played if turn < len(one.parts)]
             for one in going:
                 one.tell(turn)
-            quiet = time.monotonic() + QUIET
+            quiet = now() + QUIET
             for one in sorted(going, key=lambda one: not one.replies[turn]):
                 one.listen(turn, quiet)
         for one in played:

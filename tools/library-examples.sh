@@ -1,62 +1,78 @@
 #!/bin/sh
 # Holds include/hart.h against the source, makes the library, and makes each call of the header from C, which has to do what
-# tools/library_calls.c says with its rows. Then it builds the examples without a warning, and runs them. On captures they have to
+# tools/library_calls.c says with its rows. Measures the stack of calls, and makes random calls, which have to give the same on each
+# target. Then it builds the examples without a warning, and runs them. On captures they have to
 # print just what the program does, whether a capture comes at once or byte by byte. The example of fields has to print what is
-# written here, and the device examples have to reply just as the program does.
+# written here, and the device examples have to reply just as the program does, for hart-bench too.
 #
 # A C compiler and Python are needed. C++ and Rust are tried where they are found, and so are the sanitizers of the C compiler.
 #
-# Usage: tools/library-examples.sh [--gate PROVED] [PROGRAM]; PROGRAM is the ./hart of the repository if absent. `--gate` is for
-# tools/library.sh.
+# Usage: tools/library-examples.sh [--target TARGET] [PROGRAM]; PROGRAM is the ./hart of the repository if absent. With a target, the
+# programs in C and C++ are built for it and run under qemu. Without qemu or the target's compiler a line says so, and nothing is done.
 set -eu
-proved=
-if [ "${1:-}" = --gate ]; then
-    proved=$(realpath "$2")
+target=
+if [ "${1:-}" = --target ]; then
+    target=$2
     shift 2
 fi
 program=$(realpath "${1:-$(dirname "$0")/../hart}")
 cd "$(dirname "$0")/.."
 work=$(mktemp -d)
 trap 'rm -rf "$work"' EXIT
-cc=${CC:-cc}
-cxx=${CXX:-c++}
+cc=${CC:-${target:+$target-g}cc}
+cxx=${CXX:-$([ -n "$target" ] && echo "$target-g++" || echo c++)}
+qemu=${target:+qemu-${target%%-*}}
+if [ -n "$target" ] && ! { command -v "$qemu" && command -v "$cc"; } >"$work/said"; then
+    echo "no $qemu or no $cc: the library was neither built nor tried for $target"
+    exit 0
+fi
+[ -z "$target" ] || export QEMU_LD_PREFIX="/usr/$target"
 strict='-O2 -Wall -Wextra -Wpedantic -Werror'
 sanitized='-fsanitize=address,undefined -fno-sanitize-recover=all'
+# The address sanitizer does not work under qemu.
+[ -z "$target" ] || sanitized='-fsanitize=undefined -fno-sanitize-recover=all'
 
 python3 tools/header.py
-if [ -n "$proved" ]; then
-    sh tools/library.sh --gate "$proved" "$work"
-else
-    sh tools/library.sh "$work"
-fi
+sh tools/library.sh ${target:+--target "$target"} "$work"
 
 # The calls that a file in C names.
 calls_in() {
     grep -oE '\bhart_[a-z_]+\(' "$1" | tr -d '(' | sort -u
 }
-offered=$(nm -D --defined-only "$work/libhart.so" | awk '{ print $3 }' | sort)
-declared=$(calls_in include/hart.h)
+# What the header defines in C, as static functions, and what it only declares.
+defined=$(grep -E '^static inline' include/hart.h | grep -oE '\bhart_[a-z_]+\(' | tr -d '(' | sort -u)
+named=$(calls_in include/hart.h)
+declared=$(printf '%s\n' "$named" | grep -vxF "$defined")
+offered=$("${target:+$target-}nm" -D --defined-only "$work/libhart.so" | awk '{ print $3 }' | sort)
 if [ "$offered" != "$declared" ]; then
     echo "libhart.so offers other calls than include/hart.h declares:" >&2
     printf '%s\n' "$offered" >&2
     exit 1
 fi
 made=$(calls_in tools/library_calls.c)
-if [ "$made" != "$declared" ]; then
-    echo "tools/library_calls.c makes other calls than include/hart.h declares:" >&2
+if [ "$made" != "$named" ]; then
+    echo "tools/library_calls.c makes other calls than include/hart.h names:" >&2
     printf '%s\n' "$made" >&2
     exit 1
 fi
 
+# Lets qemu run a program that was built for a target.
+emulate() {
+    [ -n "$target" ] || return 0
+    mv "$work/$1" "$work/$1.$target"
+    printf '#!/bin/sh\nexec %s "$0.%s" "$@"\n' "$qemu" "$target" >"$work/$1"
+    chmod +x "$work/$1"
+}
 # Builds a program in C with some flags.
 build() {
     source=$1
     shift
-    $cc -std=c11 $strict "$@" -Iinclude "$source" "$work/libhart.a" -o "$work/$(basename "$source" .c)"
+    $cc -std=c11 $strict "$@" -Iinclude "$source" "$work/libhart.a" -o "$work/$(basename "$source" .c)" &&
+        emulate "$(basename "$source" .c)"
 }
 # Builds a program on the shared library; its name ends with _shared.
 build_shared() {
-    $cc -std=c11 $strict -Iinclude "$1" -L"$work" -lhart -o "$work/$(basename "$1" .c)_shared"
+    $cc -std=c11 $strict -Iinclude "$1" -L"$work" -lhart -o "$work/$(basename "$1" .c)_shared" && emulate "$(basename "$1" .c)_shared"
 }
 
 build tools/library_calls.c
@@ -64,6 +80,23 @@ build tools/library_calls.c
 build_shared tools/library_calls.c
 LD_LIBRARY_PATH="$work" "$work/library_calls_shared"
 echo "each call of the library did what tools/library_calls.c says"
+
+# No call may take more stack than tools/library_stack.c allows.
+if [ -z "$target" ]; then
+    build tools/library_stack.c
+    "$work/library_stack"
+fi
+
+# What the calls do with 100,000 rounds of pseudo-random arguments. The hash is the same for each target. It changes only with
+# tools/library_random.c, or if a call does something else than before.
+random_hash=e5cb01c1126006c1
+build tools/library_random.c
+hash=$("$work/library_random" 100000 2>"$work/said")
+if [ "$hash" != "$random_hash" ]; then
+    echo "tools/library_random.c has another hash than $random_hash: $hash" >&2
+    exit 1
+fi
+echo "100,000 rounds of random calls gave the same as on other targets"
 
 # Frames in noise, a false start that holds back a frame, damage, and a message that ends too early.
 cat >"$work/heard.txt" <<'HEARD'
@@ -99,7 +132,7 @@ talk() {
 build examples/c/messages.c
 hold "$work/messages"
 build_shared examples/c/messages.c
-readelf -d "$work/messages_shared" | grep -qF '[libhart.so.0]'
+readelf -d "$work/messages_shared${target:+.$target}" | grep -qF '[libhart.so.0]'
 hold env LD_LIBRARY_PATH="$work" "$work/messages_shared"
 build examples/c/device.c
 talk
@@ -124,24 +157,31 @@ request, Command 19, write final assembly number, code 0
     final assembly number: 01 23 45
 FIELDS
 $cc -std=c11 $strict -Iinclude examples/c/fields.c "$work/libhart.a" -o "$work/fields_c"
+emulate fields_c
 printf '%s' FFFF86B7420A1B2C010700002041C80000E1 FFFFE28000000000AABBCC0B01FF4A FFFF82B7420A1B2C13030123453D |
     xxd -r -p >"$work/replies_heard"
 "$work/fields_c" <"$work/replies_heard" >"$work/fields_written"
 cmp "$work/fields" "$work/fields_written"
 if "$cxx" --version >"$work/said" 2>&1; then
     $cxx -std=c++17 $strict -Iinclude examples/cpp/messages.cpp "$work/libhart.a" -o "$work/messages_cpp"
+    emulate messages_cpp
     hold "$work/messages_cpp"
 else
     echo "no C++ compiler: the example in C++ was not run"
 fi
-if cargo --version >"$work/said" 2>&1; then
+if [ -n "$target" ]; then
+    echo "the examples in Rust and Python were not run for $target"
+elif cargo --version >"$work/said" 2>&1; then
     HART_LIB_DIR=$work CARGO_TARGET_DIR=$work/rust RUSTFLAGS='-D warnings' \
         cargo build --quiet --release --offline --manifest-path examples/rust/Cargo.toml
     hold "$work/rust/release/messages"
 else
     echo "no cargo: the example in Rust was not run"
 fi
-hold python3 examples/python/messages.py "$work/libhart.so"
-python3 examples/python/vectors.py "$work/libhart.so" <docs/vectors.tsv
-ran=$((ran + 1))
-echo "$ran examples of the library did what the program does"
+if [ -z "$target" ]; then
+    hold python3 examples/python/messages.py "$work/libhart.so"
+    python3 examples/python/vectors.py "$work/libhart.so" <docs/vectors.tsv
+    python3 tools/bench.py "$program" --library "$work"
+    ran=$((ran + 1))
+fi
+echo "$ran examples of the library did what the program does${target:+, under $qemu}"

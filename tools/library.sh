@@ -1,45 +1,48 @@
 #!/bin/sh
-# Makes libhart.a and libhart.so of the proved static library of hart_c, with what it needs of the toolchain's C library in them.
-# They offer the calls of include/hart.h and no other symbol. libhart.so is a link to libhart.so.0, whose number grows when a
-# program that was built with an earlier one would not run with it.
+# Makes libhart.a and libhart.so of the proved static library of hart_c. They offer the calls of include/hart.h and no other symbol. Of
+# the C library they need memcpy, memmove and memset; with a further undefined symbol the build fails. libhart.so is a link to
+# libhart.so.0, whose number grows when a program that was built with an earlier one would not run with it.
 #
-# Usage: tools/library.sh [--gate PROVED] FOLDER; the folder is where both are put. With `--gate`, hart_c is built over the
-# libraries that the gate has just built, and over what it proved of each crate, which stands in PROVED. Without it, or if the gate
-# has not built all libraries, `rt lib` builds hart_c, and proves what is not proved yet, which takes some minutes.
+# Usage: tools/library.sh [--target TARGET] FOLDER; the folder is where both are put. TARGET is aarch64-linux-gnu, or absent for
+# x86-64; its tools are TARGET-gcc (or $CC), TARGET-objcopy, TARGET-nm and TARGET-ar. `rt lib` proves hart_c for the target and
+# builds it, with as many jobs as RT_JOBS says. It begins with what earlier checks kept; without them it takes some minutes.
 set -eu
-proved=
-if [ "$1" = --gate ]; then
-    proved=$(realpath "$2")
+target=
+if [ "$1" = --target ]; then
+    target=$2
     shift 2
 fi
 folder=$(realpath "$1")
 cd "$(dirname "$0")/.."
-kit=$(dirname "$(rt doc)")
 work=$(mktemp -d)
 trap 'rm -rf "$work"' EXIT
-cc=${CC:-cc}
+cc=${CC:-${target:+$target-g}cc}
+tool=${target:+$target-}
+# The target as rattle names it.
+case $target in
+"") proved_for= ;;
+aarch64-linux-gnu) proved_for=aarch64-unknown-linux-gnu ;;
+*)
+    echo "tools/library.sh: the toolchain proves no library for $target" >&2
+    exit 2
+    ;;
+esac
 
 made=crates/hart_c/out/libhart_c.a
-mkdir -p crates/hart_c/out
-# 3: the gate has not built all libraries.
-status=3
-if [ -n "$proved" ]; then
-    status=0
-    python3 tools/gate_library.py "$proved" "$made" >"$work/said" 2>&1 || status=$?
-fi
-if [ "$status" -eq 3 ]; then
-    status=0
-    (cd crates/hart_c && rt lib) >"$work/said" 2>&1 || status=$?
-fi
-if [ "$status" -ne 0 ]; then
+if ! (cd crates/hart_c && rt lib ${proved_for:+--target "$proved_for"} ${RT_JOBS:+--jobs "$RT_JOBS"}) >"$work/said" 2>&1; then
     cat "$work/said" >&2
     exit 1
 fi
 
-"$cc" -r -nostdlib -o "$work/hart.o" -Wl,--whole-archive "$made" -Wl,--no-whole-archive "$kit/c/liblibc_c.a"
-objcopy -w --keep-global-symbol='hart_*' "$work/hart.o"
+"$cc" -r -nostdlib -o "$work/hart.o" -Wl,--whole-archive "$made" -Wl,--no-whole-archive
+needed=$("${tool}nm" --undefined-only -P "$work/hart.o" | cut -d ' ' -f 1 | sort | xargs)
+if [ "$needed" != "memcpy memmove memset" ]; then
+    echo "libhart.a needs other calls than memcpy, memmove and memset: $needed" >&2
+    exit 1
+fi
+"${tool}objcopy" -w --keep-global-symbol='hart_*' "$work/hart.o"
 rm -f "$work/libhart.a"
-ar rcs "$work/libhart.a" "$work/hart.o"
+"${tool}ar" rcs "$work/libhart.a" "$work/hart.o"
 
 printf '{ global: hart_*; local: *; };\n' >"$work/hart.map"
 "$cc" -shared -Wl,-z,text -Wl,--no-undefined -Wl,-soname,libhart.so.0 "-Wl,--version-script=$work/hart.map" -o "$work/libhart.so.0" \

@@ -127,6 +127,12 @@ static void a_device_answers_and_is_kept(void)
     check(is_outcome(refused, 0, HART_BAD_FIELD) && is_kept, __func__, "hart_new_device", 1);
 }
 
+static bool is_acceptance(hart_acceptance told, hart_acceptance want)
+{
+    return told.is_accepted == want.is_accepted && told.code == want.code && told.status == want.status &&
+           told.fault == want.fault && told.reason == want.reason;
+}
+
 static void a_reply_is_accepted_and_gives_an_address(void)
 {
     uint8_t identify[LONGEST] = {0};
@@ -142,15 +148,37 @@ static void a_reply_is_accepted_and_gives_an_address(void)
         request.command = want->command;
         request.is_burst = want->is_burst;
         hart_acceptance told = hart_accept(&request, heard, heard_len, &reply);
-        bool is_told = told.is_accepted == want->told.is_accepted && told.code == want->told.code &&
-                       told.status == want->told.status && told.fault == want->told.fault;
         bool is_shown =
             reply.start == want->start && reply.stop == want->stop && reply.payload_len == want->payload_len;
-        check(is_told && is_shown, __func__, "hart_accept", row);
+        check(is_acceptance(told, want->told) && is_shown, __func__, "hart_accept", row);
     }
     hart_unique unique = hart_unique_of(reply.command, reply.payload, 24);
     bool is_given = unique.is_given && unique.expanded_type == 0x3742 && unique.device_id == 0x0A1B2C;
     check(is_given, __func__, "hart_unique_of", 0);
+}
+
+/* A frame that was found is matched with a request of the primary master to polling address 0. Numbers that are no frame, and a reply in
+ * the place of the request, are refused. */
+static void a_reply_is_matched_frame_by_frame(void)
+{
+    hart_frame request = {.is_primary = true};
+    for (size_t row = 0; row < ROWS(match_rows); row++) {
+        const struct match_row *want = &match_rows[row];
+        uint8_t heard[LONGEST] = {0};
+        hart_frame found = {0};
+        hart_search search = hart_find_in_bytes(heard, read_bytes(want->found, heard), true, &found, 1);
+        request.command = want->command;
+        hart_match match = hart_matches(&request, &found);
+        bool is_matched = match.is_reply == want->is_reply.is_reply && match.fault == want->is_reply.fault;
+        check(search.count == 1 && is_matched, __func__, "hart_matches", row);
+        check(is_acceptance(hart_accept_frame(&request, &found), want->told), __func__, "hart_accept_frame", row);
+    }
+    hart_frame other = {.polling_address = 64};
+    hart_match bad = hart_matches(&request, &other);
+    check(!bad.is_reply && bad.fault == HART_BAD_ADDRESS, __func__, "hart_matches", ROWS(match_rows));
+    other = (hart_frame){.is_reply = true, .payload_len = 2};
+    bad = hart_matches(&other, &request);
+    check(!bad.is_reply && bad.fault == HART_NO_REQUEST, __func__, "hart_matches", ROWS(match_rows) + 1);
 }
 
 static void each_number_has_its_place(void)
@@ -197,11 +225,29 @@ static void faults_of_characters_are_heard(void)
     }
 }
 
+/* What hart.h defines in C: a text for each fault that has a number, and floats as bytes. */
+static void faults_have_texts_and_floats_have_bytes(void)
+{
+    uint8_t bytes[4] = {0};
+    for (size_t fault = 0; fault < ROWS(fault_numbers); fault++) {
+        const char *text = hart_fault_text(fault_numbers[fault]);
+        check(strcmp(text, hart_fault_text(255)) != 0, __func__, "hart_fault_text", fault);
+    }
+    for (size_t row = 0; row < ROWS(float_rows); row++) {
+        const struct float_row *want = &float_rows[row];
+        check(hart_float(want->bytes) == want->value, __func__, "hart_float", row);
+        hart_put_float(want->value, bytes);
+        check(memcmp(bytes, want->bytes, sizeof bytes) == 0, __func__, "hart_put_float", row);
+    }
+}
+
 int main(void)
 {
+    faults_have_texts_and_floats_have_bytes();
     data_are_read_and_named();
     a_device_answers_and_is_kept();
     a_reply_is_accepted_and_gives_an_address();
+    a_reply_is_matched_frame_by_frame();
     each_number_has_its_place();
     a_message_is_found_read_and_written();
     faults_of_characters_are_heard();

@@ -37,12 +37,30 @@ _Static_assert(HART_OK == 0 && HART_TOO_SHORT_REPLY == 1 && HART_BAD_PREAMBLE ==
                    HART_BAD_FIELD == 20 && HART_BAD_VARIABLES == 21 && HART_TOO_LONG == 22 && HART_NO_REQUEST == 23 &&
                    HART_WRONG_ADDRESS == 24,
                "the numbers of faults");
+_Static_assert(HART_NO_REASON == 0 && HART_NO_FRAME == 1 && HART_SEVERAL_FRAMES == 2 && HART_OTHER_FRAME == 3 &&
+                   HART_COMMUNICATION_FAULTS == 4 && HART_UNFIT_DATA == 5,
+               "the numbers of reasons");
 _Static_assert(HART_BYTES == 0 && HART_NUMBER == 1 && HART_PACKED_TEXT == 2 && HART_DATE == 3 && HART_FLOAT == 4 &&
                    HART_VARIABLES == 5 && HART_LATIN_TEXT == 6 && HART_UNIT_CODE == 7,
                "the numbers of kinds");
 
 /* These are compared byte by byte, so they may have no padding. */
 _Static_assert(sizeof(hart_frame) == 288 && sizeof(hart_field) == 3 && sizeof(hart_device) == 89, "padding");
+
+/* Each fault that a call may return. */
+static const uint8_t fault_numbers[] = {0, 1, 2, 3, 4, 5, 6, 10, 11, 12, 13, 14, 15, 16, 17, 18, 19, 20, 21, 22, 23, 24};
+
+/* A number, and its four bytes by IEEE 754. */
+struct float_row {
+    float value;
+    uint8_t bytes[4];
+};
+
+static const struct float_row float_rows[] = {
+    {25.0f, {0x41, 0xC8, 0x00, 0x00}},
+    {-0.375f, {0xBE, 0xC0, 0x00, 0x00}},
+    {0.1f, {0x3D, 0xCC, 0xCC, 0xCD}},
+};
 
 /* A request or a reply, what is told of its data, and its first fields. */
 struct data_row {
@@ -205,23 +223,53 @@ static const struct turn other_turns[] = {
      .reply = FROM_OTHER "30 1B 00 95 70 71 72 73 74 75 76 77 78 79 7A 7B 7C 7D 7E 7F 80 81 82 83 84 85 86 87 88 A2"},
 };
 
+/* A reply to Command 0 with communication faults, one whose data are no identity, and the same of Command 1. */
+#define DAMAGED "FF FF 06 80 00 02 88 00 0C"
+#define NO_IDENTITY "FF FF 06 80 00 03 00 00 01 84"
+#define OF_COMMAND_1 "FF FF 06 80 01 02 05 00 80"
+
 /* The command and the burst bit of a request to polling address 0, what is heard after it, what is told of that, and
  * which frame is then shown, which is the one before if none is accepted. */
 struct acceptance_row {
     uint8_t command;
     bool is_burst;
     const char *heard;
-    hart_acceptance told; /* whether it is accepted, the code, the status, the fault */
+    hart_acceptance told; /* whether it is accepted, the code, the status, the fault, the reason */
     uint64_t start;
     uint64_t stop;
     uint8_t payload_len;
 };
 
 static const struct acceptance_row acceptance_rows[] = {
-    {0, false, IDENTITY " " IDENTITY, {false, 0, 0, HART_OK}, 0, 0, 0},
-    {0, false, IDENTITY, {true, 0, 0x40, HART_OK}, 2, 31, 24},
-    {1, false, IDENTITY " " IDENTITY, {false, 0, 0, HART_WRONG_ADDRESS}, 2, 31, 24},
-    {1, true, IDENTITY " " IDENTITY, {false, 0, 0, HART_NO_REQUEST}, 2, 31, 24},
+    {0, false, IDENTITY " " IDENTITY, {false, 0, 0, HART_OK, HART_SEVERAL_FRAMES}, 0, 0, 0},
+    {0, false, IDENTITY, {true, 0, 0x40, HART_OK, HART_NO_REASON}, 2, 31, 24},
+    {1, false, IDENTITY " " IDENTITY, {false, 0, 0, HART_WRONG_ADDRESS, HART_NO_REASON}, 2, 31, 24},
+    {1, true, IDENTITY " " IDENTITY, {false, 0, 0, HART_NO_REQUEST, HART_NO_REASON}, 2, 31, 24},
+    {0, false, "FF FF 06 80", {false, 0, 0, HART_OK, HART_NO_FRAME}, 2, 31, 24},
+    {0, false, OF_COMMAND_1, {false, 0, 0, HART_OK, HART_OTHER_FRAME}, 2, 31, 24},
+    {0, false, DAMAGED, {false, 0, 0, HART_OK, HART_COMMUNICATION_FAULTS}, 2, 31, 24},
+    {0, false, NO_IDENTITY, {false, 0, 0, HART_OK, HART_UNFIT_DATA}, 2, 31, 24},
+};
+
+/* The command of a request, a frame that was found, whether it is a reply to the request, and what is told of the
+ * frame if the request is one that the library knows. */
+struct match_row {
+    uint8_t command;
+    const char *found;
+    hart_match is_reply;
+    hart_acceptance told;
+};
+
+static const struct match_row match_rows[] = {
+    {0, IDENTITY, {true, HART_OK}, {true, 0, 0x40, HART_OK, HART_NO_REASON}},
+    {0, DAMAGED, {true, HART_OK}, {false, 0, 0, HART_OK, HART_COMMUNICATION_FAULTS}},
+    {0, NO_IDENTITY, {true, HART_OK}, {false, 0, 0, HART_OK, HART_UNFIT_DATA}},
+    {0, OF_COMMAND_1, {false, HART_OK}, {false, 0, 0, HART_OK, HART_OTHER_FRAME}},
+    {1, OF_COMMAND_1, {true, HART_OK}, {false, 0, 0, HART_WRONG_ADDRESS, HART_NO_REASON}},
+    {0, "FF FF 02 80 00 00 82", {false, HART_OK}, {false, 0, 0, HART_OK, HART_OTHER_FRAME}},
+    {128, "FF FF 06 80 80 02 00 00 04", {true, HART_OK}, {false, 0, 0, HART_NO_REQUEST, HART_NO_REASON}},
+    {128, "FF FF 06 00 80 02 00 00 84", {false, HART_OK}, {false, 0, 0, HART_NO_REQUEST, HART_NO_REASON}},
+    {128, "FF FF 06 81 80 02 00 00 05", {false, HART_OK}, {false, 0, 0, HART_NO_REQUEST, HART_NO_REASON}},
 };
 
 /* The fault bits of character 10 of a message, what is told of the search, and where the frame stops that is shown. */

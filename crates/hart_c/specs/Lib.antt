@@ -4,4 +4,5 @@ pub mod Messages
 pub mod Find
 pub mod Data
 pub mod Device
+pub mod Acceptance
 pub mod Master

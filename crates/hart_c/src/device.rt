@@ -1,7 +1,7 @@
 //! A device that the caller keeps as its image and its cold start bits.
 ghost use Rattle.std.specs.Prelude.{◌≡◌, true, IfErr, IfOk, OnErr, length};
 ghost use Rattle.hart_frame.specs.wire.Message.{IsPreambleCount};
-ghost use Rattle.hart_device.specs.Device.{DeviceState, restarted};
+ghost use Rattle.hart_device.specs.Device.{DeviceState, IsDevice, restarted};
 ghost use Rattle.hart_device.specs.declared.identity_parts.IdentityParts.{IdentityParts};
 ghost use Rattle.hart_c.specs.Faults.{IsFirstOf};
 ghost use Rattle.hart_c.specs.Device.{HearOutcome, Hears, IsKept, IsSaid, hear_checks, state_checks};
@@ -11,13 +11,13 @@ ghost use Rattle.hart_c.specs.Numbers.{parts_of};
 
 use crate::fault::{Fault, HartOutcome};
 use crate::find::HartChar;
-use crate::heard::delivery_of;
+use crate::heard::{MOST_CHARACTERS, hear_into};
 use crate::identity::{HartIdentity, parts_of};
 use crate::output::{outcome_of, put};
 use crate::process::{HartProcess, process_of};
 use crate::registers::{HartRegisters, values_of};
 use hart_device::{Device, DeviceFault, Identity, ImageRegisters, bench};
-use hart_frame::{Frame, Message, encode};
+use hart_frame::{Char, Frame, Message, encode};
 use hart_values::{EachMaster, MasterId};
 
 /// What the caller keeps of a device: all that the device holds except its identity.
@@ -101,11 +101,29 @@ fn hear(
 {
     let mut state = kept_state(identity, device)?;
     let process = process_of(process).ok_or(Fault::BadVariables)?;
-    let delivery = delivery_of(heard)?;
-    let said = state.hear(delivery.as_slice(), &process);
-    let preambles = state.response_preambles();
-    let len = say(said, preambles, reply)?;
-    keep(&state, device);
+    let mut chars = [Char::new(0, 0).unwrap(); MOST_CHARACTERS];
+    let delivery = hear_into(heard, &mut chars)?;
+    let said = state.hear(&chars[..delivery], &process);
+    say_and_keep(said, &state, reply, device)
+}
+
+/// Writes the reply of a device in this state as [`say`] does, and then writes to `device` what the caller keeps of the device.
+fn say_and_keep(
+    said: Option<Frame>,
+    state: &Device<ImageRegisters>,
+    reply: &mut [u8],
+    device: &mut HartDevice,
+) -> Result<usize, Fault>
+    ensures said { IfOk result (IsWritten (IsSaid said state.now.identity.response_preambles) reply.old reply.new) }
+    ensures kept { IfOk result (λ len. device.new ≡ device_of state.now) }
+    ensures refused { IfErr result (λ fault. (fault ≡ Fault.NoRoom)
+        × HasNoRoom (IsSaid said state.now.identity.response_preambles) (length reply.old)) }
+    ensures unchanged { OnErr result (reply.new ≡ reply.old) }
+    ensures same { OnErr result (device.new ≡ device.old) }
+    ensures device { IsDevice state.now }
+{
+    let len = say(said, state.response_preambles(), reply)?;
+    keep(state, device);
     Ok(len)
 }
 

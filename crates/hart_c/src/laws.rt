@@ -30,7 +30,9 @@ ghost use Rattle.hart_c.specs.declared.process.HartProcess.{HartProcess};
 ghost use Rattle.hart_c.specs.declared.registers.HartRegisters.{HartRegisters};
 ghost use Rattle.hart_c.specs.Messages.{DecodeOutcome, EncodeOutcome, IsFrame};
 ghost use Rattle.hart_c.specs.Numbers.{found_in, frame_in};
+ghost use Rattle.hart_c.specs.Acceptance.{AcceptFrameOutcome, MatchOutcome};
 ghost use Rattle.hart_c.specs.Master.{AcceptOutcome};
+ghost use Rattle.hart_c.specs.declared.reply.HartMatch.{HartMatch};
 
 use hart_commands::laws::{read_data_begin_as_written, written_payloads_are_read_again};
 use hart_device::laws::bytes_have_one_image_fault;
@@ -168,6 +170,10 @@ pub fn calls_have_one_outcome()
         → HearOutcome identity process heard before after old new outcome
         → HearOutcome identity process heard before other old newer another
         → (outcome ≡ another) × (after ≡ other) × (new ≡ newer) }
+    ensures matches { (request frame : HartFrame) (matched another : HartMatch)
+        → MatchOutcome request frame matched → MatchOutcome request frame another → matched ≡ another }
+    ensures accept_frame { (numbers heard : HartFrame) (acceptance another : HartAcceptance)
+        → AcceptFrameOutcome numbers heard acceptance → AcceptFrameOutcome numbers heard another → acceptance ≡ another }
     ensures accept { (numbers : HartFrame) (heard : List HartChar) (before after other : HartFrame) (acceptance another : HartAcceptance)
         → AcceptOutcome numbers heard before after acceptance → AcceptOutcome numbers heard before other another
         → (acceptance ≡ another) × (found_in after ≡ found_in other) }

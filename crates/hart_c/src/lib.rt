@@ -20,7 +20,9 @@ mod master;
 mod name;
 mod output;
 mod process;
+mod reason;
 mod registers;
+mod reply;
 
 pub use check::hart_check_byte;
 pub use data::{HartField, HartReading, hart_read_reply, hart_read_request};
@@ -35,3 +37,4 @@ pub use master::{HartAcceptance, HartUnique, hart_accept, hart_unique_of};
 pub use name::{hart_command_name, hart_field_name};
 pub use process::{HartOutput, HartProcess, HartSensor, HartVariable, hart_bench_process};
 pub use registers::{HartRegisters, hart_bench_registers};
+pub use reply::{HartMatch, hart_accept_frame, hart_matches};

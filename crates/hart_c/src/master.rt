@@ -1,25 +1,25 @@
 //! What a master accepts as a reply.
-ghost use Rattle.std.specs.Prelude.{◌≡◌, ◌<◌, ◌^◌, true, false, IfErr, IfOk, List, OnErr, option_and_then};
+ghost use Rattle.std.specs.Prelude.{◌≡◌, ◌<◌, ◌^◌, true, false, IfErr, IfOk, OnErr, option_and_then};
 ghost use Rattle.hart_commands.specs.ReplyData.{reply_reading};
 ghost use Rattle.hart_commands.specs.declared.request.Request.{Request};
-ghost use Rattle.hart_c.specs.Faults.{IsFirstOf};
-ghost use Rattle.hart_c.specs.Master.{AcceptOutcome, Accepts, IsAsked, accept_checks, acceptance_of, given_of};
+ghost use Rattle.hart_c.specs.Acceptance.{IsAsked, acceptance_of, asked_in, request_checks};
+ghost use Rattle.hart_c.specs.Faults.{AllPass, IsFirstOf};
+ghost use Rattle.hart_c.specs.Master.{AcceptOutcome, Accepts, accept_checks, given_of};
 ghost use Rattle.hart_c.specs.Numbers.{frame_in};
 ghost use Rattle.hart_master.specs.Pairing.{may_ask};
 ghost use Rattle.hart_master.specs.Unique.{unique_in};
-ghost use Rattle.hart_master.specs.declared.hand.Hand.TheVariants.{Awaiting};
-ghost use Rattle.hart_c.specs.Messages.{IsFrame};
-ghost use Rattle.hart_c.specs.declared.find.HartChar.{HartChar};
 
 use crate::encode::frame_of;
 use crate::fault::{Fault, HART_OK};
 use crate::find::HartChar;
 use crate::frame::{HartFrame, show_frame};
-use crate::heard::delivery_of;
+use crate::heard::{MOST_CHARACTERS, hear_into};
+use crate::reason::{HART_NO_REASON, Unaccepted};
+use crate::reply::judge;
 use hart_commands::{Reply, Request};
-use hart_frame::{Frame, FrameKind, LoneFrame, lone_frame};
-use hart_master::{Master, MasterEvent, unique_of};
-use hart_values::Address;
+use hart_frame::{Char, Frame, LoneFrame, lone_frame};
+use hart_master::{is_request, may_ask, unique_of};
+use hart_values::{Address, MasterId};
 
 /// What became of a request that was sent.
 #[repr(C)]
@@ -33,6 +33,8 @@ pub struct HartAcceptance {
     pub status: u8,
     /// The number of the fault, or 0 if there is no fault.
     pub fault: u8,
+    /// The number of the reason why no reply was accepted; 0 if a reply was accepted, or if there is a fault.
+    pub reason: u8,
 }
 
 /// The unique address in a reply.
@@ -72,83 +74,100 @@ pub extern "C" fn hart_accept(
     acceptance_of(accept(request, heard, reply))
 }
 
-/// Returns what was accepted, or the fault, as numbers for C.
-fn acceptance_of(accepted: Result<Option<Reply>, Fault>) -> HartAcceptance
+/// Returns what was accepted, or the reason or the fault, as numbers for C.
+pub(crate) fn acceptance_of(accepted: Result<Result<Reply, Unaccepted>, Fault>) -> HartAcceptance
     ensures { result ≡ acceptance_of accepted }
 {
     match accepted {
-        Ok(Some(said)) => HartAcceptance {
+        Ok(Ok(said)) => HartAcceptance {
             is_accepted: true,
             code: said.code.value(),
             status: said.status.0,
             fault: HART_OK,
+            reason: HART_NO_REASON,
         },
-        Ok(None) => not_accepted(HART_OK),
-        Err(fault) => not_accepted(fault.number()),
+        Ok(Err(reason)) => not_accepted(HART_OK, reason.number()),
+        Err(fault) => not_accepted(fault.number(), HART_NO_REASON),
     }
 }
 
 /// Returns the result of a call that accepted no reply. `fault` is 0 if the call had no fault.
-fn not_accepted(fault: u8) -> HartAcceptance
-    ensures { result ≡ record { is_accepted = false; code = 0; status = 0; fault = fault } }
+fn not_accepted(fault: u8, reason: u8) -> HartAcceptance
+    ensures { result ≡ record { is_accepted = false; code = 0; status = 0; fault = fault; reason = reason } }
 {
     HartAcceptance {
         is_accepted: false,
         code: 0,
         status: 0,
         fault,
+        reason,
     }
 }
 
-/// Returns the reply that a master with this request accepts, and shows the frame of this reply in `reply`. Returns `None` if the master
-/// accepts no reply.
+/// Returns the reply that a master with this request accepts, and shows the frame of this reply in `reply`. Returns the reason if the
+/// master accepts no reply.
 fn accept(
     request: &HartFrame,
     heard: &[HartChar],
     reply: &mut HartFrame,
-) -> Result<Option<Reply>, Fault>
+) -> Result<Result<Reply, Unaccepted>, Fault>
     ensures accepted { IfOk result (Accepts request.now heard.now reply.old reply.new) }
     ensures refused { IfErr result (IsFirstOf (accept_checks request.now heard.now)) }
     ensures unchanged { OnErr result (reply.new ≡ reply.old) }
 {
-    let mut master = sent(request)?;
-    let delivery = delivery_of(heard)?;
-    let LoneFrame::Alone(found) = lone_frame(delivery.as_slice()) else {
-        return Ok(None);
+    let request = asked_by(request)?;
+    let mut chars = [Char::new(0, 0).unwrap(); MOST_CHARACTERS];
+    let delivery = hear_into(heard, &mut chars)?;
+    let frames = lone_frame(&chars[..delivery]);
+    let found = match &frames {
+        LoneFrame::Alone(found) => found,
+        LoneFrame::NoFrame => return Ok(Err(Unaccepted::NoFrame)),
+        LoneFrame::Several => return Ok(Err(Unaccepted::SeveralFrames)),
     };
-    let MasterEvent::Answered(said, _) = master.receive(&found.frame) else {
-        return Ok(None);
-    };
-    show_frame(&found.frame, found.start as u64, found.stop as u64, reply);
-    Ok(Some(said))
+    match judge(request, &found.frame) {
+        Ok(said) => {
+            show_frame(&found.frame, found.start as u64, found.stop as u64, reply);
+            Ok(Ok(said))
+        }
+        Err(reason) => Ok(Err(reason)),
+    }
 }
 
-/// Returns a master that has sent this request and awaits its reply.
-fn sent(request: &HartFrame) -> Result<Master, Fault>
-    ensures frame { IfOk result (λ master. IsFrame request.now) }
-    ensures awaits { IfOk result (λ master. let frame = frame_in request.now in
-        (asked : Request) × IsAsked frame asked × (may_ask frame.address asked ≡ true) × (master.id ≡ frame.master)
-        × (master.hand ≡ Awaiting (record { address = frame.address; request = asked; sendings = 1 }) 0)) }
-    ensures refused { (heard : List HartChar) → IfErr result (IsFirstOf (accept_checks request.now heard)) }
+/// What a request asks for in a reply. It is small, so that it costs little stack.
+#[derive(Clone, Copy)]
+pub(crate) struct Asked {
+    /// The master that sent the request.
+    pub master: MasterId,
+    /// The address of the request.
+    pub address: Address,
+    /// The command of the request.
+    pub command: u8,
+}
+
+/// Returns the master, the address and the command of a request, or the first fault of the request.
+pub(crate) fn asked_by(request: &HartFrame) -> Result<Asked, Fault>
+    ensures same { IfOk result (λ asked. asked ≡ asked_in (frame_in request.now)) }
+    ensures passed { IfOk result (λ asked. AllPass (request_checks request.now)) }
+    ensures refused { IfErr result (IsFirstOf (request_checks request.now)) }
 {
     let frame = frame_of(request)?;
-    let asked = asked_by(&frame)?;
-    // The number of retries and the reply limit do not matter. The caller decides how often to send and how long to wait, and calls only
-    // when characters were heard.
-    let mut master = Master::new(frame.master(), 0, 1).unwrap();
-    if master.submit(frame.address(), asked).is_err() {
+    let asked = request_in(&frame)?;
+    if !may_ask(frame.address(), &asked) {
         return Err(Fault::WrongAddress);
     }
-    master.send();
-    Ok(master)
+    Ok(Asked {
+        master: frame.master(),
+        address: frame.address(),
+        command: frame.command(),
+    })
 }
 
 /// Returns the request that a master sends with this frame, or the fault `NoRequest` if the frame is no request of a master.
-fn asked_by(frame: &Frame) -> Result<Request, Fault>
+fn request_in(frame: &Frame) -> Result<Request, Fault>
     ensures asked { IfOk result (IsAsked frame.now) }
     ensures refused { IfErr result (λ fault. (fault ≡ Fault.NoRequest) × ((request : Request) → IsAsked frame.now request → ⊥)) }
 {
-    if frame.kind() != FrameKind::Stx || frame.burst() || !frame.expansion().is_empty() {
+    if !is_request(frame) {
         return Err(Fault::NoRequest);
     }
     match Request::read(frame.command(), frame.payload()) {

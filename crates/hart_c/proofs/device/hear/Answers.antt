@@ -1,7 +1,7 @@
-use Rattle.std.proofs.Common.{◌≡◌, ◌∙◌, inl, inr, ℕ, Bool, true, false, Err, List, Option, None, Some, [], ◌∷◌, arith, length}
-use Rattle.std.proofs.Common.{length-append, map, refl, rules, sym}
+use Rattle.std.proofs.Common.{◌≡◌, inl, inr, ℕ, Bool, true, false, Ok, Err, List, Option, None, Some, Result, [], ◌∷◌, arith, length}
+use Rattle.std.proofs.Common.{length-append, map, refl, rules}
 use Rattle.std.proofs.lemmas.Grind.{common_steps}
-use Rattle.std.specs.Prelude.{if◌then◌else◌}
+use Rattle.std.specs.Prelude.{IfErr, IfOk, if◌then◌else◌, take}
 use Rattle.std.proofs.lemmas.List.{length-replicate}
 use Rattle.hart_frame.specs.wire.FrameParts.{FrameParts}
 use Rattle.hart_frame.specs.wire.Message.{IsPreambleCount}
@@ -15,6 +15,7 @@ use Rattle.hart_c.specs.Device.{IsHearing, IsSaid, state_checks}
 use Rattle.hart_c.specs.Messages.{HasNoRoom, IsWritten}
 use Rattle.hart_c.specs.Find.{char_of, heard_checks}
 use Rattle.hart_c.specs.Numbers.{IsProcessOf, parts_of}
+use Rattle.hart_c.specs.declared.fault.Fault.{Fault}
 use Rattle.hart_c.specs.declared.fault.Fault.TheVariants.{NoRoom}
 use Rattle.hart_c.proofs.Checks.{first_before}
 use Rattle.hart_c.proofs.Kept.{devices_are_kept-kept}
@@ -60,26 +61,40 @@ hearing c process_is delivery =
       brings = brings;
     }
 
-pub returns-in_err-len-clause-refused : goal.returns-in_err-len-clause-refused
-returns-in_err-len-clause-refused c =
-    let heard = hearing (goal.at.returns-in_err-len-clause-refused c).In_ok-process (search rules) c.in_ok-delivery.ensures.accepted in
-    let all = c.as_slice.ensures ∙ c.in_ok-delivery.ensures.same in
-    let brings : Brings c.in_ok-state.state.identity c.as_slice.result.now heard.brought =
-    rw (c.in_ok-state.ensures.kept.identity, all) heard.brings in
+-- what follows from two facts about a number of bytes holds if both hold unless there is a fault
+if_ok : (result : Result ℕ Fault) (P Q R : ℕ → Type 0) → ((len : ℕ) → P len → Q len → R len) → IfOk result P → IfOk result Q
+    → IfOk result R
+if_ok (Ok len) P Q R follows first second = follows len first second
+if_ok (Err fault) P Q R follows first second = tt
+
+-- what follows from a fact about a fault holds if the fact holds unless there is none
+if_err : (result : Result ℕ Fault) (P Q : Fault → Type 0) → ((fault : Fault) → P fault → Q fault) → IfErr result P → IfErr result Q
+if_err (Ok len) P Q follows refused = tt
+if_err (Err fault) P Q follows refused = follows fault refused
+
+pub returns-clause-refused : goal.returns-clause-refused
+returns-clause-refused c =
+    let heard = hearing (goal.at.returns-clause-refused c).In_ok-process (search rules) c.in_ok-delivery.ensures.accepted in
+    let brings : Brings c.in_ok-state.state.identity (take c.in_ok-delivery.delivery c.hear_into.new.chars) heard.brought =
+    rw (c.in_ok-state.ensures.kept.identity, c.in_ok-delivery.ensures.same) heard.brings in
     let after = c.hear-said.ensures.state heard.brought brings in
-    let counts : c.response_preambles-preambles.result ≡ c.args.identity.now.response_preambles =
-    grind (arith, after, stays c.in_ok-state.state heard.brought) in
-    let is : c.from_residual-in_err-len.result ≡ Err NoRoom = grind (arith, common_steps, c.in_err-len.ensures.refused.0) in
-    let no_room : HasNoRoom (IsSaid (answer_to heard.state heard.measured heard.brought) c.args.identity.now.response_preambles)
-    (length c.args.reply.now) = rw (← c.hear-said.ensures.answer heard.brought brings, ← counts) c.in_err-len.ensures.refused.1 in
+    let own : c.hear-said.new.self.identity ≡ parts_of c.args.identity.now =
+    rw (after, stays c.in_ok-state.state heard.brought) c.in_ok-state.ensures.kept.identity in
+    let counts : c.hear-said.new.self.identity.response_preambles ≡ c.args.identity.now.response_preambles = grind (arith, own) in
+    let answer = c.hear-said.ensures.answer heard.brought brings in
     let (bits, (few, end)) = heard.delivery in
-    rw is (inr (
+    if_err c.say_and_keep.result _ _
+    (λ fault why.
+    let no_room : HasNoRoom (IsSaid (answer_to heard.state heard.measured heard.brought) c.args.identity.now.response_preambles)
+    (length c.args.reply.now) = rw (← answer, ← counts) why.1 in
+    inr (
       heard.kept.is_identity,
       inr (
         heard.kept.fits,
-        inr ((heard.state, heard.kept), inr (heard.process_is.count, inr (bits, inr (few, inl ((heard, no_room), refl))))),
+        inr ((heard.state, heard.kept), inr (heard.process_is.count, inr (bits, inr (few, inl ((heard, no_room), why.0))))),
       ),
     ))
+    c.say_and_keep.ensures.refused
 
 pub returns-in_err-state-clause-refused : goal.returns-in_err-state-clause-refused
 returns-in_err-state-clause-refused c =
@@ -102,20 +117,24 @@ returns-in_err-delivery-clause-refused c =
 pub returns-clause-heard : goal.returns-clause-heard
 returns-clause-heard c =
     let heard = hearing (goal.at.returns-clause-heard c).In_ok-process (search rules) c.in_ok-delivery.ensures.accepted in
-    let all = c.as_slice.ensures ∙ c.in_ok-delivery.ensures.same in
-    let brings : Brings c.in_ok-state.state.identity c.as_slice.result.now heard.brought =
-    rw (c.in_ok-state.ensures.kept.identity, all) heard.brings in
+    let brings : Brings c.in_ok-state.state.identity (take c.in_ok-delivery.delivery c.hear_into.new.chars) heard.brought =
+    rw (c.in_ok-state.ensures.kept.identity, c.in_ok-delivery.ensures.same) heard.brings in
     let after = c.hear-said.ensures.state heard.brought brings in
     let own : c.hear-said.new.self.identity ≡ parts_of c.args.identity.now =
     rw (after, stays c.in_ok-state.state heard.brought) c.in_ok-state.ensures.kept.identity in
-    let counts : c.response_preambles-preambles.result ≡ c.args.identity.now.response_preambles = grind (arith, own) in
+    let counts : c.hear-said.new.self.identity.response_preambles ≡ c.args.identity.now.response_preambles = grind (arith, own) in
     let answer = c.hear-said.ensures.answer heard.brought brings in
-    let sent = rw (← counts) at c.in_ok-state.ensures.kept.is_identity.in_range.response_preambles in
+    let sent : IsPreambleCount c.args.identity.now.response_preambles =
+    c.in_ok-state.ensures.kept.is_identity.in_range.response_preambles in
+    if_ok c.say_and_keep.result _ _ _
+    (λ len said kept.
+    let reply : IsWritten (IsSaid (answer_to heard.state heard.measured heard.brought) c.args.identity.now.response_preambles)
+    c.args.reply.now c.say_and_keep.new.reply len = rw (← answer, ← counts) said in
     record {
       hearing = heard;
-      reply = rw (← answer, ← counts) c.in_ok-len.ensures.said;
-      silent = λ none. unanswered c.in_ok-state.state c.in_ok-process.process heard.brought
-          (sym answer ∙ unsaid _ _ _ _ _ sent c.in_ok-len.ensures.said none);
-      state = rw (← after) c.keep.ensures;
-      kept = rw (← after, c.keep.ensures, ← own) (devices_are_kept-kept _ c.response_preambles-preambles.ensures.device);
-    }
+      reply = reply;
+      silent = λ none. unanswered c.in_ok-state.state c.in_ok-process.process heard.brought (unsaid _ _ _ _ _ sent reply none);
+      state = rw (← after) kept;
+      kept = rw (← after, kept, ← own) (devices_are_kept-kept _ c.say_and_keep.ensures.device);
+    })
+    c.say_and_keep.ensures.said c.say_and_keep.ensures.kept

@@ -1,10 +1,10 @@
-use Rattle.std.proofs.Common.{◌≡◌, ◌⊎◌, ℕ, List, Option, None, Some, Ok, Err, ap, arith, length, map, rules, sym, ◌∙◌}
+use Rattle.std.proofs.Common.{◌≡◌, ◌⊎◌, ℕ, List, Option, None, Some, Result, Ok, Err, ap, arith, length, map, rules, subst, sym, ◌∙◌}
 use Rattle.std.proofs.lemmas.Grind.{common_steps}
 use Rattle.hart_frame.specs.wire.FrameParts.{FrameParts}
 use Rattle.hart_frame.specs.wire.Message.{IsMessage, IsPreambleCount}
 use Rattle.hart_frame.proofs.lemmas.Laws.{bodies_are_unambiguous-one_body, bodies_are_unambiguous-one_prefix}
 use Rattle.hart_frame.proofs.lemmas.Laws.{frames_are_unambiguous-one_list}
-use Rattle.hart_commands.specs.declared.reply.Reply.{Reply}
+use Rattle.hart_commands.specs.declared.{reply.Reply.Reply, request.Request.Request}
 use Rattle.hart_device.specs.Identity.{AreIdentityParts, IsIdentityFault}
 use Rattle.hart_device.specs.answer.Delivery.{answer_to}
 use Rattle.hart_device.specs.image.Image.{IsImageFault}
@@ -16,7 +16,8 @@ use Rattle.hart_c.specs.Device.{Hears, IsHearing, IsKept, IsSaid, hear_checks, i
 use Rattle.hart_c.specs.Messages.{HasNoRoom, IsFrame, IsWritten, encode_checks}
 use Rattle.hart_c.specs.Find.{char_of}
 use Rattle.hart_c.specs.Numbers.{found_in, frame_in, parts_of}
-use Rattle.hart_c.specs.Master.{Accepts, accept_checks}
+use Rattle.hart_c.specs.Acceptance.{AcceptsFrame, IsAsked, IsJudged, accept_frame_checks, match_checks}
+use Rattle.hart_c.specs.Master.{Accepts, IsUnaccepted, accept_checks}
 use Rattle.hart_c.specs.declared.device.HartDevice.{HartDevice}
 use Rattle.hart_c.specs.declared.fault.Fault.{Fault}
 use Rattle.hart_c.specs.declared.fault.Fault.TheVariants.{Device}
@@ -26,6 +27,8 @@ use Rattle.hart_c.specs.declared.frame.HartFrame.{HartFrame}
 use Rattle.hart_c.specs.declared.identity.HartIdentity.{HartIdentity}
 use Rattle.hart_c.specs.declared.process.HartProcess.{HartProcess}
 use Rattle.hart_c.proofs.Checks.{AreSound, IsSound, first_none, first_one, needs-sound, refused_if-sound}
+use Rattle.hart_c.specs.declared.reason.Unaccepted.{Unaccepted}
+use Rattle.hart_c.proofs.Accepted.{not_accepted, not_judged, one_judged, one_reason}
 use Rattle.hart_c.proofs.Kept.{devices_are_kept-one_state}
 use Rattle.hart_c.proofs.laws.calls_have_one_outcome.Goals.{After-bytes_have_one_image_fault}
 use Rattle.hart_c.proofs.laws.calls_have_one_outcome.Goals as goal
@@ -144,15 +147,72 @@ returns-clause-hear c identity process heard before after other old new newer ou
 accept_sound : (numbers : HartFrame) (heard : List HartChar) → AreSound (accept_checks numbers heard)
 accept_sound numbers heard = search (rules, needs-sound)
 
+-- a frame asks one request
+one_asked : (frame : FrameParts) (request other : Request) → IsAsked frame request → IsAsked frame other → request ≡ other
+one_asked frame request other is again = let read = is.reading in let same = again.reading in cc
+
 -- what a master accepts is determined by the numbers and the delivery
-same_accepted : (numbers : HartFrame) (heard : List HartChar) (before after other : HartFrame) (said tale : Option Reply)
+same_accepted : (numbers : HartFrame) (heard : List HartChar) (before after other : HartFrame) (said tale : Result Reply Unaccepted)
     → Accepts numbers heard before after said → Accepts numbers heard before other tale
     → (said ≡ tale) × (found_in after ≡ found_in other)
-same_accepted numbers heard before after other None None is again = grind arith
-same_accepted numbers heard before after other None (Some reply) is again = grind (arith, is.reply.0 reply)
-same_accepted numbers heard before after other (Some reply) None is again = grind (arith, again.reply.0 reply)
-same_accepted numbers heard before after other (Some reply) (Some another) is again =
+same_accepted numbers heard before after other (Err reason) (Err another) is again =
+    let same = one_asked (frame_in numbers) again.request is.request again.asked is.asked in
+    let one = one_reason (frame_in numbers).master (frame_in numbers).address is.request (map char_of heard) reason another
+    is.reply.0 (subst (λ (request : Request). IsUnaccepted (frame_in numbers).master (frame_in numbers).address request
+    (map char_of heard) another) same again.reply.0) in
+    (ap (λ (told : Unaccepted). Err told) one, ap found_in (is.reply.1 ∙ sym again.reply.1))
+same_accepted numbers heard before after other (Err reason) (Ok reply) is again =
+    let same = one_asked (frame_in numbers) is.request again.request is.asked again.asked in
+    absurd (not_accepted (frame_in numbers).master (frame_in numbers).address again.request (map char_of heard) reason reply
+    (subst (λ (request : Request). IsUnaccepted (frame_in numbers).master (frame_in numbers).address request
+    (map char_of heard) reason) same is.reply.0) again.reply.0)
+same_accepted numbers heard before after other (Ok reply) (Err reason) is again =
+    let same = one_asked (frame_in numbers) again.request is.request again.asked is.asked in
+    absurd (not_accepted (frame_in numbers).master (frame_in numbers).address is.request (map char_of heard) reason reply
+    (subst (λ (request : Request). IsUnaccepted (frame_in numbers).master (frame_in numbers).address request
+    (map char_of heard) reason) same again.reply.0) is.reply.0)
+same_accepted numbers heard before after other (Ok reply) (Ok another) is again =
     grind (arith, common_steps, frames_are_unambiguous-one_list, replies_are_decided-one_reply)
+
+-- what a frame is to a request is determined by the numbers
+same_judged : (numbers heard : HartFrame) (said tale : Result Reply Unaccepted) → AcceptsFrame numbers heard said
+    → AcceptsFrame numbers heard tale → said ≡ tale
+same_judged numbers heard (Err reason) (Err another) is again =
+    let same = one_asked (frame_in numbers) again.request is.request again.asked is.asked in
+    ap (λ (told : Unaccepted). Err told) (one_judged (frame_in numbers).master (frame_in numbers).address is.request (frame_in heard)
+    reason another is.judged (subst (λ (request : Request). IsJudged (frame_in numbers).master (frame_in numbers).address request
+    (frame_in heard) (Err another)) same again.judged))
+same_judged numbers heard (Err reason) (Ok reply) is again =
+    let same = one_asked (frame_in numbers) is.request again.request is.asked again.asked in
+    absurd (not_judged (frame_in numbers).master (frame_in numbers).address again.request (frame_in heard) reason reply
+    (subst (λ (request : Request). IsJudged (frame_in numbers).master (frame_in numbers).address request (frame_in heard) (Err reason))
+    same is.judged) again.judged)
+same_judged numbers heard (Ok reply) (Err reason) is again =
+    let same = one_asked (frame_in numbers) again.request is.request again.asked is.asked in
+    absurd (not_judged (frame_in numbers).master (frame_in numbers).address is.request (frame_in heard) reason reply
+    (subst (λ (request : Request). IsJudged (frame_in numbers).master (frame_in numbers).address request (frame_in heard) (Err reason))
+    same again.judged) is.judged)
+same_judged numbers heard (Ok reply) (Ok another) is again = grind (arith, common_steps, replies_are_decided-one_reply)
+
+pub returns-clause-accept_frame : goal.returns-clause-accept_frame
+returns-clause-accept_frame c numbers heard acceptance another =
+    let checks = accept_frame_checks numbers heard in
+    let sound : AreSound (accept_frame_checks numbers heard) = search (rules, needs-sound) in
+    one_outcome
+    (λ is again. grind (arith, same_judged numbers heard is.0 again.0 is.1 again.1))
+    (λ is why. first_none checks sound is.1.passed why.0 why.1)
+    (λ why is. first_none checks sound is.1.passed why.0 why.1)
+    (λ why again. grind (arith, first_one checks sound why.0 again.0))
+
+pub returns-clause-matches : goal.returns-clause-matches
+returns-clause-matches c request frame matched another =
+    let checks = match_checks request frame in
+    let sound : AreSound (match_checks request frame) = search (rules, needs-sound) in
+    one_outcome
+    (λ is again. grind (arith, is.1.1, again.1.1))
+    (λ is why. first_none checks sound is.1.0 why.0 why.1)
+    (λ why is. first_none checks sound is.1.0 why.0 why.1)
+    (λ why again. grind (arith, first_one checks sound why.0 again.0))
 
 pub returns-clause-accept : goal.returns-clause-accept
 returns-clause-accept c numbers heard before after other acceptance another =

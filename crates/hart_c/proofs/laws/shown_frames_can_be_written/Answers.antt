@@ -1,4 +1,4 @@
-use Rattle.std.proofs.Common.{◌≡◌, Bool, true, false, inl, inr, ℕ, List, Ok, Option, None, Some, [], ◌∷◌, ◌++◌, All, arith, map, refl}
+use Rattle.std.proofs.Common.{◌≡◌, Bool, true, false, inl, inr, ℕ, List, Result, Ok, Err, [], ◌∷◌, ◌++◌, All, arith, map, refl}
 use Rattle.std.proofs.Common.{subst, sym, take}
 use Rattle.std.proofs.lemmas.Grind.{common_steps}
 use Rattle.std.proofs.lemmas.List.Elements.{All-cons, All-head, All-nil}
@@ -13,7 +13,9 @@ use Rattle.hart_commands.specs.declared.reply.Reply.{Reply}
 use Rattle.hart_frame.proofs.lemmas.Laws.{every_list_has_frames}
 use Rattle.hart_c.specs.Messages.{IsFrame, IsInRange}
 use Rattle.hart_frame.specs.wire.FaultNumbers.{frame_fault_number}
-use Rattle.hart_c.specs.Master.{Accepts, acceptance_of}
+use Rattle.hart_c.specs.Acceptance.{acceptance_of}
+use Rattle.hart_c.specs.Master.{Accepts}
+use Rattle.hart_c.specs.declared.reason.Unaccepted.{Unaccepted}
 use Rattle.hart_c.specs.declared.find.HartChar.{HartChar}
 use Rattle.hart_c.specs.Numbers.{IsTidy, address_of, found_in, frame_in}
 use Rattle.hart_c.specs.declared.frame.HartFrame.{HartFrame}
@@ -62,10 +64,10 @@ returns-clause-decoded c bytes before after outcome told free = elim told [
 ]
 
 -- a reply that is accepted is a frame that was found
-of_reply : (numbers : HartFrame) (heard : List HartChar) (before after : HartFrame) (said : Option Reply)
+of_reply : (numbers : HartFrame) (heard : List HartChar) (before after : HartFrame) (said : Result Reply Unaccepted)
     → Accepts numbers heard before after said → (acceptance_of (Ok said)).is_accepted ≡ true → IsFrame after
-of_reply numbers heard before after None is told = cc
-of_reply numbers heard before after (Some reply) is told =
+of_reply numbers heard before after (Err reason) is told = cc
+of_reply numbers heard before after (Ok reply) is told =
     let found = is.reply.0.found in
     let has_body : HasBody (found_in after) =
     subst HasBody (sym is.reply.1) (All-head HasBody found [] (all_have _ _ _ is.reply.0.alone)) in
