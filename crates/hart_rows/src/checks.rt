@@ -1,0 +1,107 @@
+//! Checks of results. A failed check tells what it got and what was wanted, and of which row.
+ghost use Rattle.std.specs.Prelude.{◌↔◌, ◌≡◌, IsOk, IsTrue, Ok, true};
+
+use std::alloc::Global;
+use std::fmt;
+use std::fmt::{Debug, Display};
+use std::process::Termination;
+use std::test::Fail;
+
+/// Fails unless `holds` is true. The failure names `word` and `number`, for example the name of a table and the number of a row.
+pub fn hold(holds: bool, word: &str, number: usize) -> Result<(), Fail>
+    ensures { IsOk result ↔ IsTrue holds }
+{
+    if holds {
+        Ok(())
+    } else {
+        Err(Fail::new(format_args!("of {word} {number}")))
+    }
+}
+
+/// Like `hold`, for a check that may end in an error. An error is printed, and fails the test too.
+pub fn hold_ok(
+    rt: &impl Eprint,
+    holds: Result<bool, Fail>,
+    word: &str,
+    number: usize,
+) -> Result<(), Fail>
+    ensures { IsOk result ↔ (holds ≡ Ok true) }
+{
+    let holds = match holds {
+        Ok(holds) => holds,
+        Err(fail) => {
+            let _status = Err::<(), Fail>(fail).report(rt);
+            false
+        }
+    };
+    hold(holds, word, number)
+}
+
+/// Like `hold`, unless `got` is `wanted`. The failure says both.
+pub fn hold_same<T: PartialEq + Debug>(
+    rt: &impl Eprint,
+    got: &T,
+    wanted: &T,
+    word: &str,
+    number: usize,
+) -> Result<(), Fail> {
+    hold_ok(rt, same(got, wanted), word, number)
+}
+
+/// Whether a check of `got` holds. If it does not, the error says what `got` is.
+pub fn told<T: Debug>(holds: bool, got: &T) -> Result<bool, Fail>
+    ensures { (result ≡ Ok true) ↔ IsTrue holds }
+{
+    if holds {
+        Ok(true)
+    } else {
+        Err(Fail::new(format_args!("got {got:?}")))
+    }
+}
+
+/// Whether `got` is `wanted`. If it is not, the error says both.
+pub fn same<T: PartialEq + Debug>(got: &T, wanted: &T) -> Result<bool, Fail> {
+    if *got == *wanted {
+        Ok(true)
+    } else {
+        Err(Fail::new(format_args!("got {got:?}, wanted {wanted:?}")))
+    }
+}
+
+/// Bytes, which are displayed in hex, or no bytes.
+#[derive(Drop)]
+struct Hex<'a>(Option<&'a [u8]>);
+
+impl Display for Hex<'_> {
+    fn fmt<W: fmt::Write>(&self, f: &mut fmt::Formatter<W>) -> fmt::Result {
+        let Some(bytes) = self.0 else {
+            return write!(f, "none");
+        };
+        write!(f, "'")?;
+        for byte in bytes {
+            write!(f, "{byte:02X}")?;
+        }
+        write!(f, "'")
+    }
+}
+
+/// Like `same`, for bytes.
+pub fn same_bytes(got: &[u8], wanted: &[u8]) -> Result<bool, Fail> {
+    same_if_any(Some(got), Some(wanted))
+}
+
+/// Like `same`, for bytes, if there are any.
+pub fn same_if_any(got: Option<&[u8]>, wanted: Option<&[u8]>) -> Result<bool, Fail> {
+    if got == wanted {
+        return Ok(true);
+    }
+    let got = Hex(got);
+    let wanted = Hex(wanted);
+    Err(Fail::new(format_args!("got {got}, wanted {wanted}")))
+}
+
+/// Whether a value is displayed as this text. If it is not, the error says both texts.
+pub fn has_text(alloc: Global, value: &impl Display, text: &str) -> Result<bool, Fail> {
+    let written = format!(in alloc; "{value}")?;
+    same(&written.as_str(), &text)
+}

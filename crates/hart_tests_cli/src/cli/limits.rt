@@ -1,0 +1,199 @@
+//! Inputs of the greatest length, longer inputs, and endless inputs.
+
+use super::call::Call;
+use super::calls::{EMPTY, Fault, Given, NONE, TOO_LONG, Wanted, does_by_name};
+use super::fakes::After;
+use super::heard::{IDENTIFY, IDENTIFY_LINE, IDENTIFY_SAID, IDENTIFY_WHOLE};
+use super::streams::{AS_NEW, Written};
+use hart_cli::INPUT_LIMIT;
+use hart_rows::hold_ok;
+use std::alloc::Global;
+use std::test::Fail;
+
+/// A call, the number of spaces at the beginning of its input, the items after them, and what comes after the items; then the fault, and
+/// what is written.
+struct Spaced<'a> {
+    call: Call<'a>,
+    spaces: usize,
+    input: &'a str,
+    after: After,
+    fault: Fault<'a>,
+    text: &'a str,
+}
+
+/// Inputs that are as long as they may be.
+const LONGEST: &[Spaced] = &[
+    Spaced {
+        call: Call::Dump,
+        spaces: INPUT_LIMIT,
+        input: "",
+        after: After::End,
+        fault: NONE,
+        text: "",
+    },
+    Spaced {
+        call: Call::Answer(None),
+        spaces: INPUT_LIMIT,
+        input: "",
+        after: After::End,
+        fault: NONE,
+        text: "",
+    },
+    Spaced {
+        call: Call::Simulate(None),
+        spaces: INPUT_LIMIT,
+        input: "",
+        after: After::End,
+        fault: NONE,
+        text: AS_NEW,
+    },
+    Spaced {
+        call: Call::Dump,
+        spaces: INPUT_LIMIT - IDENTIFY.len(),
+        input: IDENTIFY,
+        after: After::End,
+        fault: NONE,
+        text: IDENTIFY_LINE,
+    },
+    // The input of `explain` may be longer.
+    Spaced {
+        call: Call::Explain,
+        spaces: INPUT_LIMIT + 1,
+        input: "",
+        after: After::End,
+        fault: NONE,
+        text: "",
+    },
+    Spaced {
+        call: Call::Explain,
+        spaces: INPUT_LIMIT,
+        input: IDENTIFY,
+        after: After::End,
+        fault: NONE,
+        text: IDENTIFY_SAID,
+    },
+];
+
+/// Longer inputs. Their last item counts as whole only if the byte after it still lies within the limit.
+const LONGER: &[Spaced] = &[
+    Spaced {
+        call: Call::Dump,
+        spaces: INPUT_LIMIT + 1,
+        input: "",
+        after: After::End,
+        fault: TOO_LONG,
+        text: "",
+    },
+    Spaced {
+        call: Call::Answer(None),
+        spaces: INPUT_LIMIT + 1,
+        input: "",
+        after: After::End,
+        fault: TOO_LONG,
+        text: "",
+    },
+    Spaced {
+        call: Call::Simulate(None),
+        spaces: INPUT_LIMIT + 1,
+        input: "",
+        after: After::End,
+        fault: TOO_LONG,
+        text: "",
+    },
+    Spaced {
+        call: Call::Dump,
+        spaces: INPUT_LIMIT - IDENTIFY.len(),
+        input: IDENTIFY,
+        after: After::Spaces,
+        fault: TOO_LONG,
+        text: "",
+    },
+    Spaced {
+        call: Call::Dump,
+        spaces: INPUT_LIMIT - IDENTIFY_WHOLE.len(),
+        input: IDENTIFY_WHOLE,
+        after: After::Spaces,
+        fault: TOO_LONG,
+        text: IDENTIFY_LINE,
+    },
+];
+
+/// Whether the input of a row is taken or refused as the row says.
+fn has_its_length(rt: &impl Eprint, alloc: Global, row: &Spaced) -> Result<bool, Fail> {
+    let given = Given {
+        spaces: row.spaces,
+        input: row.input,
+        after: row.after,
+        ..EMPTY
+    };
+    let wanted = Wanted {
+        fault: row.fault,
+        text: row.text,
+        reads: None,
+        writes: None,
+    };
+    does_by_name(rt, alloc, row.call, &given, &wanted)
+}
+
+#[test]
+fn the_longest_inputs_are_taken(rt: HostRuntime) -> Result<(), Fail> {
+    for (number, row) in LONGEST.iter().enumerate() {
+        hold_ok(&rt, has_its_length(&rt, rt.alloc(), row), "row", number)?;
+    }
+    Ok(())
+}
+
+#[test]
+fn longer_inputs_are_refused(rt: HostRuntime) -> Result<(), Fail> {
+    for (number, row) in LONGER.iter().enumerate() {
+        hold_ok(&rt, has_its_length(&rt, rt.alloc(), row), "row", number)?;
+    }
+    Ok(())
+}
+
+/// How many reads of at most 64 bytes are enough to exceed the limit of an input, even if the first read returns fewer bytes.
+const READS_TO_THE_LIMIT: usize = 16_385;
+
+/// Calls, what each reads before endless spaces, and what it writes.
+const WITHOUT_END: &[Written] = &[
+    (Call::Dump, "", ""),
+    (Call::Dump, IDENTIFY_WHOLE, IDENTIFY_LINE),
+    (Call::Answer(None), IDENTIFY_WHOLE, ""),
+    (Call::Simulate(None), IDENTIFY_WHOLE, ""),
+    (Call::Simulate(None), "turn P ok ok\n", ""),
+];
+
+/// Whether an endless input, read 64 bytes at a time, is refused at the first byte over the limit.
+fn is_refused(
+    rt: &impl Eprint,
+    alloc: Global,
+    (call, input, text): &Written,
+) -> Result<bool, Fail> {
+    let given = Given {
+        input,
+        after: After::Spaces,
+        most_read: 64,
+        ..EMPTY
+    };
+    let reads = Some(READS_TO_THE_LIMIT);
+    does_by_name(
+        rt,
+        alloc,
+        *call,
+        &given,
+        &Wanted {
+            fault: TOO_LONG,
+            text,
+            reads,
+            writes: None,
+        },
+    )
+}
+
+#[test]
+fn an_input_without_end_is_too_long(rt: HostRuntime) -> Result<(), Fail> {
+    for (number, row) in WITHOUT_END.iter().enumerate() {
+        hold_ok(&rt, is_refused(&rt, rt.alloc(), row), "row", number)?;
+    }
+    Ok(())
+}

@@ -1,0 +1,259 @@
+//! `serve`: a device over many deliveries.
+
+use super::call::Call;
+use super::calls::{
+    EMPTY, Fault, Given, NONE, READ, Row, WRITE, Wanted, does, does_by_name, hold_rows,
+};
+use super::fakes::{ALL, After};
+use super::images::NEW;
+use hart_cli::INPUT_LIMIT;
+use hart_rows::hold_ok;
+use std::alloc::Global;
+use std::test::Fail;
+
+/// A device that is written to, read, restarted, protected and written to again, with its image before and after.
+const LIFE: Row = (
+    "image\n\
+    FF FF 82 B7 42 0A 1B 2C 13 03 01 23 45 3D\n\
+    FF FF 82 B7 42 0A 1B 2C 10 00 5A\n\
+    restart\n\
+    FF FF 82 B7 42 0A 1B 2C 10 00 5A\n\
+    FF FF 82 B7 42 0A 1B 2C 10 00 5A\n\
+    protect on\n\
+    FF FF 82 B7 42 0A 1B 2C 13 03 00 00 01 5B\n\
+    counter\n\
+    protect off\n\
+    FF FF 82 B7 42 0A 1B 2C 13 03 00 00 01 5B\n\
+    counter\n\
+    image\n",
+    "image 02000182082082082082082082082082082082082082082082082082082082082082082082082082082082\
+    08200000000000002020202020202020202020202020202020202020202020202020202020202020000000\n\
+    FF FF FF FF FF 86 B7 42 0A 1B 2C 13 05 00 40 01 23 45 7F\n\
+    FF FF FF FF FF 86 B7 42 0A 1B 2C 10 05 00 40 01 23 45 7C\n\
+    ok\n\
+    FF FF FF FF FF 86 B7 42 0A 1B 2C 10 05 00 60 01 23 45 5C\n\
+    FF FF FF FF FF 86 B7 42 0A 1B 2C 10 05 00 40 01 23 45 7C\n\
+    ok\n\
+    FF FF FF FF FF 86 B7 42 0A 1B 2C 13 02 07 40 18\n\
+    counter 1\n\
+    ok\n\
+    FF FF FF FF FF 86 B7 42 0A 1B 2C 13 05 00 40 00 00 01 19\n\
+    counter 2\n\
+    image 02000182082082082082082082082082082082082082082082082082082082082082082082082082082082\
+    08200000000000012020202020202020202020202020202020202020202020202020202020202020000203\n",
+    NONE,
+);
+
+/// Lines of each kind, good and bad.
+const LINES: &[Row] = &[
+    LIFE,
+    ("", "", NONE),
+    ("\n", "-\n", NONE),
+    ("\n\n\r\n \t\n", "-\n-\n-\n-\n", NONE),
+    // The last line needs no line feed. If it is empty, it does not count as a line.
+    ("counter", "counter 0\n", NONE),
+    ("counter\n", "counter 0\n", NONE),
+    ("counter\n\r", "counter 0\n", NONE),
+    // One carriage return at the end of a line is dropped.
+    ("counter\r\nrestart\r", "counter 0\nok\n", NONE),
+    ("counter\r\r\n", "bad line: bad hex at 0\n", NONE),
+    // A word counts only in its exact spelling.
+    (
+        "Counter\n counter\ncounter \nprotect  on\nprotect\nrestart now\n",
+        "bad line: bad hex at 0\nbad line: bad hex at 1\nbad line: bad hex at 0\n\
+        bad line: bad hex at 0\nbad line: bad hex at 0\nbad line: bad hex at 0\n",
+        NONE,
+    ),
+    // A place is counted from the beginning of its line.
+    (
+        "FF FF 02 8\nFF\tFF 0G\nFF!4\n82!8\ncounter\n",
+        "bad line: bad hex at 9\nbad line: bad hex at 6\nbad line: bad hex at 0\nbad line: bad hex at 0\ncounter 0\n",
+        NONE,
+    ),
+    // A message has to stand in one line.
+    ("FF FF 02 80\n00 00 82\n", "-\n-\n", NONE),
+    // The device hears a character with fault bits, and replies with its communication faults.
+    (
+        "FF FF 82 B7 42 0A 1B 2C 13 03 01 23!40 45 3D\n",
+        "FF FF FF FF FF 86 B7 42 0A 1B 2C 13 02 C0 00 9F\n",
+        NONE,
+    ),
+];
+
+#[test]
+fn lines_are_served_in_turn(rt: HostRuntime) -> Result<(), Fail> {
+    hold_rows(&rt, rt.alloc(), Call::Serve(None), After::End, "row", LINES)?;
+    Ok(())
+}
+
+/// What is served before a read that fails: only whole lines.
+const BEFORE_FAILURE: &[Row] = &[
+    ("", "", READ),
+    ("counter", "", READ),
+    ("counter\nrestart", "counter 0\n", READ),
+    (
+        "counter\nbad\n",
+        "counter 0\nbad line: bad hex at 2\n",
+        READ,
+    ),
+];
+
+#[test]
+fn whole_lines_are_served_before_a_failure(rt: HostRuntime) -> Result<(), Fail> {
+    hold_rows(
+        &rt,
+        rt.alloc(),
+        Call::Serve(None),
+        After::Failure,
+        "row",
+        BEFORE_FAILURE,
+    )?;
+    Ok(())
+}
+
+/// An image, and the answers of a device that starts from this image, or the fault of the image.
+const IMAGES: &[(&str, &str, Fault)] = &[
+    (NEW, "counter 0\n", NONE),
+    ("", "", (6, "bad image: length")),
+    ("0", "", (4, "bad hex at 1")),
+];
+
+#[test]
+fn images_are_gone_on_from(rt: HostRuntime) -> Result<(), Fail> {
+    for (number, (image, text, fault)) in IMAGES.iter().enumerate() {
+        let given = Given {
+            input: "counter\n",
+            ..EMPTY
+        };
+        let reads = (fault.0 != 0).then_some(0);
+        let wanted = Wanted {
+            fault: *fault,
+            text,
+            reads,
+            writes: None,
+        };
+        let done = does(&rt, rt.alloc(), Call::Serve(Some(image)), &given, &wanted);
+        hold_ok(&rt, done, "row", number)?;
+    }
+    Ok(())
+}
+
+/// A number of spaces, the input after them, and the device's answers to both.
+const LONG: &[(usize, &str, &str)] = &[
+    (INPUT_LIMIT, "\ncounter\n", "-\ncounter 0\n"),
+    (INPUT_LIMIT, "\r\ncounter\n", "-\ncounter 0\n"),
+    (
+        INPUT_LIMIT - 2,
+        "0G\ncounter\n",
+        "bad line: bad hex at 1048574\ncounter 0\n",
+    ),
+    (
+        INPUT_LIMIT + 1,
+        "\ncounter\n",
+        "bad line: too long\ncounter 0\n",
+    ),
+    (
+        INPUT_LIMIT + 1,
+        "\r\ncounter\n",
+        "bad line: too long\ncounter 0\n",
+    ),
+    (INPUT_LIMIT + 1, "", "bad line: too long\n"),
+    (INPUT_LIMIT, "\r\r\n", "bad line: too long\n"),
+    (INPUT_LIMIT, "restart\n", "bad line: too long\n"),
+    (
+        3 * INPUT_LIMIT,
+        "\ncounter\n",
+        "bad line: too long\ncounter 0\n",
+    ),
+];
+
+/// Whether a device answers the spaces and the input of a row with the text of the row.
+fn says(rt: &impl Eprint, alloc: Global, row: &(usize, &str, &str)) -> Result<bool, Fail> {
+    let (spaces, input, text) = *row;
+    let given = Given {
+        spaces,
+        input,
+        ..EMPTY
+    };
+    let wanted = Wanted {
+        fault: NONE,
+        text,
+        reads: None,
+        writes: None,
+    };
+    does_by_name(rt, alloc, Call::Serve(None), &given, &wanted)
+}
+
+#[test]
+fn lines_have_a_longest_one(rt: HostRuntime) -> Result<(), Fail> {
+    for (number, row) in LONG.iter().enumerate() {
+        hold_ok(&rt, says(&rt, rt.alloc(), row), "row", number)?;
+    }
+    Ok(())
+}
+
+/// Whether a failed write ends the call, after all bytes before it were written.
+fn ends_at(
+    rt: &impl Eprint,
+    alloc: Global,
+    most_read: usize,
+    fails_at: usize,
+) -> Result<bool, Fail> {
+    let text = "counter 0\nok\n-\n";
+    let given = Given {
+        input: "counter\nrestart\n\n",
+        most_read,
+        most_written: 1,
+        fails_at: Some(fails_at),
+        ..EMPTY
+    };
+    let wanted = Wanted {
+        fault: WRITE,
+        text: text.get(..fails_at).ok_or("a write")?,
+        reads: None,
+        writes: Some(fails_at.saturating_add(1)),
+    };
+    does(rt, alloc, Call::Serve(None), &given, &wanted)
+}
+
+#[test]
+fn failed_writes_end_serving(rt: HostRuntime) -> Result<(), Fail> {
+    for fails_at in 0..15 {
+        for most_read in [1, 3, ALL] {
+            hold_ok(
+                &rt,
+                ends_at(&rt, rt.alloc(), most_read, fails_at),
+                "write",
+                fails_at,
+            )?;
+        }
+    }
+    Ok(())
+}
+
+/// Reads many lines at once. The answers to them are longer than the text that is kept before a write.
+#[test]
+fn many_lines_are_read_at_once(rt: HostRuntime) -> Result<(), Fail> {
+    let mut input = String::new(rt.alloc());
+    let mut text = String::new(rt.alloc());
+    for _ in 0..1_000 {
+        input.push_str("image\nrestart\n")?;
+        text.push_str("image ")?;
+        text.push_str(NEW)?;
+        text.push_str("\nok\n")?;
+    }
+    let given = Given {
+        input: input.as_str(),
+        ..EMPTY
+    };
+    let wanted = Wanted {
+        fault: NONE,
+        text: text.as_str(),
+        reads: None,
+        writes: None,
+    };
+    does(&rt, rt.alloc(), Call::Serve(None), &given, &wanted)?
+        .then_some(())
+        .ok_or("other lines")?;
+    Ok(())
+}

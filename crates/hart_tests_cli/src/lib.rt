@@ -1,0 +1,7 @@
+//! The tests of hart_cli.
+#![tactic(auto)]
+
+#[cfg(test)]
+mod cli;
+#[cfg(test)]
+mod examples;

@@ -1,0 +1,7 @@
+//! The tests of hart_commands.
+#![tactic(auto)]
+
+#[cfg(test)]
+mod commands;
+#[cfg(test)]
+mod examples;

@@ -1,0 +1,284 @@
+use bodies::*;
+use hart_frame::{Frame, decode};
+use hart_master::*;
+use hart_rows::{hold_ok, hold_same, same};
+use std::test::Fail;
+
+mod bodies;
+mod steps;
+
+/// What a master has in hand, without the frame.
+#[derive(Clone, Copy, Debug, PartialEq, Eq)]
+enum Held {
+    Empty,
+    /// A request that was sent this number of times.
+    Due(u8),
+    /// A request that was sent this number of times, and the character times since.
+    Awaiting(u8, u8),
+    /// A request that was sent this number of times.
+    Answered(u8),
+}
+
+/// Returns the request of this body, sent this number of times.
+fn transaction_of(body: &[u8], sendings: u8) -> Result<FrameTransaction, Fail> {
+    let (request, _) = decode(body)?;
+    Ok(FrameTransaction { request, sendings })
+}
+
+/// Returns what is held, with the frame of this body.
+fn hand_of(held: Held, body: &[u8]) -> Result<FrameHand, Fail> {
+    Ok(match held {
+        Held::Empty => FrameHand::Empty,
+        Held::Due(sendings) => FrameHand::Due(transaction_of(body, sendings)?),
+        Held::Awaiting(sendings, time) => {
+            FrameHand::Awaiting(transaction_of(body, sendings)?, time)
+        }
+        Held::Answered(sendings) => FrameHand::Answered(transaction_of(body, sendings)?),
+    })
+}
+
+/// Returns the frame in hand, if there is one.
+fn frame_in(hand: &FrameHand) -> Option<&Frame> {
+    match hand {
+        FrameHand::Empty => None,
+        FrameHand::Due(it) | FrameHand::Awaiting(it, _) | FrameHand::Answered(it) => {
+            Some(&it.request)
+        }
+    }
+}
+
+/// Returns what is held, without the frame.
+fn held_in(hand: &FrameHand) -> Held {
+    match hand {
+        FrameHand::Empty => Held::Empty,
+        FrameHand::Due(it) => Held::Due(it.sendings),
+        FrameHand::Awaiting(it, time) => Held::Awaiting(it.sendings, *time),
+        FrameHand::Answered(it) => Held::Answered(it.sendings),
+    }
+}
+
+/// Whether the readers of a master show that this is in hand, with this request.
+fn shows(master: &FrameMaster, held: Held, request: &Frame) -> Result<bool, Fail> {
+    let has_frame = held != Held::Empty;
+    let is_due = matches!(held, Held::Due(_));
+    let is_idle = matches!(held, Held::Empty | Held::Answered(_));
+    Ok(
+        same(&held_in(master.hand()), &held)?
+            && same(&frame_in(master.hand()), &has_frame.then_some(request))?
+            && same(&master.due(), &is_due.then_some(request))?
+            && same(&master.is_idle(), &is_idle)?,
+    )
+}
+
+/// Retries and reply limits, and the fault with which they are refused, if they are refused.
+const LIMITS: &[(u8, u8, Option<MasterFault>)] = &[
+    (0, 1, None),
+    (15, 255, None),
+    (16, 33, Some(MasterFault::OutOfRange)),
+    (3, 0, Some(MasterFault::OutOfRange)),
+];
+
+#[test]
+fn frame_masters_have_limits(rt: HostRuntime) -> Result<(), Fail> {
+    for (row, (retries, reply_limit, want)) in LIMITS.iter().enumerate() {
+        let made = FrameMaster::new(*retries, *reply_limit, FrameHand::Empty);
+        hold_same(&rt, &made.err(), want, "row", row)?;
+    }
+    Ok(())
+}
+
+/// Retries, what is in hand, and whether a master may have it.
+const HANDS: &[(u8, Held, bool)] = &[
+    (3, Held::Empty, true),
+    (0, Held::Due(0), true),
+    (0, Held::Due(1), false),
+    (15, Held::Due(15), true),
+    (3, Held::Awaiting(0, 0), false),
+    (0, Held::Awaiting(1, 0), true),
+    (0, Held::Awaiting(2, 0), false),
+    (15, Held::Awaiting(16, 255), true),
+    (3, Held::Answered(0), false),
+    (3, Held::Answered(4), true),
+    (3, Held::Answered(5), false),
+];
+
+/// Whether a master with these retries has in hand what it is made with, or is refused.
+fn is_made_or_refused(row: &(u8, Held, bool)) -> Result<bool, Fail> {
+    let (retries, held, is_made) = *row;
+    let (request, _) = decode(ASKS_128)?;
+    match FrameMaster::new(retries, 33, hand_of(held, ASKS_128)?) {
+        Ok(master) => Ok(is_made && shows(&master, held, &request)?),
+        Err(fault) => Ok(!is_made && same(&fault, &MasterFault::OutOfRange)?),
+    }
+}
+
+#[test]
+fn frame_masters_begin_with_what_is_in_hand(rt: HostRuntime) -> Result<(), Fail> {
+    for (number, row) in HANDS.iter().enumerate() {
+        hold_ok(&rt, is_made_or_refused(row), "row", number)?;
+    }
+    Ok(())
+}
+
+/// Bodies, and whether each is the request of a master.
+const REQUESTS: &[(&[u8], bool)] = &[
+    (ASKS_128, true),
+    (POLLS_0, true),
+    (BURST_ASKS, false),
+    (EXPANDED_ASKS, false),
+    (ANSWERS_128, false),
+];
+
+/// Whether a body is told to be a request or not, and whether a master takes it in hand or not.
+fn is_told_and_taken(row: &(&[u8], bool)) -> Result<bool, Fail> {
+    let (body, want) = *row;
+    let (frame, _) = decode(body)?;
+    let made = FrameMaster::new(1, 33, hand_of(Held::Due(0), body)?);
+    Ok(same(&is_request(&frame), &want)? && same(&made.is_ok(), &want)?)
+}
+
+#[test]
+fn requests_of_a_master_are_told_from_other_frames(rt: HostRuntime) -> Result<(), Fail> {
+    for (number, row) in REQUESTS.iter().enumerate() {
+        hold_ok(&rt, is_told_and_taken(row), "row", number)?;
+    }
+    Ok(())
+}
+
+/// Bodies of requests, and the fault with which an idle master refuses each, if it refuses it.
+const SUBMISSIONS: &[(&[u8], Option<MasterFault>)] = &[
+    (ASKS_128, None),
+    (POLLS_33, None),
+    (ALL_128, None),
+    (WRITES_19, None),
+    (POLLS_0, None),
+    (POLLS_19, Some(MasterFault::WrongAddress)),
+    (ALL_11, None),
+    (ALL_0, Some(MasterFault::WrongAddress)),
+];
+
+/// Whether a master takes the request of this body, or refuses it with this fault and gives it back.
+fn submits(master: &mut FrameMaster, body: &[u8], want: Option<MasterFault>) -> Result<bool, Fail> {
+    let (request, _) = decode(body)?;
+    let (again, _) = decode(body)?;
+    if !is_request(&request) {
+        return Err(Fail::new(format_args!("no request")));
+    }
+    match master.submit(request) {
+        Ok(()) => same(&None, &want),
+        Err(rejected) => {
+            Ok(same(&Some(rejected.fault), &want)? && same(&rejected.request, &again)?)
+        }
+    }
+}
+
+/// Whether a master with this in hand does with a submission what its row says. A refusal changes nothing. Once it is taken, another one is
+/// refused.
+fn is_taken_or_refused(held: Held, row: &(&[u8], Option<MasterFault>)) -> Result<bool, Fail> {
+    let (body, want) = *row;
+    let mut master = FrameMaster::new(3, 41, hand_of(held, ASKS_128)?)?;
+    let is_submitted = submits(&mut master, body, want)?;
+    if want.is_some() {
+        let (request, _) = decode(ASKS_128)?;
+        return Ok(is_submitted && shows(&master, held, &request)?);
+    }
+    let (request, _) = decode(body)?;
+    Ok(
+        is_submitted
+            && shows(&master, Held::Due(0), &request)?
+            && submits(&mut master, WRITES_19, Some(MasterFault::Pending))?
+            && shows(&master, Held::Due(0), &request)?,
+    )
+}
+
+#[test]
+fn one_request_frame_is_taken(rt: HostRuntime) -> Result<(), Fail> {
+    for (number, row) in SUBMISSIONS.iter().enumerate() {
+        hold_ok(&rt, is_taken_or_refused(Held::Empty, row), "row", number)?;
+        hold_ok(
+            &rt,
+            is_taken_or_refused(Held::Answered(2), row),
+            "answered, row",
+            number,
+        )?;
+    }
+    Ok(())
+}
+
+/// What is in hand if the master is not idle.
+const BUSY: &[Held] = &[Held::Due(0), Held::Due(3), Held::Awaiting(1, 32)];
+
+#[test]
+fn a_busy_master_refuses_each_request(rt: HostRuntime) -> Result<(), Fail> {
+    for held in BUSY {
+        for (number, (body, _)) in SUBMISSIONS.iter().enumerate() {
+            let row = (*body, Some(MasterFault::Pending));
+            hold_ok(&rt, is_taken_or_refused(*held, &row), "row", number)?;
+        }
+    }
+    Ok(())
+}
+
+/// What a frame is to a request.
+#[derive(Clone, Copy, PartialEq, Eq)]
+enum Is {
+    /// No answer to it.
+    Other,
+    /// An answer that is not accepted.
+    Answer,
+    /// An answer that is accepted.
+    Reply,
+}
+
+/// Bodies of a request and of a frame, and what the frame is to the request.
+const HEARD: &[(&[u8], &[u8], Is)] = &[
+    (ASKS_128, ANSWERS_128, Is::Reply),
+    (ASKS_128, BURST_ANSWERS, Is::Reply),
+    (ASKS_128, BUSY_128, Is::Reply),
+    (ASKS_128, FAULTY_128, Is::Answer),
+    (ASKS_128, TO_SECONDARY, Is::Other),
+    (ASKS_128, ANSWERS_129, Is::Other),
+    (ASKS_128, FROM_OTHER, Is::Other),
+    (ASKS_128, EXPANDED_ANSWERS, Is::Other),
+    (ASKS_128, ASKS_128, Is::Other),
+    (ASKS_128, WRITTEN_19, Is::Other),
+    (POLLS_33, ANSWERS_33, Is::Reply),
+    (POLLS_33, POLLED_1, Is::Other),
+    (WRITES_19, WRITTEN_19, Is::Reply),
+    (WRITES_19, SHORT_19, Is::Answer),
+    (WRITES_19, FAULTY_19, Is::Answer),
+    (WRITES_19, ANSWERS_128, Is::Other),
+];
+
+/// Whether a frame answers the request or not, and whether a master that awaits the reply accepts it or not.
+fn is_heard(row: &(&[u8], &[u8], Is)) -> Result<bool, Fail> {
+    let (asks, body, want) = *row;
+    let (request, _) = decode(asks)?;
+    let (frame, _) = decode(body)?;
+    let mut master = FrameMaster::new(3, 41, hand_of(Held::Awaiting(4, 40), asks)?)?;
+    let (event, held) = if want == Is::Reply {
+        (FrameEvent::Answered(4), Held::Answered(4))
+    } else {
+        (FrameEvent::Nothing, Held::Awaiting(4, 40))
+    };
+    let answers = matches(
+        request.master(),
+        request.address(),
+        request.command(),
+        &frame,
+    );
+    Ok(
+        same(&matches_frame(&request, &frame), &(want != Is::Other))?
+            && same(&answers, &(want != Is::Other))?
+            && same(&master.receive(&frame), &event)?
+            && shows(&master, held, &request)?,
+    )
+}
+
+#[test]
+fn replies_to_request_frames_are_accepted(rt: HostRuntime) -> Result<(), Fail> {
+    for (number, row) in HEARD.iter().enumerate() {
+        hold_ok(&rt, is_heard(row), "row", number)?;
+    }
+    Ok(())
+}

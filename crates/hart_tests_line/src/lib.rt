@@ -1,0 +1,7 @@
+//! The tests of hart_line.
+#![tactic(auto)]
+
+#[cfg(test)]
+mod examples;
+#[cfg(test)]
+mod line;
