@@ -1,113 +1,129 @@
-"""Calls the prover as the toolchain's command `rt` does, on copies of a crate. It never changes the tree."""
+"""Checks changed copies of the repository's crates by the toolchain's command `rt`. It never changes the tree."""
 
 import contextlib
-import importlib.machinery
-import importlib.util
+import functools
 import os
+import queue
 import shutil
 import subprocess
-import sys
 import tempfile
+import threading
+from concurrent.futures import ThreadPoolExecutor
+from typing import NamedTuple
 
 ROOT = os.path.realpath(f"{os.path.dirname(__file__)}/..")
+# Held while crates are copied, and while libraries are built in a copy that is copied again.
+COPYING = threading.Lock()
 
 
-def load():
-    """The command `rt` as a module."""
-    page = subprocess.run(["rt", "doc"], capture_output=True, text=True, check=True).stdout.strip()
-    loader = importlib.machinery.SourceFileLoader("rt", f"{os.path.dirname(page)}/bin/rt")
-    module = importlib.util.module_from_spec(importlib.util.spec_from_loader("rt", loader))
-    sys.modules["rt"] = module
-    loader.exec_module(module)
-    # The first call of `guarded` sets a signal handler, which only the main thread may do.
-    module.rtlib.guarded()
-    return module
+class Crate(NamedTuple):
+    """A crate by its line of crates.txt, and the crates of the repository below it, lowest first."""
+
+    name: str
+    line: str
+    below: tuple
 
 
-class Kit:
-    """The crates of the repository, and checks of copies of them.
+def crates_in(text):
+    """The crates that a text like crates.txt lists, by name, lowest first."""
+    lines, found = {}, {}
+    for line in text.split("\n"):
+        head, colon, rest = line.partition("#")[0].partition(":")
+        if colon:
+            lines[head.split()[0]] = (line, rest.split())
 
-    `proved` is a folder with what the gate proved of crates, by their names."""
+    def add(name):
+        if name in lines and name not in found:
+            line, uses = lines[name]
+            for it in uses:
+                add(it)
+            below = [lower for it in uses if it in found for lower in (*found[it].below, it)]
+            found[name] = Crate(name, line, tuple(dict.fromkeys(below)))
 
-    def __init__(self, proved=None):
-        self.rt, self.proved = load(), proved
-        self.crates = {it.name: it for it in self.rt.rtlib.crates_below(ROOT)}
+    for name in lines:
+        add(name)
+    return found
 
-    def has_gates_libraries(self):
-        """Whether all libraries are built, and by the gate, whose libraries have no stamp."""
-        made = [it for it in self.crates.values() if it.makes_rlib()]
-        return all(os.path.isfile(f"{it.rlib}/format") and not os.path.exists(f"{os.path.dirname(it.rlib)}/stamp") for it in made)
 
-    def build_below(self, name):
-        """Builds the missing libraries below a crate, and returns whether all are built then. Prints the reason if not."""
-        for library in self.crates[name].below():
-            with tempfile.TemporaryFile("w+", errors="replace") as library.out:
-                if library.build_rlib(["--jobs", "1"], anew=False):
-                    library.out.seek(0)
-                    print(library.out.read(), end="")
-                    return False
-        return True
+@functools.cache
+def version():
+    """The kit of the toolchain, in one word."""
+    said = subprocess.run(["rt", "version"], capture_output=True, text=True, check=True).stdout
+    return "/".join(it for it in said.split() if it != "logic")
 
-    def begun(self, name):
-        """The folder of what the gate has proved of a crate, or else of what `rt check` has kept in the tree; None if there is neither."""
-        found = [f"{self.proved}/{name}"] * bool(self.proved) + [f"{self.crates[name].folder}/out/incremental"]
-        return next((it for it in found if os.path.isdir(it)), None)
 
-    def has_kept(self, name):
-        return self.begun(name) is not None
+def side_by_side(tasks):
+    """Yields what these calls yield, as it comes. As many run at once as there are processors, or as `RT_JOBS` says."""
+    found = queue.SimpleQueue()
 
-    @contextlib.contextmanager
-    def kept(self, name):
-        """A folder for what checks of a crate prove, so that later ones need not. It begins with what was proved before."""
-        begun = self.begun(name)
-        with tempfile.TemporaryDirectory(prefix="mistakes-") as room:
-            folder = f"{room}/kept"
-            if begun:
-                self.rt.linked(begun, folder)
-            else:
-                os.mkdir(folder)
-            yield folder
+    def work(task):
+        try:
+            for it in task():
+                found.put(it)
+        finally:
+            found.put(None)
 
-    def check(self, name, texts, functions, kept=None):
-        """Checks these functions, and what they call, in a copy of a crate with these texts, and returns what the prover printed."""
-        flags = ["--jobs", "1", *[word for it in functions for word in ("--only", it)]]
-        with self.copied(name, texts) as room:
-            words = [*self.crates[name].words(flags, keeps=False), *(["--incremental", kept] if kept else [])]
-            return self.call(room, ["check", *words]).stdout
+    with ThreadPoolExecutor(max_workers=int(os.environ.get("RT_JOBS") or os.cpu_count())) as pool:
+        running = [pool.submit(work, it) for it in tasks]
+        for _ in running:
+            yield from iter(found.get, None)
+        for it in running:
+            it.result()
 
-    @contextlib.contextmanager
-    def copied(self, name, texts):
-        """A folder with a copy of a crate, in which files have these texts, or are added with them."""
-        with tempfile.TemporaryDirectory(prefix="mistakes-") as room:
-            for part in self.rt.rtlib.PARTS:
-                if os.path.isdir(f"{self.crates[name].folder}/{part}"):
-                    shutil.copytree(f"{self.crates[name].folder}/{part}", f"{room}/{part}")
-            for path, text in texts.items():
-                os.makedirs(os.path.dirname(f"{room}/{path}"), exist_ok=True)
-                with open(f"{room}/{path}", "w", encoding="utf-8") as it:
+
+def linked(source, to):
+    """Links a file, or copies it where no link can be. `rt` replaces the files that it keeps, and never writes into one."""
+    try:
+        os.link(source, to)
+    except OSError:
+        shutil.copy2(source, to)
+
+
+class Room:
+    """A copy of crates, in which files can be changed and functions be checked."""
+
+    def __init__(self, folder, source):
+        self.folder, self.source, self.changed = folder, source, {}
+
+    def put(self, crate, texts):
+        """Gives files of a crate these texts, by their paths in it, and every other file its own. A file is taken away if its text is
+        None."""
+        for path in self.changed:
+            shutil.copy2(f"{self.source}/{path}", f"{self.folder}/{path}")
+        self.changed = {f"crates/{crate}/{file}": text for file, text in texts.items()}
+        for path, text in self.changed.items():
+            os.remove(f"{self.folder}/{path}")
+            if text is not None:
+                with open(f"{self.folder}/{path}", "w", encoding="utf-8") as it:
                     it.write(text)
-            yield room
 
-    def check_over(self, name, below, texts, functions):
-        """Checks these functions of a crate over the sources of the libraries below it, of which one has these texts, and returns what the
-        prover printed."""
-        crate, changed = self.crates[name], self.crates[below]
-        flags = ["--jobs", "1", *[word for it in functions for word in ("--only", it)]]
-        with self.copied(below, texts) as room:
-            words = crate.words(flags, keeps=False, as_source=True)
-            return self.call(crate.folder, ["check", *[it.replace(f"={changed.folder}/src/", f"={room}/src/") for it in words]]).stdout
+    def check(self, crate, functions, *flags):
+        """Checks these functions of a crate, with what they call, and returns what the prover printed. It builds what is missing below."""
+        words = ["rt", "check", "--jobs", "1", *flags, *(word for it in functions for word in ("--only", it))]
+        how = {"stdin": subprocess.DEVNULL, "stdout": subprocess.PIPE, "stderr": subprocess.STDOUT, "errors": "replace"}
+        return subprocess.run(words, cwd=f"{self.folder}/crates/{crate}", check=False, **how).stdout
 
-    def call(self, folder, words):
-        """Calls the prover in a folder."""
-        how = {"cwd": folder, "stdin": subprocess.DEVNULL, "stdout": subprocess.PIPE, "stderr": subprocess.STDOUT, "errors": "replace"}
-        return subprocess.run([*self.rt.rtlib.guarded(), self.rt.rtlib.RATTLE, *words], check=False, **how)
 
-    def build_static(self, name, to):
-        """Builds a static library over the built libraries, and proves those parts of it that are not kept. Returns what the prover
-        printed, and its status."""
-        crate = self.crates[name]
-        with self.copied(name, {}) as room, self.kept(name) as kept:
-            words = [*crate.words(["--jobs", "1"], keeps=False), "--incremental", kept]
-            words += ["--toolchain", f"{self.rt.KIT}/toolchain", "--backend", "llvm", "-o", to]
-            ran = self.call(room, ["build", *words])
-            return ran.stdout, ran.returncode
+def copy_crates(names, source, folder):
+    """Copies crates and what `rt` has kept of them, with the lines of crates.txt that these have."""
+    with open(f"{source}/crates.txt", encoding="utf-8") as it:
+        every = crates_in(it.read())
+    needed = dict.fromkeys(it for name in names for it in (*every[name].below, name))
+    with open(f"{folder}/crates.txt", "w", encoding="utf-8") as it:
+        it.write("".join(f"{every[name].line}\n" for name in needed))
+    with contextlib.suppress(FileNotFoundError):
+        shutil.copy2(f"{source}/HANDLES", folder)
+    for name in needed:
+        of, to = f"{source}/crates/{name}", f"{folder}/crates/{name}"
+        shutil.copytree(of, to, ignore=shutil.ignore_patterns("out", "mistakes", "must-fail"))
+        if os.path.isdir(f"{of}/out"):
+            shutil.copytree(f"{of}/out", f"{to}/out", copy_function=linked)
+
+
+@contextlib.contextmanager
+def copied(names, source=ROOT):
+    """A room with these crates and all below them as they stand in a folder."""
+    with tempfile.TemporaryDirectory(prefix="mistakes-", ignore_cleanup_errors=True) as folder:
+        with COPYING:
+            copy_crates(names, source, folder)
+        yield Room(folder, source)

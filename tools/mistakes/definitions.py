@@ -1,20 +1,17 @@
 """Tries a wrong variant of each definition that a reader believes: a proof has to fail by it.
 
-A variant changes a definition of `specs/` alone, in a copy of its crate: a number is one off, a case is dropped, two parts are
-exchanged. Several are planted at once, each with functions whose goals rest on it and on no other variant that is planted. One that
-these functions do not refuse is tried again beside others, then alone, then with its whole crate, and at last with crates above."""
+A variant changes a definition of `specs/` alone: a number is one off, a case is dropped, two parts are exchanged. Several are planted at
+once in a copy of their crate, each with places, which are functions or lemmas, that rest on it and on no other variant that is planted.
+One that these places do not refuse is tried beside others again, then alone, with its whole crate, and at last with crates above."""
 
-import glob
 import os
-import random
 import re
-import threading
 from collections import Counter
-from concurrent.futures import ThreadPoolExecutor, as_completed
 from typing import NamedTuple
 
-from mistakes.cones import Code, read, words_of
-from mistakes.table import definition_cells, definition_lines, write_definitions
+from kit import copied, side_by_side
+from mistakes.rests import Rests
+from mistakes.verdicts import VERDICT, Verdict, refusing_places, unread
 
 ROWS = f"{os.path.dirname(__file__)}/definitions.txt"
 HEAD = re.compile(r"^(?:abbrev |unfoldable |opaque )?pub (?:record |data )?(?!mod\b|use\b)(\w+)", re.M)
@@ -22,43 +19,29 @@ HEAD = re.compile(r"^(?:abbrev |unfoldable |opaque )?pub (?:record |data )?(?!mo
 SHAPE = re.compile(r"(?:pub data \w+|pub record \w+(?: \(\w+ : Type \d\))*|abbrev pub \w+) : Type \d")
 # What a file says of definitions that no public contract names. In its first line it speaks of all its definitions.
 PRIVATE = re.compile(r"^--.*\bOnly private calls use (these definitions|the definitions from here on|the next definition)\b", re.M)
-ERROR = re.compile(r"^(?:note: )?(?:\./)?((?:proofs|specs)/\S+?\.antt):(\d+):\d+: error: (?:`([^`]+)`: )?(.*)", re.M)
-VERDICT = re.compile(r"^(?:only|logic)=", re.M)
-FUNCTION = re.compile(r"^fn (\S+?): ((?:no proof|not proved|could not tell|proved).*)", re.M)
-# How many places are tried for a variant beside others at once, in all, and for one that is planted alone.
+# At how many places a variant is tried beside others at once and in all, and how many functions try one that is planted alone.
 FEW, MOST, MANY = 2, 6, 12
-# As how many further variants it counts for a place that it names a definition only by way of others.
-FAR = 3
-# In how many orders variants are chosen, besides a first one, and how many are enough for quick functions alone.
-ORDERS, ENOUGH = 12, 5
-
-
-class Definition(NamedTuple):
-    """A definition's file, its own name, its text, the place at which that starts in the file, and whether a reader believes it."""
-
-    file: str
-    own: str
-    start: int
-    block: str
-    is_believed: bool
+PROVED = "its crate is still proved"
 
 
 class Variant(NamedTuple):
-    """A definition by the name that the table has for it, and the text in it that is replaced."""
+    """A variant's name, the definition's crate, file, own name and text, and the text in it that the variant replaces."""
 
     name: str
-    definition: Definition
+    crate: str
+    file: str
+    own: str
+    block: str
     old: str
     new: str
 
+    def module(self):
+        return f"Rattle.{self.crate}.{self.file.removesuffix('.antt').replace('/', '.')}"
 
-class Tried(NamedTuple):
-    """A variant, the places that refuse it, and why none does if none does."""
-
-    crate: str
-    variant: Variant
-    refused_at: tuple
-    why: str = ""
+    def plant(self, texts, raw):
+        """Plants the variant in the text of its file, by the texts that were changed before, or else as it is."""
+        before, block, after = texts.get(self.file, raw[self.file]).partition(self.block)
+        texts[self.file] = before + block.replace(self.old, self.new) + after
 
 
 def is_private(text, start):
@@ -67,296 +50,149 @@ def is_private(text, start):
     return any(it[1] != "the next definition" or not HEAD.search(text, it.end(), start) for it in said)
 
 
-def name_of(definition, folders):
-    """The name of a definition: its file's name and its own, after the names of this many folders."""
-    parts = definition.file.removesuffix(".antt").split("/")
-    return f"{'/'.join(parts[-1 - folders :])}.{definition.own}"
-
-
-def definitions_of(folder):
-    """The definitions of a crate by their names, but for those that are shapes alone and those of private rooms.
-
-    If two have the same name, the name of the folder stands before each."""
+def definitions_of(crate):
+    """The definitions of a crate, without shapes and those of private rooms, and whether a reader believes each. The key of one is the name
+    of its file and its own, and before them the name of the folder if two would have the same."""
     found = []
-    for path in sorted(glob.glob(f"{folder}/specs/**/*.antt", recursive=True)):
-        text = read(path)
+    for file, text in sorted(crate.raw.items()):
+        if not file.startswith("specs/") or "/private/" in file:
+            continue
         if text.count("private calls") != len(PRIVATE.findall(text)):
-            raise SystemExit(f"definitions: {path} speaks of private calls in other words than PRIVATE in tools/mistakes/definitions.py")
+            where = "tools/mistakes/definitions.py"
+            raise SystemExit(f"definitions: {crate.name}/{file} speaks of private calls in other words than PRIVATE in {where}")
         heads = list(HEAD.finditer(text))
-        for head, after in zip(heads, [it.start() for it in heads[1:]] + [len(text)]):
-            block = re.sub(r"(?:\n--[^\n]*|\n)*\Z", "", text[head.start() : after])
-            if not SHAPE.match(block) and "/private/" not in path:
-                is_believed = not is_private(text, head.start())
-                found.append(Definition(os.path.relpath(path, folder), head[1], head.start(), block, is_believed))
-    often = Counter(name_of(it, 0) for it in found)
-    named = {name_of(it, 1 if often[name_of(it, 0)] > 1 else 0): it for it in found}
+        for head, end in zip(heads, [it.start() for it in heads[1:]] + [len(text)]):
+            block = re.sub(r"(?:\n--[^\n]*|\n)*\Z", "", text[head.start() : end])
+            if not SHAPE.match(block):
+                found.append((Variant("", crate.name, file, head[1], block, "", ""), not is_private(text, head.start())))
+    own = [f"{os.path.basename(it.file)[:-5]}.{it.own}" for it, _ in found]
+    often = Counter(own)
+    named = {f"{it.file.split('/')[-2]}/{key}" if often[key] > 1 else key: (it, is_believed) for key, (it, is_believed) in zip(own, found)}
     if len(named) < len(found):
-        raise SystemExit(f"definitions: {folder}/specs has two definitions of one name in folders of one name")
+        raise SystemExit(f"definitions: {crate.name}/specs has two definitions of one name in folders of one name")
     return named
 
 
 def rows():
-    """The lines of the table of variants, by crate and name: the text that is replaced and its replacement; None if there can be none."""
+    """The lines of the table of variants, by crate and key: the text that is replaced and its replacement; None if there can be none."""
     found, crate = {}, ""
-    for line in read(ROWS).split("\n"):
-        name, colon, rest = line.partition(": ")
-        old, arrow, new = rest.partition(" =>")
-        if line.startswith("#") or not line:
-            continue
-        if not colon:
-            crate = line
-        else:
-            found[crate, name] = (old, new.removeprefix(" ")) if arrow else None
+    with open(ROWS, encoding="utf-8") as it:
+        for line in filter(None, it.read().split("\n")):
+            key, colon, rest = line.partition(": ")
+            old, arrow, new = rest.partition(" =>")
+            crate = crate if colon or line.startswith("#") else line
+            if colon and not line.startswith("#"):
+                found[crate, key] = (old, new.removeprefix(" ")) if arrow else None
     return found
 
 
-def variants_of(crate, table):
-    """The variants of a crate, and what is wrong with the table."""
-    definitions = definitions_of(crate.folder)
-    found, wrong = [], [f"{it}: there is no such definition" for at, it in table if at == crate.name and it not in definitions]
-    for name, it in definitions.items():
-        if (crate.name, name) not in table:
-            wrong += [f"{name}: it has no variant"] if it.is_believed else []
-            continue
-        old, new = table[crate.name, name] or ("", "")
-        if old and (it.block.count(old) != 1 or old == new):
-            wrong.append(f"{name}: what it replaces does not stand there once, or nothing changes")
-        elif old:
-            found.append(Variant(name, it, old, new))
-    return found, [f"{crate.name}/{it}" for it in wrong]
+def variants(tree, table):
+    """The variants by name, and what is wrong with the table."""
+    found, wrong = {}, []
+    for crate in dict.fromkeys(it for it, _ in table):
+        definitions = definitions_of(tree.crate(crate))
+        wrong += [f"{crate}/{key}: there is no such definition" for at, key in table if at == crate and key not in definitions]
+        for key, (it, is_believed) in definitions.items():
+            old, new = table.get((crate, key)) or ("", "")
+            if old and (it.block.count(old) != 1 or old == new):
+                wrong.append(f"{crate}/{key}: what it replaces does not stand there once, or nothing changes")
+            elif old:
+                found[f"{crate}/specs/{key}"] = it._replace(name=f"{crate}/specs/{key}", old=old, new=new)
+            elif is_believed and (crate, key) not in table:
+                wrong.append(f"{crate}/{key}: it has no variant")
+    return found, wrong
 
 
-class Crate:
-    """A crate with the variants that are left to be tried, and its places, functions and lemmas, with the variants that each rests on.
+class Trial:
+    """The variants of a crate that are left to be tried, the places of the crate that can refuse them, with the variants on which each
+    rests, and the function with which each place is checked. A lemma is checked with a function whose proof reads its file."""
 
-    `checked` has the function that is checked to try a place: a lemma is checked with a function whose proof cites its file. `quick` are
-    the functions that no file of lemmas is checked with."""
+    def __init__(self, tree, base, name, variants):
+        self.tree, self.base, self.crate, self.left, self.tried = tree, base, tree.crate(name), dict(variants), Counter()
+        by_key, rests = {(it.module(), it.own): it.name for it in variants.values()}, Rests(tree, name)
+        self.cones, self.checked, read = {}, {}, {it: self.crate.modules_read_with(it) for it in self.crate.functions.values()}
+        for function in sorted(read, key=lambda it: (it.file == "src/laws.rt", len(read[it]))):
+            lemmas = [f"{lemma} of {self.crate.files[at]}" for at in sorted(read[function]) for lemma in self.crate.modules[at]]
+            for place in [it for it in (function.path, *lemmas) if it not in self.checked]:
+                self.checked[place] = function.path
+                self.cones[place] = {by_key[it[:2]] for it in rests.walk(rests.starts_at(place)) if it[:2] in by_key}
 
-    def __init__(self, kit, name, variants):
-        self.kit, self.name, self.folder = kit, name, kit.crates[name].folder
-        self.code, self.left, self.tried = Code(self.folder), {it.name: it for it in variants}, set()
-        self.named = {(it.definition.file, it.definition.own): it.name for it in variants}
-        functions = sorted(self.code.functions, key=lambda it: (it.file == "src/laws.rt", len(self.code.contract_of(it)), it.path))
-        self.proofs = {it.proofs(): it.path for it in functions}
-        self.cones = {it.path: self.among(self.code.rests_on(it)) for it in functions}
-        self.checked = {it.path: it.path for it in functions}
-        self.quick = {it.path for it in functions if not self.code.lemmas_for(it)}
-        self.direct = {it.path: self.among(self.code.directly_in(it)) for it in functions}
-        for function in sorted(functions, key=lambda it: len(self.code.lemmas_for(it))):
-            for file in self.code.lemmas_for(function):
-                for lemma in self.code.names.modules[self.code.names.files[file]].declared:
-                    self.checked.setdefault(f"{lemma} of {file}", function.path)
-                    self.cones.setdefault(f"{lemma} of {file}", self.among(self.code.names.rests_on(file, lemma)))
+    def resting_on(self, name):
+        """The places that rest on a variant, those first that rest on the fewest that are left."""
+        return sorted((it for it, cone in self.cones.items() if name in cone), key=lambda it: len(self.cones[it] & self.left.keys()))
 
-    def among(self, declarations):
-        """The variants of definitions among some declarations."""
-        return frozenset(self.named[it.file, it.name] for it in declarations if (it.file, it.name) in self.named)
+    def chosen(self):
+        """Variants that can be planted at once, each with places that rest on it alone among them, and were not tried with it."""
+        often, found, blocked = Counter(name for cone in self.cones.values() for name in cone), {}, set()
+        for name in sorted(self.left, key=lambda it: often[it]):
+            is_open = name not in blocked and self.tried[name] < MOST
+            fit = [it for it in self.resting_on(name) if not self.tried[name, it]] if is_open else []
+            place = next((it for it in fit if not self.cones[it] & found.keys()), "")
+            if place:
+                found[name] = fit
+                blocked |= self.cones[place]
+        return {name: [it for it in fit if self.cones[it] & found.keys() == {name}][:FEW] for name, fit in found.items()}
 
-    def witnesses(self, name):
-        """The places that rest on a variant and were not tried with it, the likeliest first."""
-        if sum(it == name for it, _ in self.tried) >= MOST:
-            return []
-        return [it for it in self.likeliest(name) if (name, it) not in self.tried]
+    def check(self, names, functions, above=""):
+        """Plants these variants, and returns what the prover says of these functions of the crate, or of a crate above."""
+        texts = {}
+        for it in names:
+            self.left[it].plant(texts, self.crate.raw)
+        with copied([above or self.crate.name], self.base.folder) as room:
+            room.put(self.crate.name, texts)
+            return room.check(above or self.crate.name, functions)
 
-    def likeliest(self, name):
-        """The places that rest on a variant, first those that rest on the fewest that are left or whose contracts name the definition."""
-        fit = [it for it, cone in self.cones.items() if name in cone]
-        return sorted(fit, key=lambda it: len(self.cones[it] & self.left.keys()) + FAR * (name not in self.direct.get(it, ())))
+    def together(self):
+        """Plants variants at once as long as some can be, and yields those that are refused."""
+        while chosen := self.chosen():
+            said = self.check(chosen, sorted({self.checked[it] for fit in chosen.values() for it in fit}))
+            found, is_read = {}, VERDICT.search(said)
+            for place in refusing_places(said, self.crate) if is_read else ():
+                hit = self.cones.get(place, set()) & chosen.keys()
+                for name in hit if len(hit) == 1 else ():
+                    found.setdefault(name, []).append(place)
+            for name, fit in chosen.items():
+                self.tried.update([(name, it) for it in fit] + [name] * (len(fit) if is_read else MOST))
+            for name, where in found.items():
+                del self.left[name]
+                yield name, where, ""
 
-    def texts(self, names):
-        """The texts of the files of these variants with all of them planted."""
-        found = {}
-        for it in map(self.left.get, names):
-            text = found.get(it.definition.file) or read(f"{self.folder}/{it.definition.file}")
-            before, block, after = text.partition(it.definition.block)
-            found[it.definition.file] = before + block.replace(it.old, it.new) + after
-        return found
+    def alone(self, name):
+        """Plants a variant alone: first with a few functions that rest on it, then with its whole crate. Returns the places that refuse
+        it."""
+        some = list(dict.fromkeys(self.checked[it] for it in self.resting_on(name)))[:MANY]
+        for functions in [some] * bool(some) + [[]]:
+            said = self.check([name], functions)
+            found = refusing_places(said, self.crate)
+            if found or not VERDICT.search(said):
+                return found, unread(said)
+        return [], PROVED if "logic=proved" in said else "no place that is known refuses it"
 
-    def check(self, names, functions):
-        with self.kit.kept(self.name) as kept:
-            return self.kit.check(self.name, self.texts(names), functions, kept)
-
-
-def chosen_in(order, narrow):
-    """Chooses variants in this order, each with the first place that rests on it and on no other one that is chosen."""
-    chosen, blocked = {}, set()
-    for name in order:
-        place = next((it for it in narrow[name] if not narrow[name][it] & chosen.keys()), "") if name not in blocked else ""
-        if place:
-            chosen[name] = place
-            blocked |= narrow[name][place]
-    return chosen
-
-
-def chosen_among(crate, witnesses):
-    """Chooses as many variants that can be planted at once as some orders come to, each with places that rest on it alone among them."""
-    narrow = {it: {place: crate.cones[place] & crate.left.keys() for place in places} for it, places in witnesses.items() if places}
-    shared = [frozenset.intersection(*map(frozenset, it.values())) for it in narrow.values()]
-    often, some = {name: sum(name in it for it in shared) for name in narrow}, random.Random(len(narrow))
-    orders = [sorted(narrow, key=lambda it: (often[it] * some.random(), it)) for _ in range(ORDERS)]
-    chosen = max((chosen_in(it, narrow) for it in [sorted(narrow, key=lambda it: (often[it], it)), *orders]), key=len, default={})
-    alone = {it: [place for place in witnesses[it] if crate.cones[place] & chosen.keys() == {it}] for it in chosen}
-    return {it: places[:FEW] for it, places in alone.items()}
-
-
-def together(crate):
-    """Chooses variants that can be planted at once: by functions that no file of lemmas is checked with, as long as these are enough."""
-    witnesses = {it: crate.witnesses(it) for it in crate.left}
-    quick = chosen_among(crate, {it: [place for place in places if place in crate.quick] for it, places in witnesses.items()})
-    return quick if len(quick) >= ENOUGH else chosen_among(crate, witnesses)
-
-
-def refusals(crate, said):
-    """The places that fail by themselves, and not because another one did, functions first."""
-    own = {path.removeprefix(f"{crate.name}::"): rest for path, rest in FUNCTION.findall(said)}
-    functions, lemmas = [it for it, rest in own.items() if "`search` did not prove" in rest], []
-    for file, _, name, _ in ERROR.findall(said):
-        path = crate.proofs.get(os.path.dirname(file))
-        if name:
-            (functions if path else lemmas).append(path or f"{name} of {file}")
-    return list(dict.fromkeys(functions + lemmas))
-
-
-def unread(crate, names, said):
-    """Those of these variants that the prover does not read, each with why."""
-    found = {}
-    for file, line, _, why in ERROR.findall(said):
-        for it in map(crate.left.get, names):
-            if it.definition.file == file:
-                first = 1 + read(f"{crate.folder}/{file}").count("\n", 0, it.definition.start)
-                if first <= int(line) <= first + it.definition.block.count("\n"):
-                    found.setdefault(it.name, f"the prover does not read it: {why[:100]}")
-    return found
-
-
-def settled(crate, name, places, why=""):
-    return Tried(crate.name, crate.left.pop(name), tuple(places), why)
-
-
-def try_together(crate, chosen):
-    """Plants variants at once, and returns those that are decided by it."""
-    functions = sorted({crate.checked[it] for places in chosen.values() for it in places})
-    said = crate.check(chosen, functions)
-    bad = unread(crate, chosen, said)
-    if bad:
-        return [settled(crate, it, (), why) for it, why in bad.items()]
-    if not VERDICT.search(said):
-        return [try_alone(crate, it) for it in chosen]
-    found = {}
-    for place in refusals(crate, said):
-        hit = list(crate.cones.get(place, frozenset()) & chosen.keys())
-        if len(hit) == 1:
-            found.setdefault(hit[0], []).append(place)
-    crate.tried |= {(it, place) for it, places in chosen.items() if it not in found for place in places}
-    return [settled(crate, it, places) for it, places in found.items()]
-
-
-def try_alone(crate, name):
-    """Plants one variant, and checks the functions that rest on it, a few first, and then the whole crate."""
-    some = list(dict.fromkeys(map(crate.checked.get, crate.likeliest(name))))[:MANY]
-    for functions in [some] * bool(some) + [[]]:
-        said = crate.check([name], functions)
-        bad = unread(crate, [name], said)
-        found = refusals(crate, said)
-        if bad or found:
-            return settled(crate, name, found, bad.get(name, ""))
-        if not VERDICT.search(said):
-            return settled(crate, name, (), f"no verdict: {said[-100:]}")
-    return try_above(crate, name, "its crate is still proved")
-
-
-def resting_on(folders, word):
-    """The definitions of these crates that rest on one of this name, and itself, by their names, with how many steps lie between.
-
-    Definitions of one name count as one."""
-    blocks = {}
-    for it in [it for folder in folders for it in definitions_of(folder).values()]:
-        blocks[it.own] = blocks.get(it.own, frozenset()) | words_of(it.block)
-    found, last = {word: 0}, {word}
-    while last:
-        last = {own for own, words in blocks.items() if own not in found and words & last}
-        found.update(dict.fromkeys(last, 1 + max(found.values())))
-    return found
-
-
-def try_above(crate, name, why="nothing rests on it"):
-    """Plants a variant that nothing of its crate refuses, and checks functions of crates above: those first whose contracts name the
-    definition, or one that rests on it in the fewest steps."""
-    for above in crate.kit.crates.values():
-        below = above.below()
-        if crate.name in [it.name for it in below]:
-            between = [it.folder for it in below if crate.name in [lower.name for lower in it.below()]]
-            steps = resting_on([crate.folder, *between, above.folder], crate.left[name].definition.own)
-            code = Code(above.folder)
-            named = {it.path: steps.keys() & words_of(code.contract_of(it)) for it in code.functions}
-            fit = sorted((min(map(steps.get, words)), len(words), path) for path, words in named.items() if words)
-            said = crate.kit.check_over(above.name, crate.name, crate.texts([name]), [it[-1] for it in fit[:MANY]]) if fit else ""
-            found = [path for path, rest in FUNCTION.findall(said) if "`search` did not prove" in rest or rest.startswith("not proved")]
+    def above(self, name):
+        """Plants a variant that nothing of its crate refuses, and checks functions of crates above, those first that rest on the least."""
+        key = (self.left[name].module(), self.left[name].own)
+        for above in [it.name for it in self.tree.crates.values() if self.crate.name in it.below]:
+            rests = Rests(self.tree, above)
+            walks = {path: rests.walk(rests.starts_of(it)) for path, it in rests.own.functions.items()}
+            fit = sorted((path for path, it in walks.items() if key in {at[:2] for at in it}), key=lambda path: len(walks[path]))
+            found = refusing_places(self.check([name], fit[:MANY], above), rests.own) if fit else ()
             if found:
-                return settled(crate, name, found)
-    return settled(crate, name, (), why)
+                return [f"{above}::{it}" for it in found]
+        return []
+
+    def all(self, has_above=True):
+        """Yields the name of each variant with the places that refuse it, and why none does."""
+        yield from self.together()
+        for name in self.left:
+            where, why = self.alone(name)
+            yield name, self.above(name) if has_above and why == PROVED else where, why
 
 
-def tried(crate):
-    """Yields what each variant of a crate comes to."""
-    while True:
-        chosen = together(crate)
-        if not chosen:
-            break
-        yield from try_together(crate, chosen)
-    for name in list(crate.left):
-        is_used = any(name in it for it in crate.cones.values())
-        yield try_alone(crate, name) if is_used else try_above(crate, name)
-
-
-def tell(it):
-    """Prints what a variant came to."""
-    where = f"refused at {', '.join(it.refused_at[:2])}" if it.refused_at else f"NOT REFUSED: {it.why}"
-    print(f"{it.crate}/{it.variant.name}: {where}", flush=True)
-
-
-def asked(kit, names, is_untried):
-    """All variants with their crates, those that are asked for, and what is wrong with the table."""
-    table, every, found, wrong = rows(), [], {}, []
-    said = definition_lines()
-    for name in dict.fromkeys(crate for crate, _ in table):
-        variants, bad = variants_of(kit.crates[name], table)
-        every += [(name, it) for it in variants]
-        wrong += bad
-        for it in variants:
-            is_named = not names or {name, it.name, f"{name}/{it.name}"} & set(names)
-            is_told = said.get((name, definition_cells(it)), "").removeprefix(definition_cells(it)).startswith(" `")
-            if is_named and not (is_untried and is_told):
-                found.setdefault(name, []).append(it)
-    return every, found, wrong
-
-
-def run(kit, words):
-    """Tries the variants that are asked for, and returns 0 if each is refused and no definition lacks one."""
-    every, chosen, wrong = asked(kit, words.names, words.untried)
-    crates, found = [], []
-    for name, variants in chosen.items():
-        if words.gate and kit.has_gates_libraries() or kit.build_below(name):
-            crates.append(Crate(kit, name, variants))
-        else:
-            wrong.append(f"{name}: a library below it is not proved")
-    lock = threading.Lock()
-
-    def note_all(crate):
-        """Tries the variants of a crate. The page has each as soon as it is known, so that a run that is stopped is not lost."""
-        for it in tried(crate):
-            with lock:
-                tell(it)
-                found.append(it)
-                if words.table:
-                    write_definitions(found, every)
-
-    with ThreadPoolExecutor(max_workers=int(os.environ.get("RT_JOBS") or kit.rt.processors())) as pool:
-        for task in as_completed([pool.submit(note_all, it) for it in sorted(crates, key=lambda it: -len(it.left))]):
-            task.result()
-    wrong += [f"{it.crate}/{it.variant.name}: {it.why}" for it in found if not it.refused_at]
-    wrong += [] if chosen else ["there is no such variant, or its line says already where it is refused"]
-    for it in wrong:
-        print(it)
-    print(f"definitions: {len(found)} variants, {len(wrong)} failed")
-    return 1 if wrong else 0
+def tried(tree, variants):
+    """Yields the name of each variant, the places that refuse it and a verdict, as they are decided."""
+    of_crates = {}
+    for it in variants:
+        of_crates.setdefault(it.crate, {})[it.name] = it
+    with copied(tree.crates) as base:
+        for name, where, why in side_by_side(lambda it=it: Trial(tree, base, *it).all() for it in of_crates.items()):
+            yield name, ", ".join(where[:3]), Verdict(("",) if where else (), why)

@@ -1,13 +1,15 @@
-"""Reads wrong bodies, and applies them to the texts of a crate."""
+"""Reads wrong bodies, and applies them to the texts of a crate.
+
+`crates/NAME/mistakes/scan/buffer.edits` has those of `src/scan/buffer.rt`, sorted by name: lines `name:`, `old:` and `new:`. Those that the
+contracts were written to refuse stand in `must-fail/NAME.edit`, each in a file of its own, which begins with a line `file:`."""
 
 import glob
 import os
 import re
 from typing import NamedTuple
 
-from mistakes.functions import functions_in, modules_of_types, source_files
-
-FOLDERS = ("mistakes", "must-fail")
+from kit import ROOT
+from mistakes.code import functions_in
 
 
 class BadEdit(Exception):
@@ -23,50 +25,69 @@ class Change(NamedTuple):
 
 
 class Edit(NamedTuple):
-    """A wrong body: its name, the crate's folder, the folder in which it stands, the function it says refuses it, and its changes."""
+    """The edit that makes a wrong body: its own name, the crate, the function it says refuses it, and its changes."""
 
-    name: str
+    own: str
     crate: str
-    folder: str
-    refused_at: str
-    changes: tuple
+    refused_at: str = ""
+    changes: tuple = ()
+
+    def name(self):
+        """The crate, the source file and the own name of the wrong body."""
+        file = self.changes[0].file if self.changes else ""
+        return f"{self.crate}/{file.removeprefix('src/').removesuffix('.rt')}/{self.own}"
 
 
-class Mistake(NamedTuple):
-    """A wrong body with the functions that it changes, or with the number of the copy that it changes in place of its one function. It
-    stands alone if it changes more than bodies."""
+class WrongBody(NamedTuple):
+    """A wrong body with the functions that it changes. It stands alone if it changes more: `outside` has these lines, each with its
+    file."""
 
     edit: Edit
     functions: tuple
-    is_alone: bool
-    copy: int = 0
+    outside: tuple
+
+    def paths(self):
+        return {it.path for it in self.functions}
+
+    def is_alone(self):
+        return bool(self.outside or self.edit.refused_at)
 
 
-def read_edit(text, name, crate, folder):
-    """Reads the text form of an edit: `file:`, `old:` and `new:`, a line each, and `refused-at:` if it changes no body."""
-    file = old = refused_at = ""
-    changes = []
+def read_edits(text, crate, file="", own=""):
+    """Reads edits of a file. Each begins with a line `name:`, or, if its name is given, there is one. A line `file:` names another file,
+    and a line `refused-at:` the function whose goal fails if no body of a function is changed."""
+    found = [Edit(own, crate)] if own else []
+    at = old = ""
     for line in text.split("\n"):
         word, _, rest = line.partition(":")
         rest = rest.removeprefix(" ")
-        if word == "file":
-            file = rest.strip()
+        if word == "name":
+            found.append(Edit(rest.strip(), crate))
+            at = file
+        elif word == "file":
+            at = rest.strip()
         elif word == "refused-at":
-            refused_at = rest.strip()
+            found[-1] = found[-1]._replace(refused_at=rest.strip())
         elif word == "old":
             old = rest
         elif word == "new":
-            changes.append(Change(file, old, rest))
-    return Edit(name, crate, folder, refused_at, tuple(changes))
+            found[-1] = found[-1]._replace(changes=(*found[-1].changes, Change(at, old, rest)))
+    return found
 
 
-def edits_of(crate):
-    """All edits of a crate, by folder and name."""
-    found = []
-    for folder in FOLDERS:
-        for path in sorted(glob.glob(f"{crate}/{folder}/*.edit")):
-            with open(path, encoding="utf-8") as it:
-                found.append(read_edit(it.read(), os.path.basename(path).removesuffix(".edit"), crate, folder))
+def edits_of(crate, root=ROOT):
+    """The edits of a crate by their files."""
+    folder, found = f"{root}/crates/{crate}", {}
+    for path in sorted(glob.glob(f"{folder}/m*/**/*.edit*", recursive=True)):
+        kind, _, inside = os.path.relpath(path, folder).partition("/")
+        stem, end = os.path.splitext(inside)
+        if (kind, end) not in (("mistakes", ".edits"), ("must-fail", ".edit")):
+            raise SystemExit(f"mistakes: {path}: edits of mistakes/ stand in SOURCE.edits, those of must-fail/ in NAME.edit")
+        with open(path, encoding="utf-8") as it:
+            found[path] = read_edits(it.read(), crate, f"src/{stem}.rt", stem if end == ".edit" else "")
+        names = [it.own for it in found[path]]
+        if names != sorted({*names}):
+            raise SystemExit(f"mistakes: {path}: its edits do not stand in the order of their names")
     return found
 
 
@@ -80,61 +101,36 @@ def place_of(text, change):
     raise BadEdit(f"an `old` text stands {text.count(change.old) if change.old else 0} times in {change.file}, and not once")
 
 
-class Texts:
-    """The texts of a crate's files, with the edits that were applied to them."""
-
-    def __init__(self, crate):
-        self.crate, self.changed = crate, {}
-
-    def text(self, file):
-        if file not in self.changed:
-            path = f"{self.crate}/{file}"
-            if not file.startswith("src/") or not os.path.isfile(path):
-                raise BadEdit(f"there is no file {file} of code")
-            with open(path, encoding="utf-8") as it:
-                return it.read()
-        return self.changed[file]
-
-    def apply(self, edit):
-        """Applies all changes of an edit, or none, and gives the lines that it changed, each with its file and the text at that time."""
-        before, places = dict(self.changed), []
-        try:
-            for change in edit.changes:
-                text = self.text(change.file)
-                place = place_of(text, change)
-                places.append((change.file, text.count("\n", 0, place), text))
-                self.changed[change.file] = text[:place] + change.new + text[place + len(change.old) :]
-            if not edit.changes or all(it.old == it.new for it in edit.changes):
-                raise BadEdit("it changes nothing")
-        except BadEdit:
-            self.changed = before
-            raise
-        return places
+def apply(edit, crate, texts):
+    """Applies all changes of an edit to these texts of files of a crate, or none, and gives the lines that it changed, each with its file
+    and the text at that time."""
+    changed, places = dict(texts), []
+    if all(it.old == it.new for it in edit.changes):
+        raise BadEdit("it changes nothing")
+    for change in edit.changes:
+        # What says where it is refused may change a definition with the code, so that a law refuses both.
+        if change.file not in (crate.raw if edit.refused_at else crate.by_file):
+            raise BadEdit(f"there is no file {change.file} of code")
+        text = changed.get(change.file, crate.raw[change.file])
+        place = place_of(text, change)
+        places.append((change.file, text.count("\n", 0, place), text))
+        changed[change.file] = text[:place] + change.new + text[place + len(change.old) :]
+    texts.update(changed)
+    return places
 
 
-def mistake_of(edit):
-    """Finds the functions whose bodies an edit changes, by the tree as it stands. One that changes more than bodies stands alone."""
-    modules = modules_of_types(edit.crate)
-    found, is_alone = {}, False
-    for file, line, text in Texts(edit.crate).apply(edit):
-        functions = functions_in(file, text, modules)
-        if any(it.contract <= line < it.body for it in functions) or re.match(r" *ghost\b", text.split("\n")[line]):
+def wrong_body(edit, crate):
+    """Finds the functions whose bodies an edit changes, in a crate's texts as they stand."""
+    found, outside = {}, []
+    for file, line, text in apply(edit, crate, {}):
+        functions, changed = functions_in(file, text, crate.types) if file in crate.by_file else [], text.split("\n")[line]
+        if any(it.contract <= line < it.body for it in functions) or re.match(r" *ghost\b", changed):
             raise BadEdit(f"it changes a contract, in line {line + 1} of {file}")
         inside = [it for it in functions if it.body <= line < it.last]
-        is_alone = is_alone or not inside
+        outside += [] if inside else [(file, changed.strip())]
         found.update({it.path: it for it in inside[-1:]})
     if edit.refused_at:
-        return Mistake(edit, (function_at(edit, modules),), True)
-    if not found:
-        raise BadEdit("it changes no body of a function, and has no line `refused-at:` that names the function whose goal fails")
-    return Mistake(edit, tuple(found.values()), is_alone)
-
-
-def function_at(edit, modules):
-    """The function that a line `refused-at:` names by its path below the crate."""
-    texts = Texts(edit.crate)
-    for file in source_files(edit.crate):
-        for function in functions_in(file, texts.text(file), modules):
-            if function.path == edit.refused_at:
-                return function
-    raise BadEdit(f"there is no function {edit.refused_at}")
+        found = {it: crate.functions.get(it) for it in [edit.refused_at]}
+    if not all(found.values()) or not found:
+        raise BadEdit("it changes no body of a function, and has no line `refused-at:` that names a function whose goal fails")
+    return WrongBody(edit, tuple(found.values()), tuple(outside))

@@ -1,146 +1,126 @@
-"""Shows that a run can fail: edits of hart_values that are no mistakes, also of a copy of a function, a mistake under a contract that was
-made weak, a refusal that is kept from before a change, a definition in other words, and a definition without a variant."""
+"""Shows that a run can fail: by edits of hart_values that are no wrong bodies, by a wrong body under a contract that was made weak, by a
+line of the ledger from before a change, by a definition in other words, and by a definition without a variant."""
 
-import copy
-import re
-import shutil
-import tempfile
-from typing import NamedTuple
+import os
 
+from kit import copied
 from mistakes import definitions
-from mistakes.batches import batches_of, texts_of
-from mistakes.edits import read_edit
-from mistakes.kept import KeptVerdicts
-from mistakes.verdicts import verdict_of
+from mistakes.batches import batches_of, judged, texts_of
+from mistakes.edits import BadEdit, Change, Edit, edits_of, place_of, wrong_body
+from mistakes.ledger import Entry, Ledger, sample
+from mistakes.tree import tree_at
+from mistakes.verdicts import Verdict, verdict_of
 
 CRATE = "hart_values"
-HALVED = """
-file: src/byte_list.rt
-old:         self.bytes.len()
-new:         self.bytes.len() / 2
-"""
-
-
-class Planted(NamedTuple):
-    """An edit, and what the verdict on it has to say; "" if it is a mistake that is refused."""
-
-    name: str
-    text: str
-    wanted: str
-
-
-TOGETHER = (
-    Planted("a_mistake", HALVED, ""),
-    Planted("a_second_mistake_of_the_function", HALVED.replace("/ 2", "/ 3"), ""),
-    Planted("no_mistake_of_the_function", HALVED.replace("self.bytes.len() / 2", "self.as_slice().len()"), "is still proved"),
-    Planted(
-        "the_same_in_other_words",
-        """
-file: src/byte_list.rt
-old:         self.bytes.is_empty()
-new:         self.bytes.len() == 0
-""",
-        "is still proved",
-    ),
-    Planted(
-        "a_typing_error",
-        """
-file: src/byte_list.rt
-old:         self.bytes.as_slice()
-new:         self.bytes.len()
-""",
-        "does not read it",
-    ),
-)
-UNREAD = (
-    Planted("stands_nowhere", "file: src/byte_list.rt\nold: self.octets.len()\nnew: 0\n", "stands 0 times"),
-    Planted("changes_nothing", "file: src/byte_list.rt\nold:         self.bytes.len()\nnew:         self.bytes.len()\n", "changes nothing"),
-    Planted(
-        "changes_a_contract",
-        "file: src/byte_list.rt\nold:         ensures value { result ≡ length self.now }\nnew:         ensures value { result ≤ length self.now }\n",
-        "changes a contract",
-    ),
-    Planted("changes_a_definition", "file: specs/FaultNumbers.antt\nold: 1\nnew: 2\n", "no file"),
-)
-# The first clause of `len` says the length. This says half of what it says, and the mistake halves it.
-WEAKENED = ("src/byte_list.rt", "ensures value { result ≡ length self.now }", "ensures value { result ≤ length self.now }")
 # A variant that says what the definition says, so that no proof refuses it.
-SAME_DEFINITION = ("EachMaster.with_master", "primary = a; secondary = each.secondary", "secondary = each.secondary; primary = a")
+SAME = ((CRATE, "EachMaster.with_master"), ("primary = a; secondary = each.secondary", "secondary = each.secondary; primary = a"))
 
 
-def edit_of(crate, planted):
-    return read_edit(planted.text, planted.name, crate, "planted")
+def stanzas(name):
+    """The stanzas of a file beside this one, each as the texts of its lines by the words before them."""
+    found = []
+    with open(f"{os.path.dirname(__file__)}/{name}", encoding="utf-8") as it:
+        for line in it:
+            word, colon, rest = line.rstrip("\n").partition(":")
+            if word == "name":
+                found.append({})
+            if colon and not line.startswith("#"):
+                found[-1].setdefault(word, []).append(rest.removeprefix(" "))
+    return found
 
 
-def differs(planted, verdict):
-    """What is said if the verdict is not the wanted one, or None."""
-    is_wanted = verdict.is_refused() if not planted.wanted else bool(re.search(planted.wanted, verdict.why))
-    print(f"planted {planted.name}: {'refused: ' + verdict.words() if verdict.is_refused() else verdict.why}")
-    return None if is_wanted else f"planted {planted.name}: this is not `{planted.wanted or 'refused'}`"
+def edit_of(stanza):
+    return Edit(stanza["name"][0], CRATE, "", (Change(stanza["file"][0], stanza["old"][0], stanza["new"][0]),))
 
 
-def weak_verdict(kit, mistake, kept):
-    """The verdict on a mistake under the contract that was made weak."""
-    file, old, new = WEAKENED
-    texts = texts_of([mistake])
-    if texts[file].count(old) != 1:
-        raise SystemExit(f"mistakes: {file} has no clause `{old}`: mend the planted edits")
-    texts[file] = texts[file].replace(old, new)
-    return verdict_of(kit.check(CRATE, texts, [it.path for it in mistake.functions], kept), CRATE, mistake)
+def weak_verdict(room, body, crate, clause, weak):
+    """The verdict on a wrong body under a contract that was made weak."""
+    texts, file = texts_of([body], crate), body.functions[0].file
+    at = place_of(texts[file], Change(file, clause, weak))
+    room.put(CRATE, {**texts, file: texts[file][:at] + weak + texts[file][at + len(clause) :]})
+    return verdict_of(room.check(CRATE, body.paths()), CRATE, body.functions)
 
 
-def kept_after_change(kit, mistake, verdict):
-    """What is said if a refusal that was kept is not found again, or is still found once a file of its crate has changed, or None."""
-    crate, found = copy.copy(kit.crates[CRATE]), []
-    with tempfile.TemporaryDirectory(prefix="kept-") as room:
-        crate.folder = shutil.copytree(crate.folder, f"{room}/crate", ignore=shutil.ignore_patterns("out"))
-        copied = copy.copy(kit)
-        copied.crates = {**kit.crates, CRATE: crate}
-        for _ in range(2):
-            verdicts = KeptVerdicts(copied, f"{room}/kept")
-            found.append(verdicts.find(mistake))
-            verdicts.keep(CRATE, [(mistake, verdict)])
-        with open(f"{crate.folder}/{WEAKENED[0]}", "a", encoding="utf-8") as it:
-            it.write("\n")
-        found.append(KeptVerdicts(copied, f"{room}/kept").find(mistake))
-    print(f"planted refusal that was kept: {['not found' if it is None else 'found' for it in found]} at first, when kept, and after a change")
-    return None if found == [None, verdict, None] else "planted refusal that was kept: it has to be found only as long as nothing changes"
+def wrong_verdicts(crate):
+    """What is said of each planted edit on which the verdict is not the wanted one."""
+    planted, bodies, found = {it["name"][0]: it for it in stanzas("planted.edits")}, [], []
+    with copied([CRATE]) as room:
+        for name, it in planted.items():
+            try:
+                body = wrong_body(edit_of(it), crate)
+                if "clause" in it:
+                    found.append((name, weak_verdict(room, body, crate, it["clause"][0], it["weak"][0])))
+                else:
+                    bodies.append(body)
+            except BadEdit as why:
+                found.append((name, Verdict((), str(why))))
+        found += [(body.edit.own, verdict) for batch in batches_of(bodies, crate) for body, verdict in judged(room, batch, crate)]
+    for name, verdict in found:
+        print(f"planted {name}: {'refused: ' + verdict.words() if verdict.is_refused() else verdict.why}", flush=True)
+        wanted = planted.pop(name)["wanted"][0]
+        if wanted not in verdict.why if wanted else not verdict.is_refused():
+            yield f"planted {name}: this is not `{wanted or 'refused'}`"
+    yield from (f"planted {name}: there is no verdict" for name in planted)
 
 
-def run(kit, judged, mistakes_of):
-    """Tries all of them, and returns 0 if each verdict is the wanted one."""
-    crate = kit.crates[CRATE].folder
-    by_name = {it.name: it for it in (*TOGETHER, *UNREAD)}
-    _, bad = mistakes_of([edit_of(crate, it) for it in UNREAD])
-    together, none = mistakes_of([edit_of(crate, it) for it in TOGETHER])
-    batch = next(iter(batches_of(together)))
-    weak = Planted("a_mistake_under_a_weak_clause", HALVED, "is still proved")
-    found = [differs(by_name[edit.name], verdict) for edit, verdict in bad + none]
-    with kit.kept(CRATE) as kept:
-        verdicts = judged(kit, batch, kept)
-        found += [differs(by_name[it.edit.name], verdict) for it, verdict in verdicts]
-        found.append(differs(weak, weak_verdict(kit, batch[0], kept)))
-    found.append(kept_after_change(kit, *verdicts[0]))
-    lacking = len(by_name) + 2 - len(found)
-    for it in filter(None, found):
-        print(it)
-    wrong = sum(it is not None for it in found) + lacking
-    print(f"mistakes: of {len(by_name) + 2} planted edits and verdicts {wrong} had another outcome than they must have")
+def digests(tree, names, edits, variants):
+    """The digests that a tree gives to these: names of wrong bodies, or of wrong definitions with the places that refuse them."""
+    ledger = Ledger(tree, (), {})
+    halves = {it: it.partition(" at ") for it in names}
+    return {it: ledger.digest_at(variants[name], place) if place else ledger.digest(edits[name]) for it, (name, _, place) in halves.items()}
+
+
+def wrong_after_changes(tree, edits, variants):
+    """What is said of each change after which the ledger still answers for what rests on it, or no more for what does not."""
+    for it in stanzas("changes.edits"):
+        what, path, text, old = it["name"][0], it["file"][0], tree.texts[it["file"][0]], it["old"][0]
+        wanted, at = {*it.get("again", ())}, place_of(text, Change(path, old, ""))
+        names = [*wanted, *it.get("known", ())]
+        before = digests(tree, names, edits, variants)
+        after = digests(tree.with_text(path, text[:at] + it["new"][0] + text[at + len(old) :]), names, edits, variants)
+        again = {name for name in names if before[name] != after[name]}
+        print(f"planted change of {what}: {len(again)} of {len(names)} are tried again", flush=True)
+        if again != wanted or not all(before.values()):
+            yield f"planted change of {what}: {sorted(again)} are tried again, and not {sorted(wanted)}"
+
+
+def wrong_ledgers(tree, edits):
+    """What is said of each way in which a ledger answers for another wrong body, for another edit, or not as it should for another kit."""
+    one, other = edits["hart_values/byte_list/clear_keeps_a_byte"], edits["hart_values/byte_list/len_is_halved"]
+    names = [f"{number % 9}/{number}" for number in range(1000)]
+    ledger, others = Ledger(tree, (), {}), Ledger(tree, (), {})
+    ledger.said = others.said = dict.fromkeys(names, Entry("", ledger.kit, "", ""))
+    others.kit = "rattle-kit-0"
+    edited = one._replace(changes=tuple(it._replace(new=f"{it.new} ") for it in one.changes))
+    told = {
+        "another wrong body": ledger.digest(one) != ledger.digest(other),
+        "the edit": ledger.digest(one) != ledger.digest(edited),
+        "the kit": ledger.digest(one) == others.digest(one) and len(others.sampled(names)) == 100,
+        "the sample": len(ledger.sampled(names)) == 50 and set().union(*(sample(names, 20, str(seed)) for seed in range(200))) == {*names},
+    }
+    return [f"planted change of {what}: the ledger answers wrongly" for what, is_right in told.items() if not is_right]
+
+
+def wrong_definitions(tree):
+    """What is said of a variant that says the same and of a definition without a variant if a run would not fail by them."""
+    table, name = {**definitions.rows(), SAME[0]: SAME[1]}, "/specs/".join(SAME[0])
+    variants, _ = definitions.variants(tree, table)
+    with copied([CRATE]) as base:
+        same = list(definitions.Trial(tree, base, CRATE, {name: variants[name]}).all(has_above=False))
+    del table[SAME[0]]
+    _, lacking = definitions.variants(tree, table)
+    print(f"planted variant that says the same: {same}\nplanted definition without a variant: {lacking}")
+    yield from [] if same == [(name, [], definitions.PROVED)] else ["planted variant that says the same: it is refused"]
+    yield from [] if lacking == [f"{'/'.join(SAME[0])}: it has no variant"] else ["planted definition without a variant: it is not told"]
+
+
+def run():
+    """Tries all of them, and returns 0 if each has the wanted outcome."""
+    tree = tree_at()
+    edits = {it.name(): it for name in tree.crates for found in edits_of(name).values() for it in found}
+    variants, _ = definitions.variants(tree, definitions.rows())
+    wrong = [*wrong_after_changes(tree, edits, variants), *wrong_ledgers(tree, edits)]
+    wrong += [*wrong_verdicts(tree.crate(CRATE)), *wrong_definitions(tree)]
+    print("\n".join(wrong))
+    print(f"mistakes: {len(wrong)} of the planted edits and changes had another outcome than they must have")
     return 1 if wrong else 0
-
-
-def run_definitions(kit):
-    """Plants a variant that says the same, and takes a variant away. Returns 0 if a run would fail by each."""
-    name, old, new = SAME_DEFINITION
-    table = {**definitions.rows(), (CRATE, name): (old, new)}
-    variants, wrong = definitions.variants_of(kit.crates[CRATE], table)
-    if wrong:
-        raise SystemExit(f"definitions: {wrong[0]}: mend the planted variant")
-    same = definitions.try_alone(definitions.Crate(kit, CRATE, variants), name)
-    del table[CRATE, name]
-    _, lacking = definitions.variants_of(kit.crates[CRATE], table)
-    print(f"planted variant that says the same: {'refused at ' + same.refused_at[0] if same.refused_at else same.why}")
-    print(f"planted definition without a variant: {lacking[0] if lacking else 'nothing is told'}")
-    found = [same.why == "its crate is still proved", lacking == [f"{CRATE}/{name}: it has no variant"]]
-    print(f"definitions: of 2 planted faults {found.count(False)} were not told")
-    return 0 if all(found) else 1

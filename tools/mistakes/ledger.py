@@ -1,0 +1,98 @@
+"""The ledger of the repository, mistakes.lock: where each wrong body and each wrong definition was refused, and a digest of all on which
+that rests. What has another digest, or no line, is tried; the gate also tries some of the others, so that a wrong line is found."""
+
+import os
+import re
+import subprocess
+from typing import NamedTuple
+
+from kit import ROOT, version
+from mistakes.edits import BadEdit, wrong_body
+from mistakes.rests import Rests, sum_of
+
+LEDGER = f"{ROOT}/mistakes.lock"
+HEAD = (
+    "# Where each wrong body was refused, written by `make mistakes`: "
+    "its name, a digest of all on which that rests, the kit, the place: by what.\n"
+)
+LINE = re.compile(r"(\S+) ([0-9a-f]{20}) (\S+) (.*?)(?:: (.*))?")
+
+
+class Entry(NamedTuple):
+    """A line of the ledger: the digest, the kit, the functions or lemmas that refused it, and the goals there."""
+
+    digest: str
+    kit: str
+    where: str
+    refused_by: str
+
+
+def entries():
+    """The lines of the ledger by name; none if there is no ledger."""
+    if not os.path.isfile(LEDGER):
+        return {}
+    with open(LEDGER, encoding="utf-8") as it:
+        found = [LINE.fullmatch(line.rstrip("\n")) for line in it if not line.startswith("#")]
+    return {it[1]: Entry(*it.groups("")[1:]) for it in found if it}
+
+
+class Ledger:
+    """The ledger, and the digests of a tree, in which there are wrong bodies and wrong definitions of these names."""
+
+    def __init__(self, tree, every=(), said=None):
+        self.tree, self.every, self.said, self.kit, self.read = tree, every, entries() if said is None else said, version(), {}
+
+    def rests(self, crate):
+        if crate not in self.read:
+            self.read[crate] = Rests(self.tree, crate)
+        return self.read[crate]
+
+    def digest(self, edit, _=""):
+        """The digest of a wrong body, or "" if it cannot be tried."""
+        rests = self.rests(edit.crate)
+        try:
+            body = wrong_body(edit, rests.own)
+        except BadEdit:
+            return ""
+        return rests.digest((*edit, sorted(body.paths())), rests.starts(body))
+
+    def digest_at(self, variant, where):
+        """The digest of a wrong definition that the first of these places of its crate, or of one above, refuses; "" if the place is
+        gone."""
+        place = where.partition(", ")[0]
+        crate, _, inside = place.partition("::")
+        rests = self.rests(crate if crate in self.tree.crates else variant.crate)
+        try:
+            starts = rests.starts_at(inside if crate in self.tree.crates else place)
+            block = rests.modules[variant.module()][variant.own].whole
+        except (KeyError, StopIteration):
+            return ""
+        return rests.digest((variant.crate, variant.own, variant.old, variant.new, place), [*starts, (block, {}, {})])
+
+    def put(self, name, digest, where, refused_by):
+        """Writes the line of a wrong body, or takes it away if there is no digest, and takes away the lines of those that are gone."""
+        found = {**entries(), name: Entry(digest, self.kit, where, refused_by)}
+        kept = {name: it for name, it in sorted(found.items()) if it.digest and name in self.every}
+        with open(f"{LEDGER}.new", "w", encoding="utf-8") as it:
+            it.write(HEAD + "".join(f"{name} {' '.join(at[:3])}{': ' * bool(at.refused_by)}{at.refused_by}\n" for name, at in kept.items()))
+        os.replace(it.name, LEDGER)
+
+    def sampled(self, names):
+        """Some of these names, chosen by the commit: one in twenty, or one in ten if the ledger was written with another kit."""
+        others = {self.said[it].kit for it in names} - {self.kit}
+        if others:
+            kits = ", ".join(sorted(others))
+            print(f"mistakes: mistakes.lock was written with {kits}, and this is {self.kit}: one in ten is tried again")
+        return sample(names, 10 if others else 20, commit())
+
+
+def commit():
+    """The name of the commit, by which a run chooses; another one each time if it has none."""
+    ran = subprocess.run(["git", "-C", ROOT, "rev-parse", "HEAD"], capture_output=True, text=True, check=False)
+    return ran.stdout.strip() or os.urandom(8).hex()
+
+
+def sample(names, each, seed):
+    """One name in each so many, chosen by a seed: those of as few crates as hold them, since each crate has to be read."""
+    order = sorted(names, key=lambda it: (sum_of(seed, it.partition("/")[0]), sum_of(seed, it)))
+    return set(order[: -(-len(order) // each)])

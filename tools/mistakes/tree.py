@@ -1,0 +1,130 @@
+"""The crates of a repository as texts, without comments: their items, and the declarations of their definitions and proofs."""
+
+import glob
+import os
+import re
+from typing import NamedTuple
+
+from kit import ROOT, crates_in
+from mistakes.code import DECLARED, functions_in, items_in, module_of, without_comments
+
+NOTE = re.compile(r"^\s*--(?![\w◌]).*\n?", re.M)
+USE = re.compile(r"^ *(pub )?(?:ghost )?use (Rattle\.[^\s{;]+?)(?:\.\{([^}]*)\}| as \w+)?;?$", re.M)
+NO_DECLARATION = re.compile(r"(?:unfoldable )?(?:pub )?(?:use|mod) |infix")
+# A declaration begins with such a word, or with its name, which may be an operator, and a colon.
+HEAD = re.compile(r"((?:(?:pub|abbrev|unfoldable|opaque|record|data) )+(?=\S)|(?=\S+ :))([^\s:]+)(?: |$)")
+INNER = re.compile(r"^((?:mutual|module\b(?:.|\n    )*? where)\n)((?:  .*\n?)+)", re.M)
+CODE_USE = re.compile(r"(?m)^ *(?:pub(?:\([^)]*\))? )?use ((?!Rattle\.)[^;]*);")
+
+
+class Declared(NamedTuple):
+    """A declaration of specs/ or proofs/: its text as others see it, a definition whole and of a lemma the statement, and its whole
+    text."""
+
+    seen: str
+    whole: str
+
+
+def uses_of(text):
+    """The names that a text takes from elsewhere: whether it passes them on, their module, and those there by those here; None for all."""
+    found = []
+    for is_public, module, names, in USE.findall(text):
+        pairs = [it.partition(" as ") for it in names.split(", ")]
+        found.append((bool(is_public), module, {here or there: there for there, _, here in pairs} if names else None))
+    return found
+
+
+def paths_of(text):
+    """The paths that the `use` items of a file of code give to names, by the words at their ends."""
+    found = {}
+    for path in CODE_USE.findall(text):
+        parts = [it.strip() for it in re.split(r"[{},]", path)]
+        before = "".join(it for it in parts if it.endswith("::"))
+        for part in parts:
+            for word in re.findall(r"\w+", part.rpartition("::")[2]):
+                found.setdefault(word, set()).add(before + part)
+    return found
+
+
+def declarations_of(text, is_spec):
+    """The declarations of an antt text by name. A definition, and what can be unfolded, is seen whole."""
+    found, name, parts = {}, "", ([], [])
+    is_open = is_head = False
+    for opening, inner in INNER.findall(text):
+        for own, it in declarations_of(re.sub("^  ", "", inner, flags=re.M), is_spec).items():
+            found[own] = Declared(opening + it.seen, opening + it.whole)
+    for line in [*INNER.sub("", text).split("\n"), "end : of file"]:
+        if NO_DECLARATION.match(line):
+            continue
+        head = HEAD.match(line)
+        if head:
+            if name:
+                said = ["\n".join(parts[0]), "\n".join(parts[1])]
+                found[name] = Declared("\n".join(said if is_open or is_spec else said[:1]), "\n".join(said))
+            name, parts, is_open, is_head = head[2], ([], []), bool((head[1] or "").replace("pub ", "")), True
+        elif not line.startswith(" "):
+            is_head = False
+        is_open = is_open or bool(is_head and re.search(r"[→:] Type \d$", line))
+        parts[0 if is_head else 1].append(line)
+    return found
+
+
+class CrateTexts:
+    """A crate's files as they are, and without comments; its functions, its items, and its modules of declarations."""
+
+    def __init__(self, name, raw):
+        self.name, self.raw, self.types = name, raw, {}
+        for file, text in sorted(raw.items()):
+            for it in DECLARED.findall(text) if file.endswith(".rt") else ():
+                self.types.setdefault(it, []).append(module_of(file))
+        plain = {it: without_comments(text) if it.endswith(".rt") else NOTE.sub("", f"{text}\n") for it, text in sorted(raw.items())}
+        self.lines = {file: text.split("\n") for file, text in plain.items()}
+        self.by_file = {file: functions_in(file, text, self.types) for file, text in plain.items() if file.endswith(".rt")}
+        self.functions = {it.path: it for found in self.by_file.values() for it in found}
+        self.items = [it for file, found in self.by_file.items() for it in items_in(name, file, plain[file], found)]
+        self.uses, self.paths = {it: uses_of(text) for it, text in plain.items()}, {it: paths_of(plain[it]) for it in self.by_file}
+        written = {it: lines for it, lines in self.lines.items() if it not in self.by_file}
+        packed = {it: "\n".join(line.rstrip() for line in lines if line.strip()) for it, lines in written.items()}
+        self.files = {f"Rattle.{name}.{it.removesuffix('.antt').replace('/', '.')}": it for it in packed}
+        self.modules = {at: declarations_of(packed[it], it.startswith("specs/")) for at, it in self.files.items()}
+
+    def modules_read_with(self, function):
+        """The modules of lemmas that are checked with a function, since its written proof takes names from them."""
+        left, found = [at for at, it in self.files.items() if os.path.dirname(it) == function.proofs()], set()
+        while left:
+            at = left.pop()
+            if at in self.files and at not in found:
+                found.add(at)
+                left += [module for _, module, _ in self.uses[self.files[at]]]
+        return {at for at in found if re.match(r"proofs/(?:lemmas/|[^/]*$)", self.files[at])}
+
+
+class Tree:
+    """The crates of a repository, from the texts of its files by path."""
+
+    def __init__(self, texts):
+        self.texts, self.crates, self.read = texts, crates_in(texts["crates.txt"]), {}
+
+    def crate(self, name):
+        if name not in self.read:
+            start = f"crates/{name}/"
+            found = {it[len(start) :]: text for it, text in self.texts.items() if it.startswith(start)}
+            self.read[name] = CrateTexts(name, found)
+        return self.read[name]
+
+    def with_text(self, path, text):
+        """This tree with another text of a file."""
+        found = Tree({**self.texts, path: text})
+        found.read = {name: it for name, it in self.read.items() if not path.startswith(f"crates/{name}/")}
+        return found
+
+
+def tree_at(root=ROOT):
+    """The crates of a folder as they stand."""
+    parts = [("src", "rt"), ("specs", "antt"), ("proofs", "antt")]
+    paths = [f"{root}/crates.txt", *(it for part, end in parts for it in glob.glob(f"{root}/crates/*/{part}/**/*.{end}", recursive=True))]
+    texts = {}
+    for path in paths:
+        with open(path, encoding="utf-8") as it:
+            texts[os.path.relpath(path, root)] = it.read()
+    return Tree(texts)
