@@ -2,11 +2,12 @@
 #
 #   make                      builds the proved program, ./hart
 #   make quick                builds ./hart-unproved within two minutes, with nothing proved
-#   make check                runs every proof and test and tries each wrong body; its last line counts what passed and failed
+#   make check                runs every proof and test, and tries the wrong bodies of which mistakes.lock does not tell, and some others;
+#                             its last line counts what passed and failed
+#   make check-all            tries every wrong body and every wrong definition, and then runs make check
 #   make test                 proves every crate and runs every test and script, without the wrong bodies
-#   make mistakes             tries the wrong bodies of crates/NAME/mistakes in batches, but for those refused before and unchanged since
-#   make mistakes-table       tries all wrong bodies, and writes the table of docs/WRONG_BODIES.md
-#   make definitions          tries the wrong definitions, after a change to a definition; not part of make check
+#   make mistakes             tries the wrong bodies on which a change may bear, and writes mistakes.lock
+#   make definitions          does the same with the wrong definitions; not part of make check
 #   make refused-growths      refuses each allocation of ./hart and of each call in turn
 #   make runs                 runs ./hart on rows of words and inputs, with reads and writes cut short
 #   make streams              runs ./hart on streams that fail, and compares its help texts
@@ -16,35 +17,46 @@
 #   make fuzz N=..            compares ./hart with a plain model on N random inputs; not part of make check
 #   make manual               checks the man page and the bash completion against --help
 #   make links                finds dead links in the pages
-#   make install PREFIX=DIR   installs hart and hart-listen, their man page, completion and guide below DIR
-#   make library              builds build/libhart.a and build/libhart.so
+#   make report               tries hart-report on ./hart, also with Chromium and tidy if they are installed
+#   make install PREFIX=DIR   installs hart, hart-listen, hart-report and hart-bench, their man pages, completion and guide below DIR
+#   make library              builds build/libhart.a and build/libhart.so; TARGET=aarch64-linux-gnu builds those of build/aarch64-linux-gnu
 #   make library-examples     makes each call of the library from C, and runs its examples against ./hart
 #   make install-library PREFIX=DIR   installs the library, its header and hart.pc below DIR
 #   make bench                measures dump, answer, explain and sim; it asserts no time
 
 PREFIX ?= /usr/local
 N ?= 10000
+BUILT := build$(if $(TARGET),/$(TARGET))
 PROGRAM := crates/hart
-TESTS := crates/hart_tests/out/hart_tests_tests
-GUIDE := docs/GUIDE.md docs/COMMANDS.md docs/WIRE.md docs/FORMATS.md docs/explained.txt docs/worked.txt docs/vectors.tsv
+TESTS := crates/hart_tests_cli/out/hart_tests_cli_tests
+LOGS := $(CURDIR)/build/logs
+GUIDE := docs/GUIDE.md docs/COMMANDS.md docs/WIRE.md docs/FORMATS.md docs/explained.txt docs/worked.txt docs/vectors.tsv docs/report.png
 SOURCES := crates.txt $(shell find crates -name out -prune -o \( -name '*.rt' -o -name '*.antt' \) -print)
 
-.PHONY: all quick check test mistakes mistakes-table definitions runs refused-growths streams examples vectors manual held-view links library library-examples fuzz bench install install-library clean
+.PHONY: all quick check check-all test mistakes definitions runs refused-growths streams examples vectors manual report held-view links library library-examples fuzz bench install install-report install-bench install-library clean
 
 all: hart
 
+# The libraries are proved side by side. Then the program is built over them.
 hart: $(SOURCES)
-	cd $(PROGRAM) && rt run -- answer < stdin > out.tmp && cmp out.tmp stdout && rm out.tmp
+	python3 tools/build.py
+	cd $(PROGRAM) && { rt run -- answer < stdin > out.tmp 2>$(LOGS)/hart.log || { tail -n 20 $(LOGS)/hart.log >&2; exit 1; }; }
+	cd $(PROGRAM) && cmp out.tmp stdout && rm out.tmp
 	cp $(PROGRAM)/out/hart $@
 
 $(TESTS): $(SOURCES)
-	cd crates/hart_tests && rt test
+	cd crates/hart_tests_cli && rt test
 
 quick:
 	sh tools/quick.sh
 
-# The program is proved and built once, by the gate, and then run.
 check:
+	bash tools/check.sh
+
+check-all:
+	python3 tools/mistakes.py --all
+	python3 tools/mistakes.py --definitions --all
+	python3 tools/mistakes.py --against-rattle
 	bash tools/check.sh
 
 test: hart
@@ -54,10 +66,14 @@ test: hart
 	sh tools/streams.sh
 	sh tools/examples.sh
 	sh tools/vectors.sh
+	python3 tools/vector_bugs.py
+	python3 tools/vector_bugs.py --random ./hart
+	python3 tools/bench.py ./hart
 	sh tools/manual.sh
 	sh tools/held-view.sh
 	sh tools/library-examples.sh
 	python3 tools/listen.py ./hart
+	python3 tools/report.py ./hart
 	python3 tools/links.py
 	python3 tools/doc_examples.py
 
@@ -65,12 +81,8 @@ mistakes:
 	python3 tools/mistakes.py
 	python3 tools/mistakes.py --can-fail
 
-mistakes-table:
-	python3 tools/mistakes.py --table
-
 definitions:
-	python3 tools/mistakes.py --definitions --table
-	python3 tools/mistakes.py --definitions --can-fail
+	python3 tools/mistakes.py --definitions
 
 held-view:
 	sh tools/held-view.sh
@@ -80,15 +92,23 @@ links:
 
 refused-growths: $(TESTS)
 
-runs refused-growths streams examples manual library-examples: hart
+runs refused-growths streams examples manual: hart
 	sh tools/$@.sh
+
+library-examples: hart
+	sh tools/$@.sh $(if $(TARGET),--target $(TARGET))
 
 vectors: hart
 	python3 tools/vectors.py ./hart
 
+report: hart
+	python3 tools/report.py ./hart
+	python3 tools/report.py ./hart --can-fail
+
 library:
-	mkdir -p build
-	sh tools/library.sh build
+	python3 tools/build.py hart_c
+	mkdir -p $(BUILT)
+	sh tools/library.sh $(if $(TARGET),--target $(TARGET)) $(BUILT)
 
 fuzz: hart
 	python3 tools/fuzz.py --cases $(N)
@@ -99,10 +119,27 @@ bench: hart
 	python3 bench/explain.py
 	python3 bench/sim.py
 
-install: hart
-	install -d $(PREFIX)/bin $(PREFIX)/share/man/man1 $(PREFIX)/share/bash-completion/completions $(PREFIX)/share/doc/hart
-	install -m 755 hart $(PREFIX)/bin/hart
-	install -m 755 tools/hart-listen $(PREFIX)/bin/hart-listen
+# hart-report needs no proof, and its test installs it below an empty folder.
+install-report:
+	install -d $(PREFIX)/bin $(PREFIX)/share/hart/hart_report $(PREFIX)/share/man/man1
+	install -m 755 tools/hart-report $(PREFIX)/bin/hart-report
+	install -m 644 tools/hart_report/*.py tools/hart_report/style.css $(PREFIX)/share/hart/hart_report
+	install -m 644 docs/hart-report.1 $(PREFIX)/share/man/man1/hart-report.1
+
+# HART is the program that is installed beside hart-bench.
+HART ?= hart
+
+install-bench:
+	install -d $(PREFIX)/bin $(PREFIX)/share/hart/hart_bench $(PREFIX)/share/hart/fuzz $(PREFIX)/share/man/man1 $(PREFIX)/share/doc/hart
+	install -m 755 $(HART) $(PREFIX)/bin/hart
+	install -m 755 tools/hart-listen tools/hart-bench $(PREFIX)/bin
+	install -m 644 tools/hart_bench/*.py $(PREFIX)/share/hart/hart_bench
+	install -m 644 tools/fuzz/__init__.py tools/fuzz/frames.py $(PREFIX)/share/hart/fuzz
+	install -m 644 docs/hart-bench.1 $(PREFIX)/share/man/man1/hart-bench.1
+	install -m 644 docs/vectors.tsv $(PREFIX)/share/doc/hart
+
+install: hart install-report install-bench
+	install -d $(PREFIX)/share/bash-completion/completions
 	install -m 644 docs/hart.1 $(PREFIX)/share/man/man1/hart.1
 	install -m 644 docs/hart.bash $(PREFIX)/share/bash-completion/completions/hart
 	install -m 644 $(GUIDE) $(PREFIX)/share/doc/hart
@@ -110,8 +147,8 @@ install: hart
 install-library: library
 	install -d $(PREFIX)/include $(PREFIX)/lib/pkgconfig
 	install -m 644 include/hart.h $(PREFIX)/include/hart.h
-	install -m 644 build/libhart.a $(PREFIX)/lib/libhart.a
-	install -m 755 build/libhart.so.0 $(PREFIX)/lib/libhart.so.0
+	install -m 644 $(BUILT)/libhart.a $(PREFIX)/lib/libhart.a
+	install -m 755 $(BUILT)/libhart.so.0 $(PREFIX)/lib/libhart.so.0
 	ln -sf libhart.so.0 $(PREFIX)/lib/libhart.so
 	sed 's|@PREFIX@|$(PREFIX)|' include/hart.pc.in >$(PREFIX)/lib/pkgconfig/hart.pc
 

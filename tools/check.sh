@@ -1,89 +1,118 @@
 #!/usr/bin/env bash
-# Runs the gate. Then tries the wrong bodies that it does not try, over the libraries that it has built, and what only runs of the
-# program show. Prints what all of it cost. The last line is the gate's count plus the wrong bodies that were refused here. Each
-# wrong body that was not refused, and each script that failed, is one more failure. The status is the worst of all.
+# Runs the gate, with its own status:
+#
+#   - `rt ci` proves every crate from nothing, with its tests, and runs the program and the tests. It works on a copy of the crates
+#     without their wrong bodies, since it would prove a crate once more for its first wrong body.
+#   - Beside it, on processors that it leaves idle, the library for C is built in the tree, and then tools/mistakes.py tries the wrong
+#     bodies whose refusal may have changed, and a sample of the others.
+#   - Then the scripts run on the program that `rt ci` built, side by side, each with its output kept together.
+#
+# At the end it says what all of it cost. The last line counts what passed and failed: crates, programs and tests of `rt ci`, wrong bodies,
+# scripts. What `rt ci` printed stands in build/logs/ci.log.
 set -u
 cd "$(dirname "$0")/.." || exit 1
-program=crates/hart/out/hart
 work=$(mktemp -d)
 trap 'rm -rf "$work"' EXIT
-# The gate runs programs and tests below this folder as the user nobody.
+# `rt ci` runs programs and tests below this folder as the user nobody.
 chmod a+rx "$work"
-log=$work/log
+mkdir -p build/logs "$work/tree/crates" "$work/said"
+log=build/logs/ci.log
+program=$work/tree/crates/hart/out/hart
+tests=$work/tree/crates/hart_tests_cli/out/hart_tests_cli_tests
+passed=0
+failed=0
 
-# The worst status so far.
-worst=0
-note() {
-    [ "$1" -le "$worst" ] || worst=$1
+# One proof takes up to 4 GB of memory, and four of them side by side take as long as the longest chain of crates.
+lanes=$(awk -v processors="$(nproc)" '/^MemAvailable:/ { free = int($2 / 4000000) } END {
+    lanes = free < processors ? free : processors
+    print lanes < 1 ? 1 : lanes > 4 ? 4 : lanes
+}' /proc/meminfo)
+
+# Runs one script, and prints what it said, once it has ended.
+run() {
+    local said start=$SECONDS status=0
+    said=$(mktemp -p "$work/said")
+    bash -c "$1" >"$said" 2>&1 </dev/null || status=$?
+    {
+        flock 9
+        echo "== $2: $((SECONDS - start)) s"
+        cat "$said"
+        [ "$status" -eq 0 ] || {
+            echo "$2: FAILED"
+            touch "$said.failed"
+        }
+    } 9>"$work/lock"
 }
 
-# Each task of the gate gets one job. Otherwise a proof would take processors that are idle just then, and each further job would
-# take time to read the libraries. As many tasks run at once as there are processors with 4 GB of memory each, but at most four:
-# with four, the crates that wait for one another take as long as all the others beside them.
-if [ -z "${RT_JOBS:-}" ]; then
-    RT_JOBS=$(cat /proc/meminfo /sys/fs/cgroup/memory.max 2>/dev/null | awk -v tasks="$(nproc)" '
-        /^MemAvailable:/ { free = $2 / 4000000 }
-        /^[0-9]+$/ { limit = $1 / 4000000000 }
-        END {
-            if (limit && limit < free) free = limit
-            if (free < tasks) tasks = int(free)
-            if (tasks > 4) tasks = 4
-            print (tasks < 1 ? 1 : tasks)
-        }')
-    export RT_JOBS
-fi
-
-# Keeps what the gate proved of a crate before it tries the wrong bodies of that crate. The later wrong bodies and the library for C
-# use it. It is kept as links to files, which the gate does not change and soon removes.
-keep_proved() {
-    for proved in "$work"/gate/rt-edits-*/seed; do
-        if find "$proved" -name "Rattle-$1-*" -print -quit | grep -q .; then
-            cp -al "$proved" "$work/proved/$1"
-        fi
+# Runs scripts side by side, one for each processor.
+run_all() {
+    local script running
+    for script in "$@"; do
+        while mapfile -t running < <(jobs -rp) && [ "${#running[@]}" -ge "$lanes" ]; do
+            wait -n
+        done
+        run "$script" "${script//$work\/tree\/}" &
+        passed=$((passed + 1))
     done
+    wait
 }
 
-# Whatever program is there afterwards was built by the gate.
-rm -f "$program"
-mkdir -m 1777 "$work/gate"
-mkdir "$work/proved"
-TMPDIR=$work/gate rt ci | tee "$log" | while IFS= read -r line; do
-    printf '%s\n' "$line"
-    if [[ $line =~ ^rt:\ ([a-z_]+):\ trying ]]; then
-        keep_proved "${BASH_REMATCH[1]}"
-    fi
-done
-note "${PIPESTATUS[0]}"
+# The library for C, and the wrong bodies over what its proof has left in the tree.
+beside() {
+    python3 tools/build.py --jobs 1 hart_c && (cd crates/hart_c && rt lib --jobs 1) >build/logs/hart_c.log 2>&1
+    RT_JOBS=2 python3 tools/mistakes.py --gate
+}
 
-count=$(grep -xE '[0-9]+ passed, [0-9]+ failed' "$log" | tail -n 1)
-read -r passed _ failed _ <<<"${count:-0 passed, 1 failed}"
+rt version
+run_all "sh tools/kits.sh" "python3 tools/links.py" "python3 tools/doc_examples.py" "python3 tools/named.py"
 
+tar -cf - --exclude=out --exclude=must-fail --exclude=mistakes crates crates.txt HANDLES | tar -xf - -C "$work/tree"
+nice -n 10 bash -c "$(declare -f beside); beside" >"$work/beside" 2>&1 </dev/null &
+beside=$!
+(cd "$work/tree" && RT_JOBS=${RT_JOBS:-$lanes} rt ci) 2>&1 | tee "$log" |
+    grep --line-buffered -E '^rt: |NOT PROVED|passed, .* failed|\berror\b'
+[ "${PIPESTATUS[0]}" -eq 0 ] || failed=$((failed + 1))
+read -r ok lost < <(sed -nE 's/^([0-9]+) passed, ([0-9]+) failed.*/\1 \2/p' "$log" | tail -n 1)
+passed=$((passed + ${ok:-0}))
+[ "${lost:-1}" -eq 0 ] || echo "What was not proved stands in $log."
+
+wait "$beside"
+cat "$work/beside"
+read -r ok lost < <(sed -nE 's/^mistakes: ([0-9]+) refused, ([0-9]+) failed.*/\1 \2/p' "$work/beside")
+passed=$((passed + ${ok:-0}))
+failed=$((failed + ${lost:-1}))
+
+scripts=(
+    "python3 tools/mistakes.py --can-fail"
+    "sh tools/library-examples.sh $program && sh tools/library-examples.sh --target aarch64-linux-gnu $program"
+    "sh tools/refused-growths.sh $program $tests"
+    "python3 tools/report.py $program"
+    "sh tools/held-view.sh"
+    "sh tools/runs.sh $program"
+    "sh tools/streams.sh $program"
+    "sh tools/vectors.sh $program"
+    "python3 tools/vector_bugs.py"
+    "python3 tools/vector_bugs.py --random $program"
+    "python3 tools/bench.py $program"
+    "sh tools/examples.sh $program"
+    "sh tools/manual.sh $program"
+)
 if [ -f "$program" ]; then
-    # The wrong bodies of crates/NAME/mistakes, then a check that such a run can fail, and the other scripts.
-    python3 tools/mistakes.py --gate "$work/proved" | tee "$log"
-    note "${PIPESTATUS[0]}"
-    read -r refused unrefused < <(sed -nE 's/^mistakes: ([0-9]+) refused, ([0-9]+) failed.*/\1 \2/p' "$log")
-    passed=$((passed + ${refused:-0}))
-    failed=$((failed + ${unrefused:-1}))
-    for script in "python3 tools/mistakes.py --gate $work/proved --can-fail" "sh tools/"{runs,refused-growths,streams,examples,vectors,manual,held-view}".sh $program" \
-        "sh tools/library-examples.sh --gate $work/proved $program" "python3 tools/listen.py $program" \
-        "python3 tools/links.py" "python3 tools/doc_examples.py"; do
-        if ! $script; then
-            echo "$script: FAILED"
-            note 1
-            failed=$((failed + 1))
-        fi
-    done
+    run_all "${scripts[@]}"
+    # It measures times, so it runs alone.
+    run_all "python3 tools/listen.py $program"
 else
-    echo "The gate built no program, so none was run, and no wrong body was tried but by the gate."
-    note 1
+    echo "rt ci built no program, so no script ran on it."
+    failed=$((failed + 1))
 fi
 
-# The processor time of all of it. `times` has to run in this shell, which waited for all of it.
-times >"$log"
-read -r user system < <(tail -n 1 "$log")
-echo "processor time: $user user, $system system"
+lost=$(find "$work/said" -name '*.failed' | wc -l)
+passed=$((passed - lost))
+failed=$((failed + lost))
 
-[ "$failed" -eq 0 ] || note 1
+# `times` has to run in this shell, which waited for all of it.
+times >"$work/times"
+read -r user system < <(tail -n 1 "$work/times")
+echo "processor time: $user user, $system system; $((SECONDS / 60)) minutes on $(nproc) processors"
 echo "$passed passed, $failed failed"
-exit "$worst"
+[ "$failed" -eq 0 ]

@@ -1,5 +1,5 @@
 #!/usr/bin/env python3
-"""Checks that each example in a doc comment is a test: its lines have to stand together in crates/hart_tests/src/examples.rt.
+"""Checks that each example in a doc comment is a test: its lines have to stand together in src/examples.rt of a crate of tests.
 
 Usage: tools/doc_examples.py
 """
@@ -8,7 +8,7 @@ import re
 import sys
 
 TOP = pathlib.Path(__file__).parents[1]
-TESTS = TOP / "crates" / "hart_tests" / "src" / "examples.rt"
+TESTS = sorted(TOP.glob("crates/hart_tests_*/src/examples.rt"))
 INDENT = "    "
 COMMENT = re.compile(r"^\s*//[/!] ?")
 
@@ -29,7 +29,7 @@ def examples_of(source):
 
 
 def main():
-    tests = TESTS.read_text(encoding="utf-8")
+    tests = "".join(file.read_text(encoding="utf-8") for file in TESTS)
     count, missing = 0, []
     for source in sorted(TOP.glob("crates/*/src/**/*.rt")):
         for number, lines in examples_of(source):

@@ -12,6 +12,7 @@ mkdir "$work/examples" "$work/bin" "$work/folder"
 ln -s "$program" "$work/bin/hart"
 ln -s "$program" "$work/folder/hart"
 ln -s "$PWD/docs" "$work/folder/docs"
+ln -s "$PWD/tools" "$work/folder/tools"
 # The program is made already.
 printf '#!/bin/sh\n' >"$work/bin/make"
 chmod +x "$work/bin/make"

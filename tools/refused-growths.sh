@@ -6,14 +6,14 @@
 # have none. Only before clap has the words may a run succeed without a growth. In the last run no growth is left to refuse, and the
 # call has to succeed.
 #
-# The program does not call `run`, and reports a refusal by `read_script` as its own. So a test of hart_tests makes each call once
+# The program does not call `run`, and reports a refusal by `read_script` as its own. So a test of hart_tests_cli makes each call once
 # by its name and prints what it answered. Each growth of that test is refused in the same way.
 #
 # Usage: tools/refused-growths.sh [PROGRAM [TESTS]]; PROGRAM is the ./hart of the repository if absent, and TESTS the tests that `rt test`
-# or the gate has built in crates/hart_tests. It needs cc.
+# or the gate has built in crates/hart_tests_cli. It needs cc.
 set -eu
 program=$(realpath "${1:-$(dirname "$0")/../hart}")
-tests=$(realpath "${2:-$(dirname "$0")/../crates/hart_tests/out/hart_tests_tests}")
+tests=$(realpath "${2:-$(dirname "$0")/../crates/hart_tests_cli/out/hart_tests_cli_tests}")
 cd "$(dirname "$0")/.."
 work=$(mktemp -d)
 trap 'rm -rf "$work"' EXIT

@@ -130,7 +130,7 @@ identify='request of the primary master to the device at polling address 0, Comm
 begins explain
 says_at_once 'FF FF 02 80 00 00 82 ' "2-7: $identify"
 printf 'FF02000000' >&3
-says_at_once '02 ' '8: no message: only one 0xFF stands before it
+says_at_once '02 ' '8: no message: only one intact preamble byte stands directly before it
     seems: request of the secondary master to the device at polling address 0, Command 0, read unique identifier'
 printf 'FF82B7420A1B2C13FFFFFF02800000' >&3
 says_at_once '82 ' "24-29: $identify"
