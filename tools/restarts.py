@@ -5,11 +5,14 @@ from typing import NamedTuple
 
 from cases import DATA, NEW, PROTECTED, PUMP_LONG_TAG, PUMP_TAG, TAGS, WRITTEN, heard_text, image_word, lone, request, with_item
 from fuzz import commands, texts
-from fuzz.device import OWN_ADDRESS, RESPONSE_PREAMBLES, Device
+from fuzz.device import OWN_ADDRESS, Device
 from fuzz.frames import BROADCAST, Polling, Unique
 from fuzz.master import MOST_SENDINGS
+from fuzz.serve import said
+from hart_bench.bridge import replies
+from hart_bench.vectors import RESTART
+from hart_bench.vectors import SILENCE as NO_REPLY
 
-RESTART = "restart"
 SILENCE = ""
 MASTERS = {"P": "S", "S": "P"}
 NO_CODE = "00 00"
@@ -141,13 +144,12 @@ def script_of(heard):
     return [submission, f"turn {frame.master} {items} ok", *[f"turn {frame.master} lost lost"] * (MOST_SENDINGS - 1)]
 
 
+def device_at(image):
+    """The device of the plain model at the start of a case."""
+    return texts.device_of(texts.Given([] if image == "-" else [b"--image", image.encode()], b""))
+
+
 def of_model(image, parts):
     """What the device of the plain model replies to each part."""
-    device = texts.device_of(texts.Given([] if image == "-" else [b"--image", image.encode()], b""))
-    for heard in parts:
-        if heard == RESTART:
-            device.restart()
-            yield SILENCE
-        else:
-            reply = device.hear(texts.read_items(heard.encode()))
-            yield texts.message_text(reply, RESPONSE_PREAMBLES).decode().strip()
+    device = device_at(image)
+    return ["" if reply == NO_REPLY else reply for reply in replies(lambda line: said(device, line.encode()).decode().strip(), parts)]

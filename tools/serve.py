@@ -3,7 +3,7 @@
 
 Each row of the vectors is heard by a process of its own, which begins with the image of the row and has to reply as the row says.
 Then one process hears all rows, with a restart and the image after each. Another one hears many deliveries, each after it has
-answered the one before, and may not take more memory than after the first few.
+answered the one before, and may not take more memory than after the first few. Lines go by the bridge of hart-bench.
 
 Usage: tools/serve.py PROGRAM [--deliveries N]; N is 100000 if absent.
 """
@@ -11,17 +11,16 @@ Usage: tools/serve.py PROGRAM [--deliveries N]; N is 100000 if absent.
 import argparse
 import os
 import pathlib
-import subprocess
 import sys
 
 sys.dont_write_bytecode = True
 
 from fuzz.device import new_device  # noqa: E402
 from fuzz.serve import said  # noqa: E402
+from hart_bench.bridge import Lines  # noqa: E402
+from hart_bench.vectors import NEW, RESTART, rows_of  # noqa: E402
 
 FILE = pathlib.Path(__file__).parents[1] / "docs" / "vectors.tsv"
-BETWEEN = "; "
-RESTART = "restart"
 # A request that writes, one that reads what was written, noise, a bad line, and two words.
 LINES = (
     "FF FF 82 B7 42 0A 1B 2C 13 03 01 23 45 3D",
@@ -34,21 +33,23 @@ LINES = (
 
 
 def rows():
-    """The image of each row, and its parts: what is heard, and the reply."""
-    for line in FILE.read_text(encoding="utf-8").splitlines():
-        if line.startswith(("#", "image\t")):
-            continue
-        image, heard, reply, _ = line.split("\t")
-        yield image, list(zip(heard.split(BETWEEN), reply.split(BETWEEN), strict=True))
+    """The rows of the vectors."""
+    return rows_of(FILE.read_text(encoding="utf-8"))
 
 
 def ended(program, words, lines):
     """Returns the lines that a process says to these lines."""
-    text = "".join(f"{line}\n" for line in lines)
-    process = subprocess.run([program, "serve", *words], input=text, capture_output=True, text=True, check=False)
-    if process.returncode or process.stderr:
-        sys.exit(f"serve: ended with {process.returncode} and {process.stderr!r}")
-    return process.stdout.splitlines()
+    device = Lines([program, "serve", *words])
+    answers = device.say_all(lines)
+    end(device)
+    return answers
+
+
+def end(device):
+    """Ends a process, which may say nothing more and has to end with 0."""
+    left, status = device.rest, device.close()
+    if left or status:
+        sys.exit(f"serve: status {status}, and {left!r} at the end")
 
 
 def hold(shown, wanted, note):
@@ -61,17 +62,17 @@ def hold(shown, wanted, note):
 def each_row_alone(program):
     """Lets each row be heard by a process of its own."""
     count = 0
-    for image, parts in rows():
-        words = [] if image == "-" else ["--image", image]
-        wanted = ["ok" if heard == RESTART else reply for heard, reply in parts]
-        hold(ended(program, words, [heard for heard, _ in parts]), wanted, f"row {count + 1}")
+    for row in rows():
+        words = [] if row.image == NEW else ["--image", row.image]
+        wanted = ["ok" if heard == RESTART else reply for heard, reply in row.parts]
+        hold(ended(program, words, [heard for heard, _ in row.parts]), wanted, f"line {row.line} of the vectors")
         count += 1
     print(f"serve: {count} rows of the vectors, each in a process of its own")
 
 
 def all_rows_together(program):
     """Lets all rows be heard by one process, with a restart, the image and the counter after each."""
-    lines = [line for _, parts in rows() for line in (*(heard for heard, _ in parts), RESTART, "image", "counter")]
+    lines = [line for row in rows() for line in (*(heard for heard, _ in row.parts), RESTART, "image", "counter")]
     device = new_device()
     hold(ended(program, [], lines), [said(device, line.encode()).decode().rstrip("\n") for line in lines], "all rows")
     print(f"serve: {len(lines)} lines of the vectors in one process")
@@ -85,22 +86,18 @@ def resident(process):
 
 def many_deliveries(program, count):
     """Sends lines one by one, each after the answer to the line before."""
-    with subprocess.Popen([program, "serve"], stdin=subprocess.PIPE, stdout=subprocess.PIPE, bufsize=0) as process:
-        device = new_device()
-        taken = 0
-        for number in range(count):
-            line = LINES[number % len(LINES)].encode()
-            process.stdin.write(line + b"\n")
-            shown, wanted = process.stdout.readline(), said(device, line)
-            if shown != wanted:
-                sys.exit(f"serve: delivery {number + 1}: {shown!r}, but {wanted!r} is wanted")
-            if number == len(LINES):
-                taken = resident(process)
-        grown = resident(process) - taken
-        process.stdin.close()
-        left, status = process.stdout.read(), process.wait()
-    if left or status or grown > 0:
-        sys.exit(f"serve: status {status}, {left!r} at the end, and {grown} kB more memory than after {len(LINES)} deliveries")
+    serve, device, taken = Lines([program, "serve"]), new_device(), 0
+    for number in range(count):
+        line = LINES[number % len(LINES)]
+        shown, wanted = serve.say(line), said(device, line.encode()).decode().rstrip("\n")
+        if shown != wanted:
+            sys.exit(f"serve: delivery {number + 1}: {shown!r}, but {wanted!r} is wanted")
+        if number == len(LINES):
+            taken = resident(serve.process)
+    grown = resident(serve.process) - taken
+    end(serve)
+    if grown > 0:
+        sys.exit(f"serve: {grown} kB more memory than after {len(LINES)} deliveries")
     print(f"serve: {count} deliveries one after another, and {taken} kB of memory from the first ones on")
 
 

@@ -3,11 +3,13 @@
 
 The cases come from docs/COMMANDS.md, docs/WIRE.md, docs/FORMATS.md, docs/explained.txt, docs/worked.txt, and the worked messages
 in tools/fuzz/worked.py. After them come cases that rules make: each refusal in the table of the commands, each communication fault,
-each kind of address, both tags. The reply is the program's. It has to be the reply on the page, if the page shows one, and that of
-the plain model in tools/fuzz.
+each kind of address, both tags, restarts, and what each write, refusal, damage and reset leaves behind. The reply is the program's.
+It has to be the reply on the page, if the page shows one, or to fit what the rule says, and it has to be that of the plain model in
+tools/fuzz.
 
 A row has the image of the device, or - for a new bench device; what it hears; its reply, or - for silence; and a note of what
-`hart explain` says of both. Where a device is restarted and hears something after it, the row has parts, with "; " between.
+`hart explain` says of both. Where a device hears several things in turn, the row has parts, with "; " between. So does each row that
+may leave something in the device: its last parts read all that the device holds.
 
 Usage: tools/vectors.py PROGRAM [--check]; with --check nothing is written, and the file has to be what would be.
 """
@@ -22,9 +24,12 @@ import sys
 
 sys.dont_write_bytecode = True
 
+from afterwards import LOOKS_NOTE, is_plain_read, left, looks, shown  # noqa: E402
 from cases import cases, lone  # noqa: E402
 from fuzz import texts  # noqa: E402
-from restarts import RESTART, of_model, runs, script_of  # noqa: E402
+from hart_bench.vectors import BETWEEN, NEW, RESTART, SILENCE  # noqa: E402
+from restarts import device_at, of_model, runs, script_of  # noqa: E402
+from turns import turns  # noqa: E402
 
 TOP = pathlib.Path(__file__).parents[1]
 FILE = TOP / "docs" / "vectors.tsv"
@@ -35,10 +40,10 @@ HEADER = (
     "# reply: its reply, in hex; - for silence.",
     "# note: what is said of both in words.",
     "# Where more happens to the device in turn, heard and reply have as many parts, with ; between them. The word restart among what is",
-    "# heard says that the device was without power and is on again; the reply has - there.",
+    "# heard says that the device was without power and is on again; the reply has - there. A row that may leave something in the device",
+    "# ends with requests that read all that it holds.",
     "image\theard\treply\tnote",
 )
-BETWEEN = "; "
 REPLY_LINE = re.compile(r"^D (\d+) ([0-9A-F]+)$", re.MULTILINE)
 STATUS_LINE = re.compile(r" +(response code|device status|communication faults): ")
 
@@ -81,39 +86,65 @@ def note(program, heard, reply):
 
 def image_words(image):
     """Returns the words of a call that give its device an image."""
-    return () if image == "-" else ("--image", image)
+    return () if image == NEW else ("--image", image)
 
 
 def replies_of(program, image, parts):
-    """What the device of `hart sim` replies to each part of a case."""
-    script, said = "", 0
-    for heard in parts:
-        script += "".join(f"{line}\n" for line in script_of(heard))
-        spoken = REPLY_LINE.findall(call(program, ("sim", *image_words(image)), script))
-        fresh, said = spoken[said:], len(spoken)
-        if len(fresh) > 1:
-            sys.exit(f"vectors: {len(fresh)} replies to {heard} in {parts}")
-        yield "".join(texts.hex_text(b"\xFF" * int(preambles) + bytes.fromhex(body)) for preambles, body in fresh)
+    """What the device of `hart serve` replies to each part of a case."""
+    said = call(program, ("serve", *image_words(image)), "".join(f"{heard}\n" for heard in parts)).split("\n")
+    return ["" if line in ("ok", SILENCE) else line for line in said]
 
 
-def row(program, image, parts, replies, is_right):
+def played(program, image, parts):
+    """The replies of the device of `hart sim` to the parts of a case, without the silences."""
+    script = "".join(f"{line}\n" for heard in parts for line in script_of(heard))
+    spoken = REPLY_LINE.findall(call(program, ("sim", *image_words(image)), script))
+    return [texts.hex_text(b"\xFF" * int(preambles) + bytes.fromhex(body)) for preambles, body in spoken]
+
+
+def hold(replies, wanted, what):
+    """Ends the run if replies are not the wanted ones."""
+    if list(replies) != list(wanted):
+        sys.exit(f"vectors: {what}: {replies}, but {wanted} is wanted")
+
+
+def looked_at(image, parts, replies):
+    """What the parts of a case leave in the device: the requests that read it, and the replies that they must get."""
+    if all(map(is_plain_read, parts, replies)):
+        return [], []
+    device = device_at(image)
+    for heard, reply in zip(parts, replies, strict=True):
+        device = left(device, heard, reply)
+    return looks(), list(shown(device))
+
+
+def row(program, image, parts, is_right):
     """The row of a case. Replies that are not the model's, or not what is known of them beforehand, end the run."""
-    model = list(of_model(image, parts))
-    if replies != model or not is_right:
-        sys.exit(f"vectors: to {parts} of image {image} the program replies {replies}, the model {model}; as is known: {is_right}")
-    said = " ".join(note(program, heard, reply) for heard, reply in zip(parts, replies, strict=True))
-    return "\t".join((image, BETWEEN.join(parts), BETWEEN.join(reply or "-" for reply in replies), device_note(image) + said))
+    parts = list(parts)
+    first = replies_of(program, image, parts)
+    more, wanted = looked_at(image, parts, first)
+    replies = replies_of(program, image, parts + more)
+    hold(replies, of_model(image, parts + more), f"to {parts + more} of image {image} the program replies otherwise than the model")
+    hold(replies, first + wanted, f"{parts} of image {image} leave something else in the device than they have to")
+    if not is_right(first):
+        sys.exit(f"vectors: {first} to {parts} of image {image} is not what is known of it")
+    said = [note(program, heard, reply) for heard, reply in zip(parts, first, strict=True)] + [LOOKS_NOTE] * bool(more)
+    told = BETWEEN.join(reply or SILENCE for reply in replies)
+    return "\t".join((image, BETWEEN.join(parts + more), told, device_note(image) + " ".join(said)))
 
 
 def rows(program):
     """The lines of the file."""
     yield from HEADER
     for image, heard, case in cases():
-        reply = call(program, ("answer", *image_words(image)), heard)
-        yield row(program, image, [heard], [reply], is_known(case, reply))
-    for image, parts, shown in runs():
-        replies = list(replies_of(program, image, parts))
-        yield row(program, image, parts, replies, tuple(map(status_bytes, replies)) == shown)
+        answer = call(program, ("answer", *image_words(image)), heard)
+        yield row(program, image, [heard], lambda first, case=case, answer=answer: first == [answer] and is_known(case, answer))
+    for image, parts, known in runs():
+        spoken = played(program, image, parts)
+        yield row(program, image, parts, lambda first, known=known, spoken=spoken: (
+            tuple(map(status_bytes, first)) == known and list(filter(None, first)) == spoken))
+    for image, parts, known in turns():
+        yield row(program, image, parts, lambda first, known=known: tuple(map(status_bytes, first)) == known)
 
 
 def main():

@@ -1,0 +1,1 @@
+"""The parts of hart-bench, which tries devices and masters."""
