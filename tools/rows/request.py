@@ -4,18 +4,49 @@
 REQUESTS = (
     (["P", "@0", "0"], "FF FF FF FF FF 02 80 00 00 82\n"),
     (["S", "@0", "0", "--preambles", "7"], "FF FF FF FF FF FF FF 02 00 00 00 02\n"),
-    (["P", "37420A1B2C", "18", "tag=FT-1204", "descriptor=FEED PUMP", "date=2026-11-27"], "FF FF FF FF FF 82 B7 42 0A 1B 2C 12 15 19 4B 71 CB 0D 20 18 51 44 81 05 4D 42 08 20 82 08 20 1B 0B 7E E2\n"),
-    (["S", "37420A1B2C", "18", "date=not set", "tag=A=B", "descriptor="], "FF FF FF FF FF 82 37 42 0A 1B 2C 12 15 07 D0 A0 82 08 20 82 08 20 82 08 20 82 08 20 82 08 20 00 00 00 10\n"),
-    (["P", "37420A1B2C", "18", "descriptor=^_[]\\ !?", "date=2155-12-31", "tag=@ABCDEFG"], "FF FF FF FF FF 82 B7 42 0A 1B 2C 12 15 00 10 83 10 51 87 79 F6 DD 72 08 7F 82 08 20 82 08 20 1F 0C FF A3\n"),
-    (["P", "37420A1B2C", "22", "long_tag=Feed pump, building 3"], "FF FF FF FF FF 82 B7 42 0A 1B 2C 16 20 46 65 65 64 20 70 75 6D 70 2C 20 62 75 69 6C 64 69 6E 67 20 33 20 20 20 20 20 20 20 20 20 20 20 4F\n"),
-    (["P", "all", "21", "long_tag=Prüfstand ÿ"], "FF FF FF FF FF 82 80 00 00 00 00 15 20 50 72 FC 66 73 74 61 6E 64 20 FF 20 20 20 20 20 20 20 20 20 20 20 20 20 20 20 20 20 20 20 20 20 1C\n"),
-    (["P", "37420A1B2C", "22", "long_tag=0x4a4a4a4a4a4a4a4a4a4a4a4a4a4a4a4a4a4a4a4a4a4a4a4a4a4a4a4a4a4a4a4a"], "FF FF FF FF FF 82 B7 42 0A 1B 2C 16 20 4A 4A 4A 4A 4A 4A 4A 4A 4A 4A 4A 4A 4A 4A 4A 4A 4A 4A 4A 4A 4A 4A 4A 4A 4A 4A 4A 4A 4A 4A 4A 4A 7C\n"),
-    (["P", "37420A1B2C", "22", "long_tag="], "FF FF FF FF FF 82 B7 42 0A 1B 2C 16 20 20 20 20 20 20 20 20 20 20 20 20 20 20 20 20 20 20 20 20 20 20 20 20 20 20 20 20 20 20 20 20 20 7C\n"),
-    (["P", "37420A1B2C", "17", "message=32 CHARACTERS ARE IN A MESSAGE."], "FF FF FF FF FF 82 B7 42 0A 1B 2C 11 18 CF 28 03 20 14 81 0D 41 52 4E 00 52 16 02 4E 80 18 0D 15 34 C1 1C 5B A0 D8\n"),
+    (
+        ["P", "37420A1B2C", "18", "tag=FT-1204", "descriptor=FEED PUMP", "date=2026-11-27"],
+        "FF FF FF FF FF 82 B7 42 0A 1B 2C 12 15 19 4B 71 CB 0D 20 18 51 44 81 05 4D 42 08 20 82 08 20 1B 0B 7E E2\n",
+    ),
+    (
+        ["S", "37420A1B2C", "18", "date=not set", "tag=A=B", "descriptor="],
+        "FF FF FF FF FF 82 37 42 0A 1B 2C 12 15 07 D0 A0 82 08 20 82 08 20 82 08 20 82 08 20 82 08 20 00 00 00 10\n",
+    ),
+    (
+        ["P", "37420A1B2C", "18", "descriptor=^_[]\\ !?", "date=2155-12-31", "tag=@ABCDEFG"],
+        "FF FF FF FF FF 82 B7 42 0A 1B 2C 12 15 00 10 83 10 51 87 79 F6 DD 72 08 7F 82 08 20 82 08 20 1F 0C FF A3\n",
+    ),
+    (
+        ["P", "37420A1B2C", "22", "long_tag=Feed pump, building 3"],
+        "FF FF FF FF FF 82 B7 42 0A 1B 2C 16 20 "
+        "46 65 65 64 20 70 75 6D 70 2C 20 62 75 69 6C 64 69 6E 67 20 33 20 20 20 20 20 20 20 20 20 20 20 4F\n",
+    ),
+    (
+        ["P", "all", "21", "long_tag=Prüfstand ÿ"],
+        "FF FF FF FF FF 82 80 00 00 00 00 15 20 "
+        "50 72 FC 66 73 74 61 6E 64 20 FF 20 20 20 20 20 20 20 20 20 20 20 20 20 20 20 20 20 20 20 20 20 1C\n",
+    ),
+    (
+        ["P", "37420A1B2C", "22", "long_tag=0x4a4a4a4a4a4a4a4a4a4a4a4a4a4a4a4a4a4a4a4a4a4a4a4a4a4a4a4a4a4a4a4a"],
+        "FF FF FF FF FF 82 B7 42 0A 1B 2C 16 20 "
+        "4A 4A 4A 4A 4A 4A 4A 4A 4A 4A 4A 4A 4A 4A 4A 4A 4A 4A 4A 4A 4A 4A 4A 4A 4A 4A 4A 4A 4A 4A 4A 4A 7C\n",
+    ),
+    (
+        ["P", "37420A1B2C", "22", "long_tag="],
+        "FF FF FF FF FF 82 B7 42 0A 1B 2C 16 20 "
+        "20 20 20 20 20 20 20 20 20 20 20 20 20 20 20 20 20 20 20 20 20 20 20 20 20 20 20 20 20 20 20 20 7C\n",
+    ),
+    (
+        ["P", "37420A1B2C", "17", "message=32 CHARACTERS ARE IN A MESSAGE."],
+        "FF FF FF FF FF 82 B7 42 0A 1B 2C 11 18 CF 28 03 20 14 81 0D 41 52 4E 00 52 16 02 4E 80 18 0D 15 34 C1 1C 5B A0 D8\n",
+    ),
     (["P", "37420A1B2C", "19", "final_assembly_number=0x012345"], "FF FF FF FF FF 82 B7 42 0A 1B 2C 13 03 01 23 45 3D\n"),
     (["P", "37420A1B2C", "6", "loop_current_mode=+1", "polling_address=007"], "FF FF FF FF FF 82 B7 42 0A 1B 2C 06 02 07 01 48\n"),
     (["P", "37420A1B2C", "9", "device_variable_codes=0x00F4"], "FF FF FF FF FF 82 B7 42 0A 1B 2C 09 02 00 F4 B5\n"),
-    (["S", "all", "11", "tag=FT-1204", "--preambles", "20"], "FF FF FF FF FF FF FF FF FF FF FF FF FF FF FF FF FF FF FF FF 82 00 00 00 00 00 0B 06 19 4B 71 CB 0D 20 4A\n"),
+    (
+        ["S", "all", "11", "tag=FT-1204", "--preambles", "20"],
+        "FF FF FF FF FF FF FF FF FF FF FF FF FF FF FF FF FF FF FF FF 82 00 00 00 00 00 0B 06 19 4B 71 CB 0D 20 4A\n",
+    ),
     (["P", "37420A1B2C", "38", "configuration_change_counter=65535"], "FF FF FF FF FF 82 B7 42 0A 1B 2C 26 02 FF FF 6E\n"),
     (["P", "37420A1B2C", "38", "configuration_change_counter=258"], "FF FF FF FF FF 82 B7 42 0A 1B 2C 26 02 01 02 6D\n"),
 )
