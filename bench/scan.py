@@ -10,6 +10,14 @@ It builds bench/scan over hart_values and hart_frame, those of this tree and tho
 them first, from nothing, which takes some minutes. It fails if the two programs print different sums of the places where frames
 start.
 
+Figures that led to the code of the search and the check byte:
+
+- For 5, 20, 267 and 1,000 bytes `check_byte`, which folds 32 bytes at a time, takes 53, 82, 134 and 246 instructions. The private folds of
+  encoding, decoding and the search, 16 bytes at a time and then four, take 30, 51, 104 and 243.
+- Noise takes 2.6 instructions a byte, and 3.0 without `memchr`.
+- Running sums over all bytes, in place of the parity of each possible body, take almost twice as long for false starts.
+- For a short frame `lone_frame` takes a third of the instructions of two calls of `first_frame`.
+
 Usage: bench/scan.py [COMMIT [RUNS]]; COMMIT is HEAD~1, RUNS 11. It needs `git` and `tar`.
 """
 

@@ -6,6 +6,13 @@ and the ratio of its time to that of a script of half the size. Each time is the
 from its start to its end, with its output thrown away. Beside it stand the instructions for each byte of the script, by valgrind
 where it is there, and how they grow from the first 64 KiB to the whole.
 
+Figures that led to the code of the line:
+
+- With `send` and `receive`, which return frames of some 300 bytes, in place of `send_into` and `receive_into`, `hart sim` takes 23 percent
+  more instructions for clean turns, 39 for lost replies, and 100 for empty turns.
+- A script of 1 MiB takes 11 MB, since each frame becomes a line of some 50 bytes at once; with kept frames it takes 25 to 37.
+- Room that is reserved and not touched costs only address space: at most 46.5 MB for the messages of `run`, 8.4 MB for outcomes.
+
 Usage: bench/sim.py [PROGRAM [RUNS]]; PROGRAM is ./hart, RUNS 15.
 """
 
