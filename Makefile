@@ -16,6 +16,7 @@
 #   make held-view            checks that the compiler rejects a push to a scanner while a view of it is held
 #   make fuzz N=..            compares ./hart with a plain model on N random inputs; not part of make check
 #   make manual               checks the man page and the bash completion against --help
+#   make schema               checks the lines of explain --json against docs/explain.schema.json
 #   make links                finds dead links in the pages
 #   make report               tries hart-report on ./hart, also with Chromium and tidy if they are installed
 #   make install PREFIX=DIR   installs hart, hart-listen, hart-report and hart-bench, their man pages, completion and guide below DIR
@@ -30,10 +31,11 @@ BUILT := build$(if $(TARGET),/$(TARGET))
 PROGRAM := crates/hart
 TESTS := crates/hart_tests_cli/out/hart_tests_cli_tests
 LOGS := $(CURDIR)/build/logs
-GUIDE := docs/GUIDE.md docs/COMMANDS.md docs/WIRE.md docs/FORMATS.md docs/explained.txt docs/worked.txt docs/vectors.tsv docs/report.png
+GUIDE := docs/GUIDE.md docs/COMMANDS.md docs/WIRE.md docs/FORMATS.md docs/explained.txt docs/worked.txt docs/vectors.tsv docs/report.png \
+	docs/GLOSSARY.md docs/explain.schema.json
 SOURCES := crates.txt $(shell find crates -name out -prune -o \( -name '*.rt' -o -name '*.antt' \) -print)
 
-.PHONY: all quick check check-all test mistakes definitions runs refused-growths streams examples vectors manual report held-view links library library-examples fuzz bench install install-report install-bench install-library clean
+.PHONY: all quick check check-all test mistakes definitions runs refused-growths streams examples vectors manual schema report held-view links library library-examples fuzz bench install install-report install-bench install-library clean
 
 all: hart
 
@@ -70,6 +72,7 @@ test: hart
 	python3 tools/vector_bugs.py --random ./hart
 	python3 tools/bench.py ./hart
 	sh tools/manual.sh
+	python3 tools/schema.py ./hart
 	sh tools/held-view.sh
 	sh tools/library-examples.sh
 	python3 tools/listen.py ./hart
@@ -100,6 +103,9 @@ library-examples: hart
 
 vectors: hart
 	python3 tools/vectors.py ./hart
+
+schema: hart
+	python3 tools/schema.py ./hart
 
 report: hart
 	python3 tools/report.py ./hart

@@ -96,6 +96,7 @@ scripts=(
     "python3 tools/bench.py $program"
     "sh tools/examples.sh $program"
     "sh tools/manual.sh $program"
+    "python3 tools/schema.py $program"
 )
 if [ -f "$program" ]; then
     run_all "${scripts[@]}"
