@@ -149,6 +149,9 @@ install: hart install-report install-bench
 	install -m 644 docs/hart.1 $(PREFIX)/share/man/man1/hart.1
 	install -m 644 docs/hart.bash $(PREFIX)/share/bash-completion/completions/hart
 	install -m 644 $(GUIDE) $(PREFIX)/share/doc/hart
+	install -d $(PREFIX)/share/doc/hart/examples/shell $(PREFIX)/share/doc/hart/examples/python
+	install -m 644 examples/shell/* $(PREFIX)/share/doc/hart/examples/shell
+	install -m 644 examples/python/*.py $(PREFIX)/share/doc/hart/examples/python
 
 install-library: library
 	install -d $(PREFIX)/include $(PREFIX)/lib/pkgconfig

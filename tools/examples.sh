@@ -13,6 +13,7 @@ ln -s "$program" "$work/bin/hart"
 ln -s "$program" "$work/folder/hart"
 ln -s "$PWD/docs" "$work/folder/docs"
 ln -s "$PWD/tools" "$work/folder/tools"
+ln -s "$PWD/examples" "$work/folder/examples"
 # The program is made already.
 printf '#!/bin/sh\n' >"$work/bin/make"
 chmod +x "$work/bin/make"

@@ -1,0 +1,7 @@
+# Turns messages into the hex dump that text2pcap reads: HART-IP, each message behind a header of eight bytes. A line has a message from its
+# delimiter to its check byte as its last word. Its first letter is P, S (STX) for a request, D or A (ACK) for a reply.
+/^[PSDA]/ {
+    body = $NF
+    gsub(/../, " &", body)
+    printf "0000 01 %02X 03 00 %02X %02X 00 %02X%s\n", /^[DA]/, ++number / 256, number % 256, length($NF) / 2 + 8, body
+}
