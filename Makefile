@@ -141,7 +141,7 @@ install-bench:
 	install -m 755 tools/hart-listen tools/hart-bench $(PREFIX)/bin
 	install -m 644 tools/hart_bench/*.py $(PREFIX)/share/hart/hart_bench
 	install -m 644 tools/fuzz/__init__.py tools/fuzz/frames.py $(PREFIX)/share/hart/fuzz
-	install -m 644 docs/hart-bench.1 $(PREFIX)/share/man/man1/hart-bench.1
+	install -m 644 docs/hart-bench.1 docs/hart-listen.1 $(PREFIX)/share/man/man1
 	install -m 644 docs/vectors.tsv $(PREFIX)/share/doc/hart
 
 install: hart install-report install-bench
