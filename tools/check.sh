@@ -22,7 +22,8 @@ tests=$work/tree/crates/hart_tests_cli/out/hart_tests_cli_tests
 passed=0
 failed=0
 
-# One proof takes up to 4 GB of memory, and four of them side by side take as long as the longest chain of crates.
+# One proof takes up to 4 GB of memory, and four of them side by side take as long as the longest chain of crates. Each has one job: a
+# second job for one proof costs a fifth more processor time.
 lanes=$(awk -v processors="$(nproc)" '/^MemAvailable:/ { free = int($2 / 4000000) } END {
     lanes = free < processors ? free : processors
     print lanes < 1 ? 1 : lanes > 4 ? 4 : lanes

@@ -9,6 +9,9 @@
 # The program does not call `run`, and reports a refusal by `read_script` as its own. So a test of hart_tests_cli makes each call once
 # by its name and prints what it answered. Each growth of that test is refused in the same way.
 #
+# No allocator that refuses can be passed to a call, so tools/refuse_growth.c refuses an allocation from outside. `rt try --fail-alloc`
+# would build anew for each allocation, half a minute every time.
+#
 # Usage: tools/refused-growths.sh [PROGRAM [TESTS]]; PROGRAM is the ./hart of the repository if absent, and TESTS the tests that `rt test`
 # or the gate has built in crates/hart_tests_cli. It needs cc.
 set -eu
