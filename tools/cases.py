@@ -129,9 +129,9 @@ def refused_data(command, code):
 
 
 def refusals():
-    """Each refusal of each command, as the table in docs/COMMANDS.md names them, and which comes first if several hold."""
+    """Each refusal of each command, as the tables in docs/COMMANDS.md name them, and which comes first if several hold."""
     for command, row in commands.COMMANDS.items():
-        for code in (int(code) for code in row.refusals.split(", ") if code != "none"):
+        for code in row.refusals:
             device = PROTECTED if code == commands.WRITE_PROTECTED else NEW
             for data in refused_data(command, code):
                 yield Case(device, request(command, data), first=code)

@@ -1,11 +1,18 @@
 #!/usr/bin/env python3
-"""Checks that each example in a doc comment is a test: its lines have to stand together in src/examples.rt of a crate of tests.
+"""Checks the form of examples, of which other tests check the content.
+
+Each example in a doc comment is a test: its lines have to stand together in src/examples.rt of a crate of tests. Each worked message of
+docs/COMMANDS.md is one that tools/fuzz reads, and the bytes of each of its fields stand together.
 
 Usage: tools/doc_examples.py
 """
 import pathlib
 import re
 import sys
+
+sys.dont_write_bytecode = True
+
+from fuzz import commands, fields, frames, worked  # noqa: E402
 
 TOP = pathlib.Path(__file__).parents[1]
 TESTS = sorted(TOP.glob("crates/hart_tests_*/src/examples.rt"))
@@ -28,6 +35,35 @@ def examples_of(source):
     return found
 
 
+def by_fields(digits):
+    """Returns a message with a space after each of its parts, which are those of the body and the fields of its data."""
+    data = bytes.fromhex(digits)
+    body = data.lstrip(b"\xFF")
+    command = 1 + (5 if body[0] & 0x80 else 1)
+    payload = command + 2
+    parts = [data[:-len(body)], body[:1], body[1:command], body[command:command + 1], body[command + 1:payload]]
+    kind = frames.KINDS[body[0] & 7]
+    if kind == "ACK":
+        parts.append(body[payload:payload + 2])
+        payload += 2
+    rest = body[payload:-1]
+    for field, part in fields.fields_of(kind, body[command], rest):
+        parts += fields.variables_of(part) if field.kind == "variables" else [part]
+        rest = rest[len(part):]
+    return " ".join(part.hex().upper() for part in (*parts, rest, body[-1:]) if part)
+
+
+def check_messages():
+    """Returns how many worked messages the page of the commands has, and what is wrong with them."""
+    page = commands.PAGE.read_text(encoding="utf-8")
+    blocks, shown = page.count("\n```\n\n"), worked.SHOWN.findall(page)
+    messages = [digits.strip() for _, request, reply, _ in shown for digits in (request, reply) if digits]
+    wrong = [f"docs/COMMANDS.md: {digits}: its fields are {by_fields(digits)}" for digits in messages if digits != by_fields(digits)]
+    if len(shown) != blocks:
+        wrong.append(f"docs/COMMANDS.md: of {blocks} blocks, {len(shown)} are worked messages")
+    return len(messages), wrong
+
+
 def main():
     tests = "".join(file.read_text(encoding="utf-8") for file in TESTS)
     count, missing = 0, []
@@ -37,9 +73,10 @@ def main():
             wanted = "\n".join(INDENT + line if line else "" for line in lines) + "\n"
             if wanted not in tests:
                 missing.append(f"{source.relative_to(TOP)}:{number}: this example is no test")
-    print(*missing, sep="\n", end="\n" * bool(missing))
-    print(f"{count} examples in doc comments, {len(missing)} of them no tests")
-    sys.exit(1 if missing or not count else 0)
+    messages, wrong = check_messages()
+    print(*missing, *wrong, sep="\n", end="\n" * bool(missing or wrong))
+    print(f"{count} examples in doc comments, {len(missing)} of them no tests; {messages} worked messages, {len(wrong)} faults")
+    sys.exit(1 if missing or wrong or not count or not messages else 0)
 
 
 if __name__ == "__main__":

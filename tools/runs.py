@@ -1,5 +1,5 @@
 #!/usr/bin/env python3
-"""Runs the built program on the rows in tools/rows, and on the calls of docs/worked.txt.
+"""Runs the built program on the rows in tools/rows, on the calls of docs/worked.txt, and on the worked messages of docs/COMMANDS.md.
 
 Each run is the program itself, on streams that tools/cut_streams.c cuts short or lets fail as the check says. A run is held to its
 status, its output and its errors, and to the number of its reads or writes where the check counts them.
@@ -309,6 +309,16 @@ def worked_calls_end_as_shown(runner):
         runner.hold(run.gave(FAULT if fault else DONE, call.written, fault), call.words, f"on {call.text!r}: {run}")
 
 
+def worked_messages_are_as_shown(runner):
+    for text, said, fault in worked.EXPLAINED:
+        run = runner.run(["explain"], text)
+        runner.hold(run.gave(FAULT if fault else DONE, said, f"{fault}\n" if fault else ""), ["explain"], f"on {text!r}: {run}")
+    for image, text, said in worked.SERVED:
+        call = ["serve", *(["--image", image] if image else [])]
+        run = runner.run(call, text)
+        runner.hold(run.gave(DONE, said, ""), call, f"on {text!r}: {run}")
+
+
 def worked_calls_write_before_they_read_on(runner):
     for call in (call for call in worked.CALLS if call.goes_on):
         # The first read gives just the worked input. What comes later has a line of its own.
@@ -371,6 +381,7 @@ CHECKS = (
     a_failed_write_of_errors_leaves_the_status,
     lines_are_written_before_more_is_read,
     worked_calls_end_as_shown,
+    worked_messages_are_as_shown,
     worked_calls_write_before_they_read_on,
     nothing_is_read_after_the_end,
     inputs_are_read_up_to_the_limit,

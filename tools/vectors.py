@@ -2,7 +2,7 @@
 """Makes docs/vectors.tsv: what a device hears, and what it replies, a case a row.
 
 The cases come from docs/COMMANDS.md, docs/WIRE.md, docs/FORMATS.md, docs/explained.txt, docs/worked.txt, and the worked messages
-in tools/fuzz/worked.py. After them come cases that rules make: each refusal in the table of the commands, each communication fault,
+in tools/fuzz/worked.py. After them come cases that rules make: each refusal in the tables of the commands, each communication fault,
 each kind of address, both tags, restarts, and what each write, refusal, damage and reset leaves behind. The reply is the program's.
 It has to be the reply on the page, if the page shows one, or to fit what the rule says, and it has to be that of the plain model in
 tools/fuzz.

@@ -8,35 +8,84 @@ from typing import NamedTuple
 PAGE = pathlib.Path(__file__).parents[2] / "docs" / "COMMANDS.md"
 
 
-class Row(NamedTuple):
-    """A row of the table of commands in docs/COMMANDS.md, cell by cell."""
+class Field(NamedTuple):
+    """A field: its name, its fewest bytes, how many bytes it has if it is there, None if that varies, and the kind of its value."""
 
-    number: str
     name: str
-    request: str
-    reply: str
-    refusals: str
-    writes: str
+    least: int
+    size: int | None
+    kind: str
+
+
+class Row(NamedTuple):
+    """What the table of a command in docs/COMMANDS.md says: its fields, the codes that refuse it, and whether it writes."""
+
+    name: str
+    request: tuple
+    reply: tuple
+    refusals: tuple
+    is_write: bool
+
+
+SECTION = re.compile(r"^## Command (\d+): ([^\n]+)\n(.*?)(?=^## )", re.MULTILINE | re.DOTALL)
+TABLE_ROW = re.compile(r"^\| ([^|]*?) ?\| ([^|]*?) ?\| ([^|]*?) ?\|$", re.MULTILINE)
+BYTES = re.compile(r"(?:(\d+)( or | to ))?(\d+), (.+)")
+FIELDS_OF = re.compile(r"the fields of (?:the (request)|\[Command (\d+)\]\(\S+\))")
+CODE = re.compile(r"\b(\d+): ")
+
+
+def field_of(name, cell):
+    """A field by its name and the cell of its bytes and kind, such as `3, bytes`, `0 or 2, number` and `1 to 8, bytes`."""
+    least, between, most, kind = BYTES.fullmatch(cell).groups()
+    return Field(name, int(least or most), None if between == " to " else int(most), kind)
+
+
+def parts_of(section):
+    """The rows of the table of a command, by the part that they describe: pairs of cells."""
+    lines = section.partition("| Part | Field | Bytes, kind |\n")[2].partition("\n\n")[0]
+    parts, part = {}, ""
+    for cell, *cells in TABLE_ROW.findall(lines):
+        part = cell or part
+        parts.setdefault(part, []).append(cells)
+    if set(parts) - {"request", "reply", "refused", "writes"}:
+        raise ValueError(f"a table of docs/COMMANDS.md has other parts: {list(parts)}")
+    return parts
+
+
+def fields_in(cells, request, rows):
+    """The fields that rows list or name: those of the request, or of the reply of an earlier command."""
+    if not cells[0][1]:
+        named = FIELDS_OF.fullmatch(cells[0][0])
+        if named is None:
+            return ()
+        return request if named[1] else rows[int(named[2])].reply
+    return tuple(field_of(*pair) for pair in cells)
 
 
 def table():
     """The rows of the commands by their numbers."""
-    lines = PAGE.read_text(encoding="utf-8").split("\n## ")[1].splitlines()
-    rows = [Row(*(cell.strip() for cell in line.strip("|").split("|"))) for line in lines if re.match(r"\| \d", line)]
-    return {int(row.number): row for row in rows}
+    rows = {}
+    for number, name, section in SECTION.findall(PAGE.read_text(encoding="utf-8")):
+        parts = parts_of(section)
+        request = fields_in(parts["request"], (), rows)
+        refusals = tuple(int(code) for code in CODE.findall(parts.get("refused", [[""]])[0][0]))
+        rows[int(number)] = Row(name, request, fields_in(parts["reply"], request, rows), refusals, "writes" in parts)
+    if list(rows) != sorted(rows):
+        raise ValueError("the commands of docs/COMMANDS.md do not stand in the order of their numbers")
+    return rows
 
 
-def least(cell):
-    """Returns the number of bytes with which a cell begins, or 0 if it begins with no number."""
-    return int(re.match(r"\d*", cell).group() or 0)
+def least(fields):
+    """Returns the fewest bytes that fields have."""
+    return sum(field.least for field in fields)
 
 
 COMMANDS = table()
 UNKNOWN = [number for number in range(256) if number not in COMMANDS]
 # How many bytes of its request data a command needs, from the first on.
 NEEDED = {number: least(row.request) for number, row in COMMANDS.items()}
-WITH_DATA = [number for number, row in COMMANDS.items() if row.request != "none"]
-WRITES = [number for number, row in COMMANDS.items() if row.writes != "none"]
+WITH_DATA = [number for number, row in COMMANDS.items() if row.request]
+WRITES = [number for number, row in COMMANDS.items() if row.is_write]
 MOST_CODES = 8
 
 SUCCESS = 0
@@ -49,7 +98,7 @@ NOT_IMPLEMENTED = 64
 
 # How many bytes the reply of a command has at least; Commands 3, 9 and 48 have rules of their own.
 REPLY_NEEDED = {number: least(row.reply) for number, row in COMMANDS.items()}
-IDENTITY_COMMANDS = [number for number, row in COMMANDS.items() if row.reply.endswith(" identity")]
+IDENTITY_COMMANDS = [number for number, row in COMMANDS.items() if row.reply == COMMANDS[0].reply]
 IDENTITY_FIRST = 254
 
 

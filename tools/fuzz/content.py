@@ -24,7 +24,7 @@ def code_names():
     """The names in the table of response codes, by code and command. The command is None if the name holds for all commands."""
     names = {}
     for code, cell in CODE_ROW.findall(commands.PAGE.read_text(encoding="utf-8")):
-        for meaning in cell.removesuffix(" (own profile)").split("; "):
+        for meaning in cell.removesuffix(" (implementation choice)").split("; "):
             of_command = OF_COMMAND.fullmatch(meaning)
             name, command = (of_command[1], int(of_command[2])) if of_command else (meaning, None)
             names[int(code), command] = name

@@ -1,47 +1,13 @@
 """The fields into which the data of a command fall, with their names, and how `hart explain` writes the value of each."""
 
-import re
-from typing import NamedTuple
-
-from .commands import PAGE, is_date
+from .commands import COMMANDS, is_date
 from .device import unpacked
 from .units import unit_text
 
-SECTION = PAGE.read_text(encoding="utf-8").split("\n## Names of fields\n")[1].split("\n## ")[0]
-# The cell that says whose data a row describes, such as `requests of 6; replies to 6 and 7`.
-WHOSE = re.compile(r"(requests of|replies to) ([^;]+)")
-KINDS_OF_MESSAGES = {"requests of": "STX", "replies to": "ACK"}
 VARIABLE_BYTES = 8
 NOT_SET = bytes(3)
-
-
-class Field(NamedTuple):
-    """A field: its name, how many bytes it has, None if that is not fixed, and the kind of its value."""
-
-    name: str
-    size: int | None
-    kind: str
-
-
-def whose_data(cell):
-    """The kinds of messages and the commands whose data a cell names."""
-    for words, numbers in WHOSE.findall(cell):
-        for number in re.findall(r"\d+", numbers):
-            yield KINDS_OF_MESSAGES[words], int(number)
-
-
-def table():
-    """The fields of the table in docs/COMMANDS.md, by the kind of the message and the command; an empty cell means the one above it."""
-    fields, whose = {}, ""
-    for line in re.findall(r"^\| (.*) \|$", SECTION, re.MULTILINE)[1:]:
-        cell, name, size, kind = (part.strip() for part in line.split("|"))
-        whose = cell or whose
-        for data in whose_data(whose):
-            fields.setdefault(data, []).append(Field(name, int(size) if size.isdigit() else None, kind))
-    return fields
-
-
-FIELDS = table()
+# The fields of the tables in docs/COMMANDS.md, by the kind of the message and the command.
+FIELDS = {(kind, number): fields for number, row in COMMANDS.items() for kind, fields in (("STX", row.request), ("ACK", row.reply)) if fields}
 
 
 def fallen(fields, data):

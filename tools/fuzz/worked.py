@@ -4,7 +4,7 @@ import re
 import shlex
 from typing import NamedTuple
 
-from .commands import PAGE
+from .commands import PAGE, SECTION
 from .explain import EXAMPLES
 
 REGISTERS = "010001" + "820820" * 14 + "000000"
@@ -83,9 +83,33 @@ def said_text(shown):
 # What `hart explain` hears and says, as docs/explained.txt shows it; what is heard may be wrapped.
 HEARD = re.compile(r"^heard    (.+(?:\n {9}.+)*)\n" + SAID, re.MULTILINE)
 
-# What a new bench device hears and replies, as docs/COMMANDS.md shows it, and what is said of both, one after the other.
-SHOWN = re.compile(r"^```\nrequest  ([0-9A-F\s]+)^(?:reply    ([0-9A-F\s]+)|silence\n)(?:" + SAID + ")?^```$", re.MULTILINE)
-ON_PAGE = SHOWN.findall(PAGE.read_text(encoding="utf-8"))
+# What a new bench device hears and replies, as docs/COMMANDS.md shows it: what happened before, if anything did, the request, the reply,
+# and what is said of both, one after the other.
+SHOWN = re.compile(r"^```\n(?:after    (.+)\n)?request  ([0-9A-F\s]+)^(?:reply    ([0-9A-F\s]+)|silence\n)(?:" + SAID + ")?^```$",
+                   re.MULTILINE)
+ON_PAGE = [shown for after, *shown in SHOWN.findall(PAGE.read_text(encoding="utf-8")) if not after]
+AFTER_COMMAND = re.compile(r"Command (\d+)")
+
+
+def served_after():
+    """What is said by `hart serve` to the worked messages that come after something else: the page says after what."""
+    page = PAGE.read_text(encoding="utf-8")
+    first = {number: SHOWN.search(section) for number, _, section in SECTION.findall(page)}
+    for after, request, reply, _ in SHOWN.findall(page):
+        if after:
+            command = AFTER_COMMAND.fullmatch(after)
+            before = first[command[1]] if command else None
+            heard, said = (before[2], before[3]) if before else (after, "ok")
+            yield f"{line_of(heard)}\n{line_of(request)}\n", f"{line_of(said)}\n{line_of(reply)}\n"
+
+
+def line_of(shown):
+    """A message of the page as the program writes it; words are left as they are."""
+    try:
+        return bytes.fromhex(shown).hex(" ").upper()
+    except ValueError:
+        return shown
+
 
 # A request and its reply, as docs/explained.txt shows them, and what is said of both.
 SAID_OF_BOTH = re.compile(r"^request  ([0-9A-F\s]+)^reply    ([0-9A-F\s]+)^" + SAID, re.MULTILINE)
@@ -262,6 +286,7 @@ SERVED = (
     ("", "FF FF 0G\n restart\ncounter\n", "bad line: bad hex at 6\nbad line: bad hex at 1\ncounter 0\n"),
     (f"{REGISTERS}000000FFFF00", f"counter\n{REQUEST}13 03 01 23 45 3D\ncounter",
      f"counter 65535\n{REPLY}13 05 00 40 01 23 45 7F\ncounter 0\n"),
+    *(("", heard, said) for heard, said in served_after()),
 )
 
 # The words of `hart encode`, its message, and its fault; words that make no call have None.
