@@ -16,10 +16,10 @@ FAULT_BITS = (0x40, 0x20, 0x10, 0x02)
 ALL_FAULT_BITS = sum(FAULT_BITS)
 COUNTER_BYTES = 2
 
-# The words Q and A of the rows of garbled requests in docs/WIRE.md; a row of what is heard; and a cell that can be a reply.
-WORDS = {word: digits for word, digits in re.findall(r"\b([QA]) (?:stands )?for\s+`([0-9A-F ]+)`", WIRE)}
-ROW = re.compile(r"^\| ((?:Q )?`[0-9A-F! ]+`) \| (.+?) \|", re.MULTILINE)
-CODE_CELL = re.compile(r"(?:[QA] )?`[0-9A-F! ]+`")
+# The words TO and FROM of the rows of garbled requests in docs/WIRE.md; a row of what is heard; and a cell that can be a reply.
+WORDS = {word: digits for word, digits in re.findall(r"\b(TO|FROM) (?:stands )?for\s+`([0-9A-F ]+)`", WIRE)}
+ROW = re.compile(r"^\| ((?:TO )?`[0-9A-F! ]+`) \| (.+?) \|", re.MULTILINE)
+CODE_CELL = re.compile(r"(?:TO |FROM )?`[0-9A-F! ]+`")
 
 
 class Case(NamedTuple):
@@ -35,7 +35,7 @@ class Case(NamedTuple):
 
 
 def cell_text(cell):
-    """Returns what a cell of a row says in digits, with Q and A written out."""
+    """Returns what a cell of a row says in digits, with TO and FROM written out."""
     return " ".join(WORDS.get(part, part) for part in cell.replace("`", "").split())
 
 

@@ -111,6 +111,9 @@ def line_of(shown):
         return shown
 
 
+# A request and its reply, as docs/WIRE.md shows them.
+PAIR = re.compile(r"^request +([0-9A-F ]+)\nreply +([0-9A-F ]+)$", re.MULTILINE)
+
 # A request and its reply, as docs/explained.txt shows them, and what is said of both.
 SAID_OF_BOTH = re.compile(r"^request  ([0-9A-F\s]+)^reply    ([0-9A-F\s]+)^" + SAID, re.MULTILINE)
 
@@ -132,7 +135,7 @@ EXPLAINED = (
 # The input of `hart answer`, and its reply.
 ANSWERED = (
     *((request, reply) for request, reply, _ in ON_PAGE),
-    ("FF FF FF FF FF 02 80 00 00 82", "FF" * 5 + "068000" + IDENTITY + "31"),
+    *PAIR.findall(PAGE.with_name("WIRE.md").read_text(encoding="utf-8")),
     ("FF FF 02 00 00 00 02", "FF" * 5 + "060000" + IDENTITY + "B1"),
     (INSIDE, "FF" * 5 + "068000" + IDENTITY + "31"),
     ("FF FF 02 80 00 00 82 FF FF 02 00 00 00 02", ""),
