@@ -2,7 +2,8 @@
 """Checks the form of examples, of which other tests check the content.
 
 Each example in a doc comment is a test: its lines have to stand together in src/examples.rt of a crate of tests. Each worked message of
-docs/COMMANDS.md is one that tools/fuzz reads, and the bytes of each of its fields stand together.
+docs/COMMANDS.md is one that tools/fuzz reads, and the bytes of each of its fields stand together. What docs/ARCHITECTURE.md quotes of a
+source stands in one.
 
 Usage: tools/doc_examples.py
 """
@@ -17,6 +18,7 @@ from fuzz import commands, fields, frames, worked  # noqa: E402
 TOP = pathlib.Path(__file__).parents[1]
 TESTS = sorted(TOP.glob("crates/hart_tests_*/src/examples.rt"))
 INDENT = "    "
+QUOTATION = re.compile(r"^```(rt|antt)\n(.*?)^```$", re.MULTILINE | re.DOTALL)
 COMMENT = re.compile(r"^\s*//[/!] ?")
 
 
@@ -64,6 +66,16 @@ def check_messages():
     return len(messages), wrong
 
 
+def check_quotations():
+    """Returns how many quotations of sources the page of the architecture has, and those that stand in no source."""
+    page = (TOP / "docs" / "ARCHITECTURE.md").read_text(encoding="utf-8")
+    quotations = QUOTATION.findall(page)
+    sources = {ending: [file.read_text(encoding="utf-8") for file in TOP.glob(f"crates/*/*/**/*.{ending}")] for ending, _ in quotations}
+    wrong = [f"docs/ARCHITECTURE.md: no source has {text.splitlines()[0]}" for ending, text in quotations
+             if not any(text in source for source in sources[ending])]
+    return len(quotations), wrong
+
+
 def main():
     tests = "".join(file.read_text(encoding="utf-8") for file in TESTS)
     count, missing = 0, []
@@ -73,10 +85,11 @@ def main():
             wanted = "\n".join(INDENT + line if line else "" for line in lines) + "\n"
             if wanted not in tests:
                 missing.append(f"{source.relative_to(TOP)}:{number}: this example is no test")
-    messages, wrong = check_messages()
-    print(*missing, *wrong, sep="\n", end="\n" * bool(missing or wrong))
-    print(f"{count} examples in doc comments, {len(missing)} of them no tests; {messages} worked messages, {len(wrong)} faults")
-    sys.exit(1 if missing or wrong or not count or not messages else 0)
+    (messages, wrong), (quotations, changed) = check_messages(), check_quotations()
+    faults = missing + wrong + changed
+    print(*faults, sep="\n", end="\n" * bool(faults))
+    print(f"{count} examples in doc comments, {messages} worked messages, {quotations} quotations of sources: {len(faults)} faults")
+    sys.exit(1 if faults or not count or not messages or not quotations else 0)
 
 
 if __name__ == "__main__":
