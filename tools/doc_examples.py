@@ -3,7 +3,7 @@
 
 Each example in a doc comment is a test: its lines have to stand together in src/examples.rt of a crate of tests. Each worked message of
 docs/COMMANDS.md is one that tools/fuzz reads, and the bytes of each of its fields stand together. What docs/ARCHITECTURE.md quotes of a
-source stands in one.
+source stands in one. Each name of a function, a clause or a file, such as `run_logged`, that the pages about the code use is one of a source.
 
 Usage: tools/doc_examples.py
 """
@@ -18,6 +18,9 @@ from fuzz import commands, fields, frames, worked  # noqa: E402
 TOP = pathlib.Path(__file__).parents[1]
 TESTS = sorted(TOP.glob("crates/hart_tests_*/src/examples.rt"))
 INDENT = "    "
+CODE_PAGES = [TOP / "docs" / name for name in ("ARCHITECTURE.md", "PROOFS.md", "TESTS.md")]
+SOURCES = ("crates/*/*/**/*.rt", "crates/*/*/**/*.antt", "crates/*/must-fail/*", "crates/*/mistakes/**/*", "tools/**/*.*", "include/*")
+NAME = re.compile(r"`(?:\w+::|[\w./]*/)*([A-Za-z]\w*_\w*)(?:\.\w+)?`")
 QUOTATION = re.compile(r"^```(rt|antt)\n(.*?)^```$", re.MULTILINE | re.DOTALL)
 COMMENT = re.compile(r"^\s*//[/!] ?")
 
@@ -76,6 +79,14 @@ def check_quotations():
     return len(quotations), wrong
 
 
+def check_names():
+    """Returns how many names the pages about the code use, and those that are in no source."""
+    files = [file for folder in SOURCES for file in TOP.glob(folder) if file.is_file() and file.suffix != ".pyc"]
+    known = {name for file in files for name in re.findall(r"\w+", f"{file.relative_to(TOP)} {file.read_text(encoding='utf-8')}")}
+    used = [(page, name) for page in CODE_PAGES for name in sorted(set(NAME.findall(page.read_text(encoding="utf-8"))))]
+    return len(used), [f"docs/{page.name}: no source has {name}" for page, name in used if name not in known]
+
+
 def main():
     tests = "".join(file.read_text(encoding="utf-8") for file in TESTS)
     count, missing = 0, []
@@ -85,11 +96,13 @@ def main():
             wanted = "\n".join(INDENT + line if line else "" for line in lines) + "\n"
             if wanted not in tests:
                 missing.append(f"{source.relative_to(TOP)}:{number}: this example is no test")
-    (messages, wrong), (quotations, changed) = check_messages(), check_quotations()
-    faults = missing + wrong + changed
+    checked = check_messages(), check_quotations(), check_names()
+    (messages, quotations, names), wrong = zip(*checked, strict=True)
+    faults = missing + sum(wrong, [])
     print(*faults, sep="\n", end="\n" * bool(faults))
-    print(f"{count} examples in doc comments, {messages} worked messages, {quotations} quotations of sources: {len(faults)} faults")
-    sys.exit(1 if faults or not count or not messages or not quotations else 0)
+    print(f"{count} examples in doc comments, {messages} worked messages, {quotations} quotations of sources, {names} names of sources: "
+          f"{len(faults)} faults")
+    sys.exit(1 if faults or not all((count, messages, quotations, names)) else 0)
 
 
 if __name__ == "__main__":
