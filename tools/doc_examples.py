@@ -2,7 +2,8 @@
 """Checks the form of examples, of which other tests check the content.
 
 Each example in a doc comment is a test: its lines have to stand together in src/examples.rt of a crate of tests. Each worked message of
-docs/COMMANDS.md is one that tools/fuzz reads, and the bytes of each of its fields stand together. What docs/ARCHITECTURE.md quotes of a
+docs/COMMANDS.md is one that tools/fuzz reads, and the bytes of each of its fields stand together. The table of a command there refuses
+fewer bytes than its fields need, and writes just its fields. What docs/ARCHITECTURE.md quotes of a
 source stands in one. Each name of a function, a clause or a file, such as `run_logged`, that the pages about the code use is one of a source.
 
 Usage: tools/doc_examples.py
@@ -69,6 +70,20 @@ def check_messages():
     return len(messages), wrong
 
 
+def check_tables():
+    """Returns how many commands docs/COMMANDS.md has, and what in their tables does not follow from their fields."""
+    wrong = []
+    for number, _, section in commands.SECTION.findall(commands.PAGE.read_text(encoding="utf-8")):
+        parts, row = commands.parts_of(section), commands.COMMANDS[int(number)]
+        refused, writes = (parts.get(name, [[""]])[0][0] for name in ("refused", "writes"))
+        fewest = re.findall(r"fewer than (\d+) bytes", refused)
+        if any(int(count) != commands.NEEDED[int(number)] for count in fewest):
+            wrong.append(f"docs/COMMANDS.md: Command {number} is refused below {commands.NEEDED[int(number)]} bytes")
+        if writes and writes != ", ".join(field.name for field in row.request):
+            wrong.append(f"docs/COMMANDS.md: Command {number} writes other registers than its fields")
+    return len(commands.COMMANDS), wrong
+
+
 def check_quotations():
     """Returns how many quotations of sources the page of the architecture has, and those that stand in no source."""
     page = (TOP / "docs" / "ARCHITECTURE.md").read_text(encoding="utf-8")
@@ -96,13 +111,13 @@ def main():
             wanted = "\n".join(INDENT + line if line else "" for line in lines) + "\n"
             if wanted not in tests:
                 missing.append(f"{source.relative_to(TOP)}:{number}: this example is no test")
-    checked = check_messages(), check_quotations(), check_names()
-    (messages, quotations, names), wrong = zip(*checked, strict=True)
+    checked = check_messages(), check_tables(), check_quotations(), check_names()
+    (messages, tables, quotations, names), wrong = zip(*checked, strict=True)
     faults = missing + sum(wrong, [])
     print(*faults, sep="\n", end="\n" * bool(faults))
-    print(f"{count} examples in doc comments, {messages} worked messages, {quotations} quotations of sources, {names} names of sources: "
-          f"{len(faults)} faults")
-    sys.exit(1 if faults or not all((count, messages, quotations, names)) else 0)
+    print(f"{count} examples in doc comments, {messages} worked messages, {tables} tables of commands, {quotations} quotations and "
+          f"{names} names of sources: {len(faults)} faults")
+    sys.exit(1 if faults or not all((count, messages, tables, quotations, names)) else 0)
 
 
 if __name__ == "__main__":

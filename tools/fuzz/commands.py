@@ -54,12 +54,13 @@ def parts_of(section):
 
 def fields_in(cells, request, rows):
     """The fields that rows list or name: those of the request, or of the reply of an earlier command."""
-    if not cells[0][1]:
-        named = FIELDS_OF.fullmatch(cells[0][0])
-        if named is None:
-            return ()
-        return request if named[1] else rows[int(named[2])].reply
-    return tuple(field_of(*pair) for pair in cells)
+    name, form = cells[0]
+    if name == "none":
+        return ()
+    if form:
+        return tuple(field_of(*pair) for pair in cells)
+    named = FIELDS_OF.fullmatch(name)
+    return request if named[1] else rows[int(named[2])].reply
 
 
 def table():
