@@ -24,9 +24,10 @@ failed=0
 
 # One proof takes up to 4 GB of memory, and four of them side by side take as long as the longest chain of crates. Each has one job: a
 # second job for one proof costs a fifth more processor time.
-lanes=$(awk -v processors="$(nproc)" '/^MemAvailable:/ { free = int($2 / 4000000) } END {
-    lanes = free < processors ? free : processors
-    print lanes < 1 ? 1 : lanes > 4 ? 4 : lanes
+lanes=$(awk -v most="$(nproc)" '/^MemAvailable:/ { lanes = int($2 / 4000000) } END {
+    if (most > 4) most = 4
+    if (lanes > most) lanes = most
+    print (lanes < 1 ? 1 : lanes)
 }' /proc/meminfo)
 
 # Runs one script, and prints what it said, once it has ended.
