@@ -2,8 +2,12 @@
 
 Alone, a wrong body takes 15 to 90 seconds of processor time; in a batch it takes 2."""
 
+import re
+
 from mistakes.edits import BadEdit, apply
-from mistakes.verdicts import verdict_of
+from mistakes.verdicts import unread, verdict_of
+
+COMPILER = re.compile(r"^(?:note: )?(?:\./)?(src/\S+?\.rt):(\d+):\d+: error\b", re.M)
 
 # A check of 62 wrong bodies of the largest crate takes 3.7 GB of memory, and one of 110 more than 5 GB.
 MOST = 64
@@ -41,9 +45,21 @@ def batches_of(bodies, crate):
     return found
 
 
+def parts_of(batch, said):
+    """The parts in which a batch that is not read is tried again: each wrong body in whose function the compiler finds an error, and the
+    others together; halves if it names no line of one."""
+    errors, half = [(file, int(line) - 1) for file, line in COMPILER.findall(said)], len(batch) // 2
+    wrong = [body for body in batch if any(body.stands_at(*it) for it in errors)]
+    parts = [*([it] for it in wrong), [it for it in batch if it not in wrong]] if wrong else [batch[:half], batch[half:]]
+    return [it for it in parts if it]
+
+
 def judged(room, batch, crate):
     """Returns the verdict on each wrong body of a batch. One that is not refused beside others is tried once more, alone."""
     room.put(crate.name, texts_of(batch, crate))
     said = room.check(crate.name, sorted({path for body in batch for path in body.paths()}))
     found = [(it, verdict_of(said, crate.name, it.functions)) for it in batch]
-    return found if len(batch) == 1 else [pair if pair[1].is_refused() else judged(room, [pair[0]], crate)[0] for pair in found]
+    if len(batch) == 1:
+        return found
+    again = parts_of(batch, said) if unread(said) else [[body] for body, verdict in found if not verdict.is_refused()]
+    return [it for it in found if it[1].is_refused()] + [it for part in again for it in judged(room, part, crate)]
