@@ -20,7 +20,7 @@ import sys
 from kit import COPYING, ROOT, copied, side_by_side
 from mistakes import against, definitions, planted
 from mistakes.batches import batches_of, judged
-from mistakes.edits import BadEdit, edits_of, wrong_body
+from mistakes.edits import BadEdit, every_edit, wrong_body
 from mistakes.ledger import Ledger
 from mistakes.tree import tree_at
 from mistakes.verdicts import Verdict
@@ -109,7 +109,7 @@ def main():
     if words.can_fail or words.against_rattle:
         sys.exit(planted.run() if words.can_fail else against.run())
     tree = tree_at()
-    edits = {it.name(): it for name in tree.crates for found in edits_of(name).values() for it in found}
+    edits = every_edit(tree)
     variants, wrong = definitions.variants(tree, definitions.rows())
     ledger = Ledger(tree, {*edits, *variants})
     if words.definitions:

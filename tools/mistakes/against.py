@@ -7,7 +7,7 @@ import re
 
 from kit import copied, side_by_side
 from mistakes import definitions
-from mistakes.edits import apply, edits_of
+from mistakes.edits import apply, every_edit
 from mistakes.ledger import commit
 from mistakes.rests import Rests
 from mistakes.tree import tree_at
@@ -24,14 +24,13 @@ EACH = 3
 def changes(tree):
     """The changes, each in words, with its crate and the texts of the files that it changes."""
     some, found = random.Random(commit()), []
-    edits = [it for name in tree.crates for them in edits_of(name).values() for it in them]
     variants, _ = definitions.variants(tree, definitions.rows())
-    for edit in some.sample(edits, EACH):
+    for edit in some.sample(list(every_edit(tree).values()), EACH):
         found.append((f"body {edit.name()}", edit.crate, {}))
         apply(edit, tree.crate(edit.crate), found[-1][-1])
     for name in some.sample(sorted(variants), EACH):
         found.append((f"definition {name}", variants[name].crate, {}))
-        variants[name].plant(found[-1][-1], tree.crate(variants[name].crate).raw)
+        variants[name].plant(found[-1][-1], tree.crate(variants[name].crate).plain)
     for form, part, new in ((CLAUSE, "src/", r"ensures planted_\1 {"), (LEMMA, "proofs/lemmas/", r"\g<0>ℕ → ")):
         files = {(name, file): text for name in tree.crates for file, text in tree.crate(name).raw.items() if file.startswith(part)}
         for (name, file), it in some.sample([(at, it) for at, text in files.items() for it in form.finditer(text)], EACH):

@@ -10,15 +10,17 @@ from collections import Counter
 from typing import NamedTuple
 
 from kit import copied, side_by_side
+from mistakes.places import places_of, unread_at, why_unread
 from mistakes.rests import Rests
-from mistakes.verdicts import VERDICT, Verdict, refusing_places, unread
+from mistakes.tree import module_at
+from mistakes.verdicts import Verdict
 
 ROWS = f"{os.path.dirname(__file__)}/definitions.txt"
-HEAD = re.compile(r"^(?:abbrev |unfoldable |opaque )?pub (?:record |data )?(?!mod\b|use\b)(\w+)", re.M)
+HEAD = re.compile(r"(?:(?:abbrev|unfoldable|opaque) )*pub (?:record |data )?([^\s:]+)")
 # A type that says nothing of a value has no wrong variant that is read: what uses it names all its fields and cases.
 SHAPE = re.compile(r"(?:pub data \w+|pub record \w+(?: \(\w+ : Type \d\))*|abbrev pub \w+) : Type \d")
 # What a file says of definitions that no public contract names. In its first line it speaks of all its definitions.
-PRIVATE = re.compile(r"^--.*\bOnly private calls use (these definitions|the definitions from here on|the next definition)\b", re.M)
+PRIVATE = re.compile(r"--.*\bOnly private calls use (these definitions|the definitions from here on|the next definition)\b")
 # At how many places a variant is tried beside others at once and in all, and how many functions try one that is planted alone.
 FEW, MOST, MANY = 2, 6, 12
 PROVED = "its crate is still proved"
@@ -36,38 +38,51 @@ class Variant(NamedTuple):
     new: str
 
     def module(self):
-        return f"Rattle.{self.crate}.{self.file.removesuffix('.antt').replace('/', '.')}"
+        return module_at(self.crate, self.file)
 
-    def plant(self, texts, raw):
-        """Plants the variant in the text of its file, by the texts that were changed before, or else as it is."""
-        before, block, after = texts.get(self.file, raw[self.file]).partition(self.block)
-        texts[self.file] = before + block.replace(self.old, self.new) + after
+    def plant(self, texts, plain):
+        """Plants the variant in its file as the texts that were changed before have it, or else as it is without comments."""
+        text = texts.get(self.file, plain[self.file])
+        start = text.index(self.block)
+        texts[self.file] = text[:start] + text[start:].replace(self.old, self.new, 1)
+
+    def stands_at(self, file, line, plain):
+        """Whether a line of a file without comments is one of the definition's."""
+        first = plain[self.file].partition(self.block)[0].count("\n") + 1
+        return file == self.file and first <= line <= first + self.block.count("\n")
 
 
-def is_private(text, start):
-    """Whether a file says that only private calls use the definition that starts at this place."""
-    said = [it for it in PRIVATE.finditer(text) if it.start() < start]
-    return any(it[1] != "the next definition" or not HEAD.search(text, it.end(), start) for it in said)
+def private_in(text):
+    """The names of the definitions of a file that only private calls use, as it says."""
+    found, scope = set(), ""
+    for line in text.split("\n"):
+        said, head = PRIVATE.match(line), HEAD.match(line)
+        if said:
+            scope = said[1]
+        elif head and scope:
+            found.add(head[1])
+            scope = "" if scope == "the next definition" else scope
+    return found
 
 
 def definitions_of(crate):
     """The definitions of a crate, without shapes and those of private rooms, and whether a reader believes each. The key of one is the name
     of its file and its own, and before them the name of the folder if two would have the same."""
     found = []
-    for file, text in sorted(crate.raw.items()):
+    for module, file in sorted(crate.files.items()):
         if not file.startswith("specs/") or "/private/" in file:
             continue
+        text = crate.raw[file]
         if text.count("private calls") != len(PRIVATE.findall(text)):
             where = "tools/mistakes/definitions.py"
             raise SystemExit(f"definitions: {crate.name}/{file} speaks of private calls in other words than PRIVATE in {where}")
-        heads = list(HEAD.finditer(text))
-        for head, end in zip(heads, [it.start() for it in heads[1:]] + [len(text)]):
-            block = re.sub(r"(?:\n--[^\n]*|\n)*\Z", "", text[head.start() : end])
-            if not SHAPE.match(block):
-                found.append((Variant("", crate.name, file, head[1], block, "", ""), not is_private(text, head.start())))
-    own = [f"{os.path.basename(it.file)[:-5]}.{it.own}" for it, _ in found]
-    often = Counter(own)
-    named = {f"{it.file.split('/')[-2]}/{key}" if often[key] > 1 else key: (it, is_believed) for key, (it, is_believed) in zip(own, found)}
+        private = private_in(text)
+        for own, it in crate.modules[module].items():
+            if HEAD.match(it.whole) and not SHAPE.match(it.whole):
+                found.append((Variant("", crate.name, file, own, it.whole.strip("\n"), "", ""), own not in private))
+    keys = [f"{os.path.basename(it.file)[:-5]}.{it.own}" for it, _ in found]
+    often = Counter(keys)
+    named = {f"{it[0].file.split('/')[-2]}/{key}" if often[key] > 1 else key: it for key, it in zip(keys, found)}
     if len(named) < len(found):
         raise SystemExit(f"definitions: {crate.name}/specs has two definitions of one name in folders of one name")
     return named
@@ -107,8 +122,8 @@ class Trial:
     """The variants of a crate that are left to be tried, the places of the crate that can refuse them, with the variants on which each
     rests, and the function with which each place is checked. A lemma is checked with a function whose proof reads its file."""
 
-    def __init__(self, tree, base, name, variants):
-        self.tree, self.base, self.crate, self.left, self.tried = tree, base, tree.crate(name), dict(variants), Counter()
+    def __init__(self, tree, base, name, variants, above=()):
+        self.tree, self.base, self.crate, self.above, self.left, self.tried = tree, base, tree.crate(name), above, dict(variants), Counter()
         by_key, rests = {(it.module(), it.own): it.name for it in variants.values()}, Rests(tree, name)
         self.cones, self.checked, read = {}, {}, {it: self.crate.modules_read_with(it) for it in self.crate.functions.values()}
         for function in sorted(read, key=lambda it: (it.file == "src/laws.rt", len(read[it]))):
@@ -133,59 +148,59 @@ class Trial:
                 blocked |= self.cones[place]
         return {name: [it for it in fit if self.cones[it] & found.keys() == {name}][:FEW] for name, fit in found.items()}
 
-    def check(self, names, functions, above=""):
+    def check(self, names, functions, crate):
         """Plants these variants, and returns what the prover says of these functions of the crate, or of a crate above."""
         texts = {}
         for it in names:
-            self.left[it].plant(texts, self.crate.raw)
-        with copied([above or self.crate.name], self.base.folder) as room:
+            self.left[it].plant(texts, self.crate.plain)
+        with copied([crate.name], self.base.folder) as room:
             room.put(self.crate.name, texts)
-            return room.check(above or self.crate.name, functions)
+            return room.check(crate.name, functions)
 
     def together(self):
-        """Plants variants at once as long as some can be, and yields those that are refused."""
+        """Plants variants at once as long as some can be, and yields those that are refused, and those that are not read."""
         while chosen := self.chosen():
-            said = self.check(chosen, sorted({self.checked[it] for fit in chosen.values() for it in fit}))
-            found, is_read = {}, VERDICT.search(said)
-            for place in refusing_places(said, self.crate) if is_read else ():
+            said = self.check(chosen, sorted({self.checked[it] for fit in chosen.values() for it in fit}), self.crate)
+            at, found = unread_at(said), {}
+            unread = {name: why for name in chosen for place, why in at.items() if self.left[name].stands_at(*place, self.crate.plain)}
+            for place in places_of(said, self.crate):
                 hit = self.cones.get(place, set()) & chosen.keys()
                 for name in hit if len(hit) == 1 else ():
                     found.setdefault(name, []).append(place)
-            for name, fit in chosen.items():
-                self.tried.update([(name, it) for it in fit] + [name] * (len(fit) if is_read else MOST))
-            for name, where in found.items():
+            # Those beside one that is not read are tried again without it.
+            for name, fit in () if unread else chosen.items():
+                self.tried.update([(name, it) for it in fit] + [name] * (MOST if why_unread(said) else len(fit)))
+            for name in {**found, **unread}:
                 del self.left[name]
-                yield name, where, ""
+                yield name, found.get(name, []), unread.get(name, "")
 
-    def alone(self, name):
-        """Plants a variant alone: first with a few functions that rest on it, then with its whole crate. Returns the places that refuse
-        it."""
+    def attempts(self, name):
+        """The checks of a variant that is planted alone, each a crate and functions of it: a few that rest on it, its whole crate, and a few
+        of crates above, those first that rest on the least."""
         some = list(dict.fromkeys(self.checked[it] for it in self.resting_on(name)))[:MANY]
-        for functions in [some] * bool(some) + [[]]:
-            said = self.check([name], functions)
-            found = refusing_places(said, self.crate)
-            if found or not VERDICT.search(said):
-                return found, unread(said)
-        return [], PROVED if "logic=proved" in said else "no place that is known refuses it"
-
-    def above(self, name):
-        """Plants a variant that nothing of its crate refuses, and checks functions of crates above, those first that rest on the least."""
+        yield from [(self.crate, some)] * bool(some) + [(self.crate, [])]
         key = (self.left[name].module(), self.left[name].own)
-        for above in [it.name for it in self.tree.crates.values() if self.crate.name in it.below]:
-            rests = Rests(self.tree, above)
+        for rests in (Rests(self.tree, it) for it in self.above):
             walks = {path: rests.walk(rests.starts_of(it)) for path, it in rests.own.functions.items()}
             fit = sorted((path for path, it in walks.items() if key in {at[:2] for at in it}), key=lambda path: len(walks[path]))
-            found = refusing_places(self.check([name], fit[:MANY], above), rests.own) if fit else ()
-            if found:
-                return [f"{above}::{it}" for it in found]
-        return []
+            yield from [(rests.own, fit[:MANY])] * bool(fit)
 
-    def all(self, has_above=True):
+    def alone(self, name):
+        """Plants a variant alone. Returns the places that refuse it, and why none does."""
+        for crate, functions in self.attempts(name):
+            said = self.check([name], functions, crate)
+            found, why = places_of(said, crate), why_unread(said)
+            if found:
+                return [it if crate is self.crate else f"{crate.name}::{it}" for it in found], ""
+            if crate is self.crate and (why or not functions and "logic=proved" not in said):
+                return [], why or "no place that is known refuses it"
+        return [], PROVED
+
+    def all(self):
         """Yields the name of each variant with the places that refuse it, and why none does."""
         yield from self.together()
         for name in self.left:
-            where, why = self.alone(name)
-            yield name, self.above(name) if has_above and why == PROVED else where, why
+            yield name, *self.alone(name)
 
 
 def tried(tree, variants):
@@ -193,6 +208,7 @@ def tried(tree, variants):
     of_crates = {}
     for it in variants:
         of_crates.setdefault(it.crate, {})[it.name] = it
+    above = {name: [it.name for it in tree.crates.values() if name in it.below] for name in of_crates}
     with copied(tree.crates) as base:
-        for name, where, why in side_by_side(lambda it=it: Trial(tree, base, *it).all() for it in of_crates.items()):
+        for name, where, why in side_by_side(lambda it=it: Trial(tree, base, *it, above[it[0]]).all() for it in of_crates.items()):
             yield name, ", ".join(where[:3]), Verdict(("",) if where else (), why)

@@ -57,25 +57,33 @@ class WrongBody(NamedTuple):
         return bool(self.outside or self.edit.refused_at)
 
 
-def read_edits(text, crate, file="", own=""):
-    """Reads edits of a file. Each begins with a line `name:`, or, if its name is given, there is one. A line `file:` names another file,
-    and a line `refused-at:` the function whose goal fails if no body of a function is changed."""
-    found = [Edit(own, crate)] if own else []
-    at = old = ""
-    for line in text.split("\n"):
-        word, _, rest = line.partition(":")
-        rest = rest.removeprefix(" ")
+def stanzas(text):
+    """The lines of a text that have a colon, as what stands before and behind it: those before the first line `name:`, and those from each
+    such line on."""
+    found = [[]]
+    for word, colon, rest in (line.partition(":") for line in text.split("\n")):
         if word == "name":
-            found.append(Edit(rest.strip(), crate))
-            at = file
+            found.append([])
+        if colon:
+            found[-1].append((word, rest.removeprefix(" ")))
+    return found
+
+
+def edit_of(lines, crate, file="", own=""):
+    """The edit of a stanza. A line `file:` names another file, and a line `refused-at:` the function whose goal fails if no body of a
+    function is changed."""
+    found, old = Edit(own, crate), ""
+    for word, rest in lines:
+        if word == "name":
+            found = found._replace(own=rest.strip())
         elif word == "file":
-            at = rest.strip()
+            file = rest.strip()
         elif word == "refused-at":
-            found[-1] = found[-1]._replace(refused_at=rest.strip())
+            found = found._replace(refused_at=rest.strip())
         elif word == "old":
             old = rest
         elif word == "new":
-            found[-1] = found[-1]._replace(changes=(*found[-1].changes, Change(at, old, rest)))
+            found = found._replace(changes=(*found.changes, Change(file, old, rest)))
     return found
 
 
@@ -88,11 +96,17 @@ def edits_of(crate, root=ROOT):
         if (kind, end) not in (("mistakes", ".edits"), ("must-fail", ".edit")):
             raise SystemExit(f"mistakes: {path}: edits of mistakes/ stand in SOURCE.edits, those of must-fail/ in NAME.edit")
         with open(path, encoding="utf-8") as it:
-            found[path] = read_edits(it.read(), crate, f"src/{stem}.rt", stem if end == ".edit" else "")
+            first, *named = stanzas(it.read())
+        found[path] = [edit_of(it, crate, f"src/{stem}.rt") for it in named] if end == ".edits" else [edit_of(first, crate, "", stem)]
         names = [it.own for it in found[path]]
         if names != sorted({*names}):
             raise SystemExit(f"mistakes: {path}: its edits do not stand in the order of their names")
     return found
+
+
+def every_edit(tree):
+    """The edits of all crates by their names."""
+    return {it.name(): it for crate in tree.crates for found in edits_of(crate).values() for it in found}
 
 
 def place_of(text, change):

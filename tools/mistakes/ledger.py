@@ -8,7 +8,7 @@ from typing import NamedTuple
 
 from kit import ROOT, version
 from mistakes.edits import BadEdit, wrong_body
-from mistakes.rests import Rests, sum_of
+from mistakes.rests import Rests, rules, sum_of
 
 LEDGER = f"{ROOT}/mistakes.lock"
 HEAD = (
@@ -65,9 +65,10 @@ class Ledger:
         try:
             starts = rests.starts_at(inside if crate in self.tree.crates else place)
             block = rests.modules[variant.module()][variant.own].whole
-        except (KeyError, StopIteration):
+        except KeyError:
             return ""
-        return rests.digest((variant.crate, variant.own, variant.old, variant.new, place), [*starts, (block, {}, {})])
+        said = (rules("places"), variant.crate, variant.own, variant.old, variant.new, place)
+        return rests.digest(said, [*starts, (block, rests.own, "")])
 
     def put(self, name, digest, where, refused_by):
         """Writes the line of a wrong body, or takes it away if there is no digest, and takes away the lines of those that are gone."""

@@ -6,31 +6,24 @@ import os
 from kit import copied
 from mistakes import definitions
 from mistakes.batches import batches_of, judged, texts_of
-from mistakes.edits import BadEdit, Change, Edit, edits_of, place_of, wrong_body
+from mistakes.edits import BadEdit, Change, edit_of, every_edit, place_of, stanzas, wrong_body
 from mistakes.ledger import Entry, Ledger, sample
 from mistakes.tree import tree_at
 from mistakes.verdicts import Verdict, verdict_of
 
 CRATE = "hart_values"
-# A variant that says what the definition says, so that no proof refuses it.
-SAME = ((CRATE, "EachMaster.with_master"), ("primary = a; secondary = each.secondary", "secondary = each.secondary; primary = a"))
+# Variants of definitions, and why each is not refused: one says what the definition says, one has no type, and one is wrong.
+VARIANTS = {
+    "EachMaster.with_master": ("primary = a; secondary = each.secondary", "secondary = each.secondary; primary = a", definitions.PROVED),
+    "EachMaster.of_master": ("each.secondary", "each", "unread: specs/"),
+    "LoopMode.mode_byte": ("Enabled = 1", "Enabled = 2", ""),
+}
 
 
-def stanzas(name):
-    """The stanzas of a file beside this one, each as the texts of its lines by the words before them."""
-    found = []
+def planted_in(name):
+    """The stanzas of a file beside this one by their names."""
     with open(f"{os.path.dirname(__file__)}/{name}", encoding="utf-8") as it:
-        for line in it:
-            word, colon, rest = line.rstrip("\n").partition(":")
-            if word == "name":
-                found.append({})
-            if colon and not line.startswith("#"):
-                found[-1].setdefault(word, []).append(rest.removeprefix(" "))
-    return found
-
-
-def edit_of(stanza):
-    return Edit(stanza["name"][0], CRATE, "", (Change(stanza["file"][0], stanza["old"][0], stanza["new"][0]),))
+        return {lines[0][1]: lines for lines in stanzas(it.read())[1:]}
 
 
 def weak_verdict(room, body, crate, clause, weak):
@@ -43,13 +36,14 @@ def weak_verdict(room, body, crate, clause, weak):
 
 def wrong_verdicts(crate):
     """What is said of each planted edit on which the verdict is not the wanted one."""
-    planted, bodies, found = {it["name"][0]: it for it in stanzas("planted.edits")}, [], []
+    planted, bodies, found = planted_in("planted.edits"), [], []
     with copied([CRATE]) as room:
-        for name, it in planted.items():
+        for name, lines in planted.items():
+            words = dict(lines)
             try:
-                body = wrong_body(edit_of(it), crate)
-                if "clause" in it:
-                    found.append((name, weak_verdict(room, body, crate, it["clause"][0], it["weak"][0])))
+                body = wrong_body(edit_of(lines, CRATE), crate)
+                if "clause" in words:
+                    found.append((name, weak_verdict(room, body, crate, words["clause"], words["weak"])))
                 else:
                     bodies.append(body)
             except BadEdit as why:
@@ -57,7 +51,7 @@ def wrong_verdicts(crate):
         found += [(body.edit.own, verdict) for batch in batches_of(bodies, crate) for body, verdict in judged(room, batch, crate)]
     for name, verdict in found:
         print(f"planted {name}: {'refused: ' + verdict.words() if verdict.is_refused() else verdict.why}", flush=True)
-        wanted = planted.pop(name)["wanted"][0]
+        wanted = dict(planted.pop(name))["wanted"]
         if wanted not in verdict.why if wanted else not verdict.is_refused():
             yield f"planted {name}: this is not `{wanted or 'refused'}`"
     yield from (f"planted {name}: there is no verdict" for name in planted)
@@ -72,12 +66,12 @@ def digests(tree, names, edits, variants):
 
 def wrong_after_changes(tree, edits, variants):
     """What is said of each change after which the ledger still answers for what rests on it, or no more for what does not."""
-    for it in stanzas("changes.edits"):
-        what, path, text, old = it["name"][0], it["file"][0], tree.texts[it["file"][0]], it["old"][0]
-        wanted, at = {*it.get("again", ())}, place_of(text, Change(path, old, ""))
-        names = [*wanted, *it.get("known", ())]
+    for what, lines in planted_in("changes.edits").items():
+        words, names = dict(lines), [rest for word, rest in lines if word in ("again", "known")]
+        path, old, wanted = words["file"], words["old"], {rest for word, rest in lines if word == "again"}
+        text, at = tree.texts[path], place_of(tree.texts[path], Change(path, old, ""))
         before = digests(tree, names, edits, variants)
-        after = digests(tree.with_text(path, text[:at] + it["new"][0] + text[at + len(old) :]), names, edits, variants)
+        after = digests(tree.with_text(path, text[:at] + words["new"] + text[at + len(old) :]), names, edits, variants)
         again = {name for name in names if before[name] != after[name]}
         print(f"planted change of {what}: {len(again)} of {len(names)} are tried again", flush=True)
         if again != wanted or not all(before.values()):
@@ -102,23 +96,27 @@ def wrong_ledgers(tree, edits):
 
 
 def wrong_definitions(tree):
-    """What is said of a variant that says the same and of a definition without a variant if a run would not fail by them."""
-    table, name = {**definitions.rows(), SAME[0]: SAME[1]}, "/specs/".join(SAME[0])
-    variants, _ = definitions.variants(tree, table)
+    """What is said of each planted variant that has another outcome, and of a definition without a variant if no run would fail by it."""
+    table = {**definitions.rows(), **{(CRATE, key): it[:2] for key, it in VARIANTS.items()}}
+    variants, known = definitions.variants(tree, table)
+    planted = {f"{CRATE}/specs/{key}": it[2] for key, it in VARIANTS.items()}
     with copied([CRATE]) as base:
-        same = list(definitions.Trial(tree, base, CRATE, {name: variants[name]}).all(has_above=False))
-    del table[SAME[0]]
-    _, lacking = definitions.variants(tree, table)
-    print(f"planted variant that says the same: {same}\nplanted definition without a variant: {lacking}")
-    yield from [] if same == [(name, [], definitions.PROVED)] else ["planted variant that says the same: it is refused"]
-    yield from [] if lacking == [f"{'/'.join(SAME[0])}: it has no variant"] else ["planted definition without a variant: it is not told"]
+        for name, where, why in definitions.Trial(tree, base, CRATE, {it: variants[it] for it in [*planted]}).all():
+            wanted = planted.pop(name)
+            print(f"planted variant of {name}: {why or 'refused at ' + ', '.join(where)}", flush=True)
+            if bool(where) == bool(wanted) or not why.startswith(wanted):
+                yield f"planted variant of {name}: this is not `{wanted or 'refused'}`"
+    yield from (f"planted variant of {name}: there is no verdict" for name in planted)
+    key = next(iter(VARIANTS))
+    del table[CRATE, key]
+    if {*definitions.variants(tree, table)[1]} - {*known} != {f"{CRATE}/{key}: it has no variant"}:
+        yield "planted definition without a variant: it is not told"
 
 
 def run():
     """Tries all of them, and returns 0 if each has the wanted outcome."""
     tree = tree_at()
-    edits = {it.name(): it for name in tree.crates for found in edits_of(name).values() for it in found}
-    variants, _ = definitions.variants(tree, definitions.rows())
+    edits, (variants, _) = every_edit(tree), definitions.variants(tree, definitions.rows())
     wrong = [*wrong_after_changes(tree, edits, variants), *wrong_ledgers(tree, edits)]
     wrong += [*wrong_verdicts(tree.crate(CRATE)), *wrong_definitions(tree)]
     print("\n".join(wrong))

@@ -9,12 +9,13 @@ import functools
 import hashlib
 import os
 import re
+from collections import defaultdict
 from typing import NamedTuple
 
 from mistakes.code import first_with_attributes, packed
+from mistakes.tree import module_at
 
 WORD = re.compile(r"[\w'][\w'-]*")
-NOTHING = {}
 
 
 class Reached(NamedTuple):
@@ -29,7 +30,7 @@ class Reached(NamedTuple):
 
 
 class Rests:
-    """Finds what refusals in one crate rest on."""
+    """Finds what refusals in one crate rest on. A text is given with its crate and its file, which say what its words name."""
 
     def __init__(self, tree, name):
         self.own, names = tree.crate(name), [*tree.crates[name].below, name]
@@ -37,7 +38,7 @@ class Rests:
         self.lines = [tree.crates[it].line for it in names]
         self.modules = {module: it for crate in self.crates.values() for module, it in crate.modules.items()}
         self.files = {module: (crate, file) for crate in self.crates.values() for module, file in crate.files.items()}
-        self.items, self.impls, self.exported, self.scopes, self.words = {}, {}, {}, {}, {}
+        self.items, self.impls, self.exported = {}, {}, {}
         every = [it for crate in self.crates.values() for it in crate.items]
         self.types = {it.name for it in every if not it.of}
         for it in every:
@@ -57,84 +58,29 @@ class Rests:
             self.exported[module] = found
         return self.exported[module]
 
+    @functools.cache
     def scope(self, crate, file):
         """The declarations that a file can name, by its names for them; under "*" the modules of the toolchain that it takes whole."""
-        if (crate.name, file) not in self.scopes:
-            found = {}
-            for _, other, names in crate.uses[file]:
-                shown = self.exports(other)
-                pairs = shown.items() if names is None else [(here, shown.get(there, (other, there))) for here, there in names.items()]
-                for here, target in [*pairs, *([(other.rsplit(".", 1)[-1], (other, ""))] if names is None else [])]:
-                    found.setdefault(here, {})[target] = None
-                if names is None and not shown:
-                    found.setdefault("*", {})[other, "*"] = None
-            module = next((at for at, it in crate.files.items() if it == file), "")
-            found.update({it: {(module, it): None} for it in self.modules.get(module, ())})
-            self.scopes[crate.name, file] = found
-        return self.scopes[crate.name, file]
+        found = defaultdict(set)
+        for _, other, names in crate.uses.get(file, ()):
+            shown = self.exports(other)
+            pairs = [(here, shown.get(there, (other, there))) for here, there in (names or {}).items()]
+            if names is None:
+                pairs = [*shown.items(), (other.rpartition(".")[2], (other, ""))] + ([] if shown else [("*", (other, "*"))])
+            for here, target in pairs:
+                found[here].add(target)
+        module = module_at(crate.name, file)
+        return {**found, **{it: {(module, it)} for it in self.modules.get(module, ())}}
 
-    def words_of(self, text, scope):
+    @functools.cache
+    def words_of(self, text, crate, file):
         """The names in a text, with the operators of its scope that it may use, by any of their parts."""
-        if (text, id(scope)) not in self.words:
-            operators = {it for it in scope if "◌" in it and any(part and part in text for part in it.split("◌"))}
-            self.words[text, id(scope)] = {*WORD.findall(text), *operators}
-        return self.words[text, id(scope)]
+        operators = [it for it in self.scope(crate, file) if "◌" in it and any(part and part in text for part in it.split("◌"))]
+        return {*WORD.findall(text), *operators}
 
     def walk(self, starts):
-        """All that texts can reach, each text given with what its file gives to names: declarations, and paths of code."""
-        reached, words, texts, names, waiting = {}, set(), list(starts), [], {}
-
-        def say(word):
-            if word not in words:
-                words.add(word)
-                names.append(word)
-
-        while texts or names:
-            if texts:
-                text, scope, paths = texts.pop()
-                reached.update({Reached(*it): None for it in scope.get("*", ())})
-                for word in self.words_of(text, scope):
-                    say(word)
-                    for path in paths.get(word, ()):
-                        reached[Reached("use", path)] = None
-                        for it in WORD.findall(path.rpartition("::")[2]):
-                            say(it)
-                    for target in scope.get(word, ()):
-                        texts += self.declaration(*target, reached, say)
-                continue
-            word = names.pop()
-            found = [*waiting.pop(word, ()), *self.impls.get(word, ())]
-            for it in self.items.get(word, ()):
-                if not it.of or it.of in words or it.of not in self.types:
-                    found.append(it)
-                else:
-                    waiting.setdefault(it.of, []).append(it)
-            for it in found:
-                if it not in reached:
-                    reached[it] = None
-                    crate = self.crates[it.crate]
-                    texts.append((it.text, self.scope(crate, it.file), crate.paths[it.file]))
-        return reached
-
-    def declaration(self, module, name, reached, say):
-        """Takes up a declaration, or what stands for it, and returns the texts to go on with."""
-        declared = self.modules.get(module, {})
-        if name in declared:
-            it = Reached(module, name, declared[name].seen)
-            if it in reached:
-                return []
-            reached[it] = None
-            return [(it.text, self.scope(*self.files[module]), NOTHING)]
-        if "." in module and module.split(".")[1] in self.crates:
-            # The prover made this module. Its path names a type or a function.
-            for it in [*module.split(".")[-3:], name]:
-                say(it)
-        else:
-            reached[Reached(module, name)] = None
-        return []
-
-    def here(self, file):
-        return self.scope(self.own, file), self.own.paths.get(file, NOTHING)
+        """All that texts can reach: declarations, and items and paths of code."""
+        return Walk(self, starts).reached
 
     def block_of(self, function, lines):
         """The head and the members of the block in which a function stands, as others see them."""
@@ -151,32 +97,80 @@ class Rests:
         lines = self.own.lines[function.file]
         top = [it for file in ("src/lib.rt", "src/main.rt", function.file) for it in self.own.lines.get(file, ())]
         own = [packed(lines[first_with_attributes(lines, function) : function.last + 1]), self.block_of(function, lines)]
-        attributes = packed(sorted(it for it in top if it.startswith("#!")))
-        found = [(attributes, NOTHING, NOTHING), *((it, *self.here(function.file)) for it in own)]
+        found = [(packed(sorted(it for it in top if it.startswith("#!"))), self.own, ""), *((it, self.own, function.file) for it in own)]
         for file in sorted(self.own.files.values()):
             if os.path.dirname(file) == function.proofs():
                 said = packed(it for it in self.own.lines[file] if not re.match(r"(?:unfoldable )?(?:pub )?use ", it))
-                found.append((said, *self.here(file)))
+                found.append((said, self.own, file))
         return found
 
     def starts(self, body):
         """The texts from which a walk for a wrong body begins: its functions, what it changes outside them, and the new texts."""
         found = [it for function in body.functions for it in self.starts_of(function)]
         for file, line in body.outside:
-            found += [(it.text, *self.here(file)) for it in self.own.items if it.file == file and line in it.text]
-        return [*found, *((it.new, *self.here(it.file)) for it in body.edit.changes)]
+            found += [(it.text, self.own, file) for it in self.own.items if it.file == file and line in it.text]
+        return [*found, *((it.new, self.own, it.file) for it in body.edit.changes)]
 
     def starts_at(self, place):
         """The texts of a place that refuses a wrong definition: a function, or `LEMMA of FILE`."""
         name, _, file = place.partition(" of ")
         if not file:
             return self.starts_of(self.own.functions[place])
-        module = next(at for at, it in self.own.files.items() if it == file)
-        return [(self.own.modules[module][name].whole, *self.here(file))]
+        return [(self.own.modules[module_at(self.own.name, file)][name].whole, self.own, file)]
 
     def digest(self, said, starts):
         """A sum of all on which a refusal rests: of what is tried, in these words, and of all that these texts can reach."""
         return sum_of(rules(), self.lines, said, [it[0] for it in starts], sorted({it.key() for it in self.walk(starts)}))
+
+
+class Walk:
+    """A walk from texts along the words in them to all that they can reach."""
+
+    def __init__(self, rests, starts):
+        self.rests, self.texts, self.reached, self.words, self.waiting = rests, list(starts), set(), set(), {}
+        while self.texts:
+            self.read(*self.texts.pop())
+
+    def reach(self, it, crate, file):
+        if it not in self.reached:
+            self.reached.add(it)
+            self.texts.append((it.text, crate, file))
+
+    def read(self, text, crate, file):
+        scope, paths = self.rests.scope(crate, file), crate.paths.get(file, {})
+        self.reached.update(Reached(*it) for it in scope.get("*", ()))
+        for word in self.rests.words_of(text, crate, file):
+            self.say(word)
+            for path in paths.get(word, ()):
+                self.reached.add(Reached("use", path))
+                for it in WORD.findall(path.rpartition("::")[2]):
+                    self.say(it)
+            for target in scope.get(word, ()):
+                self.declare(*target)
+
+    def say(self, word):
+        """Takes up the items of code that a word may name. A method waits until its type is named, too."""
+        if word in self.words:
+            return
+        self.words.add(word)
+        found = [*self.waiting.pop(word, ()), *self.rests.impls.get(word, ())]
+        for it in self.rests.items.get(word, ()):
+            is_named = not it.of or it.of in self.words or it.of not in self.rests.types
+            (found if is_named else self.waiting.setdefault(it.of, [])).append(it)
+        for it in found:
+            self.reach(it, self.rests.crates[it.crate], it.file)
+
+    def declare(self, module, name):
+        """Takes up a declaration, or what stands for it."""
+        declared = self.rests.modules.get(module, {})
+        if name in declared:
+            self.reach(Reached(module, name, declared[name].seen), *self.rests.files[module])
+        elif "." in module and module.split(".")[1] in self.rests.crates:
+            # The prover made this module. Its path names a type or a function.
+            for it in [*module.split(".")[-3:], name]:
+                self.say(it)
+        else:
+            self.reached.add(Reached(module, name))
 
 
 def sum_of(*parts):
@@ -184,7 +178,7 @@ def sum_of(*parts):
 
 
 @functools.cache
-def rules():
-    """A sum of the tool that judges what the prover says: a change of it has everything tried anew."""
-    with open(f"{os.path.dirname(__file__)}/verdicts.py", "rb") as it:
+def rules(name="verdicts"):
+    """A sum of a module that judges what the prover says: a change of it has everything tried anew."""
+    with open(f"{os.path.dirname(__file__)}/{name}.py", "rb") as it:
         return sum_of(it.read())

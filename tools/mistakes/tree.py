@@ -6,7 +6,7 @@ import re
 from typing import NamedTuple
 
 from kit import ROOT, crates_in
-from mistakes.code import DECLARED, functions_in, items_in, module_of, without_comments
+from mistakes.code import DECLARED, functions_in, items_in, module_of, packed, without_comments
 
 NOTE = re.compile(r"^\s*--(?![\w◌]).*\n?", re.M)
 USE = re.compile(r"^ *(pub )?(?:ghost )?use (Rattle\.[^\s{;]+?)(?:\.\{([^}]*)\}| as \w+)?;?$", re.M)
@@ -23,6 +23,11 @@ class Declared(NamedTuple):
 
     seen: str
     whole: str
+
+
+def module_at(crate, file):
+    """The name of the module that a file of declarations is."""
+    return f"Rattle.{crate}.{file.removesuffix('.antt').replace('/', '.')}"
 
 
 def uses_of(text):
@@ -83,10 +88,9 @@ class CrateTexts:
         self.functions = {it.path: it for found in self.by_file.values() for it in found}
         self.items = [it for file, found in self.by_file.items() for it in items_in(name, file, plain[file], found)]
         self.uses, self.paths = {it: uses_of(text) for it, text in plain.items()}, {it: paths_of(plain[it]) for it in self.by_file}
-        written = {it: lines for it, lines in self.lines.items() if it not in self.by_file}
-        packed = {it: "\n".join(line.rstrip() for line in lines if line.strip()) for it, lines in written.items()}
-        self.files = {f"Rattle.{name}.{it.removesuffix('.antt').replace('/', '.')}": it for it in packed}
-        self.modules = {at: declarations_of(packed[it], it.startswith("specs/")) for at, it in self.files.items()}
+        self.plain = {it: packed(lines) for it, lines in self.lines.items() if it not in self.by_file}
+        self.files = {module_at(name, it): it for it in self.plain}
+        self.modules = {at: declarations_of(self.plain[it], it.startswith("specs/")) for at, it in self.files.items()}
 
     def modules_read_with(self, function):
         """The modules of lemmas that are checked with a function, since its written proof takes names from them."""
