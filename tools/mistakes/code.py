@@ -15,8 +15,7 @@ COMMENT = re.compile(r'//[^\n]*|/\*.*?\*/|("(?:\\.|[^"\\])*"|b?\'(?:\\.|[^\'\\\n
 
 
 class Function(NamedTuple):
-    """A function with a body: its path below the crate, and the lines on which it, its contract and its body start, and on which it
-    ends."""
+    """A function with a body: its path below the crate, its file, the lines on which it, its contract and its body start, and its last."""
 
     path: str
     file: str
@@ -88,21 +87,18 @@ def parts_of(lines, first, indent):
     no body.
 
     A body that comes after a contract starts on a line of its own, and every line of the contract stands further in."""
-    contract = start = None
-    for number in range(first, len(lines)):
-        line = lines[number]
-        if contract is None and re.match(r" *(requires|ensures|ghost)\b", line):
+    contract = None
+    for number, line in enumerate(lines[first:], first):
+        if not contract and re.match(r" *(requires|ensures|ghost)\b", line):
             contract = number
         if line == f"{indent}{{}}":
             return contract or number, number, number
-        if line == f"{indent}{{" or contract is None and line.endswith(" {"):
-            start = number + 1
-            break
-        stands_out = line.strip() and not line.startswith(f"{indent} ")
-        if contract is not None and stands_out or contract is None and line.endswith((";", "}")):
+        if line == f"{indent}{{" or not contract and line.endswith(" {"):
+            last = next((at for at in range(number + 1, len(lines)) if lines[at] == f"{indent}}}"), None)
+            return last and (contract or number + 1, number + 1, last)
+        if line.strip() and not line.startswith(f"{indent} ") if contract else line.endswith((";", "}")):
             return None
-    last = start and next((at for at in range(start, len(lines)) if lines[at] == f"{indent}}}"), None)
-    return last and (contract or start, start, last)
+    return None
 
 
 def functions_in(file, text, modules):
@@ -145,8 +141,7 @@ def head_of(lines):
 
 
 def blocks_of(lines, indent):
-    """The items that stand at this indent, each as its lines with the attributes above it. What begins no item belongs to the one
-    before."""
+    """The items that stand at this indent, each as lines with the attributes above it. What begins no item belongs to the one before."""
     found, now = [], []
     for line in lines:
         now.append(line)

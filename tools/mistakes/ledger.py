@@ -1,6 +1,7 @@
 """The ledger of the repository, mistakes.lock: where each wrong body and each wrong definition was refused, and a digest of all on which
 that rests. What has another digest, or no line, is tried; the gate also tries some of the others, so that a wrong line is found."""
 
+import functools
 import os
 import re
 import subprocess
@@ -40,12 +41,11 @@ class Ledger:
     """The ledger, and the digests of a tree, in which there are wrong bodies and wrong definitions of these names."""
 
     def __init__(self, tree, every=(), said=None):
-        self.tree, self.every, self.said, self.kit, self.read = tree, every, entries() if said is None else said, version(), {}
+        self.tree, self.every, self.said, self.kit = tree, every, entries() if said is None else said, version()
 
+    @functools.cache
     def rests(self, crate):
-        if crate not in self.read:
-            self.read[crate] = Rests(self.tree, crate)
-        return self.read[crate]
+        return Rests(self.tree, crate)
 
     def digest(self, edit, _=""):
         """The digest of a wrong body, or "" if it cannot be tried."""
@@ -57,8 +57,7 @@ class Ledger:
         return rests.digest((*edit, sorted(body.paths())), rests.starts(body))
 
     def digest_at(self, variant, where):
-        """The digest of a wrong definition that the first of these places of its crate, or of one above, refuses; "" if the place is
-        gone."""
+        """The digest of a wrong definition that the first of these places refuses, of its crate or of one above; "" if it is gone."""
         place = where.partition(", ")[0]
         crate, _, inside = place.partition("::")
         rests = self.rests(crate if crate in self.tree.crates else variant.crate)

@@ -18,8 +18,7 @@ CODE_USE = re.compile(r"(?m)^ *(?:pub(?:\([^)]*\))? )?use ((?!Rattle\.)[^;]*);")
 
 
 class Declared(NamedTuple):
-    """A declaration of specs/ or proofs/: its text as others see it, a definition whole and of a lemma the statement, and its whole
-    text."""
+    """A declaration of specs/ or proofs/: its text as others see it, which is of a lemma the statement, and its whole text."""
 
     seen: str
     whole: str
@@ -53,24 +52,18 @@ def paths_of(text):
 
 def declarations_of(text, is_spec):
     """The declarations of an antt text by name. A definition, and what can be unfolded, is seen whole."""
-    found, name, parts = {}, "", ([], [])
-    is_open = is_head = False
+    found = {}
     for opening, inner in INNER.findall(text):
         for own, it in declarations_of(re.sub("^  ", "", inner, flags=re.M), is_spec).items():
             found[own] = Declared(opening + it.seen, opening + it.whole)
-    for line in [*INNER.sub("", text).split("\n"), "end : of file"]:
-        if NO_DECLARATION.match(line):
-            continue
-        head = HEAD.match(line)
-        if head:
-            if name:
-                said = ["\n".join(parts[0]), "\n".join(parts[1])]
-                found[name] = Declared("\n".join(said if is_open or is_spec else said[:1]), "\n".join(said))
-            name, parts, is_open, is_head = head[2], ([], []), bool((head[1] or "").replace("pub ", "")), True
-        elif not line.startswith(" "):
-            is_head = False
-        is_open = is_open or bool(is_head and re.search(r"[→:] Type \d$", line))
-        parts[0 if is_head else 1].append(line)
+    lines = [it for it in INNER.sub("", text).split("\n") if not NO_DECLARATION.match(it)]
+    heads = {at: it for at, line in enumerate(lines) if (it := HEAD.match(line))}
+    for (first, head), end in zip(heads.items(), [*heads, len(lines)][1:]):
+        behind = next((at for at in range(first + 1, end) if not lines[at].startswith(" ")), end)
+        statement = "\n".join(lines[first:behind])
+        whole = "\n".join([statement, "\n".join(lines[behind:end])])
+        is_open = is_spec or (head[1] or "").replace("pub ", "") or re.search(r"[→:] Type \d$", statement, re.M)
+        found[head[2]] = Declared(whole if is_open else statement, whole)
     return found
 
 
