@@ -24,6 +24,9 @@
 #   make library-examples     makes each call of the library from C, and runs its examples against ./hart
 #   make install-library PREFIX=DIR   installs the library, its header and hart.pc below DIR
 #   make bench                measures dump, answer, explain and sim; it asserts no time
+#
+# With RT_JOBS=N in the environment N wrong bodies or scripts are tried side by side, and not one for each processor, and `rt lib` of
+# make library gets N jobs. How many crates `rt ci` proves side by side it decides itself, by processors and memory.
 
 PREFIX ?= /usr/local
 N ?= 10000
