@@ -20,7 +20,7 @@ import tempfile
 import time
 from concurrent.futures import FIRST_COMPLETED, ThreadPoolExecutor, wait
 
-from kit import ROOT, copy_crates, crates_in, version
+from kit import ROOT, copy_crates, crates_in, text_of, version
 
 BUILD = f"{ROOT}/build"
 LOGS, SUMS = f"{BUILD}/logs", f"{BUILD}/sums"
@@ -143,8 +143,7 @@ def main():
     parser.add_argument("--jobs", type=int, metavar="N", help="how many processors to use")
     parser.add_argument("names", nargs="*", default=["hart"], metavar="CRATE")
     words = parser.parse_args()
-    with open(f"{ROOT}/crates.txt", encoding="utf-8") as it:
-        every = crates_in(it.read())
+    every = crates_in(text_of(f"{ROOT}/crates.txt"))
     for name in words.names:
         if name not in every:
             sys.exit(f"build: crates.txt has no crate {name}")

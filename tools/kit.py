@@ -16,6 +16,12 @@ ROOT = os.path.realpath(f"{os.path.dirname(__file__)}/..")
 COPYING = threading.Lock()
 
 
+def text_of(path):
+    """The text of a file."""
+    with open(path, encoding="utf-8") as it:
+        return it.read()
+
+
 class Crate(NamedTuple):
     """A crate by its line of crates.txt, and the crates of the repository below it, lowest first."""
 
@@ -86,8 +92,7 @@ class Room:
         self.folder, self.source, self.changed = folder, source, {}
 
     def put(self, crate, texts):
-        """Gives files of a crate these texts, by their paths in it, and every other file its own. A file is taken away if its text is
-        None."""
+        """Gives files of a crate these texts, by their paths in it, and all others their own. A file with the text None is taken away."""
         for path in self.changed:
             shutil.copy2(f"{self.source}/{path}", f"{self.folder}/{path}")
         self.changed = {f"crates/{crate}/{file}": text for file, text in texts.items()}
@@ -106,8 +111,7 @@ class Room:
 
 def copy_crates(names, source, folder):
     """Copies crates and what `rt` has kept of them, with the lines of crates.txt that these have."""
-    with open(f"{source}/crates.txt", encoding="utf-8") as it:
-        every = crates_in(it.read())
+    every = crates_in(text_of(f"{source}/crates.txt"))
     needed = dict.fromkeys(it for name in names for it in (*every[name].below, name))
     with open(f"{folder}/crates.txt", "w", encoding="utf-8") as it:
         it.write("".join(f"{every[name].line}\n" for name in needed))

@@ -1,5 +1,6 @@
 """Reads the code of a crate by the layout that `rt fmt` gives it: its functions, and its items as callers see them."""
 
+import itertools
 import re
 from typing import NamedTuple
 
@@ -121,10 +122,8 @@ def functions_in(file, text, modules):
 
 def first_with_attributes(lines, function):
     """The line on which the attributes above a function begin."""
-    first = function.first
-    while first and lines[first - 1].strip().startswith("#["):
-        first -= 1
-    return first
+    above = itertools.takewhile(lambda it: it.strip().startswith("#["), reversed(lines[: function.first]))
+    return function.first - len(list(above))
 
 
 def without_comments(text):

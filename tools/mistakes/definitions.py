@@ -9,7 +9,7 @@ import re
 from collections import Counter
 from typing import NamedTuple
 
-from kit import copied, side_by_side
+from kit import copied, side_by_side, text_of
 from mistakes.places import places_of, unread_at, why_unread
 from mistakes.rests import Rests
 from mistakes.tree import module_at
@@ -91,13 +91,13 @@ def definitions_of(crate):
 def rows():
     """The lines of the table of variants, by crate and key: the text that is replaced and its replacement; None if there can be none."""
     found, crate = {}, ""
-    with open(ROWS, encoding="utf-8") as it:
-        for line in filter(None, it.read().split("\n")):
-            key, colon, rest = line.partition(": ")
-            old, arrow, new = rest.partition(" =>")
-            crate = crate if colon or line.startswith("#") else line
-            if colon and not line.startswith("#"):
-                found[crate, key] = (old, new.removeprefix(" ")) if arrow else None
+    for line in [it for it in text_of(ROWS).split("\n") if it and not it.startswith("#")]:
+        key, colon, rest = line.partition(": ")
+        old, arrow, new = rest.partition(" =>")
+        if colon:
+            found[crate, key] = (old, new.removeprefix(" ")) if arrow else None
+        else:
+            crate = line
     return found
 
 
@@ -175,7 +175,7 @@ class Trial:
                 yield name, found.get(name, []), unread.get(name, "")
 
     def attempts(self, name):
-        """The checks of a variant that is planted alone, each a crate and functions of it: a few that rest on it, its whole crate, and a few
+        """The checks of a variant that is planted alone, each a crate and functions of it: a few that rest on it, its whole crate, a few
         of crates above, those first that rest on the least."""
         some = list(dict.fromkeys(self.checked[it] for it in self.resting_on(name)))[:MANY]
         yield from [(self.crate, some)] * bool(some) + [(self.crate, [])]

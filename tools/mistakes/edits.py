@@ -8,7 +8,7 @@ import os
 import re
 from typing import NamedTuple
 
-from kit import ROOT
+from kit import ROOT, text_of
 from mistakes.code import functions_in
 
 
@@ -39,8 +39,7 @@ class Edit(NamedTuple):
 
 
 class WrongBody(NamedTuple):
-    """A wrong body with the functions that it changes. It stands alone if it changes more: `outside` has these lines, each with its
-    file."""
+    """A wrong body with the functions that it changes. It stands alone if it changes more: `outside` has these lines and their files."""
 
     edit: Edit
     functions: tuple
@@ -95,8 +94,7 @@ def edits_of(crate, root=ROOT):
         stem, end = os.path.splitext(inside)
         if (kind, end) not in (("mistakes", ".edits"), ("must-fail", ".edit")):
             raise SystemExit(f"mistakes: {path}: edits of mistakes/ stand in SOURCE.edits, those of must-fail/ in NAME.edit")
-        with open(path, encoding="utf-8") as it:
-            first, *named = stanzas(it.read())
+        first, *named = stanzas(text_of(path))
         found[path] = [edit_of(it, crate, f"src/{stem}.rt") for it in named] if end == ".edits" else [edit_of(first, crate, "", stem)]
         names = [it.own for it in found[path]]
         if names != sorted({*names}):
@@ -119,9 +117,14 @@ def place_of(text, change):
     raise BadEdit(f"an `old` text stands {text.count(change.old) if change.old else 0} times in {change.file}, and not once")
 
 
+def replaced(text, change):
+    """A text with a change in it."""
+    place = place_of(text, change)
+    return text[:place] + change.new + text[place + len(change.old) :]
+
+
 def apply(edit, crate, texts):
-    """Applies all changes of an edit to these texts of files of a crate, or none, and gives the lines that it changed, each with its file
-    and the text at that time."""
+    """Applies all changes of an edit to these texts of files of a crate, or none. Gives the files and lines changed, and the texts then."""
     changed, places = dict(texts), []
     if all(it.old == it.new for it in edit.changes):
         raise BadEdit("it changes nothing")
@@ -130,9 +133,8 @@ def apply(edit, crate, texts):
         if change.file not in (crate.raw if edit.refused_at else crate.by_file):
             raise BadEdit(f"there is no file {change.file} of code")
         text = changed.get(change.file, crate.raw[change.file])
-        place = place_of(text, change)
-        places.append((change.file, text.count("\n", 0, place), text))
-        changed[change.file] = text[:place] + change.new + text[place + len(change.old) :]
+        places.append((change.file, text.count("\n", 0, place_of(text, change)), text))
+        changed[change.file] = replaced(text, change)
     texts.update(changed)
     return places
 

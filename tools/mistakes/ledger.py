@@ -7,7 +7,7 @@ import re
 import subprocess
 from typing import NamedTuple
 
-from kit import ROOT, version
+from kit import ROOT, text_of, version
 from mistakes.edits import BadEdit, wrong_body
 from mistakes.rests import Rests, rules, sum_of
 
@@ -32,8 +32,7 @@ def entries():
     """The lines of the ledger by name; none if there is no ledger."""
     if not os.path.isfile(LEDGER):
         return {}
-    with open(LEDGER, encoding="utf-8") as it:
-        found = [LINE.fullmatch(line.rstrip("\n")) for line in it if not line.startswith("#")]
+    found = [LINE.fullmatch(it) for it in text_of(LEDGER).split("\n") if not it.startswith("#")]
     return {it[1]: Entry(*it.groups("")[1:]) for it in found if it}
 
 

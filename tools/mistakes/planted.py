@@ -3,10 +3,10 @@ line of the ledger from before a change, by a definition in other words, and by 
 
 import os
 
-from kit import copied
+from kit import copied, text_of
 from mistakes import definitions
 from mistakes.batches import batches_of, judged, texts_of
-from mistakes.edits import BadEdit, Change, edit_of, every_edit, place_of, stanzas, wrong_body
+from mistakes.edits import BadEdit, Change, edit_of, every_edit, replaced, stanzas, wrong_body
 from mistakes.ledger import Entry, Ledger, sample
 from mistakes.tree import tree_at
 from mistakes.verdicts import Verdict, verdict_of
@@ -22,15 +22,13 @@ VARIANTS = {
 
 def planted_in(name):
     """The stanzas of a file beside this one by their names."""
-    with open(f"{os.path.dirname(__file__)}/{name}", encoding="utf-8") as it:
-        return {lines[0][1]: lines for lines in stanzas(it.read())[1:]}
+    return {lines[0][1]: lines for lines in stanzas(text_of(f"{os.path.dirname(__file__)}/{name}"))[1:]}
 
 
 def weak_verdict(room, body, crate, clause, weak):
     """The verdict on a wrong body under a contract that was made weak."""
     texts, file = texts_of([body], crate), body.functions[0].file
-    at = place_of(texts[file], Change(file, clause, weak))
-    room.put(CRATE, {**texts, file: texts[file][:at] + weak + texts[file][at + len(clause) :]})
+    room.put(CRATE, {**texts, file: replaced(texts[file], Change(file, clause, weak))})
     return verdict_of(room.check(CRATE, body.paths()), CRATE, body.functions)
 
 
@@ -68,10 +66,9 @@ def wrong_after_changes(tree, edits, variants):
     """What is said of each change after which the ledger still answers for what rests on it, or no more for what does not."""
     for what, lines in planted_in("changes.edits").items():
         words, names = dict(lines), [rest for word, rest in lines if word in ("again", "known")]
-        path, old, wanted = words["file"], words["old"], {rest for word, rest in lines if word == "again"}
-        text, at = tree.texts[path], place_of(tree.texts[path], Change(path, old, ""))
-        before = digests(tree, names, edits, variants)
-        after = digests(tree.with_text(path, text[:at] + words["new"] + text[at + len(old) :]), names, edits, variants)
+        change, wanted = Change(words["file"], words["old"], words["new"]), {rest for word, rest in lines if word == "again"}
+        changed = tree.with_text(change.file, replaced(tree.texts[change.file], change))
+        before, after = digests(tree, names, edits, variants), digests(changed, names, edits, variants)
         again = {name for name in names if before[name] != after[name]}
         print(f"planted change of {what}: {len(again)} of {len(names)} are tried again", flush=True)
         if again != wanted or not all(before.values()):

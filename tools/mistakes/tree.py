@@ -5,7 +5,7 @@ import os
 import re
 from typing import NamedTuple
 
-from kit import ROOT, crates_in
+from kit import ROOT, crates_in, text_of
 from mistakes.code import DECLARED, functions_in, items_in, module_of, packed, without_comments
 
 NOTE = re.compile(r"^\s*--(?![\w◌]).*\n?", re.M)
@@ -120,8 +120,4 @@ def tree_at(root=ROOT):
     """The crates of a folder as they stand."""
     parts = [("src", "rt"), ("specs", "antt"), ("proofs", "antt")]
     paths = [f"{root}/crates.txt", *(it for part, end in parts for it in glob.glob(f"{root}/crates/*/{part}/**/*.{end}", recursive=True))]
-    texts = {}
-    for path in paths:
-        with open(path, encoding="utf-8") as it:
-            texts[os.path.relpath(path, root)] = it.read()
-    return Tree(texts)
+    return Tree({os.path.relpath(it, root): text_of(it) for it in paths})
