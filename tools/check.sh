@@ -7,8 +7,8 @@
 #     bodies whose refusal may have changed, and a sample of the others.
 #   - Then the scripts run on the program that `rt ci` built, side by side, each with its output kept together.
 #
-# At the end it says what all of it cost. The last line counts what passed and failed: crates, programs and tests of `rt ci`, wrong bodies,
-# scripts. What `rt ci` printed stands in build/logs/ci.log.
+# At the end it says what all of it cost, and what failed. The last line counts what passed and failed: crates, programs and tests of
+# `rt ci`, wrong bodies, scripts. What `rt ci` printed stands in build/logs/ci.log.
 set -u
 cd "$(dirname "$0")/.." || exit 1
 work=$(mktemp -d)
@@ -16,6 +16,7 @@ trap 'rm -rf "$work"' EXIT
 # `rt ci` runs programs and tests below this folder as the user nobody.
 chmod a+rx "$work"
 mkdir -p build/logs "$work/tree/crates" "$work/said"
+touch "$work/passed" "$work/failed"
 log=build/logs/ci.log
 program=$work/tree/crates/hart/out/hart
 tests=$work/tree/crates/hart_tests_cli/out/hart_tests_cli_tests
@@ -32,17 +33,18 @@ lanes=$(awk -v most="$(nproc)" '/^MemAvailable:/ { lanes = int($2 / 4000000) } E
 
 # Runs one script, and prints what it said, once it has ended.
 run() {
-    local said start=$SECONDS status=0
+    local name=${1//$work\/tree\/} said start=$SECONDS status=0
     said=$(mktemp -p "$work/said")
     bash -c "$1" >"$said" 2>&1 </dev/null || status=$?
     {
         flock 9
-        echo "== $2: $((SECONDS - start)) s"
+        echo "== $name: $((SECONDS - start)) s"
         cat "$said"
-        [ "$status" -eq 0 ] || {
-            echo "$2: FAILED"
-            touch "$said.failed"
-        }
+        if [ "$status" -eq 0 ]; then
+            echo "$name" >>"$work/passed"
+        else
+            echo "$name: FAILED" | tee -a "$work/failed"
+        fi
     } 9>"$work/lock"
 }
 
@@ -53,8 +55,7 @@ run_all() {
         while mapfile -t running < <(jobs -rp) && [ "${#running[@]}" -ge "$lanes" ]; do
             wait -n
         done
-        run "$script" "${script//$work\/tree\/}" &
-        passed=$((passed + 1))
+        run "$script" &
     done
     wait
 }
@@ -73,16 +74,16 @@ nice -n 10 bash -c "$(declare -f beside); beside" >"$work/beside" 2>&1 </dev/nul
 beside=$!
 (cd "$work/tree" && RT_JOBS=${RT_JOBS:-$lanes} rt ci) 2>&1 | tee "$log" |
     grep --line-buffered -E '^rt: |NOT PROVED|passed, .* failed|\berror\b'
-[ "${PIPESTATUS[0]}" -eq 0 ] || failed=$((failed + 1))
-read -r ok lost < <(sed -nE 's/^([0-9]+) passed, ([0-9]+) failed.*/\1 \2/p' "$log" | tail -n 1)
+[ "${PIPESTATUS[0]}" -eq 0 ] || echo "rt ci: FAILED; what was not proved stands in $log" >>"$work/failed"
+read -r ok _ < <(sed -nE 's/^([0-9]+) passed, ([0-9]+) failed.*/\1 \2/p' "$log" | tail -n 1)
 passed=$((passed + ${ok:-0}))
-[ "${lost:-1}" -eq 0 ] || echo "What was not proved stands in $log."
 
 wait "$beside"
 cat "$work/beside"
 read -r ok lost < <(sed -nE 's/^mistakes: ([0-9]+) refused, ([0-9]+) failed.*/\1 \2/p' "$work/beside")
 passed=$((passed + ${ok:-0}))
-failed=$((failed + ${lost:-1}))
+failed=$((failed + ${lost:-0}))
+[ -n "${lost:-}" ] || echo "python3 tools/mistakes.py --gate: FAILED; it counted nothing" >>"$work/failed"
 
 scripts=(
     "python3 tools/mistakes.py --can-fail"
@@ -105,17 +106,16 @@ if [ -f "$program" ]; then
     # It measures times, so it runs alone.
     run_all "python3 tools/listen.py $program"
 else
-    echo "rt ci built no program, so no script ran on it."
-    failed=$((failed + 1))
+    echo "rt ci: FAILED; it built no program, so no script ran on it" >>"$work/failed"
 fi
-
-lost=$(find "$work/said" -name '*.failed' | wc -l)
-passed=$((passed - lost))
-failed=$((failed + lost))
+passed=$((passed + $(wc -l <"$work/passed")))
+failed=$((failed + $(wc -l <"$work/failed")))
 
 # `times` has to run in this shell, which waited for all of it.
 times >"$work/times"
 read -r user system < <(tail -n 1 "$work/times")
 echo "processor time: $user user, $system system; $((SECONDS / 60)) minutes on $(nproc) processors"
+grep 'not refused:' "$work/beside"
+cat "$work/failed"
 echo "$passed passed, $failed failed"
 [ "$failed" -eq 0 ]
