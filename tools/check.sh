@@ -89,12 +89,11 @@ rt version
 run_all "sh tools/kits.sh" "python3 tools/links.py" "python3 tools/doc_examples.py" "python3 tools/named.py"
 
 scripts=(
+    "python3 tools/bench.py $program"
     "python3 tools/report.py $program"
     "sh tools/runs.sh $program"
     "sh tools/streams.sh $program"
     "sh tools/vectors.sh $program"
-    "python3 tools/vector_bugs.py --random $program"
-    "python3 tools/bench.py $program"
     "sh tools/examples.sh $program"
     "sh tools/manual.sh $program"
     "python3 tools/schema.py $program"
@@ -119,7 +118,8 @@ failed=$((failed + ${lost:-0}))
 
 [ -f "$program" ] || echo "rt ci: FAILED; it built no program, so no script ran on it" >>"$work/failed"
 run_on_program "sh tools/refused-growths.sh $program $tests"
-# It measures times, so it runs alone.
+# These measure times, so each runs alone.
+run_on_program "python3 tools/vector_bugs.py --random $program"
 run_on_program "python3 tools/listen.py $program"
 passed=$((passed + $(wc -l <"$work/passed")))
 failed=$((failed + $(wc -l <"$work/failed")))
