@@ -109,6 +109,7 @@ rm "$work/proving"
 read -r ok _ < <(sed -nE 's/^([0-9]+) passed, ([0-9]+) failed.*/\1 \2/p' "$log" | tail -n 1)
 passed=$((passed + ${ok:-0}))
 
+run_on_program "sh tools/refused-growths.sh $program $tests"
 wait
 cat "$work/beside" "$work/on_program"
 read -r ok lost < <(sed -nE 's/^mistakes: ([0-9]+) refused, ([0-9]+) failed.*/\1 \2/p' "$work/beside")
@@ -117,7 +118,6 @@ failed=$((failed + ${lost:-0}))
 [ -n "${lost:-}" ] || echo "python3 tools/mistakes.py --gate: FAILED; it counted nothing" >>"$work/failed"
 
 [ -f "$program" ] || echo "rt ci: FAILED; it built no program, so no script ran on it" >>"$work/failed"
-run_on_program "sh tools/refused-growths.sh $program $tests"
 # These measure times, so each runs alone.
 run_on_program "python3 tools/vector_bugs.py --random $program"
 run_on_program "python3 tools/listen.py $program"
