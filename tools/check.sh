@@ -94,7 +94,6 @@ scripts=(
     "sh tools/runs.sh $program"
     "sh tools/streams.sh $program"
     "sh tools/vectors.sh $program"
-    "sh tools/examples.sh $program"
     "sh tools/manual.sh $program"
     "python3 tools/schema.py $program"
 )
@@ -118,8 +117,9 @@ failed=$((failed + ${lost:-0}))
 [ -n "${lost:-}" ] || echo "python3 tools/mistakes.py --gate: FAILED; it counted nothing" >>"$work/failed"
 
 [ -f "$program" ] || echo "rt ci: FAILED; it built no program, so no script ran on it" >>"$work/failed"
-# These measure times, so each runs alone.
+# These measure times, or wait for what has to come in time, so each runs alone.
 run_on_program "python3 tools/vector_bugs.py --random $program"
+run_on_program "sh tools/examples.sh $program"
 run_on_program "python3 tools/listen.py $program"
 passed=$((passed + $(wc -l <"$work/passed")))
 failed=$((failed + $(wc -l <"$work/failed")))
