@@ -3,8 +3,8 @@
 
 Each example in a doc comment is a test: its lines have to stand together in src/examples.rt of a crate of tests. Each worked message of
 docs/COMMANDS.md is one that tools/fuzz reads, and the bytes of each of its fields stand together. The table of a command there refuses
-fewer bytes than its fields need, and writes just its fields. What docs/ARCHITECTURE.md quotes of a
-source stands in one. Each name of a function, a clause or a file, such as `run_logged`, that the pages about the code use is one of a source.
+fewer bytes than its fields need, and writes just its fields. What docs/ARCHITECTURE.md quotes of a source stands in one. Each name of a
+function, a clause or a file, such as `run_logged`, that the pages about the code use is one of a source.
 
 Usage: tools/doc_examples.py
 """
