@@ -84,10 +84,8 @@ def owner_of(head, module, modules):
 
 
 def parts_of(lines, first, indent):
-    """The first lines of the contract and of the body of the function that starts on a line, and the line on which it ends; None if it has
-    no body.
-
-    A body that comes after a contract starts on a line of its own, and every line of the contract stands further in."""
+    """The first lines of contract and body of the function that starts on a line, and the line on which it ends; None if it has no body. A
+    body that comes after a contract starts on a line of its own, and every line of the contract stands further in."""
     contract = None
     for number, line in enumerate(lines[first:], first):
         if not contract and re.match(r" *(requires|ensures|ghost)\b", line):

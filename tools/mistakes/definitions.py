@@ -74,15 +74,13 @@ def definitions_of(crate):
             continue
         text = crate.raw[file]
         if text.count("private calls") != len(PRIVATE.findall(text)):
-            where = "tools/mistakes/definitions.py"
-            raise SystemExit(f"definitions: {crate.name}/{file} speaks of private calls in other words than PRIVATE in {where}")
+            raise SystemExit(f"definitions: {crate.name}/{file} speaks of private calls in other words than tools/mistakes/definitions.py")
         private = private_in(text)
         for own, it in crate.modules[module].items():
             if HEAD.match(it.whole) and not SHAPE.match(it.whole):
                 found.append((Variant("", crate.name, file, own, it.whole.strip("\n"), "", ""), own not in private))
     keys = [f"{os.path.basename(it.file)[:-5]}.{it.own}" for it, _ in found]
-    often = Counter(keys)
-    named = {f"{it[0].file.split('/')[-2]}/{key}" if often[key] > 1 else key: it for key, it in zip(keys, found)}
+    named = {f"{it[0].file.split('/')[-2]}/{key}" if keys.count(key) > 1 else key: it for key, it in zip(keys, found)}
     if len(named) < len(found):
         raise SystemExit(f"definitions: {crate.name}/specs has two definitions of one name in folders of one name")
     return named

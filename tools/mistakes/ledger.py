@@ -30,9 +30,8 @@ class Entry(NamedTuple):
 
 def entries():
     """The lines of the ledger by name; none if there is no ledger."""
-    if not os.path.isfile(LEDGER):
-        return {}
-    found = [LINE.fullmatch(it) for it in text_of(LEDGER).split("\n") if not it.startswith("#")]
+    lines = text_of(LEDGER).split("\n") if os.path.isfile(LEDGER) else []
+    found = [LINE.fullmatch(it) for it in lines if not it.startswith("#")]
     return {it[1]: Entry(*it.groups("")[1:]) for it in found if it}
 
 

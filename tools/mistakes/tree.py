@@ -105,8 +105,7 @@ class Tree:
     def crate(self, name):
         if name not in self.read:
             start = f"crates/{name}/"
-            found = {it[len(start) :]: text for it, text in self.texts.items() if it.startswith(start)}
-            self.read[name] = CrateTexts(name, found)
+            self.read[name] = CrateTexts(name, {it.removeprefix(start): text for it, text in self.texts.items() if it.startswith(start)})
         return self.read[name]
 
     def with_text(self, path, text):
