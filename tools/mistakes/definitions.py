@@ -16,7 +16,7 @@ from mistakes.tree import module_at
 from mistakes.verdicts import Verdict
 
 ROWS = f"{os.path.dirname(__file__)}/definitions.txt"
-HEAD = re.compile(r"(?:(?:abbrev|unfoldable|opaque) )*pub (?:record |data )?([^\s:]+)")
+HEAD = re.compile(r"(?:(?:abbrev|unfoldable|opaque) )*pub (?:record |data )?(?!mod\b|use\b)([^\s:]+)")
 # A type that says nothing of a value has no wrong variant that is read: what uses it names all its fields and cases.
 SHAPE = re.compile(r"(?:pub data \w+|pub record \w+(?: \(\w+ : Type \d\))*|abbrev pub \w+) : Type \d")
 # What a file says of definitions that no public contract names. In its first line it speaks of all its definitions.
