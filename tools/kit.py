@@ -102,9 +102,11 @@ class Room:
                 with open(f"{self.folder}/{path}", "w", encoding="utf-8") as it:
                     it.write(text)
 
-    def check(self, crate, functions, *flags):
-        """Checks these functions of a crate, with what they call, and returns what the prover printed. It builds what is missing below."""
-        words = ["rt", "check", "--jobs", "1", *flags, *(word for it in functions for word in ("--only", it))]
+    def check(self, crate, functions, texts=None, of=""):
+        """Gives files of the crate, or of a named one below it, these texts. Checks these functions, with what they call, and returns what
+        the prover printed. It builds what is missing below."""
+        self.put(of or crate, texts or {})
+        words = ["rt", "check", "--jobs", "1", *(word for it in functions for word in ("--only", it))]
         how = {"stdin": subprocess.DEVNULL, "stdout": subprocess.PIPE, "stderr": subprocess.STDOUT, "errors": "replace"}
         return subprocess.run(words, cwd=f"{self.folder}/crates/{crate}", check=False, **how).stdout
 

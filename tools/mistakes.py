@@ -12,55 +12,13 @@ and writes nothing. `--all` tries all, and `--list` only says which would be tri
 `--against-rattle` makes changes at random, and shows that what the prover checks anew has another digest."""
 
 import argparse
-import functools
-import os
 import resource
 import sys
 
-from kit import COPYING, ROOT, copied, side_by_side
-from mistakes import against, definitions, planted
-from mistakes.batches import batches_of, judged
-from mistakes.edits import BadEdit, every_edit, wrong_body
+from mistakes import bodies, definitions, planted
+from mistakes.edits import every_edit
 from mistakes.ledger import Ledger
 from mistakes.tree import tree_at
-from mistakes.verdicts import Verdict
-
-
-def judged_in_turn(base, crate, batches):
-    """Yields the verdict on each wrong body of these batches of a crate, which are tried one after another in a copy of the base."""
-    with copied([crate.name], base.folder) as room:
-        for batch in batches:
-            yield from judged(room, batch, crate)
-
-
-def tasks_of(tree, base, of_crates):
-    """Builds the libraries below each crate in the base, and yields the tasks of its wrong bodies. The largest crates begin.
-
-    If something is kept of a crate, each batch is a task of its own: after another batch it would have to prove again what that one
-    changed. If nothing is kept, the first batch proves it for those after it."""
-    for name in [it for it in reversed(tree.crates) if it in of_crates]:
-        with COPYING:
-            said = base.check(name, [""])
-        if not said.rstrip().endswith("only=0 proved=0"):
-            why = Verdict((), f"the libraries below its crate are not built: {said.rstrip().rpartition(chr(10))[2]}")
-            yield lambda name=name, why=why: [(it, why) for it in of_crates[name]]
-            continue
-        batches = batches_of(of_crates[name], tree.crate(name))
-        for some in [[it] for it in batches] if os.path.isdir(f"{ROOT}/crates/{name}/out") else [batches]:
-            yield functools.partial(judged_in_turn, base, tree.crate(name), some)
-
-
-def tried(tree, edits):
-    """Yields the name of each edit, the functions that it changes and the verdict, as they are decided."""
-    of_crates = {}
-    for edit in edits:
-        try:
-            of_crates.setdefault(edit.crate, []).append(wrong_body(edit, tree.crate(edit.crate)))
-        except BadEdit as why:
-            yield edit.name(), "", Verdict((), str(why))
-    with copied(of_crates) as base:
-        for body, verdict in side_by_side(tasks_of(tree, base, of_crates)):
-            yield body.edit.name(), ", ".join(it.path for it in body.functions), verdict
 
 
 def is_asked(name, words):
@@ -107,7 +65,7 @@ def main():
     parser.add_argument("names", nargs="*", metavar="CRATE | NAME")
     words = parser.parse_args()
     if words.can_fail or words.against_rattle:
-        sys.exit(planted.run() if words.can_fail else against.run())
+        sys.exit(planted.can_fail() if words.can_fail else planted.against_rattle())
     tree = tree_at()
     edits = every_edit(tree)
     variants, wrong = definitions.variants(tree, definitions.rows())
@@ -115,7 +73,7 @@ def main():
     if words.definitions:
         is_failed = run(words, ledger, variants, ledger.digest_at, lambda chosen: definitions.tried(tree, chosen))
         sys.exit("\n".join(wrong) or is_failed)
-    sys.exit(run(words, ledger, edits, ledger.digest, lambda chosen: tried(tree, chosen)))
+    sys.exit(run(words, ledger, edits, ledger.digest, lambda chosen: bodies.tried(tree, chosen)))
 
 
 if __name__ == "__main__":

@@ -9,7 +9,7 @@ import os
 import sys
 
 from kit import ROOT, copied
-from mistakes.batches import texts_of
+from mistakes.bodies import texts_of
 from mistakes.edits import Edit, edits_of, wrong_body
 from mistakes.ledger import entries
 from mistakes.tree import tree_at
@@ -35,11 +35,8 @@ def without_answers(edit, crate):
     body = wrong_body(edit, crate)
     answers = {f"{it.proofs()}/Answers.antt": None for it in body.functions if f"{it.proofs()}/Answers.antt" in crate.raw}
     with copied([crate.name]) as room:
-        found = []
-        for texts in (texts_of([body], crate), {}):
-            room.put(crate.name, {**texts, **answers})
-            found.append(verdict_of(room.check(crate.name, sorted(body.paths())), crate.name, body.functions))
-    wrong, right = found
+        said = [room.check(crate.name, sorted(body.paths()), {**texts, **answers}) for texts in (texts_of([body], crate), {})]
+    wrong, right = (verdict_of(it, crate.name, body.functions) for it in said)
     if right.why != PROVED:
         return "", f"without its answers the right body is not proved either: {right.words() or right.why}"
     return (f"{wrong.words()} (without its answers)" if wrong.is_refused() else ""), wrong.why

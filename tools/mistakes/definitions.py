@@ -152,8 +152,7 @@ class Trial:
         for it in names:
             self.left[it].plant(texts, self.crate.plain)
         with copied([crate.name], self.base.folder) as room:
-            room.put(self.crate.name, texts)
-            return room.check(crate.name, functions)
+            return room.check(crate.name, functions, texts, self.crate.name)
 
     def together(self):
         """Plants variants at once as long as some can be, and yields those that are refused, and those that are not read."""

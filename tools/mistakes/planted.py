@@ -1,13 +1,20 @@
 """Shows that a run can fail: by edits of hart_values that are no wrong bodies, by a wrong body under a contract that was made weak, by a
-line of the ledger from before a change, by a definition in other words, and by a definition without a variant."""
+line of the ledger from before a change, by definitions that are no wrong ones, and by a definition without a variant.
 
+Against the prover it makes changes at random, chosen by the commit. Each function that the prover checks anew has to have another digest,
+but for one that only calls what is not proved any more."""
+
+import functools
 import os
+import random
+import re
 
-from kit import copied, text_of
+from kit import copied, side_by_side, text_of
 from mistakes import definitions
-from mistakes.batches import batches_of, judged, texts_of
-from mistakes.edits import BadEdit, Change, edit_of, every_edit, replaced, stanzas, wrong_body
-from mistakes.ledger import Entry, Ledger, sample
+from mistakes.bodies import batches_of, judged, texts_of
+from mistakes.edits import BadEdit, Change, apply, edit_of, every_edit, replaced, stanzas, wrong_body
+from mistakes.ledger import Entry, Ledger, commit, sample
+from mistakes.rests import Rests
 from mistakes.tree import tree_at
 from mistakes.verdicts import Verdict, verdict_of
 
@@ -18,6 +25,13 @@ VARIANTS = {
     "EachMaster.of_master": ("each.secondary", "each", "unread: specs/"),
     "LoopMode.mode_byte": ("Enabled = 1", "Enabled = 2", ""),
 }
+CHECKED = re.compile(r"^checked \w+?::(\S+?)(?:::fn::\S+)?, \d+ of \d+", re.M)
+TOLD = re.compile(r"^fn \w+?::(\S+?): (.*)$", re.M)
+ONLY_CALLS = re.compile(r"^not proved|it calls .* which (?:is|are) not proved")
+CLAUSE = re.compile(r"\bensures (\w+) \{")
+LEMMA = re.compile(r"^pub [\w-]+ : ", re.M)
+# How many changes of each kind: a wrong body, a wrong definition, a clause that has another name, a lemma that has one more premise.
+EACH = 3
 
 
 def planted_in(name):
@@ -28,8 +42,8 @@ def planted_in(name):
 def weak_verdict(room, body, crate, clause, weak):
     """The verdict on a wrong body under a contract that was made weak."""
     texts, file = texts_of([body], crate), body.functions[0].file
-    room.put(CRATE, {**texts, file: replaced(texts[file], Change(file, clause, weak))})
-    return verdict_of(room.check(CRATE, body.paths()), CRATE, body.functions)
+    weakened = {**texts, file: replaced(texts[file], Change(file, clause, weak))}
+    return verdict_of(room.check(CRATE, body.paths(), weakened), CRATE, body.functions)
 
 
 def wrong_verdicts(crate):
@@ -110,12 +124,62 @@ def wrong_definitions(tree):
         yield "planted definition without a variant: it is not told"
 
 
-def run():
-    """Tries all of them, and returns 0 if each has the wanted outcome."""
+def changes(tree):
+    """The changes, each in words, with its crate and the texts of the files that it changes."""
+    some, found = random.Random(commit()), []
+    variants, _ = definitions.variants(tree, definitions.rows())
+    for edit in some.sample(list(every_edit(tree).values()), EACH):
+        found.append((f"body {edit.name()}", edit.crate, {}))
+        apply(edit, tree.crate(edit.crate), found[-1][-1])
+    for name in some.sample(sorted(variants), EACH):
+        found.append((f"definition {name}", variants[name].crate, {}))
+        variants[name].plant(found[-1][-1], tree.crate(variants[name].crate).plain)
+    for form, part, new in ((CLAUSE, "src/", r"ensures planted_\1 {"), (LEMMA, "proofs/lemmas/", r"\g<0>ℕ → ")):
+        files = {(name, file): text for name in tree.crates for file, text in tree.crate(name).raw.items() if file.startswith(part)}
+        for (name, file), it in some.sample([(at, it) for at, text in files.items() for it in form.finditer(text)], EACH):
+            text = files[name, file]
+            found.append((f"{name}/{file}: {it[0].strip()}", name, {file: text[: it.start()] + it.expand(new) + text[it.end() :]}))
+    return found
+
+
+def digests_in(tree, name):
+    rests = Rests(tree, name)
+    return {path: rests.digest("", rests.starts_of(it)) for path, it in rests.own.functions.items()}
+
+
+def missed(tree, what, name, texts):
+    """Tells of a change, and returns the functions that the prover checks anew though their digest is the same."""
+    after = tree
+    for file, text in texts.items():
+        after = after.with_text(f"crates/{name}/{file}", text)
+    with copied([name]) as room:
+        said = room.check(name, [], texts)
+    then, now = digests_in(tree, name), digests_in(after, name)
+    again, told = {it for it in CHECKED.findall(said) if it in now}, dict(TOLD.findall(said))
+    same = {it for it in again if then.get(it) == now[it]}
+    only_call = {it for it in same if ONLY_CALLS.search(told.get(it, ""))}
+    changed = sum(then.get(it) != now[it] for it in now)
+    print(f"{what}: {len(again)} checked anew, {changed} of {len(now)} digests changed, {len(only_call)} only call what fails", flush=True)
+    wrong = [f"{what}: {it} is checked anew, and its digest is the same" for it in sorted(same - only_call)]
+    return wrong + ([] if "logic=" in said else [f"{what}: no verdict"])
+
+
+def status_of(wrong, what):
+    """Tells what is wrong, and returns the status of the run."""
+    print(*wrong, f"mistakes: {len(wrong)} {what}", sep="\n")
+    return 1 if wrong else 0
+
+
+def can_fail():
+    """Tries all that is planted, and returns 0 if each has the wanted outcome."""
     tree = tree_at()
     edits, (variants, _) = every_edit(tree), definitions.variants(tree, definitions.rows())
     wrong = [*wrong_after_changes(tree, edits, variants), *wrong_ledgers(tree, edits)]
     wrong += [*wrong_verdicts(tree.crate(CRATE)), *wrong_definitions(tree)]
-    print("\n".join(wrong))
-    print(f"mistakes: {len(wrong)} of the planted edits and changes had another outcome than they must have")
-    return 1 if wrong else 0
+    return status_of(wrong, "of the planted edits and changes had another outcome than they must have")
+
+
+def against_rattle():
+    tree = tree_at()
+    wrong = list(side_by_side(functools.partial(missed, tree, *it) for it in changes(tree)))
+    return status_of(wrong, "functions are checked anew by the prover, and not by the ledger")

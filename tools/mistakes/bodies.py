@@ -1,11 +1,14 @@
-"""Puts wrong bodies that can stand together into few batches, and judges a batch by one check.
+"""Tries wrong bodies: puts those that can stand together into few batches, and judges a batch by one check.
 
 Alone, a wrong body takes 15 to 90 seconds of processor time; in a batch it takes 2."""
 
+import functools
+import os
 import re
 
-from mistakes.edits import BadEdit, apply
-from mistakes.verdicts import unread, verdict_of
+from kit import COPYING, ROOT, copied, side_by_side
+from mistakes.edits import BadEdit, apply, wrong_body
+from mistakes.verdicts import Verdict, unread, verdict_of
 
 COMPILER = re.compile(r"^(?:note: )?(?:\./)?(src/\S+?\.rt):(\d+):\d+: error\b", re.M)
 
@@ -56,10 +59,46 @@ def parts_of(batch, said):
 
 def judged(room, batch, crate):
     """Returns the verdict on each wrong body of a batch. One that is not refused beside others is tried once more, alone."""
-    room.put(crate.name, texts_of(batch, crate))
-    said = room.check(crate.name, sorted({path for body in batch for path in body.paths()}))
+    said = room.check(crate.name, sorted({path for body in batch for path in body.paths()}), texts_of(batch, crate))
     found = [(it, verdict_of(said, crate.name, it.functions)) for it in batch]
     if len(batch) == 1:
         return found
     again = parts_of(batch, said) if unread(said) else [[body] for body, verdict in found if not verdict.is_refused()]
     return [it for it in found if it[1].is_refused()] + [it for part in again for it in judged(room, part, crate)]
+
+
+def judged_in_turn(base, crate, batches):
+    """Yields the verdict on each wrong body of these batches of a crate, which are tried one after another in a copy of the base."""
+    with copied([crate.name], base.folder) as room:
+        for batch in batches:
+            yield from judged(room, batch, crate)
+
+
+def tasks_of(tree, base, of_crates):
+    """Builds the libraries below each crate in the base, and yields the tasks of its wrong bodies. The largest crates begin.
+
+    If something is kept of a crate, each batch is a task of its own: after another batch it would have to prove again what that one
+    changed. If nothing is kept, the first batch proves it for those after it."""
+    for name in [it for it in reversed(tree.crates) if it in of_crates]:
+        with COPYING:
+            said = base.check(name, [""])
+        if not said.rstrip().endswith("only=0 proved=0"):
+            why = Verdict((), f"the libraries below its crate are not built: {said.rstrip().rpartition(chr(10))[2]}")
+            yield lambda name=name, why=why: [(it, why) for it in of_crates[name]]
+            continue
+        batches = batches_of(of_crates[name], tree.crate(name))
+        for some in [[it] for it in batches] if os.path.isdir(f"{ROOT}/crates/{name}/out") else [batches]:
+            yield functools.partial(judged_in_turn, base, tree.crate(name), some)
+
+
+def tried(tree, edits):
+    """Yields the name of each edit, the functions that it changes and the verdict, as they are decided."""
+    of_crates = {}
+    for edit in edits:
+        try:
+            of_crates.setdefault(edit.crate, []).append(wrong_body(edit, tree.crate(edit.crate)))
+        except BadEdit as why:
+            yield edit.name(), "", Verdict((), str(why))
+    with copied(of_crates) as base:
+        for body, verdict in side_by_side(tasks_of(tree, base, of_crates)):
+            yield body.edit.name(), ", ".join(it.path for it in body.functions), verdict
