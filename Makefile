@@ -152,6 +152,7 @@ install: hart install-report install-bench
 	install -m 644 docs/hart.1 $(PREFIX)/share/man/man1/hart.1
 	install -m 644 docs/hart.bash $(PREFIX)/share/bash-completion/completions/hart
 	install -m 644 $(GUIDE) $(PREFIX)/share/doc/hart
+	sed -i 's|(\.\./examples/|(examples/|g' $(PREFIX)/share/doc/hart/GUIDE.md
 	install -d $(PREFIX)/share/doc/hart/examples/shell $(PREFIX)/share/doc/hart/examples/python
 	install -m 644 examples/shell/* $(PREFIX)/share/doc/hart/examples/shell
 	install -m 644 examples/python/*.py $(PREFIX)/share/doc/hart/examples/python
