@@ -1,6 +1,7 @@
 -- What private functions promise one another. A reader who trusts the contracts of the public functions need not read these files.
 pub mod Layout
 pub mod Prefix
+pub mod Sums
 pub mod Body
 pub mod Miss
 pub mod Address

@@ -11,4 +11,5 @@ pub mod message;
 pub mod parity;
 pub mod plain_address;
 pub mod prefix;
+pub mod sums;
 pub mod view;

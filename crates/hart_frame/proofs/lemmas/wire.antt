@@ -10,3 +10,4 @@ pub mod BodiesFound
 pub mod Truncated
 pub mod Reading
 pub mod Header
+pub mod Sums

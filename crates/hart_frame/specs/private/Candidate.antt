@@ -1,14 +1,16 @@
 -- How bytes begin: with a frame, with what may become a frame, or with neither (HCF_SPEC-081).
-use Rattle.std.specs.Prelude.{◌≡◌, ◌≢◌, ℕ, ◌+◌, ◌<◌, ◌≤◌, ◌⊎◌, List, [], ◌∷◌, ◌++◌, length, take}
+use Rattle.std.specs.Prelude.{⊤, ◌≡◌, ◌≢◌, ℕ, ◌+◌, ◌<◌, ◌≤◌, ◌⊎◌, List, [], ◌∷◌, ◌++◌, length, take}
 use Rattle.hart_frame.specs.heard.Character.{Character, faultless}
 use Rattle.hart_frame.specs.wire.FrameParts.{FrameParts}
 use Rattle.hart_frame.specs.wire.Body.{IsBody}
 use Rattle.hart_frame.specs.private.Layout.{layout_length}
-use Rattle.hart_frame.specs.private.Prefix.{IsWholeBody}
+use Rattle.hart_frame.specs.private.Prefix.{IsWholeBody, shown_by}
 use Rattle.hart_frame.specs.wire.Refusal.{IsTruncated}
 use Rattle.hart_frame.specs.declared.wire.layout.Layout.{Layout}
 use Rattle.hart_frame.specs.declared.scan.candidate.Candidate.{Candidate}
 use Rattle.hart_frame.specs.declared.scan.candidate.Candidate.TheVariants.{Never, Open, Whole}
+use Rattle.hart_frame.specs.declared.wire.prefix.Prefix.{Prefix}
+use Rattle.hart_frame.specs.declared.wire.prefix.Prefix.TheVariants as prefix
 
 -- Characters begin with no frame if they do not begin with two preamble bytes and a body.
 abbrev pub BeginWithNone : List Character → Type 0
@@ -52,3 +54,14 @@ abbrev pub IsShort : List ℕ → Candidate → Type 0
 IsShort bytes (Never count) = (2 ≤ count) × (count ≤ 269)
 IsShort bytes Open = length bytes < 269
 IsShort bytes (Whole layout) = layout_length layout ≤ 267
+
+-- How two preamble bytes and bytes after them begin, if those after them begin as a prefix says.
+abbrev pub candidate_of : Prefix → Candidate
+candidate_of (prefix.Whole layout) = Whole layout
+candidate_of (prefix.Cut missing) = Open
+candidate_of (prefix.Wrong wrong) = Never (2 + shown_by wrong)
+
+-- A prefix is short if at most 267 bytes show what is wrong, if something is.
+abbrev pub IsShortPrefix : Prefix → Type 0
+IsShortPrefix (prefix.Wrong wrong) = shown_by wrong ≤ 267
+IsShortPrefix other = ⊤

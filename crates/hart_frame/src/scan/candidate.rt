@@ -1,9 +1,11 @@
 //! How the bytes that a scanner looks at begin.
-ghost use Rattle.std.specs.Prelude.{◌≡◌, ◌≤◌, length, slice_index};
-ghost use Rattle.hart_frame.specs.private.Candidate.{IsCandidate, IsShort};
+ghost use Rattle.std.specs.Prelude.{◌≡◌, ◌≤◌, ◌+◌, drop, length, slice_index};
+ghost use Rattle.hart_frame.specs.private.Candidate.{IsCandidate, IsShort, IsShortPrefix, candidate_of};
+ghost use Rattle.hart_frame.specs.private.Sums.{AreSums};
 
 use crate::wire::layout::Layout;
-use crate::wire::prefix::{Prefix, prefix_of};
+use crate::wire::prefix::{Prefix, prefix_at, prefix_of};
+use crate::wire::sums::Sums;
 
 /// How bytes begin.
 #[derive(Clone, Copy)]
@@ -24,7 +26,32 @@ pub(crate) fn candidate_in(bytes: &[u8]) -> Candidate
     ensures candidate { IsCandidate bytes.now result }
     ensures few { IsShort bytes.now result }
 {
-    match prefix_of(&bytes[2..]) {
+    candidate_of(prefix_of(&bytes[2..]))
+}
+
+/// Returns what [`candidate_in`] returns for the bytes from `start` on. The check byte comes from sums.
+#[inline(always)]
+pub(crate) fn candidate_at(bytes: &[u8], start: usize, sums: &mut Sums) -> Candidate
+    requires some { start + 2 ≤ length bytes.now }
+    requires first { slice_index bytes.now start ≡ 255 }
+    requires second { slice_index bytes.now (start + 1) ≡ 255 }
+    requires sums { AreSums bytes.now sums.old }
+    requires after { sums.old.from ≤ start + 2 }
+    ensures candidate { IsCandidate (drop start bytes.now) result }
+    ensures few { IsShort (drop start bytes.now) result }
+    ensures sums { AreSums bytes.now sums.new }
+    ensures after { sums.new.from ≤ start + 2 }
+{
+    candidate_of(prefix_at(bytes, start + 2, sums))
+}
+
+/// Returns how two preamble bytes and bytes after them begin, if those after them begin as `prefix` says.
+#[inline(always)]
+fn candidate_of(prefix: Prefix) -> Candidate
+    requires { IsShortPrefix prefix }
+    ensures { result ≡ candidate_of prefix }
+{
+    match prefix {
         Prefix::Whole(layout) => Candidate::Whole(layout),
         Prefix::Cut(_) => Candidate::Open,
         Prefix::Wrong(wrong) => Candidate::Never(2 + wrong.shown_by()),

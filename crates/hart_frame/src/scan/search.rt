@@ -1,13 +1,15 @@
 //! The search for frames in faultless bytes, without a copy.
 ghost use Rattle.std.specs.Prelude.{None, ◌≡◌, ◌≢◌, ◌<◌, ◌≤◌, ◌+◌, ◌-◌, ℕ, All, MatchOption, drop, length, replicate, slice_index};
-ghost use Rattle.std.specs.Prelude.{slice_range, take};
+ghost use Rattle.std.specs.Prelude.{◌^◌, Some, max, slice_range, take};
 ghost use Rattle.hart_frame.specs.private.Candidate.{IsCandidate};
+ghost use Rattle.hart_frame.specs.private.Layout.{layout_length};
 ghost use Rattle.hart_frame.specs.private.Search.{HasNoPair, IsNextPair, IsSearched, IsSearchedToEnd, IsSearching};
 ghost use Rattle.hart_frame.specs.declared.scan.candidate.Candidate.TheVariants.{Never};
 
-use crate::scan::candidate::{Candidate, candidate_in};
+use crate::scan::candidate::{Candidate, candidate_at, candidate_in};
 use crate::wire::layout::Layout;
 use crate::wire::message::PREAMBLE;
+use crate::wire::sums::Sums;
 use memchr::memchr;
 use std::simd::prelude::*;
 
@@ -36,22 +38,38 @@ pub(crate) fn search(bytes: &[u8], from: usize, seen: usize) -> SearchResult
     requires few { seen ≤ from + 269 }
     ensures { IsSearched bytes.now from seen result }
 {
+    let Some(start) = next_pair(bytes, from) else {
+        return open_at(bytes, bytes.len() - last_preambles(&bytes[from..]));
+    };
+    match candidate_in(&bytes[start..]) {
+        Candidate::Never(count) => {
+            let decided = looked_at(bytes, from, seen, from, seen, start, count);
+            search_on(bytes, from, seen, start + 1, decided)
+        }
+        Candidate::Open => open_at(bytes, start),
+        Candidate::Whole(layout) => whole_at(start, seen, layout),
+    }
+}
+
+/// Goes on at `from` with a search that began at `first`, and has looked at the first `seen` bytes. The caller of that search already knew
+/// that no prefix of fewer than `known` bytes decides a frame. After a false start, bodies that may begin often overlap. So their check
+/// bytes come from sums.
+#[inline(never)]
+fn search_on(bytes: &[u8], first: usize, known: usize, from: usize, seen: usize) -> SearchResult
+    requires { IsSearching bytes.now first known from seen }
+    ensures { IsSearched bytes.now first known result }
+{
+    let mut sums = Sums::new(from);
     let mut place = from;
     let mut decided = seen;
     while let Some(start) = next_pair(bytes, place) {
-        match candidate_in(&bytes[start..]) {
+        match candidate_at(bytes, start, &mut sums) {
             Candidate::Never(count) => {
-                decided = looked_at(bytes, from, seen, place, decided, start, count);
+                decided = looked_at(bytes, first, known, place, decided, start, count);
                 place = start + 1;
             }
             Candidate::Open => return open_at(bytes, start),
-            Candidate::Whole(layout) => {
-                return SearchResult {
-                    place: start,
-                    decided: decided.max(start + 2 + layout.body_len()),
-                    layout: Some(layout),
-                };
-            }
+            Candidate::Whole(layout) => return whole_at(start, decided, layout),
         }
     }
     open_at(bytes, bytes.len() - last_preambles(&bytes[place..]))
@@ -71,7 +89,7 @@ fn looked_at(
 ) -> usize
     requires searching { IsSearching bytes.now from seen place decided }
     requires next { IsNextPair bytes.now place start }
-    requires never { IsCandidate (slice_range bytes.now start (length bytes.now)) (Never count) }
+    requires never { IsCandidate (drop start bytes.now) (Never count) }
     requires few { (2 ≤ count) × (count ≤ 269) }
     ensures { IsSearching bytes.now from seen (start + 1) result }
 {
@@ -99,6 +117,23 @@ fn open_at(bytes: &[u8], place: usize) -> SearchResult
         place,
         decided: bytes.len(),
         layout: None,
+    }
+}
+
+/// Returns the result of a search that finds a frame of this layout at `place`. The search looked at the first `seen` bytes before.
+#[inline(always)]
+fn whole_at(place: usize, seen: usize, layout: Layout) -> SearchResult
+    requires { place + 2 + layout_length layout < 2 ^ 64 }
+    ensures { result ≡ record {
+      place = place;
+      decided = max seen (place + 2 + layout_length layout);
+      layout = Some layout;
+    } }
+{
+    SearchResult {
+        place,
+        decided: seen.max(place + 2 + layout.body_len()),
+        layout: Some(layout),
     }
 }
 

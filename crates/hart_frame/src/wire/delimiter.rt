@@ -55,7 +55,7 @@ impl Delimiter {
     pub(crate) fn command_place(self) -> usize
         ensures { result ≡ 1 + self.address_len + self.expansion_len }
     {
-        1 + usize::from(self.address_len) + usize::from(self.expansion_len)
+        usize::from(1 + self.address_len + self.expansion_len)
     }
 
     /// Returns the place of the byte count, right after the command.

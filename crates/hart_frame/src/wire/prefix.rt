@@ -1,13 +1,16 @@
 //! Decides whether bytes begin with a body, may still become a body, or never become a body. No other module of this crate decides this.
-ghost use Rattle.std.specs.Prelude.{◌≡◌};
-ghost use Rattle.hart_frame.specs.private.Layout.{Describes};
+ghost use Rattle.std.specs.Prelude.{◌≡◌, ◌≤◌, IfErr, IfOk, drop, length, take};
+ghost use Rattle.hart_frame.specs.private.Layout.{Describes, layout_length};
 ghost use Rattle.hart_frame.specs.private.Prefix.{IsPrefix, fault_in, shown_by};
+ghost use Rattle.hart_frame.specs.private.Sums.{AreSums};
+ghost use Rattle.hart_frame.specs.wire.Parity.{IsCheckByte};
 ghost use Rattle.hart_frame.specs.wire.Refusal.{HasCheckByte};
 
 use crate::FrameFault;
 use crate::wire::delimiter::read_delimiter;
 use crate::wire::layout::Layout;
 use crate::wire::parity::front_check;
+use crate::wire::sums::Sums;
 
 /// How bytes begin.
 #[derive(Clone, Copy)]
@@ -60,42 +63,83 @@ impl Wrong {
 pub(crate) fn prefix_of(bytes: &[u8]) -> Prefix
     ensures { IsPrefix bytes.now result }
 {
+    match layout_in(bytes) {
+        Ok(layout) => {
+            let check = front_check(bytes, layout.body_len());
+            checked_prefix(bytes, layout, check)
+        }
+        Err(prefix) => prefix,
+    }
+}
+
+/// Returns what [`prefix_of`] returns for the bytes from `start` on. The check byte comes from sums.
+#[inline(always)]
+pub(crate) fn prefix_at(bytes: &[u8], start: usize, sums: &mut Sums) -> Prefix
+    requires within { start ≤ length bytes.now }
+    requires sums { AreSums bytes.now sums.old }
+    requires after { sums.old.from ≤ start }
+    ensures prefix { IsPrefix (drop start bytes.now) result }
+    ensures sums { AreSums bytes.now sums.new }
+    ensures after { sums.new.from ≤ start }
+{
+    let body = &bytes[start..];
+    match layout_in(body) {
+        Ok(layout) => {
+            let check = sums.check(bytes, start, start + layout.body_len());
+            checked_prefix(body, layout, check)
+        }
+        Err(prefix) => prefix,
+    }
+}
+
+/// Returns the layout of the body with which the bytes begin, if they reach its check byte and nothing is wrong before it.
+///
+/// # Errors
+///
+/// How the bytes begin if they are cut or wrong before the check byte.
+#[inline(always)]
+fn layout_in(bytes: &[u8]) -> Result<Layout, Prefix>
+    ensures reaches { IfOk result (λ _. HasCheckByte bytes.now) }
+    ensures described { IfOk result (λ layout. Describes layout bytes.now) }
+    ensures prefix { IfErr result (IsPrefix bytes.now) }
+{
     let Some(first) = bytes.first() else {
-        return Prefix::Cut(None);
+        return Err(Prefix::Cut(None));
     };
     let byte = *first;
     let Some(delimiter) = read_delimiter(byte) else {
-        return Prefix::Wrong(Wrong::BadDelimiter { byte });
+        return Err(Prefix::Wrong(Wrong::BadDelimiter { byte }));
     };
     let count_place = delimiter.byte_count_place();
     let Some(byte_count) = bytes.get(count_place) else {
-        return Prefix::Cut(None);
+        return Err(Prefix::Cut(None));
     };
     let byte_count = *byte_count;
     let Some(layout) = delimiter.layout(byte_count) else {
         let len = count_place + 1;
-        return Prefix::Wrong(Wrong::ShortReply { len, byte_count });
+        return Err(Prefix::Wrong(Wrong::ShortReply { len, byte_count }));
     };
     let len = layout.body_len();
     if bytes.len() < len {
-        return Prefix::Cut(Some(len - bytes.len()));
+        return Err(Prefix::Cut(Some(len - bytes.len())));
     }
-    checked_prefix(bytes, layout)
+    Ok(layout)
 }
 
-/// Decides by parity whether bytes that reach the check byte of a body with this layout begin with that body.
+/// Decides by parity whether bytes that reach the check byte of a body with this layout begin with that body. The exclusive or of as many
+/// bytes as the body has is `check`.
 #[inline(always)]
 #[tactic(auto, using(crate::proofs::lemmas::wire::Reading::whole_even, crate::proofs::lemmas::wire::Reading::odd_check))]
-fn checked_prefix(bytes: &[u8], layout: Layout) -> Prefix
+fn checked_prefix(bytes: &[u8], layout: Layout, check: u8) -> Prefix
     requires reaches { HasCheckByte bytes.now }
     requires described { Describes layout bytes.now }
+    requires checks { IsCheckByte (take (layout_length layout) bytes.now) check }
     ensures { IsPrefix bytes.now result }
 {
-    let len = layout.body_len();
-    let check = front_check(bytes, len);
     if check == 0 {
         return Prefix::Whole(layout);
     }
+    let len = layout.body_len();
     let byte = bytes[len - 1];
     let fits = check ^ byte;
     Prefix::Wrong(Wrong::BadCheck { len, byte, fits })

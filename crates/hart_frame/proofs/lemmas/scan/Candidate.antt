@@ -4,15 +4,17 @@ use Rattle.hart_frame.proofs.Common.{sym, ap, ◌∙◌, arith, append_assoc, ta
 use Rattle.hart_frame.proofs.Common.{take-append-drop, slice_range, Truncated, Layout, Wrong, Character, faultless, faultless_bytes}
 use Rattle.hart_frame.proofs.Common.{IsUndecided, BeginWithNone, IsWhole, MayBegin, layout_length, IsPrefix, IsWrong, IsTruncated, bytes_of}
 use Rattle.hart_frame.specs.declared.scan.candidate.Candidate.TheVariants.{Never, Whole}
+use Rattle.hart_frame.specs.declared.wire.prefix.Prefix.{Prefix}
 use Rattle.hart_frame.specs.declared.wire.prefix.Prefix.TheVariants as prefix
-use Rattle.hart_frame.specs.private.Candidate.{IsCandidate, MayBeginBefore, NothingFollows, NeverBegin}
+use Rattle.hart_frame.specs.private.Candidate.{IsCandidate, IsShort, IsShortPrefix, MayBeginBefore, NothingFollows, NeverBegin, candidate_of}
 use Rattle.hart_frame.specs.private.Prefix.{fault_in, shown_by}
 use Rattle.hart_frame.proofs.lemmas.heard.Front.{bytes_of-faultless, faultless_bytes-append, faultless_bytes-end}
 use Rattle.hart_frame.proofs.lemmas.heard.Place.{StandsIn-at, StandsIn-within, preamble}
+use Rattle.hart_frame.proofs.lemmas.wire.Parity.{fits_drop}
 use Rattle.hart_frame.proofs.lemmas.wire.Prefix.{refused_more}
-use Rattle.hart_frame.proofs.lemmas.wire.Reading.{whole_has, wrong_fewer, wrong_refused, wrong_shown, wrong_within}
+use Rattle.hart_frame.proofs.lemmas.wire.Reading.{cut_truncated, whole_has, wrong_few, wrong_fewer, wrong_refused, wrong_shown, wrong_within}
 use Rattle.hart_frame.proofs.lemmas.wire.Refusal.{not_refused}
-use Rattle.hart_frame.proofs.lemmas.wire.Truncated.{truncated_check}
+use Rattle.hart_frame.proofs.lemmas.wire.Truncated.{truncated_check, truncated_few}
 use Rattle.hart_frame.proofs.lemmas.wire.UnambiguousBodies.{BeginsWithBody-append}
 
 bytes_of_append : (xs : List ℕ) (tail : List Character) → bytes_of (faultless xs ++ tail) ≡ xs ++ bytes_of tail
@@ -65,6 +67,12 @@ may_begin_before count xs truncated zero below = inl refl
 may_begin_before count xs truncated (suc zero) below = inr (inl refl)
 may_begin_before count xs truncated (suc (suc fewer)) below = inr (inr (take fewer xs, refl, truncated fewer (omega (arith, below))))
 
+-- A prefix of bytes is short.
+pub prefix_short : (xs : List ℕ) (p : Prefix) → ((i : ℕ) → get_or xs i 0 < 256) → IsPrefix xs p → IsShortPrefix p
+prefix_short xs (prefix.Whole layout) fits is = grind arith
+prefix_short xs (prefix.Cut missing) fits is = grind arith
+prefix_short xs (prefix.Wrong wrong) fits is = wrong_few xs wrong fits is
+
 -- The first two bytes of a list are FF.
 module _ (xs : List ℕ) (long : 2 ≤ length xs) (first : get_or xs 0 0 ≡ 255) (second : get_or xs 1 0 ≡ 255) where
   two : xs ≡ 255 ∷ 255 ∷ drop 2 xs
@@ -93,6 +101,20 @@ module _ (xs : List ℕ) (long : 2 ≤ length xs) (first : get_or xs 0 0 ≡ 255
         rw two (may_begin_before n ys (λ fewer below.
             truncated_check ys fewer has.0 (omega (arith, below, same)) (omega (arith, below, is.0)))),
       )
+
+  -- If the bytes after them begin as a prefix says, the list begins as that prefix says of a candidate.
+  pub candidate_is : (p : Prefix) → IsPrefix (drop 2 xs) p → IsCandidate xs (candidate_of p)
+  candidate_is (prefix.Whole layout) is = after_whole layout (rw (← take_rest xs 2) at is)
+  candidate_is (prefix.Cut missing) is = inr (inr (drop 2 xs, two, cut_truncated (drop 2 xs) missing is))
+  candidate_is (prefix.Wrong wrong) is = after_wrong wrong (rw (← take_rest xs 2) at is)
+
+  -- The list then keeps the limits of a candidate.
+  pub candidate_short : (p : Prefix) → ((i : ℕ) → get_or xs i 0 < 256) → IsPrefix (drop 2 xs) p → IsShort xs (candidate_of p)
+  candidate_short (prefix.Whole layout) fits is = (whole_has (drop 2 xs) layout is).2
+  candidate_short (prefix.Cut missing) fits is =
+      omega (arith, truncated_few (drop 2 xs) (fits_drop xs 2 fits) (cut_truncated (drop 2 xs) missing is), length-drop 2 xs)
+  candidate_short (prefix.Wrong wrong) fits is =
+      (omega arith, omega (arith, wrong_few (drop 2 xs) wrong (fits_drop xs 2 fits) is))
 
 -- An FF and then a byte other than FF prove that no frame begins.
 pub second_never : (xs : List ℕ) → 2 ≤ length xs → get_or xs 0 0 ≡ 255 → get_or xs 1 0 ≢ 255 → IsCandidate xs (Never 2)

@@ -1,5 +1,5 @@
 -- How a scanner that hears a list gives the first frame of the list.
-use Rattle.hart_frame.proofs.Common.{inl, inr, add-zero, ◌≡◌, ℕ, ◌<◌, ◌≤◌, false, Option, Some, None, List, [], ◌∷◌, ◌++◌, length, take}
+use Rattle.hart_frame.proofs.Common.{inl, inr, add-zero, ◌≡◌, ℕ, ◌≤◌, false, Option, Some, None, List, [], ◌∷◌, ◌++◌, length, take}
 use Rattle.hart_frame.proofs.Common.{drop, arith, refl, subst, take-length, append-nil, length-take-le, take-append-drop, MatchOption, Scan}
 use Rattle.hart_frame.proofs.Common.{is_some, Found, Buffer, Character, AreFrames, HasNoFrame, IsFirst, moved, Hears, scan_of, GivesNothing}
 use Rattle.hart_frame.proofs.Common.{MovesPast, hearing, IsBody, FrameParts, GivesSpan, Gives}

@@ -1,22 +1,18 @@
 -- What is known of bytes while they are searched, and what a search then finds.
 use Rattle.hart_frame.proofs.Common.{Some, None, ◌≡◌, ◌≢◌, ℕ, zero, suc, ◌+◌, ◌-◌, ◌<◌, ◌≤◌, ◌⊎◌, inl, inr, List, [], ◌∷◌, ◌++◌, length, ap}
 use Rattle.hart_frame.proofs.Common.{take, drop, get_or, refl, ◌∙◌, replicate, MatchOption, Option, arith, append_assoc, length-append}
-use Rattle.hart_frame.proofs.Common.{length-drop, add-zero, take-add, take-append-add, common_steps, drop-append-le, drop_more, get_or-drop}
-use Rattle.hart_frame.proofs.Common.{length-take-le, take_rest, slice_range, Layout, IsWhole, MayBegin, HasNoPair, HasPair, IsSearched}
-use Rattle.hart_frame.proofs.Common.{layout_length, Bool, IsTrue, take-length, take-append-drop, SearchResult}
+use Rattle.hart_frame.proofs.Common.{length-drop, add-zero, take-append-add, common_steps, drop-append-le, drop_more, get_or-drop}
+use Rattle.hart_frame.proofs.Common.{length-take-le, Layout, IsWhole, MayBegin, HasNoPair, HasPair, IsSearched}
+use Rattle.hart_frame.proofs.Common.{layout_length, Bool, IsTrue, take-length, take-append-drop, SearchResult, drop-drop, sym}
 use Rattle.std.proofs.Common.{max}
 use Rattle.std.proofs.lemmas.Bool.{cases_eq}
-use Rattle.hart_frame.proofs.lemmas.wire.Lane.{drop_take}
+use Rattle.hart_frame.proofs.lemmas.wire.Lane.{drop_take, take_more}
 use Rattle.hart_frame.specs.declared.scan.candidate.Candidate.TheVariants.{Never, Whole}
 use Rattle.hart_frame.specs.declared.wire.prefix.Wrong.TheVariants.{BadDelimiter}
 use Rattle.hart_frame.specs.private.Candidate.{IsCandidate, MayBeginBefore, NeverBegin}
 use Rattle.hart_frame.specs.private.Search.{IsNextPair, IsOpenBefore, IsSearching, NoneBegin, NoneBeginThen}
 use Rattle.hart_frame.proofs.lemmas.scan.Candidate.{may_begin_before, never_after, never_first, never_more, second_never, nothing_open}
 use Rattle.hart_frame.proofs.lemmas.wire.Truncated.{truncated_check, truncated_count}
-
--- The first `m` elements of a list are its first `n` and then the `m - n` after them.
-pub take_more : (xs : List ℕ) (n m : ℕ) → n ≤ m → take m xs ≡ take n xs ++ take (m - n) (drop n xs)
-take_more xs n m order = ap (λ (k : ℕ). take k xs) (let e : m ≡ n + (m - n) = omega (arith, order) in e) ∙ take-add n (m - n) xs
 
 -- A prefix of two joined lists that covers the first list is that list and then a prefix of the second.
 pub take_both : (xs ys : List ℕ) (n : ℕ) → length xs ≤ n → take n (xs ++ ys) ≡ xs ++ take (n - length xs) ys
@@ -129,6 +125,18 @@ module _ (xs : List ℕ) (from seen : ℕ) where
       (λ k late early. let same : k ≡ place = omega arith in rw same here) in
       grind arith
 
+  -- A search begins at its first place, and looks at the bytes that are known to decide nothing.
+  pub searching_first : from ≤ seen → seen ≤ length xs → seen ≤ from + 269 → IsSearching xs from seen from seen
+  searching_first order within few = record {
+    after = omega arith;
+    order = order;
+    late = omega arith;
+    within = within;
+    few = few;
+    none = λ place late early. absurd (omega (arith, late, early));
+    before = λ fewer late early. absurd (omega (arith, late, early));
+  }
+
   -- A search moves past places that are passed, and looks at no more than 2 bytes after them.
   searching_run : (place decided count start : ℕ) → start ≡ place + count → IsSearching xs from seen place decided → start ≤ length xs
       → ((here : ℕ) → place ≤ here → here < start → IsPassed xs here)
@@ -148,12 +156,12 @@ module _ (xs : List ℕ) (from seen : ℕ) where
 
   -- A search goes on after the next pair if no frame begins there.
   pub searching_on : (place decided start count more : ℕ) → IsSearching xs from seen place decided → IsNextPair xs place start
-      → IsCandidate (slice_range xs start (length xs)) (Never count) → (2 ≤ count) × (count ≤ 269)
+      → IsCandidate (drop start xs) (Never count) → (2 ≤ count) × (count ≤ 269)
       → more ≡ max decided (start + count) → IsSearching xs from seen (start + 1) more
   searching_on place decided start count more searching next never (some, few) is =
       let (needed, on, least, most) = searching_run place decided (start - place) start (omega (arith, next.after)) searching
       (omega (arith, next.pair)) (passed_before place start next) in
-      searching_never start needed count more on (rw (take_rest xs start) at never) (omega (arith, some)) few
+      searching_never start needed count more on never (omega (arith, some)) few
       (omega (arith, is, least, most, some))
 
   -- A search ends at a place if the bytes that are left from there on may begin a frame. No bytes need be left.
@@ -168,16 +176,30 @@ module _ (xs : List ℕ) (from seen : ℕ) where
       (omega (arith, on.within)) in
       grind arith
 
+  -- If no pair stands from the place of a search on, it ends before the last FF, of which at most two count.
+  pub searched_no_pair : (place decided count : ℕ) → IsSearching xs from seen place decided → HasNoPair xs place (length xs) → count ≤ 2
+      → count ≤ length (drop place xs) → drop (length (drop place xs) - count) (drop place xs) ≡ replicate count 255
+      → (count < 2 → count < length (drop place xs) → get_or (drop place xs) (length (drop place xs) - count - 1) 0 ≢ 255)
+      → IsSearched xs from seen (record { place = length xs - count; decided = length xs; layout = None })
+  searched_no_pair place decided count searching none few within last other =
+      let inside : place ≤ length xs = omega (arith, searching.order, searching.within) in
+      let rest = length-drop place xs in
+      let same : place + (length (drop place xs) - count) ≡ length xs - count = omega (arith, inside, rest, within) in
+      let ends : drop (length xs - count) xs ≡ replicate count 255 =
+      ap (λ (k : ℕ). drop k xs) (sym same) ∙ sym (drop-drop (length (drop place xs) - count) place xs) ∙ last in
+      searched_open place decided (length xs - count) searching (omega (arith, within, rest, inside)) (omega arith)
+      (passed_to_end xs place count inside none other) (may_begin_last (drop (length xs - count) xs) count few ends) (omega (arith, few))
+
   -- A search ends at a place where a frame stands.
   pub searched_stands : (place decided start more : ℕ) (layout : Layout) → IsSearching xs from seen place decided
-      → IsNextPair xs place start → IsCandidate (slice_range xs start (length xs)) (Whole layout) → layout_length layout ≤ 267
+      → IsNextPair xs place start → IsCandidate (drop start xs) (Whole layout) → layout_length layout ≤ 267
       → more ≡ max decided (start + 2 + layout_length layout)
       → IsSearched xs from seen (record { place = start; decided = more; layout = Some layout })
   searched_stands place decided start more layout searching next candidate short is =
       let n = layout_length layout in
       let (needed, on, least, most) = searching_run place decided (start - place) start (omega (arith, next.after)) searching
       (omega (arith, next.pair)) (passed_before place start next) in
-      let (whole, may) = rw (take_rest xs start) at candidate in
+      let (whole, may) = candidate in
       let long : start + (2 + n) ≤ length xs =
       omega (arith, simp length-append at (ap length whole.parts), whole.whole.exact, length-drop start xs, next.pair) in
       let stays = searching_more start needed (2 + n) more on may (omega arith) long (omega (arith, is, least, most)) in

@@ -87,6 +87,10 @@ fold-front : (lanes front bytes : List ℕ) (n : ℕ) → length lanes ≡ lengt
     → fold_l bit_xor 0 (zip2 bit_xor lanes front) ≡ fold bit_xor (fold_l bit_xor 0 lanes) bytes
 fold-front lanes front bytes n same is = grind (arith, common_steps, fold-zip2, fold-append, fold-zeros)
 
+-- The first `m` elements of a list are its first `n` and then the `m - n` after them.
+pub take_more : (xs : List ℕ) (n m : ℕ) → n ≤ m → take m xs ≡ take n xs ++ take (m - n) (drop n xs)
+take_more xs n m order = ap (λ (k : ℕ). take k xs) (let e : m ≡ n + (m - n) = omega (arith, order) in e) ∙ take-add n (m - n) xs
+
 -- Dropping `n` of the first `m` elements of a list leaves the first `m - n` elements from place `n` on.
 pub drop_take : (xs : List ℕ) (n m : ℕ) → n ≤ m → drop n (take m xs) ≡ take (m - n) (drop n xs)
 drop_take xs n m order = grind (arith, drop-take n (m - n) xs)

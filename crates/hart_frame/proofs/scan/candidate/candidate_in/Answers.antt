@@ -1,27 +1,21 @@
-use Rattle.hart_frame.proofs.Common.{arith, length-drop, take_rest}
-use Rattle.hart_frame.proofs.lemmas.scan.Candidate.{after_whole, after_wrong}
+use Rattle.hart_frame.proofs.Common.{arith, drop, take_rest}
+use Rattle.hart_frame.proofs.lemmas.scan.Candidate.{candidate_is, candidate_short, prefix_short}
 use Rattle.hart_frame.proofs.lemmas.wire.Parity.{fits_drop}
-use Rattle.hart_frame.proofs.lemmas.wire.Reading.{cut_truncated, wrong_few, wrong_within}
-use Rattle.hart_frame.proofs.lemmas.wire.Truncated.{truncated_few}
 use Rattle.hart_frame.proofs.scan.candidate.candidate_in.Goals as goal
 
-pub returns-in-Whole-clause-candidate : goal.returns-in-Whole-clause-candidate
-returns-in-Whole-clause-candidate c =
-    after_whole c.args.bytes.now c.requires.some c.requires.first c.requires.second c.in-Whole.layout c.in-Whole.ensures
+pub returns-clause-candidate : goal.returns-clause-candidate
+returns-clause-candidate c =
+    rw c.candidate_of.ensures
+    (candidate_is c.args.bytes.now c.requires.some c.requires.first c.requires.second c.prefix_of.result
+    (rw (take_rest c.args.bytes.now 2) at c.prefix_of.ensures))
 
-pub returns-in-Cut-clause-few : goal.returns-in-Cut-clause-few
-returns-in-Cut-clause-few c =
-    let truncated = rw (take_rest c.args.bytes.now 2) at (cut_truncated _ _ c.in-Cut.ensures) in
-    let few = truncated_few _ (fits_drop c.args.bytes.now 2 (λ i. omega (arith, c.type_inv.bytes i))) truncated in
-    omega (arith, few, length-drop 2 c.args.bytes.now)
+pub returns-clause-few : goal.returns-clause-few
+returns-clause-few c =
+    rw c.candidate_of.ensures
+    (candidate_short c.args.bytes.now c.requires.some c.requires.first c.requires.second c.prefix_of.result
+    (λ i. omega (arith, c.type_inv.bytes i)) (rw (take_rest c.args.bytes.now 2) at c.prefix_of.ensures))
 
-pub returns-in-Wrong-clause-candidate : goal.returns-in-Wrong-clause-candidate
-returns-in-Wrong-clause-candidate c =
-    rw c.shown_by.ensures
-    (after_wrong c.args.bytes.now c.requires.some c.requires.first c.requires.second c.in-Wrong.wrong c.in-Wrong.ensures)
-
-pub returns-in-Wrong-clause-few : goal.returns-in-Wrong-clause-few
-returns-in-Wrong-clause-few c =
-    let is = rw (take_rest c.args.bytes.now 2) at c.in-Wrong.ensures in
-    let few = wrong_few _ c.in-Wrong.wrong (fits_drop c.args.bytes.now 2 (λ i. omega (arith, c.type_inv.bytes i))) is in
-    omega (arith, few, wrong_within _ c.in-Wrong.wrong is)
+pub candidate_of-requires : goal.candidate_of-requires
+candidate_of-requires c =
+    prefix_short (drop 2 c.args.bytes.now) c.prefix_of.result
+    (fits_drop c.args.bytes.now 2 (λ i. omega (arith, c.type_inv.bytes i))) (rw (take_rest c.args.bytes.now 2) at c.prefix_of.ensures)

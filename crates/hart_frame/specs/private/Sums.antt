@@ -1,0 +1,13 @@
+-- Check bytes of the first bytes from a place on (own profile).
+use Rattle.std.specs.Prelude.{◌≡◌, ℕ, ◌+◌, ◌≤◌, List, drop, length, slice_index, take}
+use Rattle.hart_frame.specs.wire.Parity.{IsCheckByte}
+use Rattle.hart_frame.specs.declared.wire.sums.Sums.{Sums}
+
+-- Sums belong to bytes if they hold the check byte of each number of bytes from their first place on, up to their last place.
+pub record AreSums (bytes : List ℕ) (sums : Sums) : Type 0 where
+  pub order : sums.from ≤ sums.to
+  pub within : sums.to ≤ length bytes
+  pub room : sums.to ≤ sums.from + 1264
+  pub full : length sums.checks ≡ 1265
+  pub checks : (count : ℕ) → sums.from + count ≤ sums.to
+      → IsCheckByte (take count (drop sums.from bytes)) (slice_index sums.checks count)
