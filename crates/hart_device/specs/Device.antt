@@ -50,14 +50,14 @@ pub data Effect : Type 0 where
   Executes : (overwrite : Overwrite) → Effect
   Resets : Effect
 
--- The state after a configuration write overwrote the registers: the counter is one more (65535 is followed by 0), and both masters'
--- configuration-changed bits are set, even if the registers held the same bytes before. Nothing else changes.
+-- The state after a configuration write was counted: the counter is one more (65535 is followed by 0), and both masters'
+-- configuration-changed bits are set. Nothing else changes.
+abbrev pub counted : DeviceState → DeviceState
+counted state = record state { counter = (state.counter + 1) % 2 ^ 16; changed = for_both true }
+
+-- The state after a configuration write overwrote the registers: the write counts even if the registers held the same bytes before.
 abbrev pub written : Overwrite → DeviceState → DeviceState
-written overwrite state = record state {
-  contents = overwritten overwrite state.contents;
-  counter = (state.counter + 1) % 2 ^ 16;
-  changed = for_both true;
-}
+written overwrite state = record (counted state) { contents = overwritten overwrite state.contents }
 
 -- The state after a command. A command without effect changes nothing. A reset clears only the configuration-changed bit of the asking
 -- master.

@@ -3,5 +3,6 @@ pub mod Status
 pub mod Variables
 pub mod Content
 pub mod Answer
+pub mod Own
 pub mod Garbled
 pub mod Delivery

@@ -2,7 +2,7 @@
 ghost use Rattle.std.specs.Prelude.{◌≡◌, ◌≤◌, ◌↔◌, length, false, true, IsSome, IsTrue, IfSome, MatchOption, None, Ok};
 ghost use Rattle.hart_commands.specs.ReplyData.{reply_payload};
 ghost use Rattle.hart_commands.specs.Registers.{NamesValid};
-ghost use Rattle.hart_device.specs.Device.{after, written};
+ghost use Rattle.hart_device.specs.Device.{after, counted, written};
 ghost use Rattle.hart_device.specs.answer.Answer.{answer_of, asked_effect, code_of, is_addressed, is_answered, is_paired};
 ghost use Rattle.hart_device.specs.answer.Answer.{judged_of, names_another, reading_of, reply_of, reply_with, state_after};
 ghost use Rattle.hart_device.specs.answer.Delivery.{Brings, Brought, answer_to, state_after_delivery};
@@ -19,6 +19,7 @@ use hart_values::{Address, EachMaster, MasterId, ResponseCode};
 
 mod content;
 pub mod garbled;
+mod own;
 mod process_content;
 pub mod status;
 mod variables;
@@ -214,6 +215,13 @@ impl<S: RegisterStore> Device<S> {
         ensures { self.new ≡ written overwrite.now self.old }
     {
         self.registers.overwrite(overwrite);
+        self.count();
+    }
+
+    /// Counts a configuration write, and sets the configuration-changed bits.
+    fn count(&mut self)
+        ensures { self.new ≡ counted self.old }
+    {
         self.counter = self.counter.wrapping_add(1);
         self.changed = EachMaster {
             primary: true,
