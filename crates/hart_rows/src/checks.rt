@@ -1,5 +1,5 @@
 //! Checks of results. A failed check tells what it got and what was wanted, and of which row.
-ghost use Rattle.std.specs.Prelude.{◌↔◌, ◌≡◌, IsOk, IsTrue, Ok, true};
+ghost use Rattle.std.specs.Prelude.{◌↔◌, ◌≡◌, ◌≢◌, IfSome, IsNone, IsOk, IsSome, IsTrue, Ok, true};
 
 use std::alloc::Global;
 use std::fmt;
@@ -44,7 +44,9 @@ pub fn hold_same<T: PartialEq + Debug>(
     wanted: &T,
     word: &str,
     number: usize,
-) -> Result<(), Fail> {
+) -> Result<(), Fail>
+    ensures { IsOk result ↔ IsTrue (T.eq got.now wanted.now) }
+{
     hold_ok(rt, same(got, wanted), word, number)
 }
 
@@ -60,7 +62,9 @@ pub fn told<T: Debug>(holds: bool, got: &T) -> Result<bool, Fail>
 }
 
 /// Whether `got` is `wanted`. If it is not, the error says both.
-pub fn same<T: PartialEq + Debug>(got: &T, wanted: &T) -> Result<bool, Fail> {
+pub fn same<T: PartialEq + Debug>(got: &T, wanted: &T) -> Result<bool, Fail>
+    ensures { (result ≡ Ok true) ↔ IsTrue (T.eq got.now wanted.now) }
+{
     if *got == *wanted {
         Ok(true)
     } else {
@@ -86,18 +90,33 @@ impl Display for Hex<'_> {
 }
 
 /// Like `same`, for bytes.
-pub fn same_bytes(got: &[u8], wanted: &[u8]) -> Result<bool, Fail> {
-    same_if_any(Some(got), Some(wanted))
-}
-
-/// Like `same`, for bytes, if there are any.
-pub fn same_if_any(got: Option<&[u8]>, wanted: Option<&[u8]>) -> Result<bool, Fail> {
+pub fn same_bytes(got: &[u8], wanted: &[u8]) -> Result<bool, Fail>
+    ensures { (result ≡ Ok true) ↔ (got.now ≡ wanted.now) }
+{
     if got == wanted {
         return Ok(true);
     }
+    Err(differ(Some(got), Some(wanted)))
+}
+
+/// Like `same`, for bytes, if there are any.
+pub fn same_if_any(got: Option<&[u8]>, wanted: Option<&[u8]>) -> Result<bool, Fail>
+    ensures both { IfSome got.entry (λ got. IfSome wanted.entry (λ wanted. (result ≡ Ok true) ↔ (got.now ≡ wanted.now))) }
+    ensures neither { IsNone got.entry → (result ≡ Ok true) ↔ IsNone wanted.entry }
+    ensures one { IsSome got.entry → IsNone wanted.entry → result ≢ Ok true }
+{
+    match (got, wanted) {
+        (Some(got), Some(wanted)) => same_bytes(got, wanted),
+        (None, None) => Ok(true),
+        _ => Err(differ(got, wanted)),
+    }
+}
+
+/// Returns what tells that bytes, or none, are not those that were wanted.
+fn differ(got: Option<&[u8]>, wanted: Option<&[u8]>) -> Fail {
     let got = Hex(got);
     let wanted = Hex(wanted);
-    Err(Fail::new(format_args!("got {got}, wanted {wanted}")))
+    Fail::new(format_args!("got {got}, wanted {wanted}"))
 }
 
 /// Whether a value is displayed as this text. If it is not, the error says both texts.
