@@ -8,7 +8,8 @@
  *     of elements; a pointer without a length points to one element. Lengths are below 2^63.
  *   - Until the call returns, nobody else writes the memory behind a pointer. If the pointer is not const, nobody else reads this memory,
  *     and it overlaps nothing else that is passed.
- *   - Each bool is 0 or 1. Everything that is passed is initialised, including frames and bytes that the call is to write.
+ *   - What a call reads is initialised, and each bool in it is 0 or 1. What a call only writes need not be initialised; a call reads a
+ *     hart_device and a hart_master before it writes them, except where it makes a new one.
  * The call checks everything else. If a call returns a fault, it has written nothing.
  */
 #ifndef HART_H
@@ -22,6 +23,17 @@
 #ifdef __cplusplus
 extern "C" {
 #endif
+
+/* A length or a count: a size_t of 64 bits. Where pointers have 32 bits, as in examples/cortex-m, it has 64 bits still. */
+#if UINTPTR_MAX < UINT64_MAX
+typedef uint64_t hart_size;
+#else
+typedef size_t hart_size;
+#endif
+
+/* The version of this header, and of the library that is linked: major, minor and patch, a byte each. */
+#define HART_VERSION 0x000100
+uint32_t hart_version(void);
 
 /* A frame and its offsets in what was passed. You can pass a frame to hart_encode exactly as another call has written it. */
 typedef struct hart_frame {
@@ -59,12 +71,17 @@ enum {
     HART_OUT_OF_RANGE = 16,   /* a number of an identity is out of range */
     HART_BROADCAST_ADDRESS = 17, /* the unique address of an identity would be broadcast */
     HART_BAD_VERSION = 18,    /* an image of an unknown version */
-    HART_BAD_LENGTH = 19,     /* an image of no bytes or of more than 86 bytes, or with the wrong length for its version */
+    HART_BAD_LENGTH = 19,     /* an image of no bytes or of more than 86 bytes, or with the wrong length for its version; or packed text
+                               * of other than 6, 12 or 24 bytes */
     HART_BAD_FIELD = 20,      /* a polling address above 63, a loop current mode above 1, an invalid date, or image flags above 7 */
     HART_BAD_VARIABLES = 21,  /* a process without a dynamic variable, or with more than four */
-    HART_TOO_LONG = 22,       /* a delivery of more than 1,024 characters */
+    HART_TOO_LONG = 22,       /* a delivery of more than 1,024 characters, or more data or text than there can be */
     HART_NO_REQUEST = 23,     /* a frame that is a reply, has expansion bytes or the burst bit, or has refused data */
-    HART_WRONG_ADDRESS = 24   /* a command not allowed at this kind of address */
+    HART_WRONG_ADDRESS = 24,  /* a command not allowed at this kind of address */
+    HART_PENDING = 25,        /* the master has a request in hand already */
+    HART_BAD_MASTER = 26,     /* more than 15 retries, a reply limit of 0, or a master that no call leaves so */
+    HART_BAD_CODE = 27,       /* a response code above 127 */
+    HART_BAD_CHARACTER = 28   /* a character that packed text does not have */
 };
 
 /* Returns an English text of a fault, for logs. This is plain C: nothing of it is proved. */
@@ -76,7 +93,9 @@ static inline const char *hart_fault_text(uint8_t fault)
         "more than three expansion bytes", "no room in the output", "an unknown fault bit", "no reply to the command",
         "no such command or field", "a number of an identity out of range", "an identity with the broadcast address",
         "an image of an unknown version", "an image of a bad length", "a bad value of a register", "no dynamic variable, or more than four",
-        "more than 1,024 characters", "no request of a master", "a command not allowed at this address"};
+        "more than 1,024 characters", "no request of a master", "a command not allowed at this address", "a request in hand already",
+        "limits or a state that no master has", "a response code above 127",
+        "a character that packed text does not have"};
     const char *text = fault < sizeof texts / sizeof texts[0] ? texts[fault] : NULL;
     return text ? text : "an unknown fault";
 }
@@ -107,38 +126,49 @@ typedef struct hart_char {
 
 /* The result of a search. */
 typedef struct hart_search {
-    size_t used;   /* how many elements are used up; pass the later elements again, followed by new elements */
-    size_t count;  /* how many frames were found: frames[0] to frames[count - 1]; later elements of `frames` are unchanged */
-    uint8_t fault; /* HART_OK, or why nothing was done */
+    hart_size used;  /* how many elements are used up; pass the later elements again, followed by new elements */
+    hart_size count; /* how many frames were found: frames[0] to frames[count - 1]; later elements of `frames` are unchanged */
+    uint8_t fault;   /* HART_OK, or why nothing was done */
 } hart_search;
 
 /* Finds the next frames in bytes without faults, at most `frames_len` frames. `ended` says that no more bytes will come.
  * Returns how many bytes are used up. Pass the later bytes again, followed by new bytes. Offsets count from the first byte that is
  * passed. If `frames` has room for more frames, the call leaves at most 268 bytes, and no byte if `ended` is true. Repeated calls find
  * exactly the frames of the whole input, however the input is divided. A buffer of 269 bytes is enough. No fault. */
-hart_search hart_find_in_bytes(const uint8_t *bytes, size_t bytes_len, bool ended, hart_frame *frames, size_t frames_len);
+hart_search hart_find_in_bytes(const uint8_t *bytes, hart_size bytes_len, bool ended, hart_frame *frames, hart_size frames_len);
 
 /* Like hart_find_in_bytes, for characters with fault bits. Fault: HART_BAD_FAULT_BITS, and then nothing is found or used up. */
-hart_search hart_find(const hart_char *heard, size_t heard_len, bool ended, hart_frame *frames, size_t frames_len);
+hart_search hart_find(const hart_char *heard, hart_size heard_len, bool ended, hart_frame *frames, hart_size frames_len);
+
+/* How far marks were read. */
+typedef struct hart_unmarked {
+    hart_size used; /* how many bytes are used up; pass the later bytes again, followed by new ones */
+    hart_size len;  /* how many characters were written */
+} hart_unmarked;
+
+/* Reads what a POSIX port delivers with INPCK and PARMRK and without ISTRIP, and writes its characters to the front of `heard`, as far as
+ * there is room: FF 00 x is the byte x with a receive error, faults 0x40; FF before any other byte is left out, so FF FF is FF. A mark that
+ * is cut at the end is left: FF, or FF 00. No fault. */
+hart_unmarked hart_unmark(const uint8_t *bytes, hart_size bytes_len, hart_char *heard, hart_size heard_len);
 
 /* The number of bytes that were written or read. */
 typedef struct hart_outcome {
-    size_t len;    /* 0 if there is a fault */
+    hart_size len; /* 0 if there is a fault */
     uint8_t fault; /* HART_OK, or why nothing was done */
 } hart_outcome;
 
 /* Reads the frame whose body is at the front of `bytes`; other bytes may follow. Returns the length of the body.
  * Faults, in the order of the bytes: HART_TRUNCATED (no bytes), HART_BAD_DELIMITER, HART_TRUNCATED (before the byte count),
  * HART_SHORT_REPLY, HART_TRUNCATED (before the check byte), HART_BAD_CHECK. */
-hart_outcome hart_decode(const uint8_t *bytes, size_t bytes_len, hart_frame *frame);
+hart_outcome hart_decode(const uint8_t *bytes, hart_size bytes_len, hart_frame *frame);
 
 /* Writes a frame as a message to the front of `output`: preamble bytes, `preambles` of them, then the body. Returns the length; 287 bytes
  * are enough for any message. Ignores `start`, `stop` and the fields of the unused kind of address.
  * Faults: HART_BAD_ADDRESS, HART_LONG_EXPANSION, HART_TOO_SHORT_REPLY, HART_BAD_PREAMBLE, HART_NO_ROOM. */
-hart_outcome hart_encode(const hart_frame *frame, uint8_t preambles, uint8_t *output, size_t output_len);
+hart_outcome hart_encode(const hart_frame *frame, uint8_t preambles, uint8_t *output, hart_size output_len);
 
 /* Returns the check byte of some bytes: their exclusive or. */
-uint8_t hart_check_byte(const uint8_t *bytes, size_t bytes_len);
+uint8_t hart_check_byte(const uint8_t *bytes, hart_size bytes_len);
 
 /* The kinds of fields, and their numbers of bytes. Numbers and floats have the most significant byte first. */
 enum {
@@ -161,30 +191,40 @@ typedef struct hart_field {
 
 /* What was read of the data of a message. */
 typedef struct hart_reading {
-    size_t count;   /* how many fields there are, even if `fields` has room for fewer; elements without a field are unchanged */
-    size_t taken;   /* how many bytes are taken, status bytes included; unless the data are refused, later bytes are ignored */
-    uint8_t code;   /* for a reply its response code; for a request the response code that refuses it, or 0 */
-    uint8_t status; /* for a reply its device status; for a request 0 */
-    uint8_t fault;  /* HART_OK, or why nothing was read; all other numbers are then 0, also `code`, which is then no success */
+    hart_size count; /* how many fields there are, even if `fields` has room for fewer; elements without a field are unchanged */
+    hart_size taken; /* how many bytes are taken, status bytes included; unless the data are refused, later bytes are ignored */
+    uint8_t code;    /* for a reply its response code; for a request the response code that refuses it, or 0 */
+    uint8_t status;  /* for a reply its device status; for a request 0 */
+    uint8_t fault;   /* HART_OK, or why nothing was read; all other numbers are then 0, also `code`, which is then no success */
 } hart_reading;
 
 /* Reads the data of a request of this command, and writes its fields; 16 elements are enough for any data. A refused request has no fields,
  * and no bytes are taken. Its code is the first of these that applies: 64 for an unknown command, 5 for too few bytes, 2 for Command 6 with
- * an address above 63, 12 for Command 6 with a mode above 1, 9 for Command 18 with a bad date. No fault. */
-hart_reading hart_read_request(uint8_t command, const uint8_t *data, size_t data_len, hart_field *fields, size_t fields_len);
+ * an address above 63, 12 for Command 6 with a mode above 1, 9 for Command 18 with a bad date. No fault.
+ * To fill in data, pass 255 zeros: the fields then say where each value goes, and `taken` how long the data are. */
+hart_reading hart_read_request(uint8_t command, const uint8_t *data, hart_size data_len, hart_field *fields, hart_size fields_len);
 
 /* Reads the payload of a reply to this command, status bytes first, and writes its fields; the first field starts at offset 2.
  * A reply with a code other than 0 has no fields. Fault: HART_NO_REPLY if the payload has fewer than two bytes, bit 7 of the first byte is
  * set, the command is unknown, or the code is 0 and the data do not fit the command. */
-hart_reading hart_read_reply(uint8_t command, const uint8_t *payload, size_t payload_len, hart_field *fields, size_t fields_len);
+hart_reading hart_read_reply(uint8_t command, const uint8_t *payload, hart_size payload_len, hart_field *fields, hart_size fields_len);
+
+/* Packs a text into all bytes of `packed`, 6, 12 or 24 of them, four characters in three bytes. Fills it up with spaces to 8, 16 or 32
+ * characters. Returns packed_len. Faults: HART_BAD_LENGTH (of `packed`), HART_TOO_LONG, HART_BAD_CHARACTER (outside 0x20 to 0x5F: lower
+ * case is no packed text). */
+hart_outcome hart_pack_text(const uint8_t *text, hart_size text_len, uint8_t *packed, hart_size packed_len);
+
+/* Writes the 8, 16 or 32 characters of packed text to the front of `text`, without a final 0. Returns their number.
+ * Faults: HART_BAD_LENGTH (of `packed`), HART_NO_ROOM. */
+hart_outcome hart_unpack_text(const uint8_t *packed, hart_size packed_len, uint8_t *text, hart_size text_len);
 
 /* Writes the name of a command to the front of `output`, without a final 0. Returns its length; 64 bytes are enough for any name.
  * Faults: HART_UNKNOWN, HART_NO_ROOM. */
-hart_outcome hart_command_name(uint8_t command, uint8_t *output, size_t output_len);
+hart_outcome hart_command_name(uint8_t command, uint8_t *output, hart_size output_len);
 
 /* Writes the name of a field, without a final 0. hart_read_reply or hart_read_request writes this field at `index`. Returns its length.
  * Faults: HART_UNKNOWN if there is no such command or field, HART_NO_ROOM. */
-hart_outcome hart_field_name(bool is_reply, uint8_t command, size_t index, uint8_t *output, size_t output_len);
+hart_outcome hart_field_name(bool is_reply, uint8_t command, hart_size index, uint8_t *output, hart_size output_len);
 
 /* Devices. Each call of hart_hear gets the identity of the device and its process values. The caller keeps the state of the device in a
  * hart_device, which can be stored as bytes. A float is four bytes, the most significant first. docs/COMMANDS.md names each field. */
@@ -286,8 +326,30 @@ void hart_restart(hart_device *device);
  * request gets a reply with communication faults if its delimiter and its unique address are intact and no character is missing.
  * Faults: HART_OUT_OF_RANGE, HART_BROADCAST_ADDRESS; HART_BAD_LENGTH (0 or above 86), HART_BAD_VERSION, HART_BAD_LENGTH, HART_BAD_FIELD;
  * HART_BAD_VARIABLES; HART_BAD_FAULT_BITS, HART_TOO_LONG (then send nothing); HART_NO_ROOM. A fault changes nothing. */
-hart_outcome hart_hear(const hart_identity *identity, const hart_process *process, const hart_char *heard, size_t heard_len,
-                       hart_device *device, uint8_t *reply, size_t reply_len);
+hart_outcome hart_hear(const hart_identity *identity, const hart_process *process, const hart_char *heard, hart_size heard_len,
+                       hart_device *device, uint8_t *reply, hart_size reply_len);
+
+/* The result of hart_hear_own. */
+typedef struct hart_hearing {
+    hart_size len; /* the length of the reply; 0 if the device is silent, if the request is the caller's, or if there is a fault */
+    bool is_own;   /* true if `asked` is a request that the caller carries out */
+    uint8_t fault; /* HART_OK, or why nothing was done */
+} hart_hearing;
+
+/* Like hart_hear, for a device that knows further commands: those in `own`. If the delivery is a request to the device's unique address with
+ * such a command, which hart_command_name does not know, writes this request to `asked` and changes nothing else. The caller carries it out,
+ * and calls hart_answer. Faults: those of hart_hear. */
+hart_hearing hart_hear_own(const hart_identity *identity, const hart_process *process, const uint8_t *own, hart_size own_len,
+                           const hart_char *heard, hart_size heard_len, hart_device *device, hart_frame *asked, uint8_t *reply,
+                           hart_size reply_len);
+
+/* Writes the reply to such a request, a whole message, to the front of `reply`, and updates the device: this response code, the device
+ * status for the asking master, and at most 253 bytes of data. Clears the cold start bit of this master. If `is_write` is true, counts a
+ * configuration change, and sets the configuration-changed bits of both masters, also in this reply. Returns the length of the reply.
+ * Faults: those of hart_hear for the identity, the device and the process; HART_BAD_ADDRESS, HART_LONG_EXPANSION, HART_TOO_SHORT_REPLY;
+ * HART_NO_REQUEST (not a request that hart_hear_own hands out); HART_BAD_CODE; HART_TOO_LONG; HART_NO_ROOM. A fault changes nothing. */
+hart_outcome hart_answer(const hart_identity *identity, const hart_process *process, const hart_frame *asked, uint8_t code, bool is_write,
+                         const uint8_t *data, hart_size data_len, hart_device *device, uint8_t *reply, hart_size reply_len);
 
 /* Why no reply was accepted. */
 enum {
@@ -313,7 +375,7 @@ typedef struct hart_acceptance {
  * HART_TOO_SHORT_REPLY; HART_NO_REQUEST (a reply, expansion bytes, the burst bit, or data that hart_read_request refuses);
  * HART_WRONG_ADDRESS (a command other than 0 at a polling address, or other than 11 and 21 by broadcast); HART_BAD_FAULT_BITS,
  * HART_TOO_LONG. */
-hart_acceptance hart_accept(const hart_frame *request, const hart_char *heard, size_t heard_len, hart_frame *reply);
+hart_acceptance hart_accept(const hart_frame *request, const hart_char *heard, hart_size heard_len, hart_frame *reply);
 
 /* Like hart_accept, for a frame that hart_find has found: whether this frame is the reply. The reason is never HART_NO_FRAME or
  * HART_SEVERAL_FRAMES. Faults: those of hart_accept for the request; then HART_BAD_ADDRESS, HART_LONG_EXPANSION, HART_TOO_SHORT_REPLY for
@@ -340,7 +402,68 @@ typedef struct hart_unique {
 
 /* Returns the unique address in the payload of a reply to Command 0, 11 or 21 with code 0; the payload begins with its status bytes. For
  * any other payload, or if the address is broadcast, no address is given. No fault. */
-hart_unique hart_unique_of(uint8_t command, const uint8_t *payload, size_t payload_len);
+hart_unique hart_unique_of(uint8_t command, const uint8_t *payload, hart_size payload_len);
+
+/* Masters. The caller keeps the state of a master in a hart_master, one for each line, and decides when to send and what time has passed. A
+ * call changes nothing if it has a fault. */
+
+/* What a master has in hand. */
+enum {
+    HART_IDLE = 0,     /* no request */
+    HART_DUE = 1,      /* a request that is due to be sent, for the first time or again */
+    HART_AWAITING = 2, /* a request that was sent, and whose reply is awaited */
+    HART_ANSWERED = 3  /* a request that was answered: the master takes a new one, or hart_again repeats this one */
+};
+
+/* The state of a master. */
+typedef struct hart_master {
+    hart_frame request;  /* the request in hand; it does not count if `state` is HART_IDLE */
+    uint8_t retries;     /* how often a request is sent again, at most 15 */
+    uint8_t reply_limit; /* how many character times a reply is awaited, at least 1 */
+    uint8_t state;       /* HART_IDLE to HART_ANSWERED */
+    uint8_t sendings;    /* how often the request in hand was sent, at most retries + 1 */
+    uint8_t waited;      /* HART_AWAITING: the character times since it was sent, where 255 is 255 or more */
+} hart_master;
+
+/* What became of the request in hand. */
+enum {
+    HART_EVENT_NONE = 0,     /* nothing new */
+    HART_EVENT_ANSWERED = 1, /* the frame is the reply; the state is then HART_ANSWERED */
+    HART_EVENT_RETRY = 2,    /* the request is due again; the state is then HART_DUE */
+    HART_EVENT_GIVEN_UP = 3  /* the request was sent retries + 1 times and is dropped; the state is then HART_IDLE */
+};
+
+/* The result of a call that may end a request. */
+typedef struct hart_event {
+    uint8_t event;    /* HART_EVENT_NONE to HART_EVENT_GIVEN_UP */
+    uint8_t sendings; /* how often the request was sent that was answered or given up; otherwise 0 */
+    uint8_t fault;    /* HART_OK, or why nothing was done */
+} hart_event;
+
+/* Makes a master with no request in hand, and returns its fault. Fault: HART_BAD_MASTER. */
+uint8_t hart_new_master(uint8_t retries, uint8_t reply_limit, hart_master *master);
+
+/* Takes in hand a request of any command, known or not, and returns its fault. Faults: HART_BAD_MASTER; HART_BAD_ADDRESS,
+ * HART_LONG_EXPANSION, HART_TOO_SHORT_REPLY; HART_NO_REQUEST (a reply, expansion bytes or the burst bit); HART_PENDING (the state is
+ * HART_DUE or HART_AWAITING); HART_WRONG_ADDRESS (a known command that may not be sent to this address). */
+uint8_t hart_submit(const hart_frame *request, hart_master *master);
+
+/* Writes the request that is due as a message to the front of `output`, and awaits the reply from then on. Returns the length of the
+ * message, or 0 if no request is due; 287 bytes are enough. Faults: HART_BAD_MASTER, HART_BAD_PREAMBLE, HART_NO_ROOM. */
+hart_outcome hart_send(uint8_t preambles, hart_master *master, uint8_t *output, hart_size output_len);
+
+/* Receives a frame that was found. HART_EVENT_ANSWERED if a reply is awaited and this is it: hart_matches holds, payload[0] has not bit
+ * 0x80, and the payload of a known command is read by hart_read_reply. Faults: HART_BAD_MASTER; HART_BAD_ADDRESS, HART_LONG_EXPANSION,
+ * HART_TOO_SHORT_REPLY. */
+hart_event hart_receive(const hart_frame *frame, hart_master *master);
+
+/* Lets character times pass, 9.167 ms each at 1,200 bits a second; 255 means 255 or more. If a reply is awaited and reply_limit of them
+ * have passed since the request was sent, the event is HART_EVENT_RETRY or HART_EVENT_GIVEN_UP. Fault: HART_BAD_MASTER. */
+hart_event hart_tick(uint8_t character_times, hart_master *master);
+
+/* Ends the wait for a reply at once, or repeats a request that was answered, as after communication faults or response code 32 (busy):
+ * HART_EVENT_RETRY or HART_EVENT_GIVEN_UP. In the states HART_IDLE and HART_DUE nothing changes. Fault: HART_BAD_MASTER. */
+hart_event hart_again(hart_master *master);
 
 #ifdef __cplusplus
 }

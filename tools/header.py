@@ -8,15 +8,15 @@ TOP = pathlib.Path(__file__).parents[1]
 SOURCES = sorted((TOP / "crates" / "hart_c" / "src").glob("**/*.rt"))
 HEADER = TOP / "include" / "hart.h"
 
-NUMBERS = {"u8": "uint8_t", "u16": "uint16_t", "u32": "uint32_t", "u64": "uint64_t", "usize": "size_t", "bool": "bool"}
+NUMBERS = {"u8": "uint8_t", "u16": "uint16_t", "u32": "uint32_t", "u64": "uint64_t", "usize": "hart_size", "bool": "bool"}
 STRUCT = re.compile(r"^#\[repr\(C\)\]\n(?:#\[[^\n]*\]\n)*pub struct (\w+) \{\n(.*?)^\}$", re.MULTILINE | re.DOTALL)
 FIELD = re.compile(r"^    pub (\w+): (.+),$", re.MULTILINE)
 ARRAY = re.compile(r"\[(\w+); (\d+)\]")
-CONSTANT = re.compile(r"^pub const (HART_\w+): u8 = (\d+);$", re.MULTILINE)
+CONSTANT = re.compile(r"^pub const (HART_\w+): u(?:8|32) = (\w+);$", re.MULTILINE)
 CALL = re.compile(r'^pub extern "C" fn (\w+)\((.*?)\)(?: -> (\w+))?$', re.MULTILINE | re.DOTALL)
 COMMENT = re.compile(r"/\*.*?\*/", re.DOTALL)
 DECLARED_STRUCT = re.compile(r"typedef struct (\w+) \{(.*?)\} \1;", re.DOTALL)
-DECLARED_CONSTANT = re.compile(r"\b(HART_[A-Z_]+) = (\d+)")
+DECLARED_CONSTANT = re.compile(r"(?:#define |\b)(HART_[A-Z_]+) (?:= )?(0x[0-9A-F]+|\d+)")
 DECLARED_CALL = re.compile(r"^([\w ]+?) ?(hart_\w+)\(([^)]*)\);", re.MULTILINE)
 
 
@@ -38,7 +38,7 @@ def c_parameters(name, kind):
     changes = kind.startswith("&mut ")
     target = kind.removeprefix("&").removeprefix("mut ")
     pointer = f"{'' if changes else 'const '}{c_name(target.strip('[]'))} *{name}"
-    return [pointer, f"size_t {name}_len"] if target.startswith("[") else [pointer]
+    return [pointer, f"hart_size {name}_len"] if target.startswith("[") else [pointer]
 
 
 def parameters_of(text):
@@ -66,7 +66,7 @@ def of_header():
     """What the header declares, in the same form."""
     text = COMMENT.sub("", HEADER.read_text(encoding="utf-8"))
     structs = {name: [words(field) for field in body.split(";") if field.strip()] for name, body in DECLARED_STRUCT.findall(text)}
-    calls = {name: (words(result), [words(parameter) for parameter in parameters.split(",")])
+    calls = {name: (words(result), [words(parameter) for parameter in parameters.split(",") if parameter != "void"])
              for result, name, parameters in DECLARED_CALL.findall(text)}
     return structs, dict(DECLARED_CONSTANT.findall(text)), calls
 

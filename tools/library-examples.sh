@@ -3,7 +3,8 @@
 # tools/library_calls.c says with its rows. Measures the stack of calls, and makes random calls, which have to give the same on each
 # target. Then it builds the examples without a warning, and runs them. On captures they have to
 # print just what the program does, whether a capture comes at once or byte by byte. The example of fields has to print what is
-# written here, and the device examples have to reply just as the program does, for hart-bench too.
+# written here, and the device examples have to reply just as the program does, for hart-bench too. The gateway has to read the devices at a
+# bad line.
 #
 # A C compiler and Python are needed. C++ and Rust are tried where they are found, and so are the sanitizers of the C compiler.
 #
@@ -81,6 +82,12 @@ build_shared tools/library_calls.c
 LD_LIBRARY_PATH="$work" "$work/library_calls_shared"
 echo "each call of the library did what tools/library_calls.c says"
 
+# The examples in C of docs/LIBRARY.md, in one program, which checks what each does.
+python3 tools/library_page.py >"$work/page.c"
+build "$work/page.c" -Itools
+"$work/page"
+echo "the examples of docs/LIBRARY.md did what the page says"
+
 # No call may take more stack than tools/library_stack.c allows.
 if [ -z "$target" ]; then
     build tools/library_stack.c
@@ -137,7 +144,9 @@ hold env LD_LIBRARY_PATH="$work" "$work/messages_shared"
 build examples/c/device.c
 talk
 echo 'int main(void) { return 0; }' >"$work/nothing.c"
+checks=
 if build "$work/nothing.c" $sanitized 2>"$work/said"; then
+    checks=$sanitized
     build examples/c/messages.c $sanitized
     hold "$work/messages"
     build examples/c/device.c $sanitized
@@ -147,6 +156,11 @@ if build "$work/nothing.c" $sanitized 2>"$work/said"; then
 else
     echo "no sanitizers: the calls and the examples in C were not run under them"
 fi
+# A gateway and two devices, one of which has commands of its own, at a line on which messages are lost and damaged.
+build examples/c/own_command.c $checks
+build examples/c/gateway.c $checks
+timeout 600 python3 tools/bad_line.py "$work/gateway" "$work/device" "$work/own_command"
+ran=$((ran + 2))
 # A reply of Command 1, Command 11 with too few data, and a write.
 cat >"$work/fields" <<'FIELDS'
 reply, Command 1, read primary variable, code 0

@@ -127,6 +127,59 @@ static void a_device_answers_and_is_kept(void)
     check(is_outcome(refused, 0, HART_BAD_FIELD) && is_kept, __func__, "hart_new_device", 1);
 }
 
+/* The bench device hears a row, and answers what is handed out. While a request is handed out, neither the device nor the
+ * output changes. */
+static void hear_own(const struct own_row *want, const hart_identity *identity, const hart_process *process,
+                     hart_device *device, size_t row)
+{
+    static const uint8_t own[] = {1, 128};
+    hart_char heard[LONGEST] = {{0}};
+    uint8_t data[LONGEST] = {0};
+    uint8_t reply[LONGEST] = {0};
+    uint8_t none[LONGEST] = {0};
+    uint8_t sent[LONGEST] = {0};
+    hart_frame asked = {0};
+    hart_device before = *device;
+    size_t heard_len = read_characters(want->heard, heard);
+    size_t data_len = read_bytes(want->data, data);
+    size_t sent_len = read_bytes(want->reply, sent);
+    hart_hearing said = hart_hear_own(identity, process, own, sizeof own, heard, heard_len, device, &asked, reply,
+                                      sizeof reply);
+    check(said.is_own == want->is_own && said.fault == HART_OK, __func__, "hart_hear_own", row);
+    if (said.is_own) {
+        bool is_left = memcmp(device, &before, sizeof before) == 0 && memcmp(reply, none, sizeof none) == 0;
+        check(is_left && said.len == 0 && asked.command == 128 && asked.start == 5, __func__, "hart_hear_own", row);
+        hart_outcome answered = hart_answer(identity, process, &asked, want->code, want->is_write, data, data_len, device,
+                                            reply, sizeof reply);
+        check(answered.fault == want->fault, __func__, "hart_answer", row);
+        said.len = answered.len;
+    }
+    check(said.len == sent_len && memcmp(reply, sent, sizeof sent) == 0, __func__, "hart_answer", row);
+}
+
+static void a_maker_answers_commands_of_its_own(void)
+{
+    hart_identity identity = {0};
+    hart_process process = {0};
+    hart_registers registers = {0};
+    hart_device device = {.primary_cold_start = true, .secondary_cold_start = true};
+    uint8_t data[LONGEST] = {0};
+    uint8_t reply[LONGEST] = {0};
+    hart_bench_identity(&identity);
+    hart_bench_process(&process);
+    hart_bench_registers(&registers);
+    hart_new_device(&registers, &device);
+    for (size_t row = 0; row < ROWS(own_rows); row++)
+        hear_own(&own_rows[row], &identity, &process, &device, row);
+    hart_frame asked = {.is_primary = true, .is_unique = true, .expanded_type = 0x3742, .device_id = 0x0A1B2C};
+    asked.command = 128;
+    hart_outcome said = hart_answer(&identity, &process, &asked, 0, true, data, 254, &device, reply, sizeof reply);
+    check(is_outcome(said, 0, HART_TOO_LONG), __func__, "hart_answer", ROWS(own_rows));
+    asked.command = 1;
+    said = hart_answer(&identity, &process, &asked, 0, true, data, 0, &device, reply, sizeof reply);
+    check(is_outcome(said, 0, HART_NO_REQUEST), __func__, "hart_answer", ROWS(own_rows) + 1);
+}
+
 static bool is_acceptance(hart_acceptance told, hart_acceptance want)
 {
     return told.is_accepted == want.is_accepted && told.code == want.code && told.status == want.status &&
@@ -181,6 +234,50 @@ static void a_reply_is_matched_frame_by_frame(void)
     check(!bad.is_reply && bad.fault == HART_NO_REQUEST, __func__, "hart_matches", ROWS(match_rows) + 1);
 }
 
+/* Lets a master take a step, and returns what it tells. */
+static hart_event take_step(const struct master_row *want, hart_master *master, size_t *len)
+{
+    hart_frame request = {.is_primary = true, .command = want->number};
+    uint8_t message[LONGEST] = {0};
+    hart_frame found = {0};
+    hart_outcome sent;
+    switch (want->step) {
+    case SUBMIT:
+        return (hart_event){.fault = hart_submit(&request, master)};
+    case SEND:
+        sent = hart_send(want->number, master, message, sizeof message);
+        *len = sent.len;
+        return (hart_event){.fault = sent.fault};
+    case RECEIVE:
+        *len = read_bytes(want->found, message);
+        *len = hart_find_in_bytes(message, *len, true, &found, 1).count - 1;
+        return hart_receive(&found, master);
+    case TICK:
+        return hart_tick(want->number, master);
+    default:
+        return hart_again(master);
+    }
+}
+
+static void a_master_sends_until_it_is_answered(void)
+{
+    hart_master master = {.retries = 9};
+    check(hart_new_master(16, 33, &master) == HART_BAD_MASTER && master.retries == 9, __func__, "hart_new_master", 0);
+    check(hart_again(&master).fault == HART_BAD_MASTER, __func__, "hart_again", 0);
+    check(hart_new_master(1, 33, &master) == HART_OK && master.retries == 1, __func__, "hart_new_master", 1);
+    for (size_t row = 0; row < ROWS(master_rows); row++) {
+        const struct master_row *want = &master_rows[row];
+        size_t len = 0;
+        hart_event told = take_step(want, &master, &len);
+        bool is_told =
+            told.event == want->told.event && told.sendings == want->told.sendings && told.fault == want->told.fault;
+        bool is_kept = master.state == want->state && master.sendings == want->sendings &&
+                       master.waited == want->waited && master.retries == 1 && master.reply_limit == 33;
+        check(is_told && is_kept && len == want->len, __func__, "hart_submit, hart_send, hart_receive, ..", row);
+    }
+    check(master.request.command == 0 && master.request.is_primary, __func__, "hart_submit", ROWS(master_rows));
+}
+
 static void each_number_has_its_place(void)
 {
     hart_device device = {.primary_cold_start = true, .secondary_cold_start = true};
@@ -225,6 +322,48 @@ static void faults_of_characters_are_heard(void)
     }
 }
 
+static void marks_of_a_port_are_read(void)
+{
+    for (size_t row = 0; row < ROWS(mark_rows); row++) {
+        const struct mark_row *want = &mark_rows[row];
+        uint8_t delivered[LONGEST] = {0};
+        uint8_t bytes[LONGEST] = {0};
+        uint8_t faults[LONGEST] = {0};
+        hart_char heard[LONGEST] = {{0}};
+        size_t len = read_bytes(want->delivered, delivered);
+        hart_unmarked told = hart_unmark(delivered, len, heard, want->room);
+        read_bytes(want->bytes, bytes);
+        read_bytes(want->faults, faults);
+        bool holds = told.used == want->told.used && told.len == want->told.len;
+        for (size_t i = 0; i < LONGEST; i++)
+            holds = holds && heard[i].byte == bytes[i] && heard[i].faults == faults[i];
+        check(holds, __func__, "hart_unmark", row);
+    }
+}
+
+static void texts_are_packed_and_unpacked(void)
+{
+    for (size_t row = 0; row < ROWS(text_rows); row++) {
+        const struct text_row *want = &text_rows[row];
+        uint8_t packed[LONGEST] = {0};
+        uint8_t bytes[LONGEST] = {0};
+        uint8_t text[LONGEST] = {0};
+        read_bytes(want->packed, bytes);
+        hart_outcome told =
+            hart_pack_text((const uint8_t *)want->text, strlen(want->text), packed, want->packed_len);
+        bool is_packed = memcmp(packed, bytes, sizeof packed) == 0;
+        check(is_outcome(told, want->told.len, want->told.fault) && is_packed, __func__, "hart_pack_text", row);
+        if (told.fault != HART_OK)
+            continue;
+        told = hart_unpack_text(packed, want->packed_len, text, sizeof text);
+        bool is_text = strcmp((const char *)text, want->unpacked) == 0;
+        check(is_outcome(told, strlen(want->unpacked), HART_OK) && is_text, __func__, "hart_unpack_text", row);
+        told = hart_unpack_text(packed, want->packed_len, text, 7);
+        check(is_outcome(told, 0, HART_NO_ROOM), __func__, "hart_unpack_text", row);
+    }
+    check(hart_version() == HART_VERSION, __func__, "hart_version", 0);
+}
+
 /* What hart.h defines in C: a text for each fault that has a number, and floats as bytes. */
 static void faults_have_texts_and_floats_have_bytes(void)
 {
@@ -246,10 +385,14 @@ int main(void)
     faults_have_texts_and_floats_have_bytes();
     data_are_read_and_named();
     a_device_answers_and_is_kept();
+    a_maker_answers_commands_of_its_own();
     a_reply_is_accepted_and_gives_an_address();
     a_reply_is_matched_frame_by_frame();
+    a_master_sends_until_it_is_answered();
     each_number_has_its_place();
     a_message_is_found_read_and_written();
     faults_of_characters_are_heard();
+    marks_of_a_port_are_read();
+    texts_are_packed_and_unpacked();
     return has_failed ? 1 : 0;
 }

@@ -35,8 +35,12 @@ _Static_assert(HART_OK == 0 && HART_TOO_SHORT_REPLY == 1 && HART_BAD_PREAMBLE ==
                    HART_NO_REPLY == 14 && HART_UNKNOWN == 15 && HART_OUT_OF_RANGE == 16 &&
                    HART_BROADCAST_ADDRESS == 17 && HART_BAD_VERSION == 18 && HART_BAD_LENGTH == 19 &&
                    HART_BAD_FIELD == 20 && HART_BAD_VARIABLES == 21 && HART_TOO_LONG == 22 && HART_NO_REQUEST == 23 &&
-                   HART_WRONG_ADDRESS == 24,
+                   HART_WRONG_ADDRESS == 24 && HART_PENDING == 25 && HART_BAD_MASTER == 26 &&
+                   HART_BAD_CODE == 27 && HART_BAD_CHARACTER == 28,
                "the numbers of faults");
+_Static_assert(HART_IDLE == 0 && HART_DUE == 1 && HART_AWAITING == 2 && HART_ANSWERED == 3 && HART_EVENT_NONE == 0 &&
+                   HART_EVENT_ANSWERED == 1 && HART_EVENT_RETRY == 2 && HART_EVENT_GIVEN_UP == 3,
+               "the numbers of states and events");
 _Static_assert(HART_NO_REASON == 0 && HART_NO_FRAME == 1 && HART_SEVERAL_FRAMES == 2 && HART_OTHER_FRAME == 3 &&
                    HART_COMMUNICATION_FAULTS == 4 && HART_UNFIT_DATA == 5,
                "the numbers of reasons");
@@ -48,7 +52,8 @@ _Static_assert(HART_BYTES == 0 && HART_NUMBER == 1 && HART_PACKED_TEXT == 2 && H
 _Static_assert(sizeof(hart_frame) == 288 && sizeof(hart_field) == 3 && sizeof(hart_device) == 89, "padding");
 
 /* Each fault that a call may return. */
-static const uint8_t fault_numbers[] = {0, 1, 2, 3, 4, 5, 6, 10, 11, 12, 13, 14, 15, 16, 17, 18, 19, 20, 21, 22, 23, 24};
+static const uint8_t fault_numbers[] = {0,  1,  2,  3,  4,  5,  6,  10, 11, 12, 13, 14,
+                                        15, 16, 17, 18, 19, 20, 21, 22, 23, 24, 25, 26, 27, 28};
 
 /* A number, and its four bytes by IEEE 754. */
 struct float_row {
@@ -228,6 +233,9 @@ static const struct turn other_turns[] = {
 #define NO_IDENTITY "FF FF 06 80 00 03 00 00 01 84"
 #define OF_COMMAND_1 "FF FF 06 80 01 02 05 00 80"
 
+/* A reply to Command 128 of polling address 0. */
+#define OF_COMMAND_128 "FF FF 06 80 80 02 00 00 04"
+
 /* The command and the burst bit of a request to polling address 0, what is heard after it, what is told of that, and
  * which frame is then shown, which is the one before if none is accepted. */
 struct acceptance_row {
@@ -267,9 +275,108 @@ static const struct match_row match_rows[] = {
     {0, OF_COMMAND_1, {false, HART_OK}, {false, 0, 0, HART_OK, HART_OTHER_FRAME}},
     {1, OF_COMMAND_1, {true, HART_OK}, {false, 0, 0, HART_WRONG_ADDRESS, HART_NO_REASON}},
     {0, "FF FF 02 80 00 00 82", {false, HART_OK}, {false, 0, 0, HART_OK, HART_OTHER_FRAME}},
-    {128, "FF FF 06 80 80 02 00 00 04", {true, HART_OK}, {false, 0, 0, HART_NO_REQUEST, HART_NO_REASON}},
+    {128, OF_COMMAND_128, {true, HART_OK}, {false, 0, 0, HART_NO_REQUEST, HART_NO_REASON}},
     {128, "FF FF 06 00 80 02 00 00 84", {false, HART_OK}, {false, 0, 0, HART_NO_REQUEST, HART_NO_REASON}},
     {128, "FF FF 06 81 80 02 00 00 05", {false, HART_OK}, {false, 0, 0, HART_NO_REQUEST, HART_NO_REASON}},
+};
+
+/* What a master with one retry and a reply limit of 33 is told to do, what it tells, and its state after that. */
+enum step { SUBMIT, SEND, RECEIVE, TICK, AGAIN };
+struct master_row {
+    enum step step;
+    uint8_t number;    /* SUBMIT: the command; SEND: how many preamble bytes; TICK: how many character times */
+    const char *found; /* RECEIVE: a frame */
+    hart_event told;   /* the event, the sendings, the fault */
+    size_t len;        /* SEND: the length of the message */
+    uint8_t state;
+    uint8_t sendings;
+    uint8_t waited;
+};
+
+static const struct master_row master_rows[] = {
+    {SUBMIT, 1, "", {0, 0, HART_WRONG_ADDRESS}, 0, HART_IDLE, 0, 0},
+    {SEND, 20, "", {0, 0, HART_OK}, 0, HART_IDLE, 0, 0},
+    {AGAIN, 0, "", {HART_EVENT_NONE, 0, HART_OK}, 0, HART_IDLE, 0, 0},
+    {SUBMIT, 0, "", {0, 0, HART_OK}, 0, HART_DUE, 0, 0},
+    {SUBMIT, 128, "", {0, 0, HART_PENDING}, 0, HART_DUE, 0, 0},
+    {SEND, 4, "", {0, 0, HART_BAD_PREAMBLE}, 0, HART_DUE, 0, 0},
+    {TICK, 255, "", {HART_EVENT_NONE, 0, HART_OK}, 0, HART_DUE, 0, 0},
+    {SEND, 5, "", {0, 0, HART_OK}, 10, HART_AWAITING, 1, 0},
+    {RECEIVE, 0, OF_COMMAND_1, {HART_EVENT_NONE, 0, HART_OK}, 0, HART_AWAITING, 1, 0},
+    {RECEIVE, 0, DAMAGED, {HART_EVENT_NONE, 0, HART_OK}, 0, HART_AWAITING, 1, 0},
+    {AGAIN, 0, "", {HART_EVENT_RETRY, 0, HART_OK}, 0, HART_DUE, 1, 0},
+    {SEND, 6, "", {0, 0, HART_OK}, 11, HART_AWAITING, 2, 0},
+    {TICK, 32, "", {HART_EVENT_NONE, 0, HART_OK}, 0, HART_AWAITING, 2, 32},
+    {RECEIVE, 0, IDENTITY, {HART_EVENT_ANSWERED, 2, HART_OK}, 0, HART_ANSWERED, 2, 0},
+    {RECEIVE, 0, IDENTITY, {HART_EVENT_NONE, 0, HART_OK}, 0, HART_ANSWERED, 2, 0},
+    {TICK, 255, "", {HART_EVENT_NONE, 0, HART_OK}, 0, HART_ANSWERED, 2, 0},
+    {AGAIN, 0, "", {HART_EVENT_GIVEN_UP, 2, HART_OK}, 0, HART_IDLE, 0, 0},
+    {SUBMIT, 128, "", {0, 0, HART_OK}, 0, HART_DUE, 0, 0},
+    {SEND, 5, "", {0, 0, HART_OK}, 10, HART_AWAITING, 1, 0},
+    {TICK, 33, "", {HART_EVENT_RETRY, 0, HART_OK}, 0, HART_DUE, 1, 0},
+    {SEND, 5, "", {0, 0, HART_OK}, 10, HART_AWAITING, 2, 0},
+    {TICK, 255, "", {HART_EVENT_GIVEN_UP, 2, HART_OK}, 0, HART_IDLE, 0, 0},
+    {SUBMIT, 128, "", {0, 0, HART_OK}, 0, HART_DUE, 0, 0},
+    {SEND, 5, "", {0, 0, HART_OK}, 10, HART_AWAITING, 1, 0},
+    {RECEIVE, 0, OF_COMMAND_128, {HART_EVENT_ANSWERED, 1, HART_OK}, 0, HART_ANSWERED, 1, 0},
+    {SUBMIT, 0, "", {0, 0, HART_OK}, 0, HART_DUE, 0, 0},
+};
+
+/* What the bench device hears, whose own command is 128, and what it replies; or that a request is handed out, how it is
+ * answered, and what is told of that. */
+struct own_row {
+    const char *heard;
+    bool is_own;
+    uint8_t code;
+    bool is_write;
+    const char *data;
+    uint8_t fault; /* of the answer */
+    const char *reply;
+};
+
+static const struct own_row own_rows[] = {
+    {TO_BENCH "80 00 CA", true, 0, false, "12 34", HART_OK, FROM_BENCH "80 04 00 00 12 34 EC"},
+    {TO_BENCH "81 00 CB", false, 0, false, "", HART_OK, FROM_BENCH "81 02 40 00 8D"},
+    {TO_BENCH "80 00 CA", true, 0, true, "", HART_OK, FROM_BENCH "80 02 00 40 8C"},
+    {TO_BENCH "01 00 4B", false, 0, false, "", HART_OK, FROM_BENCH "01 07 00 40 20 41 C8 00 00 A1"},
+    {TO_BENCH "80 00 CA", true, 128, true, "", HART_BAD_CODE, ""},
+    {TO_BENCH "80 00 CA", true, 5, false, "", HART_OK, FROM_BENCH "80 02 05 40 89"},
+    {"FF FF FF FF FF 02 80 80 00 02", false, 0, false, "", HART_OK, ""},
+};
+
+/* What a port delivers, how much room there is, and what comes of it: the bytes of the characters and their faults. */
+struct mark_row {
+    const char *delivered;
+    size_t room;
+    hart_unmarked told; /* how many bytes are used up, how many characters there are */
+    const char *bytes;
+    const char *faults;
+};
+
+static const struct mark_row mark_rows[] = {
+    {"FF FF FF FF 82 FF 00 B7 00", 8, {9, 5}, "FF FF 82 B7 00", "00 00 00 40 00"},
+    {"82 FF 00", 8, {1, 1}, "82", "00"},
+    {"82 FF", 8, {1, 1}, "82", "00"},
+    {"FF 00 00 FF 41", 8, {5, 2}, "00 41", "40 00"},
+    {"01 02 03", 2, {2, 2}, "01 02", "00 00"},
+    {"", 8, {0, 0}, "", ""},
+};
+
+/* A text, the length of its packed form, what is told, and the packed bytes. */
+struct text_row {
+    const char *text;
+    size_t packed_len;
+    hart_outcome told;
+    const char *packed;
+    const char *unpacked;
+};
+
+static const struct text_row text_rows[] = {
+    {"PUMP-7", 6, {6, HART_OK}, "41 53 50 B7 78 20", "PUMP-7  "},
+    {"", 6, {6, HART_OK}, "82 08 20 82 08 20", "        "},
+    {"NINE CHAR", 6, {0, HART_TOO_LONG}, "", ""},
+    {"pump", 6, {0, HART_BAD_CHARACTER}, "", ""},
+    {"PUMP", 7, {0, HART_BAD_LENGTH}, "", ""},
 };
 
 /* The fault bits of character 10 of a message, what is told of the search, and where the frame stops that is shown. */

@@ -23,6 +23,7 @@ static uint8_t bytes[LONGEST];
 static hart_char heard[LONGEST];
 static size_t len;
 static hart_frame frames[4], request, reply;
+static hart_master master;
 static hart_field fields[16];
 static uint8_t output[287];
 
@@ -51,9 +52,27 @@ static void hear(void)
     hart_hear(&identity, &process, heard, len, &device, output, sizeof output);
 }
 
+static void hear_own(void)
+{
+    static const uint8_t own[] = {200};
+    hart_hear_own(&identity, &process, own, sizeof own, heard, len, &device, &reply, output, sizeof output);
+    hart_answer(&identity, &process, &reply, 0, false, bytes, 253, &device, output, sizeof output);
+}
+
 static void accept(void)
 {
     hart_accept(&request, heard, len, &reply);
+}
+
+/* Takes a request in hand, sends it, receives what was found, and lets time pass. */
+static void exchange(void)
+{
+    hart_new_master(0, 33, &master);
+    hart_submit(&request, &master);
+    hart_send(20, &master, output, sizeof output);
+    hart_receive(&reply, &master);
+    hart_tick(255, &master);
+    hart_again(&master);
 }
 
 static void new_device(void)
@@ -88,6 +107,7 @@ static struct measure {
     {"hart_hear", hear, 9216, 0},                   {"hart_accept", accept, 6144, 0},
     {"hart_new_device", new_device, 4096, 0},       {"hart_read_reply", read_reply, 4096, 0},
     {"hart_read_request", read_request, 4096, 0},   {"hart_field_name", field_name, 4096, 0},
+    {"a master", exchange, 6144, 0},                {"hart_hear_own, hart_answer", hear_own, 10240, 0},
 };
 
 /* The stack on which a call runs. */

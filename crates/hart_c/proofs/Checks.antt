@@ -1,5 +1,6 @@
 -- Which fault a list of checks has.
-use Rattle.std.proofs.Common.{◌≡◌, inl, inr, List, [], ◌∷◌, ◌++◌, sym, ◌∙◌}
+use Rattle.std.proofs.Common.{◌≡◌, inl, inr, ℕ, List, [], ◌∷◌, ◌++◌, Result, Ok, Err, sym, ◌∙◌}
+use Rattle.std.specs.Prelude.{IfErr, IfOk}
 use Rattle.hart_c.specs.Faults.{AllPass, Check, IsFirstOf, needs, refused_if}
 use Rattle.hart_c.specs.declared.fault.Fault.{Fault}
 
@@ -43,3 +44,14 @@ pub first_after : (checks others : List Check) (fault : Fault) → AllPass check
     → IsFirstOf (checks ++ others) fault
 first_after [] others fault passed why = why
 first_after (check ∷ checks) others fault passed why = inr (passed.0, first_after checks others fault passed.1 why)
+
+-- what follows from two facts about a number of bytes holds if both hold unless there is a fault
+pub if_ok : (result : Result ℕ Fault) (P Q R : ℕ → Type 0) → ((len : ℕ) → P len → Q len → R len) → IfOk result P → IfOk result Q
+    → IfOk result R
+if_ok (Ok len) P Q R follows first second = follows len first second
+if_ok (Err fault) P Q R follows first second = tt
+
+-- what follows from a fact about a fault holds if the fact holds unless there is none
+pub if_err : (result : Result ℕ Fault) (P Q : Fault → Type 0) → ((fault : Fault) → P fault → Q fault) → IfErr result P → IfErr result Q
+if_err (Ok len) P Q follows refused = tt
+if_err (Err fault) P Q follows refused = follows fault refused

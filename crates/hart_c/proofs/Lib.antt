@@ -1,3 +1,5 @@
 mod Kept
 mod Checks
 mod Accepted
+mod Masters
+mod Said

@@ -3,7 +3,7 @@ use Rattle.std.specs.Prelude.{◌≡◌, ◌⊎◌, ℕ, Result, Ok, Err, List, 
 use Rattle.hart_frame.specs.wire.FaultNumbers.{frame_fault_number}
 use Rattle.hart_device.specs.declared.fault.DeviceFault.TheVariants.{BadField, BadLength, BadVersion, BroadcastAddress, OutOfRange}
 use Rattle.hart_c.specs.declared.fault.Fault.TheVariants.{BadAddress, BadFaultBits, BadVariables, LongExpansion, NoRequest, WrongAddress}
-use Rattle.hart_c.specs.declared.fault.Fault.TheVariants.{Device, Frame, NoRoom, TooLong}
+use Rattle.hart_c.specs.declared.fault.Fault.TheVariants.{BadCharacter, BadCode, BadMaster, Device, Frame, NoRoom, Pending, TooLong}
 use Rattle.hart_c.specs.declared.{fault.Fault.Fault, fault.HartOutcome.HartOutcome}
 
 -- The number in C of each `Fault`. The faults of frames have the same numbers as in hart_frame.
@@ -22,6 +22,15 @@ number_of BadVariables = 21
 number_of TooLong = 22
 number_of NoRequest = 23
 number_of WrongAddress = 24
+number_of Pending = 25
+number_of BadMaster = 26
+number_of BadCode = 27
+number_of BadCharacter = 28
+
+-- A call that only succeeds or fails returns 0 or the number of its fault.
+abbrev pub number_of_result : Result (Unit {0}) Fault → ℕ
+number_of_result (Ok done) = 0
+number_of_result (Err fault) = number_of fault
 
 -- Without a fault, the result has the number of bytes that were written or read. With a fault, the result has the number of the fault.
 abbrev pub outcome_of : Result ℕ Fault → HartOutcome

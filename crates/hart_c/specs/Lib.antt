@@ -1,8 +1,12 @@
 pub mod Faults
 pub mod Numbers
 pub mod Messages
+pub mod Texts
 pub mod Find
+pub mod Marks
 pub mod Data
 pub mod Device
+pub mod Own
 pub mod Acceptance
 pub mod Master
+pub mod FrameMaster

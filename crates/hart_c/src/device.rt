@@ -1,5 +1,5 @@
 //! A device that the caller keeps as its image and its cold start bits.
-ghost use Rattle.std.specs.Prelude.{◌≡◌, true, IfErr, IfOk, OnErr, length};
+ghost use Rattle.std.specs.Prelude.{◌≡◌, true, IfErr, IfOk, OnErr, length, option_map};
 ghost use Rattle.hart_frame.specs.wire.Message.{IsPreambleCount};
 ghost use Rattle.hart_device.specs.Device.{DeviceState, IsDevice, restarted};
 ghost use Rattle.hart_device.specs.declared.identity_parts.IdentityParts.{IdentityParts};
@@ -87,7 +87,7 @@ pub extern "C" fn hart_hear(
 }
 
 /// Lets a device hear a delivery, and returns the length of its reply.
-fn hear(
+pub(crate) fn hear(
     identity: &HartIdentity,
     process: &HartProcess,
     heard: &[HartChar],
@@ -108,7 +108,7 @@ fn hear(
 }
 
 /// Writes the reply of a device in this state as [`say`] does, and then writes to `device` what the caller keeps of the device.
-fn say_and_keep(
+pub(crate) fn say_and_keep(
     said: Option<Frame>,
     state: &Device<ImageRegisters>,
     reply: &mut [u8],
@@ -122,13 +122,16 @@ fn say_and_keep(
     ensures same { OnErr result (device.new ≡ device.old) }
     ensures device { IsDevice state.now }
 {
-    let len = say(said, state.response_preambles(), reply)?;
+    let len = say(said.as_ref(), state.response_preambles(), reply)?;
     keep(state, device);
     Ok(len)
 }
 
 /// Returns the device whose state the caller keeps.
-fn kept_state(identity: &HartIdentity, device: &HartDevice) -> Result<Device<ImageRegisters>, Fault>
+pub(crate) fn kept_state(
+    identity: &HartIdentity,
+    device: &HartDevice,
+) -> Result<Device<ImageRegisters>, Fault>
     ensures kept { IfOk result (IsKept (parts_of identity.now) device.now) }
     ensures refused { IfErr result (IsFirstOf (state_checks identity.now device.now)) }
 {
@@ -154,17 +157,18 @@ fn keep(state: &Device<ImageRegisters>, device: &mut HartDevice)
     device.secondary_cold_start = state.cold_start(MasterId::Secondary);
 }
 
-/// Writes the reply of a device as a message to the front of `output`, and returns its length, or 0 if the device is silent.
-fn say(said: Option<Frame>, preambles: u8, output: &mut [u8]) -> Result<usize, Fault>
+/// Writes the frame that a device or a master sends, as a message, to the front of `output`. Returns its length, or 0 if no frame is sent.
+pub(crate) fn say(said: Option<&Frame>, preambles: u8, output: &mut [u8]) -> Result<usize, Fault>
     requires { IsPreambleCount preambles }
-    ensures said { IfOk result (IsWritten (IsSaid said preambles) output.old output.new) }
-    ensures refused { IfErr result (λ fault. (fault ≡ Fault.NoRoom) × HasNoRoom (IsSaid said preambles) (length output.old)) }
+    ensures said { IfOk result (IsWritten (IsSaid (option_map (λ frame. frame.now) said.entry) preambles) output.old output.new) }
+    ensures refused { IfErr result (λ fault. (fault ≡ Fault.NoRoom)
+        × HasNoRoom (IsSaid (option_map (λ frame. frame.now) said.entry) preambles) (length output.old)) }
     ensures unchanged { OnErr result (output.new ≡ output.old) }
 {
     let Some(frame) = said else {
         return Ok(0);
     };
     let mut message = Message::new();
-    encode(&frame, preambles, &mut message).unwrap();
+    encode(frame, preambles, &mut message).unwrap();
     put(message.as_slice(), output)
 }

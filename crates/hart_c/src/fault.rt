@@ -1,7 +1,7 @@
 //! The faults of calls, as numbers for C.
 ghost use Rattle.std.specs.Prelude.{◌≡◌};
 ghost use Rattle.hart_frame.specs.wire.FaultNumbers.{frame_fault_number};
-ghost use Rattle.hart_c.specs.Faults.{number_of};
+ghost use Rattle.hart_c.specs.Faults.{number_of, number_of_result};
 
 use hart_device::DeviceFault;
 use hart_frame::FrameFault;
@@ -54,7 +54,7 @@ pub const HART_BROADCAST_ADDRESS: u8 = 17;
 /// An image of an unknown version.
 pub const HART_BAD_VERSION: u8 = 18;
 
-/// An image with no bytes or more than 86, or with the wrong length for its version.
+/// An image with no bytes or more than 86, or with the wrong length for its version; also packed text of other than 6, 12 or 24 bytes.
 pub const HART_BAD_LENGTH: u8 = 19;
 
 /// A register would hold bytes that are not valid in it, or the flags of an image are above 7.
@@ -63,7 +63,7 @@ pub const HART_BAD_FIELD: u8 = 20;
 /// A process without a dynamic variable, or with more than four.
 pub const HART_BAD_VARIABLES: u8 = 21;
 
-/// More than 1,024 characters are heard at once.
+/// More than 1,024 characters are heard at once, or a reply would have more data than it can.
 pub const HART_TOO_LONG: u8 = 22;
 
 /// A frame that is no request of a master.
@@ -71,6 +71,18 @@ pub const HART_NO_REQUEST: u8 = 23;
 
 /// A request that may not be sent to this address.
 pub const HART_WRONG_ADDRESS: u8 = 24;
+
+/// A request is in hand already.
+pub const HART_PENDING: u8 = 25;
+
+/// More than 15 retries, a reply limit of 0, or a kept master that no call leaves so.
+pub const HART_BAD_MASTER: u8 = 26;
+
+/// A response code above 127.
+pub const HART_BAD_CODE: u8 = 27;
+
+/// A character that packed text does not have.
+pub const HART_BAD_CHARACTER: u8 = 28;
 
 /// The result of a call: how many bytes were written or read, or the fault.
 #[repr(C)]
@@ -99,12 +111,20 @@ pub(crate) enum Fault {
     Device(DeviceFault),
     /// A process has no dynamic variable, or more than four.
     BadVariables,
-    /// There are more than 1,024 characters.
+    /// There are more than 1,024 characters, or more data than a reply can have.
     TooLong,
     /// The frame is no request of a master.
     NoRequest,
     /// The request may not be sent to this address.
     WrongAddress,
+    /// A request is in hand already.
+    Pending,
+    /// There are more than 15 retries, the reply limit is 0, or no call leaves a kept master so.
+    BadMaster,
+    /// A response code is above 127.
+    BadCode,
+    /// Packed text does not have a character.
+    BadCharacter,
 }
 
 impl Fault {
@@ -123,6 +143,10 @@ impl Fault {
             Fault::TooLong => HART_TOO_LONG,
             Fault::NoRequest => HART_NO_REQUEST,
             Fault::WrongAddress => HART_WRONG_ADDRESS,
+            Fault::Pending => HART_PENDING,
+            Fault::BadMaster => HART_BAD_MASTER,
+            Fault::BadCode => HART_BAD_CODE,
+            Fault::BadCharacter => HART_BAD_CHARACTER,
         }
     }
 }
@@ -151,5 +175,15 @@ pub(crate) fn number_of_frame_fault(fault: FrameFault) -> u8
         FrameFault::Truncated => HART_TRUNCATED,
         FrameFault::BadCheck => HART_BAD_CHECK,
         FrameFault::ShortReply => HART_SHORT_REPLY,
+    }
+}
+
+/// Returns the result of a call that only succeeds or fails, as a number for C: 0, or the number of the fault.
+pub(crate) fn number_of_result(done: Result<(), Fault>) -> u8
+    ensures { result ≡ number_of_result done }
+{
+    match done {
+        Ok(()) => HART_OK,
+        Err(fault) => fault.number(),
     }
 }

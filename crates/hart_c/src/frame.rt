@@ -8,7 +8,7 @@ use hart_values::{Address, MasterId};
 
 /// A frame, and where it stands in the characters that were passed.
 #[repr(C)]
-#[derive(Drop)]
+#[derive(Clone, Copy)]
 pub struct HartFrame {
     /// The place of the delimiter, from 0.
     pub start: u64,
@@ -40,6 +40,24 @@ pub struct HartFrame {
     /// The payload. The payload of a reply begins with the two status bytes. Only the first `payload_len` bytes are used.
     pub payload: [u8; 255],
 }
+
+/// A frame of zeros, for a master with no request in hand.
+pub(crate) const NO_FRAME: HartFrame = HartFrame {
+    start: 0,
+    stop: 0,
+    device_id: 0,
+    expanded_type: 0,
+    is_reply: false,
+    is_primary: false,
+    is_burst: false,
+    is_unique: false,
+    polling_address: 0,
+    command: 0,
+    expansion_len: 0,
+    payload_len: 0,
+    expansion: [0; 3],
+    payload: [0; 255],
+};
 
 /// The parts of a frame. Parts that are byte strings are borrowed.
 #[derive(Drop)]

@@ -32,6 +32,11 @@ ghost use Rattle.hart_c.specs.Messages.{DecodeOutcome, EncodeOutcome, IsFrame};
 ghost use Rattle.hart_c.specs.Numbers.{found_in, frame_in};
 ghost use Rattle.hart_c.specs.Acceptance.{AcceptFrameOutcome, MatchOutcome};
 ghost use Rattle.hart_c.specs.Master.{AcceptOutcome};
+ghost use Rattle.hart_c.specs.FrameMaster.{AgainOutcome, IsMaster, NewMasterOutcome, ReceiveOutcome, SendOutcome, SubmitOutcome};
+ghost use Rattle.hart_c.specs.FrameMaster.{TickOutcome};
+ghost use Rattle.hart_master.specs.FrameMaster.{FrameMasterState};
+ghost use Rattle.hart_c.specs.declared.frame_master.HartEvent.{HartEvent};
+ghost use Rattle.hart_c.specs.declared.frame_master.HartMaster.{HartMaster};
 ghost use Rattle.hart_c.specs.declared.reply.HartMatch.{HartMatch};
 
 use hart_commands::laws::{read_data_begin_as_written, written_payloads_are_read_again};
@@ -181,4 +186,31 @@ pub fn calls_have_one_outcome()
     // These calls do nothing: only their contracts are needed.
     bytes_have_one_fault();
     bytes_have_one_image_fault();
+}
+
+/// A kept master has at most one state. So each call continues with the master that the previous call left.
+pub fn masters_are_kept()
+    ensures { (master : HartMaster) (state other : FrameMasterState) → IsMaster master state → IsMaster master other → state ≡ other }
+{}
+
+/// The same as [`calls_have_one_outcome`] for the calls of a master.
+pub fn masters_have_one_outcome()
+    ensures new_masters { (retries reply_limit : ℕ) (before after other : HartMaster) (told another : ℕ)
+        → NewMasterOutcome retries reply_limit before after told → NewMasterOutcome retries reply_limit before other another
+        → (told ≡ another) × (after ≡ other) }
+    ensures submit { (request : HartFrame) (before after other : HartMaster) (told another : ℕ)
+        → SubmitOutcome request before after told → SubmitOutcome request before other another
+        → (told ≡ another) × (after ≡ other) }
+    ensures send { (preambles : ℕ) (before after other : HartMaster) (old new newer : List ℕ) (outcome another : HartOutcome)
+        → SendOutcome preambles before after old new outcome → SendOutcome preambles before other old newer another
+        → (outcome ≡ another) × (after ≡ other) × (new ≡ newer) }
+    ensures receive { (frame : HartFrame) (before after other : HartMaster) (told another : HartEvent)
+        → ReceiveOutcome frame before after told → ReceiveOutcome frame before other another → (told ≡ another) × (after ≡ other) }
+    ensures tick { (times : ℕ) (before after other : HartMaster) (told another : HartEvent)
+        → TickOutcome times before after told → TickOutcome times before other another → (told ≡ another) × (after ≡ other) }
+    ensures again { (before after other : HartMaster) (told another : HartEvent)
+        → AgainOutcome before after told → AgainOutcome before other another → (told ≡ another) × (after ≡ other) }
+{
+    // This call does nothing: only its contract is needed.
+    masters_are_kept();
 }

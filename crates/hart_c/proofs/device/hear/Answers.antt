@@ -1,7 +1,7 @@
-use Rattle.std.proofs.Common.{◌≡◌, inl, inr, ℕ, Bool, true, false, Ok, Err, List, Option, None, Some, Result, [], ◌∷◌, arith, length}
+use Rattle.std.proofs.Common.{◌≡◌, inl, inr, ℕ, Bool, true, false, Err, List, Option, None, Some, [], ◌∷◌, arith, length}
 use Rattle.std.proofs.Common.{length-append, map, refl, rules}
 use Rattle.std.proofs.lemmas.Grind.{common_steps}
-use Rattle.std.specs.Prelude.{IfErr, IfOk, if◌then◌else◌, take}
+use Rattle.std.specs.Prelude.{if◌then◌else◌, take}
 use Rattle.std.proofs.lemmas.List.{length-replicate}
 use Rattle.hart_frame.specs.wire.FrameParts.{FrameParts}
 use Rattle.hart_frame.specs.wire.Message.{IsPreambleCount}
@@ -15,9 +15,8 @@ use Rattle.hart_c.specs.Device.{IsHearing, IsSaid, state_checks}
 use Rattle.hart_c.specs.Messages.{HasNoRoom, IsWritten}
 use Rattle.hart_c.specs.Find.{char_of, heard_checks}
 use Rattle.hart_c.specs.Numbers.{IsProcessOf, parts_of}
-use Rattle.hart_c.specs.declared.fault.Fault.{Fault}
 use Rattle.hart_c.specs.declared.fault.Fault.TheVariants.{NoRoom}
-use Rattle.hart_c.proofs.Checks.{first_before}
+use Rattle.hart_c.proofs.Checks.{first_before, if_err, if_ok}
 use Rattle.hart_c.proofs.Kept.{devices_are_kept-kept}
 use Rattle.hart_c.proofs.device.hear.Goals.{In_ok-process}
 use Rattle.hart_c.proofs.device.hear.Goals as goal
@@ -60,17 +59,6 @@ hearing c process_is delivery =
       delivery = delivery;
       brings = brings;
     }
-
--- what follows from two facts about a number of bytes holds if both hold unless there is a fault
-if_ok : (result : Result ℕ Fault) (P Q R : ℕ → Type 0) → ((len : ℕ) → P len → Q len → R len) → IfOk result P → IfOk result Q
-    → IfOk result R
-if_ok (Ok len) P Q R follows first second = follows len first second
-if_ok (Err fault) P Q R follows first second = tt
-
--- what follows from a fact about a fault holds if the fact holds unless there is none
-if_err : (result : Result ℕ Fault) (P Q : Fault → Type 0) → ((fault : Fault) → P fault → Q fault) → IfErr result P → IfErr result Q
-if_err (Ok len) P Q follows refused = tt
-if_err (Err fault) P Q follows refused = follows fault refused
 
 pub returns-clause-refused : goal.returns-clause-refused
 returns-clause-refused c =

@@ -1,4 +1,4 @@
-use Rattle.std.proofs.Common.{◌≡◌, ◌<◌, ℕ, List, Option, None, Some, Result, Ok, Err, arith, length, subst, sym}
+use Rattle.std.proofs.Common.{◌≡◌, ◌<◌, ℕ, List, Option, None, Some, Result, Ok, Err, arith, length, option_map, subst, sym}
 use Rattle.std.proofs.lemmas.Grind.{common_steps}
 use Rattle.std.specs.Result.{IfErr}
 use Rattle.hart_frame.specs.wire.FrameParts.{FrameParts}
@@ -20,5 +20,5 @@ no_room (Err fault) (Some reply) frame preambles room message is message_is refu
     (refused.0, (message, subst (λ (parts : FrameParts). IsMessage parts preambles message) (sym same) message_is, refused.1))
 
 pub returns-clause-refused : goal.returns-clause-refused
-returns-clause-refused c = no_room c.put.result c.args.said c.in-Some.frame c.args.preambles _ c.as_slice.result.now c.in-Some.is
-    (grind (arith, common_steps)) c.put.ensures.refused
+returns-clause-refused c = no_room c.put.result (option_map (λ frame. frame.now) c.args.said) c.in-Some.frame.now c.args.preambles _
+    c.as_slice.result.now (grind (arith, common_steps, c.in-Some.is)) (grind (arith, common_steps)) c.put.ensures.refused

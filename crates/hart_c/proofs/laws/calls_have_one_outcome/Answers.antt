@@ -1,8 +1,8 @@
-use Rattle.std.proofs.Common.{◌≡◌, ◌⊎◌, ℕ, List, Option, None, Some, Result, Ok, Err, ap, arith, length, map, rules, subst, sym, ◌∙◌}
+use Rattle.std.proofs.Common.{◌≡◌, ℕ, List, Result, Ok, Err, ap, arith, length, map, rules, subst, sym, ◌∙◌}
 use Rattle.std.proofs.lemmas.Grind.{common_steps}
 use Rattle.hart_frame.specs.wire.FrameParts.{FrameParts}
 use Rattle.hart_frame.specs.wire.Message.{IsMessage, IsPreambleCount}
-use Rattle.hart_frame.proofs.lemmas.Laws.{bodies_are_unambiguous-one_body, bodies_are_unambiguous-one_prefix}
+use Rattle.hart_frame.proofs.lemmas.Laws.{bodies_are_unambiguous-one_prefix}
 use Rattle.hart_frame.proofs.lemmas.Laws.{frames_are_unambiguous-one_list}
 use Rattle.hart_commands.specs.declared.{reply.Reply.Reply, request.Request.Request}
 use Rattle.hart_device.specs.Identity.{AreIdentityParts, IsIdentityFault}
@@ -30,23 +30,15 @@ use Rattle.hart_c.proofs.Checks.{AreSound, IsSound, first_none, first_one, needs
 use Rattle.hart_c.specs.declared.reason.Unaccepted.{Unaccepted}
 use Rattle.hart_c.proofs.Accepted.{not_accepted, not_judged, one_judged, one_reason}
 use Rattle.hart_c.proofs.Kept.{devices_are_kept-one_state}
+use Rattle.hart_c.proofs.Said.{one_message, one_outcome, one_said, said_fits}
 use Rattle.hart_c.proofs.laws.calls_have_one_outcome.Goals.{After-bytes_have_one_image_fault}
 use Rattle.hart_c.proofs.laws.calls_have_one_outcome.Goals as goal
-
--- an outcome is unique if there is only one success, only one fault, and never a success and a fault together
-one_outcome : {A B C D R : Type 0} → (A → C → R) → (A → D → ⊥) → (B → C → ⊥) → (B → D → R) → A ⊎ B → C ⊎ D → R
-one_outcome both free none one is again = grind arith
 
 pub returns-clause-decode : goal.returns-clause-decode
 returns-clause-decode c bytes before after other outcome another is again =
     let free = c.bytes_have_one_fault.ensures.not_both bytes in
     let one = bodies_are_unambiguous-one_prefix (frame_in after) (frame_in other) bytes outcome.len another.len in
     grind (arith, c.bytes_have_one_fault.ensures.one bytes, free (frame_in after) outcome.len, free (frame_in other) another.len, one)
-
--- a frame has one message for each number of preamble bytes
-one_message : (frame : FrameParts) (preambles : ℕ) (message other : List ℕ) → IsMessage frame preambles message
-    → IsMessage frame preambles other → message ≡ other
-one_message frame preambles message other is again = grind (arith, bodies_are_unambiguous-one_body frame)
 
 -- the checks of a frame to be written are sound
 encode_sound : (frame : HartFrame) (preambles room : ℕ) → AreSound (encode_checks frame preambles room)
@@ -71,25 +63,6 @@ pub returns-clause-new_devices : goal.returns-clause-new_devices
 returns-clause-new_devices c given before after other outcome another =
     one_outcome (λ is again. let parts : IdentityParts = grind (arith, common_steps) in grind (arith, is.1.4 parts, again.1.4 parts))
     (λ is why. grind (arith, is.1.3)) (λ why is. grind (arith, is.1.3)) (λ why again. grind arith)
-
--- at most one list of bytes is sent for an answer
-one_saying : (answer : Option FrameParts) (preambles : ℕ) (bytes other : List ℕ) → IsSaid answer preambles bytes
-    → IsSaid answer preambles other → bytes ≡ other
-one_saying None preambles bytes other is again = is ∙ sym again
-one_saying (Some reply) preambles bytes other is again = one_message reply preambles bytes other is again
-
--- an answer is written in at most one way
-one_said : (answer : Option FrameParts) (preambles : ℕ) (old new newer : List ℕ) (len size : ℕ)
-    → IsWritten (IsSaid answer preambles) old new len → IsWritten (IsSaid answer preambles) old newer size
-    → (len ≡ size) × (new ≡ newer)
-one_said answer preambles old new newer len size is again =
-    let same = one_saying answer preambles is.0 again.0 is.1 again.1 in grind (arith, same)
-
--- if an answer was written, the output had room for it
-said_fits : (answer : Option FrameParts) (preambles : ℕ) (old new : List ℕ) (len : ℕ)
-    → IsWritten (IsSaid answer preambles) old new len → HasNoRoom (IsSaid answer preambles) (length old) → ⊥
-said_fits answer preambles old new len is none =
-    let same = one_saying answer preambles is.0 none.0 is.1 none.1 in grind (arith, common_steps, same)
 
 -- for a device that hears a delivery while it measures a process
 module _ (identity : HartIdentity) (process : HartProcess) (heard : List HartChar) (device : HartDevice) where
