@@ -19,26 +19,32 @@
 #   make schema               checks the lines of explain --json against docs/explain.schema.json
 #   make links                finds dead links in the pages
 #   make report               tries hart-report on ./hart, also with Chromium and tidy if they are installed
-#   make install PREFIX=DIR   installs hart, hart-listen, hart-report and hart-bench, their man pages, completion and guide below DIR
+#   make install PREFIX=DIR   installs hart, hart-listen, hart-ask, hart-report and hart-bench, their man pages, completion and guide below DIR
 #   make library              builds build/libhart.a and build/libhart.so; TARGET=aarch64-linux-gnu builds those of build/aarch64-linux-gnu
 #   make library-examples     makes each call of the library from C, and runs its examples against ./hart
 #   make install-library PREFIX=DIR   installs the library, its header and hart.pc below DIR
+#   make deb                  makes the packages hart, libhart0 and libhart-dev for Debian in build/packages; for arm64 the library alone
+#   make dist                 makes tarballs of the same in build/packages
+#   make packages             makes both in an empty folder, and tries them
 #   make bench                measures dump, answer, explain and sim; it asserts no time
 #
 # With RT_JOBS=N in the environment N wrong bodies or scripts are tried side by side, and not one for each processor, and `rt lib` of
 # make library gets N jobs. How many crates `rt ci` proves side by side it decides itself, by processors and memory.
 
 PREFIX ?= /usr/local
+LIBDIR ?= lib
 N ?= 10000
+VERSION := $(shell sh tools/version.sh)
+ARM = $(shell command -v aarch64-linux-gnu-gcc)
 BUILT := build$(if $(TARGET),/$(TARGET))
 PROGRAM := crates/hart
 TESTS := crates/hart_tests_cli/out/hart_tests_cli_tests
 LOGS := $(CURDIR)/build/logs
-GUIDE := docs/GUIDE.md docs/COMMANDS.md docs/WIRE.md docs/FORMATS.md docs/explained.txt docs/worked.txt docs/vectors.tsv docs/report.png \
+GUIDE := docs/GUIDE.md docs/COMMANDS.md docs/WIRE.md docs/FORMATS.md docs/explained.txt docs/worked.txt docs/report.png \
 	docs/GLOSSARY.md docs/explain.schema.json
 SOURCES := crates.txt $(shell find crates -name out -prune -o \( -name '*.rt' -o -name '*.antt' \) -print)
 
-.PHONY: all quick check check-all test mistakes definitions runs refused-growths streams examples vectors manual schema report held-view links library library-examples fuzz bench install install-report install-bench install-library clean
+.PHONY: all quick check check-all test mistakes definitions runs refused-growths streams examples vectors manual schema report held-view links library library-examples deb dist packages fuzz bench install install-report install-bench install-library clean
 
 all: hart
 
@@ -78,7 +84,9 @@ test: hart
 	python3 tools/schema.py ./hart
 	sh tools/held-view.sh
 	sh tools/library-examples.sh
+	sh tools/packages.sh
 	python3 tools/listen.py ./hart
+	python3 tools/ask.py ./hart
 	python3 tools/report.py ./hart
 	python3 tools/links.py
 	python3 tools/doc_examples.py
@@ -98,7 +106,7 @@ links:
 
 refused-growths: $(TESTS)
 
-runs refused-growths streams examples manual: hart
+runs refused-growths streams examples manual packages: hart
 	sh tools/$@.sh
 
 library-examples: hart
@@ -144,12 +152,16 @@ install-bench:
 	install -m 755 tools/hart-listen tools/hart-bench $(PREFIX)/bin
 	install -m 644 tools/hart_bench/*.py $(PREFIX)/share/hart/hart_bench
 	install -m 644 tools/fuzz/__init__.py tools/fuzz/frames.py $(PREFIX)/share/hart/fuzz
-	install -m 644 docs/hart-bench.1 docs/hart-listen.1 $(PREFIX)/share/man/man1
-	install -m 644 docs/vectors.tsv $(PREFIX)/share/doc/hart
+	install -m 644 docs/hart-listen.1 docs/hart-bench.1 $(PREFIX)/share/man/man1
+	install -m 644 docs/vectors.tsv $(PREFIX)/share/hart
+	ln -sf ../../hart/vectors.tsv $(PREFIX)/share/doc/hart/vectors.tsv
 
 install: hart install-report install-bench
 	install -d $(PREFIX)/share/bash-completion/completions
 	install -m 644 docs/hart.1 $(PREFIX)/share/man/man1/hart.1
+	install -m 755 tools/hart-ask $(PREFIX)/bin
+	install -m 644 docs/hart-ask.1 $(PREFIX)/share/man/man1/hart-ask.1
+	ln -sf hart $(PREFIX)/share/bash-completion/completions/hart-ask
 	install -m 644 docs/hart.bash $(PREFIX)/share/bash-completion/completions/hart
 	install -m 644 $(GUIDE) $(PREFIX)/share/doc/hart
 	sed -i 's|(\.\./examples/|(examples/|g' $(PREFIX)/share/doc/hart/GUIDE.md
@@ -158,12 +170,17 @@ install: hart install-report install-bench
 	install -m 644 examples/python/*.py $(PREFIX)/share/doc/hart/examples/python
 
 install-library: library
-	install -d $(PREFIX)/include $(PREFIX)/lib/pkgconfig
+	install -d $(PREFIX)/include $(PREFIX)/$(LIBDIR)/pkgconfig
 	install -m 644 include/hart.h $(PREFIX)/include/hart.h
-	install -m 644 $(BUILT)/libhart.a $(PREFIX)/lib/libhart.a
-	install -m 755 $(BUILT)/libhart.so.0 $(PREFIX)/lib/libhart.so.0
-	ln -sf libhart.so.0 $(PREFIX)/lib/libhart.so
-	sed 's|@PREFIX@|$(PREFIX)|' include/hart.pc.in >$(PREFIX)/lib/pkgconfig/hart.pc
+	install -m 644 $(BUILT)/libhart.a $(PREFIX)/$(LIBDIR)/libhart.a
+	install -m 755 $(BUILT)/libhart.so.0 $(PREFIX)/$(LIBDIR)/libhart.so.0
+	ln -sf libhart.so.0 $(PREFIX)/$(LIBDIR)/libhart.so
+	sed 's|@PREFIX@|$(PREFIX)|; s|@LIBDIR@|$(LIBDIR)|; s|@VERSION@|$(VERSION)|' include/hart.pc.in >$(PREFIX)/$(LIBDIR)/pkgconfig/hart.pc
+
+# The library for arm64 is packed where its compiler is installed.
+deb dist: hart library
+	$(if $(ARM),$(MAKE) library TARGET=aarch64-linux-gnu,# no aarch64-linux-gnu-gcc: the library for arm64 is not packed)
+	sh tools/$@.sh build/packages hart build $(if $(ARM),build/aarch64-linux-gnu)
 
 clean:
 	rm -rf build hart hart-unproved $(PROGRAM)/out.tmp crates/*/out

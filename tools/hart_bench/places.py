@@ -10,7 +10,7 @@ from .vectors import NEW
 # The folder above the package: tools in the repository, share/hart where it was installed.
 HERE = pathlib.Path(__file__).parents[1]
 PROGRAMS = (HERE.parents[1] / "bin" / "hart", HERE.parent / "hart")
-VECTORS = (HERE.parents[1] / "share" / "doc" / "hart" / "vectors.tsv", HERE.parent / "docs" / "vectors.tsv")
+VECTORS = (HERE / "vectors.tsv", HERE.parent / "docs" / "vectors.tsv")
 
 
 def program_of(given):
