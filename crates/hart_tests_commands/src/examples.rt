@@ -1,5 +1,6 @@
 //! The examples in doc comments. `tools/doc_examples.py` checks that the lines here are the same as there.
 use hart_commands::{Reply, ReplyContent, Request};
+use hart_explain::{Pairs, Text, read_request, words};
 use hart_values::Payload;
 use std::test::Fail;
 
@@ -17,5 +18,15 @@ fn requests_are_read(rt: HostRuntime) -> Result<(), Fail> {
 fn replies_are_read(rt: HostRuntime) -> Result<(), Fail> {
     let reply = Reply::read(16, &[0x00, 0x40, 0x01, 0x23, 0x45]).ok_or("no reply")?;
     assert_eq!(rt; reply.content, ReplyContent::Assembly([0x01, 0x23, 0x45]));
+    Ok(())
+}
+
+#[test]
+fn readings_are_printed(rt: HostRuntime) -> Result<(), Fail> {
+    let data = [0x01, 0x23, 0x45];
+    let mut text = Text::new();
+    words::push_reading(&mut text, &Pairs::new(), 19, &data, read_request(19, &data));
+    let lines = b"    final assembly number: 0x012345\n";
+    assert_eq!(rt; text.as_slice(), lines.as_slice());
     Ok(())
 }

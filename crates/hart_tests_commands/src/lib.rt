@@ -1,4 +1,4 @@
-//! The tests of hart_commands.
+//! The tests of hart_commands and hart_explain.
 #![tactic(auto)]
 
 #[cfg(test)]

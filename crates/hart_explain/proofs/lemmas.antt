@@ -1,0 +1,9 @@
+-- Lemmas, each file named after its subject.
+pub mod Extended
+pub mod Laws
+pub mod HexText
+pub mod Rows
+pub mod JsonText
+pub mod Bounded
+pub mod Lengths
+pub mod JsonLengths

@@ -1,0 +1,53 @@
+-- The text of objects and lists of JSON.
+use Rattle.std.proofs.Common.{◌≡◌, ◌<◌, ◌/◌, ◌%◌, ℕ, suc, Bool, true, List, [], ◌∷◌, ◌++◌, append-nil, append_assoc, arith}
+use Rattle.std.proofs.Common.{Fits, get_or, map, nat_le, refl, w8}
+use Rattle.std.proofs.lemmas.Bool.Decides.{nat_tests}
+use Rattle.std.proofs.lemmas.Grind.{common_steps}
+use Rattle.std.proofs.lemmas.List.Folds.{list_all_at}
+use Rattle.std.specs.List.{flat_map}
+use Rattle.std.specs.Prelude.{◌&&◌, slice_index}
+use Rattle.hex.specs.Hex.{encode_upper, encode_with, upper_digits}
+use Rattle.json.specs.Print.{escape, escape_byte}
+use Rattle.serde_json.specs.Data.{Data}
+use Rattle.serde_json.specs.Written.{compact_text, items_text, members_text}
+use Rattle.hart_explain.proofs.lemmas.Extended.{extended_nothing, extended_on}
+use Rattle.hart_explain.specs.Json.{Named, further_member, further_members, items_of, member_words, members_of, object_of}
+
+-- further members and a brace end an object
+pub further-is : (members : List Named) → members_text true (members_of members) ≡ further_members members ++ 125 ∷ []
+unfolding further_member
+further-is [] = refl
+further-is (first ∷ others) = grind (arith, append_assoc, further-is others)
+
+-- the text of an object is its first member, the further ones, and braces
+pub object-is : (first : Named) (others : List Named)
+    → compact_text (object_of (first ∷ others)) ≡ 123 ∷ member_words first ++ further_members others ++ 125 ∷ []
+unfolding further_member
+object-is first others = grind (arith, append_assoc, further-is others)
+
+-- further values and a bracket end a list
+pub items-is : {X : Type 0} (f : X → Data) (xs : List X)
+    → items_text true (items_of (map f xs)) ≡ flat_map (λ x. 44 ∷ [] ++ compact_text (f x)) xs ++ 93 ∷ []
+items-is f [] = refl
+items-is f (x ∷ xs) = grind (arith, append_assoc, items-is f xs)
+
+-- whether a character is a hex digit or stands between two of them
+is_near_digit : ℕ → Bool
+is_near_digit code = nat_le 48 code && nat_le code 70
+
+-- a hex digit is not escaped
+escape-digit : (k : ℕ) → k < 16 → escape_byte (slice_index upper_digits k) ≡ slice_index upper_digits k ∷ []
+unfolding escape_byte is_near_digit
+escape-digit k below = grind (arith, common_steps, nat_tests, list_all_at is_near_digit upper_digits k 0)
+
+-- a string of hex digits is not escaped
+pub escape-hex : (bytes : List ℕ) → ((i : ℕ) → Fits w8 (get_or bytes i 0)) → escape (encode_upper bytes) ≡ encode_upper bytes
+unfolding encode_with
+escape-hex [] fits = refl
+escape-hex (byte ∷ bytes) fits =
+    let first : byte < 256 = omega (arith, fits 0) in
+    let rest = escape-hex bytes (λ i. fits (suc i)) in
+    grind (arith, escape-digit (byte / 16), escape-digit (byte % 16))
+
+-- objects and lists that are printed piece by piece
+pub ruleset printing = (extended_on, extended_nothing, append_assoc, append-nil, object-is, items-is)

@@ -1,0 +1,68 @@
+//! The fields of data, one after another.
+ghost use Rattle.std.specs.Prelude.{◌≡◌, ◌∷◌, [], MatchOption, drop, length, map, true};
+ghost use Rattle.hart_commands.specs.Fields.{bytes_of, fields_of, seen};
+ghost use Rattle.hart_explain.specs.Reading.{seen_field};
+ghost use Rattle.hart_explain.specs.Values.{sizes_suit};
+
+use crate::field::Field;
+use hart_commands::FieldRow;
+use std::marker::Model;
+
+/// The fields that are left in data.
+#[derive(Drop)]
+pub struct Fields<'a> {
+    rows: &'static [FieldRow],
+    rest: &'a [u8],
+}
+
+impl<'a> Model for Fields<'a> {
+    ghost use Rattle.std.specs.Prelude.{◌≡◌, List, map, true};
+    ghost use Rattle.hart_commands.specs.Fields.{Field, fields_of, seen};
+    ghost use Rattle.hart_explain.specs.Values.{sizes_suit};
+
+    ghost Value = { List Field };
+
+    ghost view = { λ fields. fields_of (map seen fields.rows.now) fields.rest.now };
+
+    ghost invariant = { λ fields. sizes_suit (map seen fields.rows.now) ≡ true };
+}
+
+impl<'a> Fields<'a> {
+    /// Returns the fields that these rows find in bytes.
+    pub(crate) fn new(rows: &'static [FieldRow], bytes: &'a [u8]) -> Fields<'a>
+        requires { sizes_suit (map seen rows.now) ≡ true }
+        ensures { result ≡ fields_of (map seen rows.now) bytes.now }
+    {
+        Fields { rows, rest: bytes }
+    }
+
+    /// Returns the next field.
+    #[inline(always)]
+    pub fn next(&mut self) -> Option<Field<'a>>
+        ensures { MatchOption result (self.old ≡ []) (λ field. self.old ≡ seen_field field ∷ self.new) }
+    {
+        let (row, rows) = self.rows.split_first()?;
+        let (bytes, rest) = row.split(self.rest)?;
+        self.rows = rows;
+        self.rest = rest;
+        Some(Field {
+            name: row.name,
+            kind: row.kind,
+            bytes,
+        })
+    }
+}
+
+/// Returns the bytes after the fields that these rows find.
+pub(crate) fn after_fields<'a>(rows: &[FieldRow], bytes: &'a [u8]) -> &'a [u8]
+    ensures { result.now ≡ drop (length (bytes_of (fields_of (map seen rows.now) bytes.now))) bytes.now }
+{
+    let mut rest = bytes;
+    for row in rows {
+        let Some((_, after)) = row.split(rest) else {
+            return rest;
+        };
+        rest = after;
+    }
+    rest
+}
