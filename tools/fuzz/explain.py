@@ -76,7 +76,7 @@ def said_of_problem(frame, problem):
     elif problem.reason == "refused":
         yield "refused", code_text(details["code"], details["name"])
     elif problem.reason == "no_reply":
-        yield f"data that are no reply to Command {frame.command}", bytes_text(data) if data else "none"
+        yield f"data that are no reply to Command {frame.command} of Revision 7", bytes_text(data) if data else "none"
     else:
         yield f"not read (code {details['code']})", bytes_text(data)
 

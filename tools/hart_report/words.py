@@ -127,7 +127,7 @@ def problem_lines(one):
     elif problem["reason"] == "refused":
         yield f'refused: {code_words(problem["code"], problem["name"])}'
     elif problem["reason"] == "no_reply":
-        yield f'data that are no reply to Command {one["command"]}: ' + (f"0x{data}" if data else "none")
+        yield f'data that are no reply to Command {one["command"]} of Revision 7: ' + (f"0x{data}" if data else "none")
     elif problem["reason"] == "not_read":
         yield f'not read (code {problem["code"]}): 0x{data}'
 

@@ -158,7 +158,7 @@ ROWS = (
         "2-13: reply of device 37420A1B2C to the primary master, Command 7, read loop configuration\n"
         "    response code: 0, success\n"
         "    device status: none\n"
-        "    data that are no reply to Command 7: none\n",
+        "    data that are no reply to Command 7 of Revision 7: none\n",
         "",
     ),
     (

@@ -1,9 +1,6 @@
 -- `hart explain`.
 pub mod Words
 pub mod Codes
-pub mod Values
-pub mod Fields
-pub mod Data
 pub mod Status
 pub mod Message
 pub mod Misses

@@ -1,8 +1,6 @@
 -- `hart explain`.
 pub mod Fields
 pub mod Objects
-pub mod Rows
-pub mod Units
 pub mod Gaps
 pub mod OnePreamble
 pub mod OneLine

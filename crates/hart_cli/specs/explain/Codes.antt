@@ -1,22 +1,7 @@
--- The response codes that have a name in `hart explain` (HCF_SPEC-099; own profile for 9 and 12).
-use Rattle.std.specs.Prelude.{◌==◌, ◌&&◌, if◌then◌else◌, ℕ, List, Option, None, Some, codes}
+-- The words of a response code in `hart explain` (own profile).
+use Rattle.std.specs.Prelude.{ℕ, List}
+use Rattle.hart_explain.specs.Codes.{code_name}
 use Rattle.hart_cli.specs.explain.Words.{named_number}
-
--- The name of a response code, in a reply to a command or for refused data of a request. A code whose meaning depends on the
--- command has a name only for the commands where this profile defines it.
-abbrev pub code_name : (command code : ℕ) → Option (List ℕ)
-code_name command code =
-    if code == 0 then Some (codes "success")
-    else if code == 2 then Some (codes "invalid selection")
-    else if code == 5 then Some (codes "too few data bytes")
-    else if code == 7 then Some (codes "in write protect mode")
-    else if (code == 9) && (command == 18) then Some (codes "invalid date")
-    else if (code == 9) && (command == 38) then Some (codes "counter mismatch")
-    else if (code == 12) && (command == 6) then Some (codes "invalid mode")
-    else if code == 16 then Some (codes "access restricted")
-    else if code == 32 then Some (codes "busy")
-    else if code == 64 then Some (codes "command not implemented")
-    else None
 
 -- The words of a response code are its number and, if it has one, its name.
 abbrev pub code_words : (command code : ℕ) → List ℕ

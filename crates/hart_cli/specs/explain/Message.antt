@@ -3,10 +3,11 @@ use Rattle.std.specs.Prelude.{◌++◌, [], ◌∷◌, ℕ, Bool, false, true, L
 use Rattle.hart_frame.specs.declared.heard.found.Found.{Found}
 use Rattle.hart_frame.specs.declared.wire.kind.FrameKind.{FrameKind}
 use Rattle.hart_frame.specs.declared.wire.kind.FrameKind.TheVariants.{Stx, Ack}
-use Rattle.hart_cli.specs.explain.Data.{reply_lines, request_lines}
+use Rattle.hart_explain.specs.Reading.{reading_of_reply, reading_of_request}
+use Rattle.hart_explain.specs.Words.{bytes_line, reading_lines, said_line}
 use Rattle.hart_cli.specs.explain.Status.{status_lines}
 use Rattle.hart_frame.specs.wire.Header.{header_of}
-use Rattle.hart_cli.specs.explain.Words.{bytes_line, header_words, said_line}
+use Rattle.hart_cli.specs.explain.Words.{header_words}
 
 -- The line of a message has the place of its delimiter and the place after its check byte, in decimal, the words of its header, and
 -- a line feed.
@@ -21,9 +22,9 @@ burst_line true = said_line (codes "burst bit") (codes "set")
 
 -- The payload of an STX is its data. The payload of an ACK is two status bytes and then its data.
 abbrev pub payload_lines : FrameKind → ℕ → List ℕ → List ℕ
-payload_lines Stx command payload = request_lines command payload
+payload_lines Stx command payload = reading_lines command payload (reading_of_request command payload)
 payload_lines Ack command (first ∷ second ∷ bytes) =
-    status_lines command first second ++ reply_lines command (first ∷ second ∷ bytes)
+    status_lines command first second ++ reading_lines command bytes (reading_of_reply command (first ∷ second ∷ bytes))
 payload_lines Ack command _ = []
 
 -- The paragraph of a message is its line, and then the lines of its burst bit, its expansion bytes and its payload.

@@ -4,7 +4,8 @@ use Rattle.hart_frame.specs.declared.heard.miss.Miss.{Miss}
 use Rattle.hart_frame.specs.declared.heard.miss.Miss.TheVariants.{Faulty, Burst, BadDelimiter, EndsBeforeByteCount, ShortReply, Missing}
 use Rattle.hart_frame.specs.declared.heard.miss.Miss.TheVariants.{BadCheck, OnePreamble}
 use Rattle.hart_frame.specs.wire.Header.{HeaderParts}
-use Rattle.hart_cli.specs.explain.Words.{header_words, hex_value, said_line}
+use Rattle.hart_explain.specs.Words.{hex_value, said_line}
+use Rattle.hart_cli.specs.explain.Words.{header_words}
 
 -- One byte in hex.
 abbrev pub byte_value : ℕ → List ℕ

@@ -3,7 +3,7 @@ use Rattle.std.specs.Prelude.{◌==◌, not, nat_le, nat_lt, bit_and, if◌then�
 use Rattle.std.specs.List.{flat_map, list_all}
 use Rattle.hart_cli.specs.declared.calls.explain.status.NamedBit as code
 use Rattle.hart_cli.specs.explain.Codes.{code_words}
-use Rattle.hart_cli.specs.explain.Words.{said_line}
+use Rattle.hart_explain.specs.Words.{said_line}
 
 -- A bit of a status byte has a value and a name.
 pub record NamedBit : Type 0 where

@@ -1,6 +1,7 @@
 -- The words of `hart explain` for bytes, for numbers with names, for who speaks to whom and for headers, and its lines (own profile).
 use Rattle.std.specs.Prelude.{if◌then◌else◌, ◌++◌, [], ◌∷◌, ℕ, List, Option, None, Some, codes, decimal}
 use Rattle.hex.specs.Hex.{encode_upper}
+use Rattle.hart_explain.specs.Words.{name_words}
 use Rattle.hart_commands.specs.Commands.{command_name}
 use Rattle.hart_values.specs.address.AddressBytes.{is_broadcast}
 use Rattle.hart_values.specs.declared.address.Address.{Address}
@@ -11,24 +12,6 @@ use Rattle.hart_frame.specs.declared.wire.kind.FrameKind.{FrameKind}
 use Rattle.hart_frame.specs.declared.wire.kind.FrameKind.TheVariants.{Stx, Ack}
 use Rattle.hart_frame.specs.wire.Header.{HeaderParts}
 use Rattle.hart_cli.specs.text.DeviceDigits.{device_digits}
-
--- A line of what a message says has four spaces, a name, a colon, a space, a value and a line feed.
-abbrev pub said_line : List ℕ → List ℕ → List ℕ
-said_line name value = codes "    " ++ name ++ codes ": " ++ value ++ 10 ∷ []
-
--- Bytes in hex are `0x` and two upper-case digits for each byte.
-unfoldable pub hex_value : List ℕ → List ℕ
-hex_value bytes = codes "0x" ++ encode_upper bytes
-
--- Bytes have a line with their name, if there are any.
-abbrev pub bytes_line : List ℕ → List ℕ → List ℕ
-bytes_line name [] = []
-bytes_line name (byte ∷ bytes) = said_line name (hex_value (byte ∷ bytes))
-
--- A name follows a comma and a space. Without a name, nothing is written.
-abbrev pub name_words : Option (List ℕ) → List ℕ
-name_words None = []
-name_words (Some name) = codes ", " ++ name
 
 -- A number is in decimal, and its name follows it, if it has one.
 abbrev pub named_number : ℕ → Option (List ℕ) → List ℕ

@@ -16,7 +16,8 @@ use Rattle.hart_commands.specs.declared.fields.FieldSize.TheVariants.{Exactly, A
 use Rattle.hart_line.specs.script.Words.{data_of}
 use Rattle.hart_cli.specs.declared.calls.request.fault.FieldFault.{FieldFault}
 use Rattle.hart_cli.specs.declared.calls.request.fault.FieldFault.TheVariants.{BadCharacter, NoBytes, NoCodes, NoDate, NoNumber, TooLong}
-use Rattle.hart_cli.specs.explain.Values.{date_words, is_printable}
+use Rattle.hart_explain.specs.Values.{held_value, is_printable}
+use Rattle.hart_explain.specs.Words.{value_words}
 
 -- A number is written in decimal digits, perhaps after a plus sign, and lies between 0 and the greatest number.
 abbrev pub number_up_to : ℕ → List ℕ → Option ℕ
@@ -116,12 +117,16 @@ abbrev pub year_byte : ℤ → Option ℕ
 year_byte (pos year) = if nat_le 1900 year && nat_le year 2155 then Some (year - 1900) else None
 year_byte _ = None
 
+-- The words that `explain` shows for the bytes of a field of this kind.
+abbrev pub shown_value : FieldKind → List ℕ → List ℕ
+shown_value kind bytes = value_words (held_value kind bytes)
+
 -- The bytes of a date with this year. A byte must be able to hold the year, and the word must be exactly what
 -- `explain` shows for these bytes.
 abbrev pub dated : List ℕ → (day month : ℕ) → Option ℕ → Result (List ℕ) FieldFault
 dated word day month None = Err NoDate
 dated word day month (Some year) =
-    if bytes_eq word (date_words (day ∷ month ∷ year ∷ [])) then Ok (day ∷ month ∷ year ∷ []) else Err NoDate
+    if bytes_eq word (shown_value Date (day ∷ month ∷ year ∷ [])) then Ok (day ∷ month ∷ year ∷ []) else Err NoDate
 
 -- The bytes of a date. The word is `not set`, or a day that the library jiff reads. jiff also reads other forms of a day, and drops
 -- what may follow the day, such as a time. A word in such a form is no date.

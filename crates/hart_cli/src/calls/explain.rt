@@ -18,9 +18,7 @@ use hart_line::Digits;
 use std::alloc::Global;
 
 mod codes;
-mod data;
 mod dates;
-mod fields;
 mod last_messages;
 pub mod laws;
 mod message;
@@ -30,7 +28,6 @@ mod sightings;
 mod status;
 mod teller;
 mod telling;
-pub(crate) mod values;
 mod words;
 
 /// The greatest number of bytes that a raw input may have, so that each place fits in 64 bits.

@@ -96,7 +96,7 @@ pub fn one_request()
 /// # Errors
 ///
 /// [`CliFault::BadWord`] with the number of the first bad word, or [`CliFault::BadField`].
-fn read_request(words: &RequestWords<'_, '_>) -> Result<Frame, CliFault>
+pub fn read_request(words: &RequestWords<'_, '_>) -> Result<Frame, CliFault>
     ensures { ReadOutcome words.now result }
 {
     let Some(master) = read_who(words.who.as_bytes()) else {

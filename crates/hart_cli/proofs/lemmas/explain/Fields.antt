@@ -1,33 +1,36 @@
--- The table of the commands: the name of each is short, and the fields of its data can be shown.
+-- The table of the commands: the name of each is short, and so are the names of the fields of its requests.
 use Rattle.std.proofs.Common.{◌≡◌, ◌≤◌, ℕ, Bool, true, List, length, Some, IfSome, arith, nat_le, rules}
 use Rattle.std.proofs.lemmas.Bool.Decides.{nat_tests}
 use Rattle.std.proofs.lemmas.Grind.{common_steps}
-use Rattle.std.specs.List.{AllByRecursion}
+use Rattle.std.specs.List.{AllByRecursion, list_all}
 use Rattle.std.specs.Prelude.{◌&&◌}
-use Rattle.hart_commands.specs.Commands.{Command, command_name, commands, known, reply_rows, request_rows}
-use Rattle.hart_commands.specs.Fields.{text}
+use Rattle.hart_commands.specs.Commands.{Command, command_name, commands, known, request_rows}
+use Rattle.hart_commands.specs.Fields.{Row, text}
 use Rattle.hart_commands.proofs.lemmas.Rows.{of_known}
-use Rattle.hart_cli.specs.explain.Fields.{are_shown}
 
--- whether the name of a command has at most 64 characters, and its fields can be shown
-can_be_said : Command → Bool
-can_be_said command = nat_le (length command.name) 64 && are_shown command.request && are_shown command.reply
+-- whether the name of a field has at most 40 characters
+abbrev pub is_short : Row → Bool
+is_short row = nat_le (length row.name) 40
 
--- the name of each command is short, and its fields can be shown
-all_can : AllByRecursion (λ row. can_be_said row.command ≡ true) commands
-unfolding can_be_said text
-all_can = search rules
+-- whether the name of a command has at most 64 characters, and those of the fields of its requests at most 40
+has_short_names : Command → Bool
+has_short_names command = nat_le (length command.name) 64 && list_all is_short command.request
 
--- the name of a known command is short, and its fields can be shown
-can : (command : ℕ) → IfSome (known command) (λ told. (told.number ≡ command) × (can_be_said told ≡ true))
-can command = of_known (λ told. can_be_said told ≡ true) command all_can
+-- the names of each command are short
+all_have : AllByRecursion (λ row. has_short_names row.command ≡ true) commands
+unfolding has_short_names text
+all_have = search rules
+
+-- the names of a known command are short
+has : (command : ℕ) → IfSome (known command) (λ found. (found.number ≡ command) × (has_short_names found ≡ true))
+has command = of_known (λ found. has_short_names found ≡ true) command all_have
 
 -- the name of a command has at most 64 characters
 pub command_name-short : (command : ℕ) (name : List ℕ) → command_name command ≡ Some name → length name ≤ 64
-unfolding can_be_said
-command_name-short command name is = grind (arith, common_steps, nat_tests, can command)
+unfolding has_short_names
+command_name-short command name is = grind (arith, common_steps, nat_tests, has command)
 
--- the fields of the requests and of the replies of a command can be shown
-pub rows-shown : (command : ℕ) → (are_shown (request_rows command) ≡ true) × (are_shown (reply_rows command) ≡ true)
-unfolding can_be_said
-rows-shown command = grind (arith, common_steps, nat_tests, can command)
+-- the name of each field of the requests of a command has at most 40 characters
+pub rows-short : (command : ℕ) → list_all is_short (request_rows command) ≡ true
+unfolding has_short_names
+rows-short command = grind (arith, common_steps, nat_tests, has command)

@@ -15,7 +15,8 @@ use Rattle.hart_values.specs.declared.address.Address.{Address}
 use Rattle.hart_values.specs.declared.address.Address.TheVariants.{Polling, Unique}
 use Rattle.hart_values.specs.declared.master_id.MasterId.{MasterId}
 use Rattle.hart_values.specs.declared.master_id.MasterId.TheVariants.{Primary, Secondary}
-use Rattle.hart_cli.specs.explain.Words.{command_words, device_words, header_words, master_words, name_words, who_words}
+use Rattle.hart_explain.specs.Words.{name_words}
+use Rattle.hart_cli.specs.explain.Words.{command_words, device_words, header_words, master_words, who_words}
 use Rattle.hart_cli.proofs.lemmas.explain.Gaps.{no_line_feed, unbroken-decimal, unbroken-digit}
 
 -- whether the name of a command has no line feed

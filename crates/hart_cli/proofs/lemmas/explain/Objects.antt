@@ -13,8 +13,9 @@ use Rattle.json.specs.Print.{escape, escape_byte}
 use Rattle.serde_json.specs.Data.{Data}
 use Rattle.serde_json.specs.Written.{comma_if, compact_text, items_text, members_text}
 use Rattle.hart_cli.specs.declared.calls.explain.objects.page.Page.{Page}
-use Rattle.hart_cli.specs.explain.objects.Members.{Named, further_member, further_members, items_of, joined_members, key_words, list_of}
-use Rattle.hart_cli.specs.explain.objects.Members.{member_words, members_after, members_of, object_of, opening_words}
+use Rattle.hart_explain.specs.Json.{Named, further_member, further_members, items_of, list_of, object_of}
+use Rattle.hart_explain.proofs.lemmas.Laws.{objects_are_their_members}
+use Rattle.hart_cli.specs.explain.objects.Members.{key_words, opening_words}
 use Rattle.hart_cli.specs.explain.objects.Page.{Adds, Holds}
 use Rattle.hart_cli.specs.stream.Stream.{Stream}
 use Rattle.hart_cli.proofs.lemmas.Writes.{FailsToWrite-longer}
@@ -61,18 +62,6 @@ pub begun : {W : Type 0} {stream : W → Stream} {old new : Page W} {text : List
     → Holds stream (stream old.writer.now) new (old.kept.now ++ text)
 begun going adds = adds.on _ _ (holds_kept _ _ going)
 
--- further members and a brace end an object
-further-is : (members : List Named) → members_text true (members_of members) ≡ further_members members ++ 125 ∷ []
-unfolding further_member member_words
-further-is [] = refl
-further-is (first ∷ others) = grind (arith, append_assoc, further-is others)
-
--- the text of an object has its members between braces, with a comma between two of them
-pub object-is : (members : List Named) → compact_text (object_of members) ≡ 123 ∷ joined_members members ++ 125 ∷ []
-unfolding further_member member_words
-object-is [] = refl
-object-is (first ∷ others) = grind (arith, append_assoc, further-is others)
-
 -- further values and a bracket end a list
 further_items-is : (values : List Data)
     → items_text true (items_of values) ≡ flat_map (λ value. 44 ∷ [] ++ compact_text value) values ++ 93 ∷ []
@@ -87,7 +76,7 @@ list-is (first ∷ others) = grind (arith, append_assoc, further_items-is others
 -- a further member is its name and its value
 pub keyed : {W : Type 0} {stream : W → Stream} {a b c : Page W} (name : List ℕ) (value : Data) → Adds stream a b (key_words name)
     → Adds stream b c (compact_text value) → Adds stream a c (further_member (record { name = name; value = value }))
-unfolding further_member member_words key_words
+unfolding further_member key_words
 keyed name value k v = rw append_assoc at (also k v)
 
 -- the parts of an object, one after another, are its text
@@ -95,31 +84,13 @@ opened-is : (name : List ℕ) (value : Data) (others : List Named)
     → opening_words name ++ compact_text value ++ further_members others ++ 125 ∷ []
     ≡ compact_text (object_of (record { name = name; value = value } ∷ others))
 unfolding opening_words
-opened-is name value others = grind (arith, append_assoc, further-is others)
+opened-is name value others = grind (arith, append_assoc, objects_are_their_members (record { name = name; value = value }) others)
 
 -- an object is its first member, the further ones, and a brace
 pub an_object : {W : Type 0} {stream : W → Stream} {a b c d e : Page W} (first : Named) (others : List Named)
     → Adds stream a b (opening_words first.name) → Adds stream b c (compact_text first.value) → Adds stream c d (further_members others)
     → Adds stream d e (125 ∷ []) → Adds stream a e (compact_text (object_of (first ∷ others)))
 an_object first others o v m e = rw opened-is at (also (also (also o v) m) e)
-
--- whether a character is a hex digit or stands between two of them
-is_near_digit : ℕ → Bool
-is_near_digit code = nat_le 48 code && nat_le code 70
-
--- a hex digit is not escaped
-escape-digit : (k : ℕ) → k < 16 → escape_byte (slice_index upper_digits k) ≡ slice_index upper_digits k ∷ []
-unfolding escape_byte is_near_digit
-escape-digit k below = grind (arith, common_steps, nat_tests, list_all_at is_near_digit upper_digits k 0)
-
--- a string of hex digits is not escaped
-pub escape-hex : (bytes : List ℕ) → ((i : ℕ) → Fits w8 (get_or bytes i 0)) → escape (encode_upper bytes) ≡ encode_upper bytes
-unfolding encode_with
-escape-hex [] fits = refl
-escape-hex (byte ∷ bytes) fits =
-    let first : byte < 256 = omega (arith, fits 0) in
-    let rest = escape-hex bytes (λ i. fits (suc i)) in
-    grind (arith, escape-digit (byte / 16), escape-digit (byte % 16))
 
 -- values that are made from others are joined
 flat_map-map : {X Y A : Type 0} (f : Y → List A) (g : X → Y) (xs : List X) → flat_map f (map g xs) ≡ flat_map (λ x. f (g x)) xs
@@ -142,28 +113,10 @@ pub members_then : {W : Type 0} {stream : W → Stream} {a b c : Page W} (xs ys 
     → Adds stream b c (further_members ys) → Adds stream a c (further_members (xs ++ ys))
 members_then xs ys h k = rw (flat_map-append further_member xs ys) (also h k)
 
--- the parts of a list up to one more part are joined
-pub joined-push : {X : Type 0} (f : X → List ℕ) (xs : List X) (i : ℕ) (d : X) → i < length xs
-    → join_by f (44 ∷ []) (take (i + 1) xs) ≡ join_by f (44 ∷ []) (take i xs) ++ (comma_if (nat_lt 0 i) ++ f (get_or xs i d))
-joined-push f xs i d within = grind (arith, common_steps, join_by-push f (take i xs) (get_or xs i d))
-
 -- the texts of mapped elements up to one more element
 pub mapped-push : {X Y A : Type 0} (f : Y → List A) (g : X → Y) (xs : List X) (i : ℕ) (d : X) → i < length xs
     → flat_map f (map g (take (i + 1) xs)) ≡ flat_map f (map g (take i xs)) ++ f (g (get_or xs i d))
 mapped-push f g xs i d within = grind (arith, common_steps, flat_map-append, map-append)
-
--- a member whose name is escaped is its quoted name and its value
-pub member-is : (name : List ℕ) (value : Data)
-    → 34 ∷ escape name ++ 34 ∷ 58 ∷ [] ++ compact_text value ≡ member_words (record { name = name; value = value })
-unfolding member_words
-member-is name value = grind (arith, append_assoc)
-
--- the first of some members has a comma before it if others stand before, and the later ones are further ones
-pub after-first : (later : Bool) (first : Named) (others : List Named)
-    → members_after later (first ∷ others) ≡ comma_if later ++ (member_words first ++ further_members others)
-unfolding further_member
-after-first true first others = refl
-after-first false first others = refl
 
 -- the text of a list of values that are made from others
 pub list_of-mapped : {X : Type 0} (f : X → Data) (xs : List X)

@@ -9,7 +9,7 @@ use Rattle.hart_frame.specs.declared.wire.kind.FrameKind.{FrameKind}
 use Rattle.hart_frame.specs.declared.wire.kind.FrameKind.TheVariants.{Stx, Ack}
 use Rattle.hart_frame.specs.wire.Header.{HeaderParts}
 use Rattle.hart_cli.specs.dump.Text.{address_word}
-use Rattle.hart_cli.specs.explain.objects.Members.{Named, count, name_or_null, named, object_of}
+use Rattle.hart_explain.specs.Json.{Named, count, name_or_null, named, object_of}
 
 -- An STX is a request, and an ACK is a reply.
 abbrev pub kind_name : FrameKind → List ℕ

@@ -4,7 +4,7 @@ use Rattle.serde_json.specs.Data.{Data, string}
 use Rattle.serde_json.specs.Written.{compact_text}
 use Rattle.hart_frame.specs.heard.Sighting.{Message, Missed, Seen}
 use Rattle.hart_cli.specs.declared.calls.explain.objects.Before.{Before}
-use Rattle.hart_cli.specs.explain.objects.Members.{Named, named, object_of, word}
+use Rattle.hart_explain.specs.Json.{Named, named, object_of, word}
 use Rattle.hart_cli.specs.explain.objects.Message.{message_members}
 use Rattle.hart_cli.specs.explain.objects.Misses.{miss_members}
 

@@ -7,16 +7,17 @@ use Rattle.hart_frame.specs.declared.wire.kind.FrameKind.TheVariants.{Stx, Ack}
 use Rattle.hart_frame.specs.wire.FrameParts.{FrameParts}
 use Rattle.hart_frame.specs.wire.Header.{header_of}
 use Rattle.hart_cli.specs.declared.calls.explain.objects.Before.{Before}
-use Rattle.hart_cli.specs.explain.objects.Data.{reply_members, request_members}
+use Rattle.hart_explain.specs.Json.{Named, count, hex, named, reading_members}
+use Rattle.hart_explain.specs.Reading.{reading_of_reply, reading_of_request}
 use Rattle.hart_cli.specs.explain.objects.Header.{command_members, speaker_members}
-use Rattle.hart_cli.specs.explain.objects.Members.{Named, count, count_or_null, hex, named}
+use Rattle.hart_cli.specs.explain.objects.Members.{count_or_null}
 use Rattle.hart_cli.specs.explain.objects.Status.{status_members}
 
 -- The payload of an STX is its data. The payload of an ACK is two status bytes and then its data.
 abbrev pub payload_members : FrameKind → ℕ → List ℕ → List Named
-payload_members Stx command payload = request_members command payload
+payload_members Stx command payload = reading_members command payload (reading_of_request command payload)
 payload_members Ack command (first ∷ second ∷ bytes) =
-    status_members command first second ++ reply_members command first second bytes
+    status_members command first second ++ reading_members command bytes (reading_of_reply command (first ∷ second ∷ bytes))
 payload_members Ack command _ = []
 
 -- A request says how many times its master has sent it in a row. A reply says where the request that it answers starts, if that

@@ -6,7 +6,7 @@ use Rattle.hart_frame.specs.declared.heard.miss.Miss.TheVariants.{Faulty, Burst,
 use Rattle.hart_frame.specs.declared.heard.miss.Miss.TheVariants.{BadCheck, OnePreamble}
 use Rattle.hart_frame.specs.wire.Header.{HeaderParts}
 use Rattle.hart_cli.specs.explain.objects.Header.{header_value}
-use Rattle.hart_cli.specs.explain.objects.Members.{Named, count, hex, named, word}
+use Rattle.hart_explain.specs.Json.{Named, count, hex, named, word}
 
 -- A miss has a reason, and details. Bytes and fault bits are in hex, places and counts are numbers.
 abbrev pub reason_members : Miss → List Named

@@ -1,9 +1,9 @@
 -- What a line of JSON says of the two status bytes of a reply (HCF_SPEC-099; own profile).
 use Rattle.std.specs.Prelude.{nat_lt, if◌then◌else◌, [], ◌∷◌, ℕ, List, map}
 use Rattle.serde_json.specs.Data.{Data, null, string}
-use Rattle.hart_cli.specs.explain.Codes.{code_name}
+use Rattle.hart_explain.specs.Codes.{code_name}
 use Rattle.hart_cli.specs.explain.Status.{comm_faults, device_states, set_names}
-use Rattle.hart_cli.specs.explain.objects.Members.{Named, count, hex, list_of, name_or_null, named}
+use Rattle.hart_explain.specs.Json.{Named, count, hex, list_of, name_or_null, named}
 
 -- Names are a list of strings.
 abbrev pub names_value : List (List ℕ) → Data

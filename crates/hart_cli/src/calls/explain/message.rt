@@ -1,18 +1,20 @@
 //! What is said of a message.
-ghost use Rattle.std.specs.Prelude.{◌≡◌, ◌++◌, ◌+◌, ◌<◌, ◌≤◌, ◌^◌, length};
+ghost use Rattle.std.specs.Prelude.{◌≡◌, ◌++◌, ◌+◌, ◌<◌, ◌≤◌, ◌^◌, drop, length};
 ghost use Rattle.hart_frame.specs.declared.wire.kind.FrameKind.TheVariants.{Ack};
 ghost use Rattle.hart_frame.specs.heard.Frames.{moved};
 ghost use Rattle.hart_frame.specs.scan.View.{found_of};
 ghost use Rattle.hart_frame.specs.wire.View.{parts_of};
+ghost use Rattle.hart_explain.specs.Reading.{reading_of_reply, reading_of_request};
+ghost use Rattle.hart_explain.specs.Words.{reading_lines};
 ghost use Rattle.hart_cli.specs.explain.Message.{burst_line, message_line, paragraph, payload_lines};
 ghost use Rattle.hart_cli.specs.stream.Kept.{HasRoomFor};
 
-use crate::calls::explain::data::{push_reply_data, push_request_data};
 use crate::calls::explain::status::push_status;
 use crate::calls::explain::words::{push_bytes_line, push_header, push_said};
 use crate::kept::Kept;
 use crate::text::pairs::Pairs;
 use crate::text::words::push_text;
+use hart_explain::{read_reply, read_request, words};
 use hart_frame::{FoundView, FrameKind, FrameView};
 use itoa::Buffer;
 
@@ -36,9 +38,19 @@ fn push_payload(text: &mut Kept, pairs: &Pairs, frame: &FrameView<'_>)
     ensures { text.new ≡ text.old ++ payload_lines (parts_of frame.now).kind (parts_of frame.now).command (parts_of frame.now).payload }
 {
     match frame.kind() {
-        FrameKind::Stx => push_request_data(text, pairs, frame.command(), frame.payload()),
+        FrameKind::Stx => push_request(text, pairs, frame.command(), frame.payload()),
         FrameKind::Ack => push_reply(text, pairs, frame.command(), frame.payload()),
     }
+}
+
+/// Adds what the data of a request say.
+#[tactic(auto, using(hart_explain::proofs::lemmas::Laws::texts_keep_what_fits))]
+fn push_request(text: &mut Kept, pairs: &Pairs, command: u8, bytes: &[u8])
+    requires room { HasRoomFor 6300 text.old }
+    requires few { length bytes.now ≤ 255 }
+    ensures lines { text.new ≡ text.old ++ reading_lines command bytes.now (reading_of_request command bytes.now) }
+{
+    words::push_reading(text, pairs, command, bytes, read_request(command, bytes));
 }
 
 /// Adds what the payload of a reply says.
@@ -52,6 +64,18 @@ fn push_reply(text: &mut Kept, pairs: &Pairs, command: u8, payload: &[u8])
     };
     push_status(text, command, *first, *second);
     push_reply_data(text, pairs, command, payload);
+}
+
+/// Adds what the data of a reply say, which stand after the two status bytes of its payload.
+#[tactic(auto, using(hart_explain::proofs::lemmas::Laws::texts_keep_what_fits))]
+fn push_reply_data(text: &mut Kept, pairs: &Pairs, command: u8, payload: &[u8])
+    requires room { HasRoomFor 6300 text.old }
+    requires some { 2 ≤ length payload.now }
+    requires few { length payload.now ≤ 255 }
+    ensures lines { text.new ≡ text.old ++ reading_lines command (drop 2 payload.now) (reading_of_reply command payload.now) }
+{
+    let reading = read_reply(command, payload);
+    words::push_reading(text, pairs, command, &payload[2..], reading);
 }
 
 /// Appends the line of a message. Its places are counted from `first` on.

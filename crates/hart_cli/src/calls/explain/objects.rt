@@ -15,16 +15,12 @@ use crate::stream::{Failed, Sink};
 use crate::text::pairs::Pairs;
 use hart_frame::Sighting;
 
-mod data;
-mod fields;
 mod header;
 mod members;
 mod message;
 mod misses;
 mod page;
-mod problems;
 mod status;
-mod values;
 
 /// What is known of a message from the messages before it.
 #[derive(Clone, Copy)]

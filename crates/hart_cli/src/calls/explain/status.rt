@@ -2,7 +2,7 @@
 ghost use Rattle.std.specs.Prelude.{◌≡◌, ◌++◌, ◌+◌, ◌≤◌, codes, length, map, true};
 ghost use Rattle.hart_cli.specs.explain.Status.{are_short, names_words, seen, separated, set_names, status_lines};
 ghost use Rattle.hart_cli.specs.explain.Codes.{code_words};
-ghost use Rattle.hart_cli.specs.explain.Words.{said_line};
+ghost use Rattle.hart_explain.specs.Words.{said_line};
 ghost use Rattle.hart_cli.specs.stream.Kept.{HasRoomFor};
 
 use crate::calls::explain::codes::push_code;

@@ -1,8 +1,8 @@
 //! Bytes, numbers with names, who speaks to whom, headers, and the lines of what a message says.
 ghost use Rattle.std.specs.Prelude.{◌≡◌, ◌++◌, ◌+◌, ◌*◌, ◌≤◌, IfSome, codes, length};
 ghost use Rattle.std.specs.Option.{option_map};
-ghost use Rattle.hart_cli.specs.explain.Words.{bytes_line, command_words, device_words, header_words, hex_value, master_words};
-ghost use Rattle.hart_cli.specs.explain.Words.{named_number, said_line, who_words};
+ghost use Rattle.hart_explain.specs.Words.{bytes_line, hex_value, said_line};
+ghost use Rattle.hart_cli.specs.explain.Words.{command_words, device_words, header_words, master_words, named_number, who_words};
 ghost use Rattle.hart_cli.specs.stream.Kept.{HasRoomFor};
 
 use crate::kept::Kept;
@@ -134,7 +134,7 @@ pub fn push_bytes_line(text: &mut Kept, pairs: &Pairs, name: &str, bytes: &[u8])
 }
 
 /// Appends bytes in hex: `0x`, and two upper-case digits for each byte.
-#[tactic(auto, unfolding(crate::specs::explain::Words::hex_value))]
+#[tactic(auto, unfolding(hart_explain::specs::Words::hex_value))]
 pub fn push_hex_value(text: &mut Kept, pairs: &Pairs, bytes: &[u8])
     requires { HasRoomFor (2 * length bytes.now + 2) text.old }
     ensures value { text.new ≡ text.old ++ hex_value bytes.now }

@@ -8,9 +8,9 @@ ghost use Rattle.hart_cli.specs.request.Values.{bytes_value, can_have, date_valu
 ghost use Rattle.hart_cli.specs.request.Values.{number_bytes, number_up_to, number_value, packed, packed_value, padded, sized};
 ghost use Rattle.hart_cli.specs.request.Values.{text_value, value_of};
 
-use crate::calls::explain::values::push_day;
 use crate::calls::request::fault::FieldFault;
 use hart_commands::{FieldKind, FieldRow, FieldSize};
+use hart_explain::day_text;
 use hart_line::read_data;
 use hart_values::{ByteList, PackedText, Payload};
 use jiff::civil::Date;
@@ -238,8 +238,7 @@ fn day_value(word: &str, day: u8, month: u8, year: u8) -> Result<FieldBytes, Fie
     requires { is_calendar_day day month (1900 + year) ≡ true }
     ensures { result ≡ dated word.now day month (Some year) }
 {
-    let mut shown = FieldBytes::new();
-    push_day(&mut shown, day, month, year);
+    let shown = day_text(day, month, year);
     if word.as_bytes() != shown.as_slice() {
         return Err(FieldFault::NoDate);
     }

@@ -3,7 +3,7 @@ ghost use Rattle.json.specs.Print.{quoted};
 ghost use Rattle.hart_values.specs.declared.address.Address.TheVariants.{Polling};
 ghost use Rattle.hart_cli.specs.dump.Text.{address_word};
 ghost use Rattle.hart_cli.specs.explain.objects.Header.{command_members, ends_members, kind_name, master_name};
-ghost use Rattle.hart_cli.specs.explain.objects.Members.{further_members};
+ghost use Rattle.hart_explain.specs.Json.{further_members};
 ghost use Rattle.hart_cli.specs.explain.objects.Page.{Adds};
 
 use crate::calls::explain::objects::members::{push_count, push_key, push_name};

@@ -1,9 +1,10 @@
 //! Members of objects.
-ghost use Rattle.std.specs.Prelude.{◌++◌, ◌∷◌, [], codes, option_map};
+ghost use Rattle.std.specs.Prelude.{◌≤◌, ◌++◌, ◌∷◌, [], codes, length, option_map};
 ghost use Rattle.json.specs.Print.{quoted};
 ghost use Rattle.serde_json.specs.Data.{boolean, null, string};
 ghost use Rattle.serde_json.specs.Written.{comma_if};
-ghost use Rattle.hart_cli.specs.explain.objects.Members.{count, further_member, hex, key_words, name_or_null, opening_words};
+ghost use Rattle.hart_explain.specs.Json.{count, further_member, hex, name_or_null};
+ghost use Rattle.hart_cli.specs.explain.objects.Members.{key_words, opening_words};
 ghost use Rattle.hart_cli.specs.explain.objects.Page.{Adds};
 
 use crate::calls::explain::objects::page::Page;
@@ -49,9 +50,10 @@ pub fn push_string<W: Sink>(page: &mut Page<'_, W>, name: &str, value: &str)
     page.quoted_text(value);
 }
 
-/// Adds a further member that is a string of bytes in hex.
+/// Adds a further member that is a string of at most 256 bytes in hex.
 #[inline(always)]
 pub fn push_hex<W: Sink>(page: &mut Page<'_, W>, name: &str, value: &[u8])
+    requires { length value.now ≤ 256 }
     ensures { Adds W.stream page.old page.new (further_member (record { name = name.now; value = hex value.now })) }
 {
     push_key(page, name);

@@ -1,5 +1,5 @@
 //! A message as an object.
-ghost use Rattle.std.specs.Prelude.{◌+◌, ◌<◌, ◌≤◌, ◌^◌, ◌++◌, ◌∷◌, [], codes, length};
+ghost use Rattle.std.specs.Prelude.{◌+◌, ◌<◌, ◌≤◌, ◌^◌, ◌++◌, ◌∷◌, [], codes, drop, length};
 ghost use Rattle.serde_json.specs.Data.{boolean, string};
 ghost use Rattle.serde_json.specs.Written.{compact_text};
 ghost use Rattle.hart_frame.specs.declared.wire.kind.FrameKind.TheVariants.{Ack};
@@ -7,12 +7,12 @@ ghost use Rattle.hart_frame.specs.heard.Frames.{moved};
 ghost use Rattle.hart_frame.specs.scan.View.{found_of};
 ghost use Rattle.hart_frame.specs.wire.View.{parts_of};
 ghost use Rattle.hart_cli.specs.explain.objects.Line.{time_members};
-ghost use Rattle.hart_cli.specs.explain.objects.Members.{further_member, further_members, named, object_of, word};
+ghost use Rattle.hart_explain.specs.Json.{further_member, further_members, named, object_of, reading_members, word};
+ghost use Rattle.hart_explain.specs.Reading.{reading_of_reply, reading_of_request};
 ghost use Rattle.hart_cli.specs.explain.objects.Message.{before_member, frame_members, message_members, payload_members};
 ghost use Rattle.hart_cli.specs.explain.objects.Page.{Adds};
 
 use crate::calls::explain::objects::Before;
-use crate::calls::explain::objects::data::{push_reply, push_request};
 use crate::calls::explain::objects::header::{push_command, push_ends, push_kind};
 use crate::calls::explain::objects::members::{
     open_object, push_bool, push_count, push_hex, push_key, push_null,
@@ -20,6 +20,7 @@ use crate::calls::explain::objects::members::{
 use crate::calls::explain::objects::page::Page;
 use crate::calls::explain::objects::status::push_status;
 use crate::stream::Sink;
+use hart_explain::{read_reply, read_request};
 use hart_frame::{FoundView, FrameKind, FrameView};
 
 /// Adds the object of a message. Its places are counted from `first` on.
@@ -80,13 +81,33 @@ fn push_payload<W: Sink>(page: &mut Page<'_, W>, frame: &FrameView<'_>)
     }
 }
 
+/// Adds the members of the data of a request.
+fn push_request<W: Sink>(page: &mut Page<'_, W>, command: u8, bytes: &[u8])
+    requires { length bytes.now ≤ 255 }
+    ensures { Adds W.stream page.old page.new (further_members (reading_members command bytes.now (reading_of_request command bytes.now))) }
+{
+    page.reading(command, bytes, read_request(command, bytes));
+}
+
 /// Adds the members of the payload of a reply.
 fn push_answer<W: Sink>(page: &mut Page<'_, W>, command: u8, payload: &[u8])
-    requires { 2 ≤ length payload.now }
+    requires some { 2 ≤ length payload.now }
+    requires few { length payload.now ≤ 255 }
     ensures { Adds W.stream page.old page.new (further_members (payload_members Ack command payload.now)) }
 {
     push_status(page, command, payload[0], payload[1]);
-    push_reply(page, command, payload);
+    push_reply_data(page, command, payload);
+}
+
+/// Adds the members of the data of a reply, which stand after the two status bytes of its payload.
+fn push_reply_data<W: Sink>(page: &mut Page<'_, W>, command: u8, payload: &[u8])
+    requires some { 2 ≤ length payload.now }
+    requires few { length payload.now ≤ 255 }
+    ensures { Adds W.stream page.old page.new
+        (further_members (reading_members command (drop 2 payload.now) (reading_of_reply command payload.now))) }
+{
+    let reading = read_reply(command, payload);
+    page.reading(command, &payload[2..], reading);
 }
 
 /// Adds the member of what the messages before a message say of it.

@@ -6,7 +6,7 @@ ghost use Rattle.hart_frame.specs.scan.Sighting.{NamesPlacesBelow};
 ghost use Rattle.hart_frame.specs.wire.Header.{header_parts};
 ghost use Rattle.hart_cli.specs.explain.objects.Header.{header_value};
 ghost use Rattle.hart_cli.specs.explain.objects.Line.{time_members};
-ghost use Rattle.hart_cli.specs.explain.objects.Members.{further_member, further_members, named, object_of, word};
+ghost use Rattle.hart_explain.specs.Json.{further_member, further_members, named, object_of, word};
 ghost use Rattle.hart_cli.specs.explain.objects.Misses.{miss_members, reason_members, seems_value};
 ghost use Rattle.hart_cli.specs.explain.objects.Page.{Adds};
 

@@ -5,6 +5,9 @@ ghost use Rattle.std.specs.Bool.{OnTrue};
 ghost use Rattle.std.specs.Char.{digit_char};
 ghost use Rattle.hex.specs.Hex.{encode_upper};
 ghost use Rattle.json.specs.Print.{escape, escape_byte, quoted};
+ghost use Rattle.hart_explain.specs.Json.{further_members, reading_members};
+ghost use Rattle.hart_explain.specs.Reading.{seen_reading};
+ghost use Rattle.hart_cli.specs.stream.Kept.{HasRoomFor};
 ghost use Rattle.hart_cli.specs.stream.Stream.{Stream};
 
 use crate::kept::{KEPT_LEN, Kept};
@@ -12,7 +15,11 @@ use crate::output::write_all;
 use crate::stream::{Failed, Sink};
 use crate::text::hex_text::push_hex;
 use crate::text::pairs::Pairs;
+use hart_explain::{Reading, objects};
 use itoa::Buffer;
+
+/// The greatest number of bytes of the members of a reading.
+const MEMBERS_LEN: usize = 12_000;
 
 /// Text on its way to a writer. It is kept as long as there is room, and written when there is none. After a failed write nothing
 /// more is written.
@@ -61,19 +68,8 @@ impl<'a, W: Sink> Page<'a, W> {
         self.text(Buffer::new().format(number));
     }
 
-    /// Adds bytes in upper-case hex, two digits for each.
-    pub fn hex(&mut self, bytes: &[u8])
-        ensures { Adds W.stream self.old self.new (encode_upper bytes.now) }
-    {
-        let (chunks, rest) = bytes.as_chunks::<256>();
-        for chunk in chunks {
-            self.short_hex(chunk);
-        }
-        self.short_hex(rest);
-    }
-
-    /// Adds at most 256 bytes in upper-case hex. Room for their digits is made once.
-    fn short_hex(&mut self, bytes: &[u8])
+    /// Adds at most 256 bytes in upper-case hex, two digits for each. Room for the digits is made once.
+    fn hex(&mut self, bytes: &[u8])
         requires { length bytes.now ≤ 256 }
         ensures { Adds W.stream self.old self.new (encode_upper bytes.now) }
     {
@@ -83,8 +79,9 @@ impl<'a, W: Sink> Page<'a, W> {
         push_hex(self.kept, self.pairs, bytes);
     }
 
-    /// Adds bytes as a string of upper-case hex, in double quotes.
+    /// Adds at most 256 bytes as a string of upper-case hex, in double quotes.
     pub fn quoted_hex(&mut self, bytes: &[u8])
+        requires { length bytes.now ≤ 256 }
         ensures { Adds W.stream self.old self.new (quoted (encode_upper bytes.now)) }
     {
         self.text("\"");
@@ -174,6 +171,27 @@ impl<'a, W: Sink> Page<'a, W> {
             b'a' + (low - 10)
         };
         self.bytes(&[b'\\', b'u', b'0', b'0', b'0' + byte / 16, digit]);
+    }
+
+    /// Adds the members of a reading of the data of a command. Room for them is made once.
+    #[tactic(auto, using(hart_explain::proofs::lemmas::Laws::texts_keep_what_fits))]
+    pub fn reading(&mut self, command: u8, bytes: &[u8], reading: Reading<'_>)
+        requires { length (further_members (reading_members command bytes.now (seen_reading reading))) ≤ 12000 }
+        ensures { Adds W.stream self.old self.new
+            (further_members (reading_members command bytes.now (seen_reading reading.entry))) }
+    {
+        self.make_room();
+        objects::push_reading(self.kept, self.pairs, command, bytes, reading);
+    }
+
+    /// Writes what is kept if it leaves no room for the members of a reading.
+    fn make_room(&mut self)
+        ensures adds { Adds W.stream self.old self.new [] }
+        ensures room { HasRoomFor 12000 self.new.kept.now }
+    {
+        if self.kept.len() > KEPT_LEN - MEMBERS_LEN {
+            self.write_kept();
+        }
     }
 
     /// Writes what is kept.

@@ -4,17 +4,17 @@ ghost use Rattle.std.specs.List.{join_by};
 ghost use Rattle.json.specs.Print.{quoted};
 ghost use Rattle.serde_json.specs.Written.{comma_if};
 ghost use Rattle.hart_cli.specs.explain.Status.{is_set, seen, set_names};
-ghost use Rattle.hart_cli.specs.explain.objects.Members.{further_member, further_members};
+ghost use Rattle.hart_explain.specs.Json.{further_member, further_members};
 ghost use Rattle.hart_cli.specs.explain.objects.Page.{Adds};
 ghost use Rattle.hart_cli.specs.explain.objects.Status.{fault_members, names_value, response_members, status_members};
 
-use crate::calls::explain::codes::code_name;
 use crate::calls::explain::objects::members::{
     push_comma, push_count, push_hex, push_key, push_name, push_null,
 };
 use crate::calls::explain::objects::page::Page;
 use crate::calls::explain::status::{COMM_FAULTS, DEVICE_STATES, NamedBit};
 use crate::stream::Sink;
+use hart_explain::code_name;
 
 /// Adds the members of the two status bytes of a reply to a command.
 pub fn push_status<W: Sink>(page: &mut Page<'_, W>, command: u8, first: u8, second: u8)

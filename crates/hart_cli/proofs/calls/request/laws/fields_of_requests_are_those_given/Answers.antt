@@ -27,9 +27,8 @@ use Rattle.hart_cli.specs.request.Fields.{data_of_fields, field_value, first_bad
 use Rattle.hart_cli.specs.request.Fields.{taken_by}
 use Rattle.hart_cli.specs.request.Fields.{unless_bad, value_in}
 use Rattle.hart_cli.specs.request.Given.{AreGiven}
-use Rattle.hart_cli.specs.explain.Values.{date_words}
 use Rattle.hart_cli.specs.request.Values.{bytes_value, can_have, codes_value, date_value, dated, has_hex_prefix, hex_of}
-use Rattle.hart_cli.specs.request.Values.{latin_value, pack, packed, sized, text_value, value_of, year_byte}
+use Rattle.hart_cli.specs.request.Values.{latin_value, pack, packed, shown_value, sized, text_value, value_of, year_byte}
 use Rattle.hart_cli.proofs.calls.request.laws.fields_of_requests_are_those_given.Goals as goal
 
 -- for a row of fixed size, whether it can be written; for a row that takes all bytes that are left, whether it is the last row
@@ -102,7 +101,7 @@ length-dated : (word : List ℕ) (day month : ℕ) (year : Option ℕ) (bytes : 
     → length bytes ≡ 3
 length-dated word day month None bytes is = absurd cc
 length-dated word day month (Some year) bytes is =
-    elim (either (bytes_eq word (date_words (day ∷ month ∷ year ∷ []))) (Ok (day ∷ month ∷ year ∷ [])) (Err NoDate) bytes is) [
+    elim (either (bytes_eq word (shown_value Date (day ∷ month ∷ year ∷ []))) (Ok (day ∷ month ∷ year ∷ [])) (Err NoDate) bytes is) [
       | inl given ↦ grind arith
       | inr none ↦ absurd cc
     ]

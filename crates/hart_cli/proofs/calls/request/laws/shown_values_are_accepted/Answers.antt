@@ -13,9 +13,10 @@ use Rattle.jiff.proofs.Family.{parse_date-date_text}
 use Rattle.jiff.specs.Words.{IsDate, parse_date}
 use Rattle.hart_values.proofs.lemmas.hart_date.Calendar.{IsDate-iff}
 use Rattle.hart_values.specs.hart_date.Calendar.{IsCalendarDay}
-use Rattle.hart_cli.specs.explain.Values.{date_words, day_words, two_digits}
-use Rattle.hart_cli.specs.explain.Words.{hex_value}
-use Rattle.hart_cli.specs.request.Values.{date_value, greatest_of, number_up_to, year_byte}
+use Rattle.hart_commands.specs.declared.fields.FieldKind.TheVariants.{Date}
+use Rattle.hart_explain.specs.Values.{day_words, two_digits}
+use Rattle.hart_explain.specs.Words.{hex_value}
+use Rattle.hart_cli.specs.request.Values.{date_value, greatest_of, number_up_to, shown_value, year_byte}
 use Rattle.hart_cli.proofs.calls.request.laws.shown_values_are_accepted.Goals as goal
 
 -- a number below a hundred has a digit for its tens and a digit for its ones
@@ -51,7 +52,7 @@ day_read day month year small is =
 
 -- the words of a calendar day are shown for its bytes
 day_shown : (day month year : ℕ) → year < 256 → IsCalendarDay day month (1900 + year)
-    → date_words (day ∷ month ∷ year ∷ []) ≡ day_words day month year
+    → shown_value Date (day ∷ month ∷ year ∷ []) ≡ day_words day month year
 day_shown day month year small is =
     grind (arith, nat_tests, is.month_from, is.month_to, is.day_from, is.day_to)
 
@@ -66,7 +67,7 @@ byte_of_year year small = grind (arith, nat_tests)
 
 -- the words of a calendar day give its bytes
 day_accepted : (day month year : ℕ) → year < 256 → IsCalendarDay day month (1900 + year)
-    → date_value (date_words (day ∷ month ∷ year ∷ [])) ≡ Ok (day ∷ month ∷ year ∷ [])
+    → date_value (shown_value Date (day ∷ month ∷ year ∷ [])) ≡ Ok (day ∷ month ∷ year ∷ [])
 day_accepted day month year small is =
     let shown = day_shown day month year small is in
     let word = day_words day month year in
@@ -77,7 +78,7 @@ day_accepted day month year small is =
       not_unset day month year small,
       day_read day month year small is,
       byte_of_year year small,
-      bytes_eq-Decides word (date_words (day ∷ month ∷ year ∷ [])),
+      bytes_eq-Decides word (shown_value Date (day ∷ month ∷ year ∷ [])),
     )
 
 -- three bytes, one by one

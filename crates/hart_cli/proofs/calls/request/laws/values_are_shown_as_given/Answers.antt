@@ -13,12 +13,12 @@ use Rattle.std.specs.Str.Parse.{digits_value, without_leading_plus}
 use Rattle.jiff.specs.Words.{parse_date}
 use Rattle.hart_values.specs.hart_date.Calendar.{not_set}
 use Rattle.hart_values.specs.packed_text.Packing.{IsCharacter, IsPackedGroup}
-use Rattle.hart_commands.specs.declared.fields.FieldKind.TheVariants.{LatinText, PackedText}
+use Rattle.hart_commands.specs.declared.fields.FieldKind.TheVariants.{Date, LatinText, PackedText}
 use Rattle.hart_cli.specs.declared.calls.request.fault.FieldFault.{FieldFault}
 use Rattle.hart_cli.specs.declared.calls.request.fault.FieldFault.TheVariants.{NoDate}
-use Rattle.hart_cli.specs.explain.Values.{character, characters_of, date_words, is_printable, latin_words, number_in, unpacked}
+use Rattle.hart_explain.specs.Values.{character, characters_of, held_latin, is_printable, number_in, unpacked}
 use Rattle.hart_cli.specs.request.Values.{can_have, dated, greatest_of, group_number, number_bytes, number_or_fault, number_up_to, pack}
-use Rattle.hart_cli.specs.request.Values.{packed, padded, text_value, year_byte}
+use Rattle.hart_cli.specs.request.Values.{packed, padded, shown_value, text_value, year_byte}
 use Rattle.hart_cli.proofs.lemmas.request.Texts.{given_good}
 use Rattle.hart_cli.proofs.calls.request.laws.values_are_shown_as_given.Goals as goal
 
@@ -100,7 +100,7 @@ all_printable (code ∷ text) good =
     (all_printable text (λ k d below. good (suc k) d (omega arith)))
 
 pub returns-clause-latin : goal.returns-clause-latin
-unfolding latin_words
+unfolding held_latin
 returns-clause-latin c word bytes none is =
     let given : text_value (can_have LatinText) 32 (chars word) ≡ Ok bytes = grind (arith, common_steps, none) in
     let pad = padded_is (can_have LatinText) 32 (chars word) bytes given in
@@ -114,25 +114,25 @@ given_by word shown bytes given other is = grind (arith, common_steps, bytes_eq-
 
 -- a day is shown as its word
 dated_shown : (word : List ℕ) (day month : ℕ) (year : Option ℕ) (bytes : List ℕ) → dated word day month year ≡ Ok bytes
-    → date_words bytes ≡ word
+    → shown_value Date bytes ≡ word
 dated_shown word day month None bytes is = absurd cc
 dated_shown word day month (Some year) bytes is =
-    elim (given_by word (date_words (day ∷ month ∷ year ∷ [])) (day ∷ month ∷ year ∷ []) bytes (Err NoDate) is) [
-      | inl shown ↦ ap date_words shown.1 ∙ shown.0
+    elim (given_by word (shown_value Date (day ∷ month ∷ year ∷ [])) (day ∷ month ∷ year ∷ []) bytes (Err NoDate) is) [
+      | inl shown ↦ ap (shown_value Date) shown.1 ∙ shown.0
       | inr other ↦ absurd cc
     ]
 
 -- if every date that gives these bytes is shown as the word, the date that was read is shown as the word too
 read_shown : {A : Type 0} (read : Option A) (given : A → Result (List ℕ) FieldFault) (word bytes : List ℕ)
-    → ((date : A) → given date ≡ Ok bytes → date_words bytes ≡ word) → option_map_or given read (Err NoDate) ≡ Ok bytes
-    → date_words bytes ≡ word
+    → ((date : A) → given date ≡ Ok bytes → shown_value Date bytes ≡ word) → option_map_or given read (Err NoDate) ≡ Ok bytes
+    → shown_value Date bytes ≡ word
 read_shown None given word bytes each is = absurd cc
 read_shown (Some date) given word bytes each is = each date is
 
 pub returns-clause-dates : goal.returns-clause-dates
 returns-clause-dates c size word bytes is =
     elim (given_by word (codes "not set") not_set bytes _ is) [
-      | inl shown ↦ ap date_words shown.1 ∙ shown.0
+      | inl shown ↦ ap (shown_value Date) shown.1 ∙ shown.0
       | inr other ↦ read_shown (result_ok (parse_date word)) (λ date. dated word date.day date.month (year_byte date.year)) word bytes
           (λ date. dated_shown word date.day date.month (year_byte date.year) bytes) other
     ]

@@ -3,7 +3,7 @@ use Rattle.serde_json.specs.Data.{boolean, string}
 use Rattle.hart_frame.specs.wire.Header.{header_of}
 use Rattle.hart_frame.specs.wire.View.{parts_of}
 use Rattle.hart_cli.specs.explain.objects.Header.{command_members, kind_name, speaker_members}
-use Rattle.hart_cli.specs.explain.objects.Members.{hex, named}
+use Rattle.hart_explain.specs.Json.{hex, named}
 use Rattle.hart_cli.specs.explain.objects.Message.{payload_members}
 use Rattle.hart_cli.proofs.lemmas.explain.Objects.{also, keyed, members_then}
 use Rattle.hart_cli.proofs.calls.explain.objects.message.push_frame.Goals as goal

@@ -2,7 +2,7 @@ use Rattle.std.proofs.Common.{◌++◌, ◌∷◌, []}
 use Rattle.hart_frame.specs.heard.Frames.{moved}
 use Rattle.hart_frame.specs.scan.View.{found_of}
 use Rattle.hart_cli.specs.explain.objects.Line.{time_members}
-use Rattle.hart_cli.specs.explain.objects.Members.{count, named, word}
+use Rattle.hart_explain.specs.Json.{count, named, word}
 use Rattle.hart_cli.specs.explain.objects.Message.{before_member, frame_members}
 use Rattle.hart_cli.proofs.lemmas.explain.Objects.{adds_nothing, also, an_object, members_then}
 use Rattle.hart_cli.proofs.calls.explain.objects.message.push_message.Goals as goal

@@ -2,7 +2,7 @@ use Rattle.std.proofs.Common.{◌≡◌, ◌==◌, ℕ, false, true, List, [], �
 use Rattle.std.proofs.lemmas.Bool.Decides.{nat_tests}
 use Rattle.serde_json.specs.Data.{string}
 use Rattle.hart_cli.specs.explain.objects.Line.{time_members}
-use Rattle.hart_cli.specs.explain.objects.Members.{named}
+use Rattle.hart_explain.specs.Json.{named}
 use Rattle.hart_cli.proofs.lemmas.explain.Objects.{adds_nothing, also, keyed}
 use Rattle.hart_cli.proofs.calls.explain.objects.message.push_time.Goals as goal
 

@@ -2,7 +2,7 @@ use Rattle.std.proofs.Common.{◌++◌}
 use Rattle.serde_json.specs.Data.{string}
 use Rattle.hart_frame.specs.wire.Header.{header_parts}
 use Rattle.hart_cli.specs.explain.objects.Header.{command_members, ends_members, kind_name}
-use Rattle.hart_cli.specs.explain.objects.Members.{named}
+use Rattle.hart_explain.specs.Json.{named}
 use Rattle.hart_cli.proofs.lemmas.explain.Objects.{an_object, members_then}
 use Rattle.hart_cli.proofs.calls.explain.objects.misses.push_header.Goals as goal
 

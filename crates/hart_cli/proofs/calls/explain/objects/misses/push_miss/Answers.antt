@@ -2,7 +2,7 @@ use Rattle.std.proofs.Common.{◌+◌, ◌++◌, ◌∷◌, [], option_map}
 use Rattle.hart_frame.specs.heard.Sighting.{miss_in_whole}
 use Rattle.hart_frame.specs.wire.Header.{header_parts}
 use Rattle.hart_cli.specs.explain.objects.Line.{time_members}
-use Rattle.hart_cli.specs.explain.objects.Members.{count, named, word}
+use Rattle.hart_explain.specs.Json.{count, named, word}
 use Rattle.hart_cli.specs.explain.objects.Misses.{reason_members, seems_value}
 use Rattle.hart_cli.proofs.lemmas.explain.Objects.{adds_nothing, also, an_object, members_then}
 use Rattle.hart_cli.proofs.calls.explain.objects.misses.push_miss.Goals as goal

@@ -1,28 +1,23 @@
-use Rattle.std.proofs.Common.{ap, nat_le, ◌≡◌, ◌≤◌, ℕ, zero, suc, true, List, [], ◌∷◌, arith, length}
+use Rattle.std.proofs.Common.{ap, ◌≡◌, ◌≤◌, ℕ, zero, suc, true, List, [], ◌∷◌, arith, length}
 use Rattle.std.proofs.Common.{slice_get}
 use Rattle.std.proofs.lemmas.Bool.{and_parts, leb-true}
 use Rattle.std.specs.List.{list_all}
 use Rattle.std.specs.Option.{option_map_or}
 use Rattle.hart_commands.specs.Commands.{request_rows}
 use Rattle.hart_commands.specs.Fields.{Row}
-use Rattle.hart_cli.specs.explain.Fields.{is_shown, suits_size}
 use Rattle.hart_cli.specs.request.FaultText.{name_at}
-use Rattle.hart_cli.proofs.lemmas.explain.Fields.{rows-shown}
+use Rattle.hart_cli.proofs.lemmas.explain.Fields.{is_short, rows-short}
 use Rattle.hart_cli.proofs.calls.request.fault.FieldFault.reason.Goals as goal
 
--- the name of each row that can be shown is short
-short_at : (rows : List Row) (k : ℕ) → list_all is_shown rows ≡ true → length (option_map_or (λ row. row.name) (slice_get rows k) []) ≤ 40
+-- the name of each row is short if the names of all are
+short_at : (rows : List Row) (k : ℕ) → list_all is_short rows ≡ true → length (option_map_or (λ row. row.name) (slice_get rows k) []) ≤ 40
 short_at [] k all = omega arith
-short_at (row ∷ rows) zero all =
-    leb-true (length row.name) 40
-    (and_parts (nat_le (length row.name) 40) (suits_size row.kind row.size) (and_parts (is_shown row) (list_all is_shown rows) all).0).0
-short_at (row ∷ rows) (suc k) all = short_at rows k (and_parts (is_shown row) (list_all is_shown rows) all).1
+short_at (row ∷ rows) zero all = leb-true (length row.name) 40 (and_parts (is_short row) (list_all is_short rows) all).0
+short_at (row ∷ rows) (suc k) all = short_at rows k (and_parts (is_short row) (list_all is_short rows) all).1
 
 -- the name of the field at each place of a command is short
 name_short : (command field : ℕ) → length (name_at command field) ≤ 40
-name_short command field =
-    short_at (request_rows command) field
-    (and_parts (nat_le (length (request_rows command)) 16) (list_all is_shown (request_rows command)) (rows-shown command).0).1
+name_short command field = short_at (request_rows command) field (rows-short command)
 
 pub worded-requires : goal.worded-requires
 worded-requires c = let name = ap length c.name_at.ensures in omega (arith, name, name_short c.in-Missing.command c.in-Missing.field)

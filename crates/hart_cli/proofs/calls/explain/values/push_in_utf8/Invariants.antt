@@ -1,9 +1,0 @@
-use Rattle.std.proofs.Common.{◌≡◌, ◌≤◌, ◌+◌, ◌*◌, ◌++◌, length, take}
-use Rattle.std.specs.Prelude.{encode_utf8_all}
-use Rattle.hart_cli.proofs.calls.explain.values.push_in_utf8.Given as goal
-
-abbrev pub invariant-loop-code : goal.invariant-loop-code
-invariant-loop-code l = record {
-  written : l.text ≡ l.initial.text ++ encode_utf8_all (take l.code-index l.characters);
-  few : length l.text ≤ length l.initial.text + 2 * l.code-index;
-}
