@@ -9,6 +9,5 @@ pub mod MessageLine
 pub mod Words
 pub mod Reading
 pub mod Chunk
-pub mod Pairs
 pub mod DigitLanes
 pub mod ItemRun

@@ -20,22 +20,26 @@ pub struct ItemRun {
     pub len: usize,
 }
 
-/// Returns the items that begin a text, if they have no fault bits, and either one separator follows each of them or nothing stands
-/// between them. Returns `None` for any other text, and for one that is too short for the lanes.
+/// Returns the items that begin a text, if they have no fault bits, and either one separator follows each of them, or two do, or nothing
+/// stands between them. Returns `None` for any other text, and for one that is too short for the lanes.
 #[inline(always)]
 pub fn item_run(text: &[u8]) -> Option<ItemRun>
     ensures { IfSome result (λ run. ReadsRun text.now run.bytes run.count run.len) }
 {
-    let [first, _, next, ..] = text else {
+    let [first, _, next, after, ..] = text else {
         return None;
     };
-    if is_separator(*next) {
-        spaced_run(text)
-    } else if is_separator(*first) || *next == b'!' {
-        None
-    } else {
-        dense_run(text)
+    if *next > b' ' {
+        if is_separator(*first) || *next == b'!' {
+            return None;
+        }
+        return dense_run(text);
     }
+    // No separator is above a space. So these tests are cheap, and the lanes make sure.
+    if *after > b' ' {
+        return spaced_run(text);
+    }
+    wide_run(text)
 }
 
 /// The lanes of the first digits of 16 spaced items, which take 48 bytes. Lanes 0 to 31 have the first 32 bytes, and lanes 32 to 63 have
@@ -71,6 +75,45 @@ fn spaced_run(text: &[u8]) -> Option<ItemRun>
         bytes: pairs.values.to_array(),
         count,
         len: 3 * count,
+    })
+}
+
+/// Where the first digits of 16 items stand that have two separators after each, which take 64 bytes.
+const WIDE_HIGH: [usize; LANES] = [0, 4, 8, 12, 16, 20, 24, 28, 32, 36, 40, 44, 48, 52, 56, 60];
+
+/// Where their second digits stand.
+const WIDE_LOW: [usize; LANES] = [1, 5, 9, 13, 17, 21, 25, 29, 33, 37, 41, 45, 49, 53, 57, 61];
+
+/// Where the first bytes after them stand.
+const WIDE_AFTER: [usize; LANES] = [2, 6, 10, 14, 18, 22, 26, 30, 34, 38, 42, 46, 50, 54, 58, 62];
+
+/// Where the second bytes after them stand.
+const WIDE_NEXT: [usize; LANES] = [3, 7, 11, 15, 19, 23, 27, 31, 35, 39, 43, 47, 51, 55, 59, 63];
+
+/// Returns the items that begin a text with two separators after each, such as two spaces, or the end of a line.
+#[inline(always)]
+fn wide_run(text: &[u8]) -> Option<ItemRun>
+    ensures { IfSome result (λ run. ReadsRun text.now run.bytes run.count run.len) }
+{
+    if text.len() < 4 * RUN_LEN {
+        return None;
+    }
+    let front = u8x32::from_slice(text);
+    let back = u8x32::from_slice(&text[32..]);
+    let pairs = pair_lanes(
+        front.shuffle(back, WIDE_HIGH),
+        front.shuffle(back, WIDE_LOW),
+    );
+    let are_after = separator_lanes(front.shuffle(back, WIDE_AFTER));
+    let are_next = separator_lanes(front.shuffle(back, WIDE_NEXT));
+    let count = leading_lanes(pairs.are_digits & (are_after & are_next));
+    if count == 0 {
+        return None;
+    }
+    Some(ItemRun {
+        bytes: pairs.values.to_array(),
+        count,
+        len: 4 * count,
     })
 }
 

@@ -1,6 +1,0 @@
-use Rattle.std.proofs.Common.{◌≡◌, length}
-use Rattle.hart_cli.specs.text.Pairs.{ArePairs}
-use Rattle.hart_cli.proofs.text.pairs.Pairs.new.Given as goal
-
-abbrev pub invariant-loop-place : goal.invariant-loop-place
-invariant-loop-place l = record { pairs : ArePairs l.place l.pairs; long : length l.pairs ≡ 256 }
