@@ -23,7 +23,7 @@ from typing import NamedTuple
 
 sys.dont_write_bytecode = True
 
-from fuzz import calls, explain, request, scripts, serve, texts, worked  # noqa: E402
+from fuzz import calls, explain, request, scripts, serve, session, texts, worked  # noqa: E402
 from fuzz.shrink import Shrinker  # noqa: E402
 from fuzz.texts import Given  # noqa: E402
 
@@ -39,7 +39,7 @@ MOST_ODD, LATER_PORTION, LONGEST_PORTIONED = 200, 512, 20_000
 
 
 class Call(NamedTuple):
-    """A call of the program: its name, how often it is tried among eighteen, the maker of what it is given, and the model of it."""
+    """A call of the program: its name, how often it is tried among twenty, the maker of what it is given, and the model of it."""
 
     name: str
     share: int
@@ -52,6 +52,7 @@ CALLS = (
     Call("explain", 6, calls.explain_given, explain.explain),
     Call("answer", 2, calls.answer_given, texts.answer),
     Call("serve", 2, calls.serve_given, serve.serve),
+    Call("master", 2, session.master_given, session.master),
     Call("sim", 3, calls.sim_given, scripts.sim),
     Call("encode", 1, calls.encode_given, texts.encode),
     Call("request", 1, request.request_given, request.request),

@@ -110,6 +110,9 @@ yes counter | head -n 3000 >"$work/input"
 yes 'counter 0' | head -n 3000 >"$work/wanted"
 refuse_each 2 serve
 refuse_each 3 serve --image "$image"
+yes 'tick 1' | head -n 3000 >"$work/input"
+yes '-' | head -n 3000 >"$work/wanted"
+refuse_each 2 master
 
 echo 'FF FF 02 80 00 00 82 FF!40 FF FF 82 B7 42 0A 1B 2C 13 03 01 23 45 3D' >"$work/input"
 printf '%s\n' '2 7 STX P 0 @0 - 0 -' '10 22 STX P 0 37420A1B2C - 19 012345' >"$work/wanted"
@@ -210,6 +213,7 @@ answer 0 102
 answer with an image 0 102
 serve 0 102
 serve with an image 0 102
+master 0 3
 simulate 0 410
 simulate with an image 0 410
 encode_text 0 51
@@ -235,6 +239,7 @@ done
 cat >"$work/growths" <<'GROWTHS'
 2 answer 7 0
 3 answer with an image 7 0
+2 master 7 0
 4 read_script 2
 2 run 2
 2 serve 7 0

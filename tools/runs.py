@@ -17,7 +17,7 @@ from typing import NamedTuple
 sys.dont_write_bytecode = True
 
 from fuzz import worked  # noqa: E402
-from rows import answer, dump, encode, explain, images, items, objects, request, serve, sim, words  # noqa: E402
+from rows import answer, dump, encode, explain, images, items, master, objects, request, serve, sim, words  # noqa: E402
 from rows.calls import CALLS, DONE, FAULT, IDENTIFY, NO_CALL, REFUSALS, WITHOUT_END  # noqa: E402
 
 INPUT_LIMIT = 1_048_576
@@ -143,6 +143,11 @@ def scripts_are_carried_out(runner):
 def lines_are_served_in_turn(runner):
     runner.check_rows(["serve"], serve.ROWS)
     runner.check_rows(["serve"], serve.FAILED_READS, "failure")
+
+
+def a_master_answers_lines_in_turn(runner):
+    runner.check_rows(["master"], master.ROWS)
+    runner.check_rows(["master"], master.FAILED_READS, "failure")
 
 
 def a_line_is_served_before_more_is_read(runner):
@@ -363,6 +368,7 @@ CHECKS = (
     what_was_heard_is_written_as_objects,
     scripts_are_carried_out,
     lines_are_served_in_turn,
+    a_master_answers_lines_in_turn,
     a_line_is_served_before_more_is_read,
     lines_up_to_the_longest_are_served,
     long_scripts_have_long_texts,

@@ -1,9 +1,10 @@
 #!/usr/bin/env python3
-"""Holds `hart serve` to docs/vectors.tsv and to the plain model in tools/fuzz, as a process that lives through many deliveries.
+"""Compares `hart serve` with docs/vectors.tsv and with the plain model in tools/fuzz, as a process that lives through many deliveries; and
+`hart master` with its plain model, as a process that lives through many lines.
 
 Each row of the vectors is heard by a process of its own, which begins with the image of the row and has to reply as the row says.
 Then one process hears all rows, with a restart and the image after each. Another one hears many deliveries, each after it has
-answered the one before, and may not take more memory than after the first few. Lines go by the bridge of hart-bench.
+answered the one before, and may not take more memory than after the first few; so does a master. Lines go by the bridge of hart-bench.
 
 Usage: tools/serve.py PROGRAM [--deliveries N]; N is 100000 if absent.
 """
@@ -17,9 +18,11 @@ sys.dont_write_bytecode = True
 
 from fuzz.device import new_device  # noqa: E402
 from fuzz.serve import said  # noqa: E402
+from fuzz.session import Asker, said as asker_said  # noqa: E402
 from hart_bench.bridge import Lines  # noqa: E402
 from hart_bench.vectors import NEW, RESTART, rows_of  # noqa: E402
 
+FIRST_LINES = 100
 FILE = pathlib.Path(__file__).parents[1] / "docs" / "vectors.tsv"
 # A request that writes, one that reads what was written, noise, a bad line, and two words.
 LINES = (
@@ -29,6 +32,19 @@ LINES = (
     "FF FF 0G",
     "restart",
     "image",
+)
+# A request that is sent twice and answered, one that is given up, bad lines, and noise.
+ASKED = (
+    "submit 37420A1B2C 19 012345",
+    "send",
+    "heard FF FF 86 37 42 0A 1B 2C 13 05 00 40 01 23 45 FF",
+    "tick 33",
+    "send",
+    "frob",
+    "heard FF FF 86 B7 42 0A 1B 2C 13 05 00 40 01 23 45 7F",
+    "ask\t37420A1B2C\t17\tmessage=FEED PUMP",
+    *("send", "heard 00!40 0G", "tick 255") * 4,
+    "ask @0 0 x",
 )
 
 
@@ -84,25 +100,25 @@ def resident(process):
     return next(int(line.split()[1]) for line in status.splitlines() if line.startswith("VmHWM:"))
 
 
-def many_deliveries(program, count):
-    """Sends lines one by one, each after the answer to the line before."""
-    serve, device, taken = Lines([program, "serve"]), new_device(), 0
+def many_lines(program, word, lines, says, count):
+    """Sends lines one by one, each after the answer to the line before; `says` gives what is wanted."""
+    process, taken = Lines([program, word]), 0
     for number in range(count):
-        line = LINES[number % len(LINES)]
-        shown, wanted = serve.say(line), said(device, line.encode()).decode().rstrip("\n")
+        line = lines[number % len(lines)]
+        shown, wanted = process.say(line), says(line.encode()).decode().rstrip("\n")
         if shown != wanted:
-            sys.exit(f"serve: delivery {number + 1}: {shown!r}, but {wanted!r} is wanted")
-        if number == len(LINES):
-            taken = resident(serve.process)
-    grown = resident(serve.process) - taken
-    end(serve)
+            sys.exit(f"{word}: line {number + 1}: {shown!r}, but {wanted!r} is wanted")
+        if number == FIRST_LINES:
+            taken = resident(process.process)
+    grown = resident(process.process) - taken
+    end(process)
     if grown > 0:
-        sys.exit(f"serve: {grown} kB more memory than after {len(LINES)} deliveries")
-    print(f"serve: {count} deliveries one after another, and {taken} kB of memory from the first ones on")
+        sys.exit(f"{word}: {grown} kB more memory than after {FIRST_LINES} lines")
+    print(f"{word}: {count} lines one after another, and {taken} kB of memory from the first ones on")
 
 
 def main():
-    """Runs all three checks."""
+    """Runs all checks."""
     parser = argparse.ArgumentParser(description=__doc__.split("\n", maxsplit=1)[0])
     parser.add_argument("program", help="the built program")
     parser.add_argument("--deliveries", type=int, default=100000, help="how many lines are sent one by one")
@@ -110,7 +126,9 @@ def main():
     program = os.path.realpath(chosen.program)
     each_row_alone(program)
     all_rows_together(program)
-    many_deliveries(program, chosen.deliveries)
+    device, asker = new_device(), Asker()
+    many_lines(program, "serve", LINES, lambda line: said(device, line), chosen.deliveries)
+    many_lines(program, "master", ASKED, lambda line: asker_said(asker, line), chosen.deliveries)
 
 
 if __name__ == "__main__":

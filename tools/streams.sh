@@ -182,11 +182,42 @@ if [ "$status" -ne 0 ] || [ -s "$work/errors" ]; then
 fi
 echo "hart serve: said a line for each line on an open pipe, and ended with 0"
 
+# A master answers each line with a line before it reads on, and keeps its request all the time.
+timeout 60 "$program" master --preambles 5 <"$work/asked" >"$work/said" 2>"$work/errors" &
+master=$!
+exec 3>"$work/asked" 4<"$work/said"
+while IFS='|' read -r asked wanted; do
+    echo "$asked" >&3
+    IFS= read -r said <&4 || true
+    if [ "$said" != "$wanted" ]; then
+        echo "hart master: '$said' to '$asked' on an open pipe, but '$wanted' is wanted" >&2
+        exit 1
+    fi
+done <<'LINES'
+submit @0 0|ok
+send|send FF FF FF FF FF 02 80 00 00 82
+tick 32|-
+frob|bad line: bad word 1
+tick 1|retry
+send|send FF FF FF FF FF 02 80 00 00 82
+heard FF FF 06 80 00 18 00 40 FE 37 42 05 07 01 02 18 00 0A 1B 2C 05 04 00 01 00 00 37 00 37 01 70|answered 2 0040FE37420507010218000A1B2C05040001000037003701
+send|-
+LINES
+exec 3>&- 4<&-
+status=0
+wait "$master" || status=$?
+if [ "$status" -ne 0 ] || [ -s "$work/errors" ]; then
+    echo "hart master: status $status and '$(cat "$work/errors")' at the end of an open pipe" >&2
+    exit 1
+fi
+echo "hart master: said a line for each line on an open pipe, and ended with 0"
+
 ends_with 1 'write fault' /dev/full dump <"$request"
 ends_with 1 'write fault' /dev/full explain <"$request"
 ends_with 1 'write fault' /dev/full explain --json <"$request"
 ends_with 1 'write fault' /dev/full answer <"$request"
 ends_with 1 'write fault' /dev/full serve <"$request"
+ends_with 1 'write fault' /dev/full master <"$request"
 ends_with 1 'write fault' /dev/full sim </dev/null
 ends_with 1 'write fault' /dev/full encode P @0 0 </dev/null
 ends_with 1 'read fault' "$work/output" dump <"$work"
@@ -195,6 +226,8 @@ ends_with 1 'read fault' "$work/output" explain --json <"$work"
 ends_with 1 'read fault' "$work/output" explain --raw --json <"$work"
 ends_with 1 'read fault' "$work/output" answer <"$work"
 ends_with 1 'read fault' "$work/output" serve <"$work"
+ends_with 1 'read fault' "$work/output" master <"$work"
+ends_with 1 'bad word 1' "$work/output" master --who X <"$work"
 ends_with 1 'read fault' "$work/output" sim <"$work"
 # A bad image is refused before anything is read, and so before the fault of the input.
 ends_with 1 'bad image: version' "$work/output" answer --image 03 <"$work"
@@ -215,7 +248,7 @@ writes "$(printf 'counter 1\nimage %s' "$image")" sim --image "$image"
 writes "$(printf 'counter 1\nimage %s' "$image")" sim "--image=$image"
 writes "$(printf 'counter 1\nimage %s' "$image")" sim --image "$earlier"
 shows help --help
-for word in answer dump explain serve sim request encode; do
+for word in answer dump explain serve master sim request encode; do
     shows "help-$word" "$word" --help
 done
 shows help-help help help

@@ -1,6 +1,6 @@
 """Calls that several checks make: what each reads, what it writes, and how it ends."""
 
-from rows import answer, dump, encode, explain, objects, serve, sim
+from rows import answer, dump, encode, explain, master, objects, serve, sim
 
 DONE, FAULT, NO_CALL = 0, 1, 2
 
@@ -16,6 +16,7 @@ CALLS = (
     (["explain", "--json"], IDENTIFY, objects.IDENTIFY),
     (["explain", "--json", "--raw"], bytes.fromhex(IDENTIFY), objects.IDENTIFY),
     (["serve"], serve.LINES, serve.SAID),
+    (["master"], master.LINES, master.SAID),
     (["sim"], "turn P ok ok", sim.AS_IT_WAS),
     (["encode", "P", "@0", "0"], "", encode.IDENTIFY),
 )

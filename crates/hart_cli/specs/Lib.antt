@@ -8,7 +8,9 @@ pub mod Answer
 pub mod dump
 pub mod explain
 pub mod sim
+pub mod session
 pub mod serve
 pub mod FaultNumbers
 pub mod FaultText
+pub mod master
 pub mod program

@@ -1,4 +1,3 @@
 -- `hart serve`.
 pub mod Line
 pub mod Serve
-pub mod Server

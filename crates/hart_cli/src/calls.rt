@@ -4,6 +4,7 @@ pub mod answer;
 pub mod dump;
 pub mod encode;
 pub mod explain;
+pub mod master;
 pub mod program;
 pub mod request;
 pub mod serve;

@@ -37,7 +37,8 @@ pub enum CliFault {
     Image(DeviceFault),
     /// Memory was refused, for this number of items.
     Memory(NoRoom),
-    /// This word of `hart encode` or `hart request` is bad: 1 is WHO, 2 ADDRESS, 3 COMMAND and 4 DATA. `hart request` has no DATA.
+    /// This word of `hart encode` or `hart request` is bad: 1 is WHO, 2 ADDRESS, 3 COMMAND and 4 DATA. `hart request` has no DATA. Of
+    /// `hart master`, 1 is WHO. In a line of `hart master`, words are counted from 1.
     BadWord { number: u8 },
     /// The words of a request do not give the fields of its command.
     BadField(BadField),

@@ -4,16 +4,16 @@ ghost use Rattle.hart_cli.specs.stream.Kept.{HasRoomFor, Tells};
 
 use crate::output::write_all;
 use crate::stream::{Failed, Sink};
-use hart_values::ByteList;
+use hart_explain::{TEXT_LEN, Text};
 
 /// The greatest number of bytes of text that are kept.
-pub const KEPT_LEN: usize = 32_768;
+pub const KEPT_LEN: usize = TEXT_LEN;
 
 /// The greatest number of bytes in a piece of text: a date, a space and a paragraph.
 const PIECE_LEN: usize = 8_225;
 
 /// Text that is not yet written.
-pub type Kept = ByteList<KEPT_LEN>;
+pub type Kept = Text;
 
 /// Writes and drops the kept text if it leaves no room for one more piece.
 ///

@@ -2,6 +2,7 @@
 //!
 //! Each subcommand is a call. [`dump`] lists the messages in what was heard, and [`explain`] says in words what they mean. [`answer`] gives
 //! the bench device's reply to one delivery. [`serve`] gives its replies to many deliveries, one line for each line that it reads.
+//! [`master`] is its counterpart: a master that answers line after line.
 //! [`simulate`] carries out a script. [`encode_text`] writes a message to send, and [`request`] makes such a message from named fields.
 //! [`program`] makes the call that its words name, and returns the exit status. Calls read from a [`Source`] and write to a [`Sink`];
 //! [`Plain`] makes them from readers and writers of the standard library. A call that cannot do all of its work returns a [`CliFault`].
@@ -25,6 +26,7 @@
 //! - `input`: the reading of an input.
 //! - `held`: what was read and may still decide something.
 //! - `output`, `kept`: the writing of a text, either whole or piece by piece.
+//! - `session`: calls that answer line after line.
 //! - `stream`: readers and writers as the calls see them.
 //! - `text`: hex items, and lines of words and bytes.
 //! - `calls`: a module for each call.
@@ -37,6 +39,7 @@ mod image_word;
 mod input;
 mod kept;
 mod output;
+mod session;
 mod stream;
 mod text;
 
@@ -49,6 +52,7 @@ pub use calls::explain::laws::{
     json_objects_are_lines, json_tells_what_explain_tells,
 };
 pub use calls::explain::{explain, explain_json, explain_raw, explain_raw_json, one_explanation};
+pub use calls::master::{MasterSettings, MasterWords, master, master_by_words};
 pub use calls::program::laws::{one_call, words_are_calls};
 pub use calls::program::{DONE, FAULT, NO_CALL, program};
 pub use calls::request::fault::{BadField, FieldFault};

@@ -8,6 +8,7 @@ mod heard;
 mod images;
 mod json;
 mod limits;
+mod master;
 mod plain;
 mod program;
 mod request;

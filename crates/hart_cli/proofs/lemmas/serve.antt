@@ -1,6 +1,2 @@
 -- `hart serve`.
-pub mod Cuts
 pub mod Lines
-pub mod Served
-pub mod Server
-pub mod Input

@@ -9,4 +9,3 @@ pub mod LeadingMark
 pub mod MessageLine
 pub mod Lanes
 pub mod ItemRun
-pub mod HexText

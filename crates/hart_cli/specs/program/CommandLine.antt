@@ -8,23 +8,32 @@ use Rattle.clap.specs.Words.{App, Row, Rule, Text, all_of, fault_of, first_of, n
 use Rattle.clap.specs.declared.builder.action.ArgAction.TheVariants.{Append, SetTrue}
 use Rattle.clap.specs.declared.builder.value_parser.ValueParser.TheVariants.{Signed}
 use Rattle.hart_cli.specs.encode.MessageWords.{MessageWords}
+use Rattle.hart_cli.specs.master.MasterWords.{MasterWords}
 use Rattle.hart_cli.specs.request.RequestWords.{RequestWords}
 use Rattle.hart_cli.specs.declared.calls.program.command_line.Call.{Call}
 use Rattle.hart_cli.specs.declared.calls.program.command_line.Call.TheVariants.{Answer, Dump, Encode, Explain, ExplainJson, ExplainRaw}
-use Rattle.hart_cli.specs.declared.calls.program.command_line.Call.TheVariants.{ExplainRawJson, Request, Serve, Sim}
+use Rattle.hart_cli.specs.declared.calls.program.command_line.Call.TheVariants.{ExplainRawJson, Master, Request, Serve, Sim}
 
 -- The rule of clap for a required word with this name.
 abbrev pub required_rule : Text → Rule
 required_rule id = record (new_rule id) { required = true }
 
--- The option `--preambles` gives the number of preamble bytes, from 5 to 20. Without it the number is 5.
-abbrev pub preambles_rule : Rule
-preambles_rule = record (new_rule (codes "preambles")) {
-  long = Some (codes "preambles");
+-- The rule of clap for an option that gives a number within bounds. `defaults` has the word that counts without the option, if any.
+abbrev pub number_rule : Text → (least most : ℕ) → List Text → Rule
+number_rule name least most defaults = record (new_rule name) {
+  long = Some name;
   value_names = 1;
-  defaults = codes "5" ∷ [];
-  parser = Some (Signed (pos 5) (pos 20));
+  defaults = defaults;
+  parser = Some (Signed (pos least) (pos most));
 }
+
+-- The option `--preambles` gives the number of preamble bytes, from 5 to 20. Without it this word counts.
+abbrev pub preambles_rule : Text → Rule
+preambles_rule default = number_rule (codes "preambles") 5 20 (default ∷ [])
+
+-- The option `--who` says which of the two masters it is. Without it, it is the primary master.
+abbrev pub who_rule : Rule
+who_rule = record (new_rule (codes "who")) { long = Some (codes "who"); value_names = 1; defaults = codes "P" ∷ [] }
 
 -- The option `--image` gives the image.
 abbrev pub image_rule : Rule
@@ -53,7 +62,7 @@ app_with_required_words name =
 abbrev pub encode_app : App
 encode_app =
     let payload = with_rule (app_with_required_words (codes "encode")) (new_rule (codes "DATA")) in
-    with_rule payload preambles_rule
+    with_rule payload (preambles_rule (codes "5"))
 
 -- Any number of words may give fields.
 abbrev pub fields_rule : Rule
@@ -61,7 +70,16 @@ fields_rule = record (new_rule (codes "FIELD")) { action = Some Append }
 
 -- The command `request` takes the three required words, the words of fields, and the number of preamble bytes.
 abbrev pub request_app : App
-request_app = with_rule (with_rule (app_with_required_words (codes "request")) fields_rule) preambles_rule
+request_app = with_rule (with_rule (app_with_required_words (codes "request")) fields_rule) (preambles_rule (codes "5"))
+
+-- The command `master` takes which master it is, and three numbers. Without `--retries` a request is sent again three times, and without
+-- `--preambles` a message has 20 preamble bytes.
+abbrev pub master_app : App
+master_app =
+    let who = with_rule (new_app (codes "master")) who_rule in
+    let retries = with_rule who (number_rule (codes "retries") 0 15 (codes "3" ∷ [])) in
+    let limit = with_rule retries (number_rule (codes "limit") 1 255 []) in
+    with_rule limit (preambles_rule (codes "20"))
 
 -- The command `hart`, before it has subcommands. Its words do not include the program's name. It has a version, requires a
 -- subcommand, and shows its help if there is no word at all.
@@ -83,26 +101,31 @@ hearing_app =
     let dump = with_subcommand answer (new_app (codes "dump")).top in
     with_subcommand dump explain_app.top
 
--- The command `hart` with all subcommands that read an input: `answer`, `dump`, `explain`, `serve` and `sim`.
+-- The command `hart` with all subcommands that read an input: `answer`, `dump`, `explain`, `serve`, `master` and `sim`.
 abbrev pub reading_app : App
 reading_app =
     let serve = with_subcommand hearing_app (image_app (codes "serve")).top in
-    with_subcommand serve (image_app (codes "sim")).top
+    let master = with_subcommand serve master_app.top in
+    with_subcommand master (image_app (codes "sim")).top
 
 -- The command `hart` with the subcommand `request` and all subcommands that read an input.
 abbrev pub asking_app : App
 asking_app = with_subcommand reading_app request_app.top
 
--- The command `hart` with all of its seven subcommands: the subcommands of `asking_app`, and `encode`.
+-- The command `hart` with all of its eight subcommands: the subcommands of `asking_app`, and `encode`.
 abbrev pub hart_app : App
 hart_app = with_subcommand asking_app encode_app.top
 
--- A number of preamble bytes is written in decimal digits, perhaps after a plus sign, and lies between 5 and 20.
-abbrev pub preambles_of : Text → Option ℕ
-preambles_of word =
+-- A number is written in decimal digits, perhaps after a plus sign, and lies within bounds.
+abbrev pub number_of : (least most : ℕ) → Text → Option ℕ
+number_of least most word =
     let digits = without_leading_plus word in
     let count = digits_value 10 digits in
-    if all_ascii_digits digits && nat_lt 0 (length digits) && nat_le 5 count && nat_le count 20 then Some count else None
+    if all_ascii_digits digits && nat_lt 0 (length digits) && nat_le least count && nat_le count most then Some count else None
+
+-- A number of preamble bytes lies between 5 and 20.
+abbrev pub preambles_of : Text → Option ℕ
+preambles_of = number_of 5 20
 
 -- What `encode` is given: the number of preamble bytes, three words and the data; or `None` if the number or one of the three words is
 -- missing.
@@ -141,14 +164,34 @@ request_words_of rows = request_words
     (first_of (codes "WHO") rows) (first_of (codes "ADDRESS") rows) (first_of (codes "COMMAND") rows)
     (unwrap_or (all_of (codes "FIELD") rows) [])
 
--- The call of the subcommand with this name. `answer`, `serve` and `sim` have the word of the image, if it is given. `encode` and `request`
--- have a call if the matches give their words. `dump` and `explain` always have a call. No other name has a call.
+-- What an option gives that may be absent: nothing if it is absent, and otherwise its number, which is within bounds.
+abbrev pub optional_number : (least most : ℕ) → Option Text → Option (Option ℕ)
+optional_number least most None = Some None
+optional_number least most (Some word) = option_map Some (number_of least most word)
+
+-- What `master` is given: which master it is, and its three numbers; or `None` if one of the numbers is missing.
+abbrev pub master_words : Option Text → Option ℕ → Option (Option ℕ) → Option ℕ → Option MasterWords
+master_words (Some who) (Some retries) (Some limit) (Some preambles) =
+    Some (record { who = who; retries = retries; limit = limit; preambles = preambles })
+master_words _ _ _ _ = None
+
+-- The words of `master` that clap's matches give.
+abbrev pub master_words_of : List Row → Option MasterWords
+master_words_of rows = master_words
+    (first_of (codes "who") rows)
+    (option_and_then (number_of 0 15) (first_of (codes "retries") rows))
+    (optional_number 1 255 (first_of (codes "limit") rows))
+    (option_and_then preambles_of (first_of (codes "preambles") rows))
+
+-- The call of the subcommand with this name. `answer`, `serve` and `sim` have the word of the image, if it is given. `encode`, `request`
+-- and `master` have a call if the matches give their words. `dump` and `explain` always have a call. No other name has a call.
 abbrev pub call_named : Text → List Row → Option Call
 call_named name rows =
     if bytes_eq name (codes "answer") then Some (Answer (first_of (codes "image") rows))
     else if bytes_eq name (codes "dump") then Some Dump
     else if bytes_eq name (codes "explain") then Some (explain_call (first_of (codes "raw") rows) (first_of (codes "json") rows))
     else if bytes_eq name (codes "serve") then Some (Serve (first_of (codes "image") rows))
+    else if bytes_eq name (codes "master") then option_map (λ words. Master words) (master_words_of rows)
     else if bytes_eq name (codes "sim") then Some (Sim (first_of (codes "image") rows))
     else if bytes_eq name (codes "encode") then option_map (λ words. Encode words) (words_of rows)
     else if bytes_eq name (codes "request") then option_map (λ words. Request words) (request_words_of rows)

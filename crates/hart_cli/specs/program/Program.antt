@@ -8,6 +8,8 @@ use Rattle.hart_cli.specs.dump.Dump.{DumpOutcome}
 use Rattle.hart_cli.specs.encode.Encode.{EncodeOutcome}
 use Rattle.hart_cli.specs.explain.Explain.{ExplainOutcome, JsonOutcome, RawExplainOutcome, RawJsonOutcome}
 use Rattle.hart_cli.specs.FaultText.{fault_line}
+use Rattle.hart_cli.specs.master.Master.{MasterCallOutcome}
+use Rattle.hart_cli.specs.master.MasterWords.{AreInRange}
 use Rattle.hart_cli.specs.request.Request.{RequestOutcome}
 use Rattle.hart_cli.specs.serve.Serve.{ServeOutcome}
 use Rattle.hart_cli.specs.sim.Sim.{SimOutcome}
@@ -15,7 +17,7 @@ use Rattle.hart_cli.specs.stream.Stream.{Stream, WritesUnlessFailed}
 use Rattle.hart_cli.specs.declared.fault.CliFault.{CliFault}
 use Rattle.hart_cli.specs.declared.calls.program.command_line.Call.{Call}
 use Rattle.hart_cli.specs.declared.calls.program.command_line.Call.TheVariants.{Answer, Dump, Encode, Explain, ExplainJson, ExplainRaw}
-use Rattle.hart_cli.specs.declared.calls.program.command_line.Call.TheVariants.{ExplainRawJson, Request, Serve, Sim}
+use Rattle.hart_cli.specs.declared.calls.program.command_line.Call.TheVariants.{ExplainRawJson, Master, Request, Serve, Sim}
 
 -- A call returned this result, and left the reader and the writer as the outcome of its subcommand says. Calls of `encode` and `request` do
 -- not touch the reader.
@@ -34,6 +36,8 @@ CallOutcome ExplainRawJson reader reader_after writer writer_after result =
     RawJsonOutcome reader reader_after writer writer_after result
 CallOutcome (Serve image) reader reader_after writer writer_after result =
     ServeOutcome image reader reader_after writer writer_after result
+CallOutcome (Master words) reader reader_after writer writer_after result =
+    MasterCallOutcome words reader reader_after writer writer_after result
 CallOutcome (Sim image) reader reader_after writer writer_after result =
     SimOutcome image reader reader_after writer writer_after result
 CallOutcome (Encode words) reader reader_after writer writer_after result =
@@ -68,8 +72,10 @@ pub record Made (met : Option (Text × List Row)) (reader reader_after writer wr
   pub ends : status ≡ status_of result
   pub reports : IfErr result (λ fault. WritesUnlessFailed errors errors_after (fault_line fault))
 
--- A call of `encode` or `request` has 5 to 20 preamble bytes, the numbers that a sender may use. Any other call has no such number.
-abbrev pub HasPreambleCount : Call → Type 0
-HasPreambleCount (Encode words) = IsPreambleCount words.preambles
-HasPreambleCount (Request words) = IsPreambleCount words.preambles
-HasPreambleCount _ = Unit {0}
+-- The numbers of a call are in range. A call of `encode`, `request` or `master` has 5 to 20 preamble bytes, the numbers that a sender may
+-- use. A call of `master` has at most 15 retries, and a limit of at least 1. Any other call has no numbers.
+abbrev pub HasNumbersInRange : Call → Type 0
+HasNumbersInRange (Encode words) = IsPreambleCount words.preambles
+HasNumbersInRange (Request words) = IsPreambleCount words.preambles
+HasNumbersInRange (Master words) = AreInRange words
+HasNumbersInRange _ = Unit {0}

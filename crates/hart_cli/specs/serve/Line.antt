@@ -1,5 +1,5 @@
 -- How `hart serve` answers one line (own profile).
-use Rattle.std.specs.Prelude.{◌≡◌, ◌<◌, ◌≤◌, ℕ, true, false, List, [], ◌∷◌, ◌++◌, codes, length, Option, None, Some}
+use Rattle.std.specs.Prelude.{◌≡◌, ◌⊎◌, ℕ, true, false, List, [], ◌∷◌, ◌++◌, codes, Option, None, Some}
 use Rattle.hart_frame.specs.heard.Character.{Character}
 use Rattle.hart_frame.specs.wire.FrameParts.{FrameParts}
 use Rattle.hart_device.specs.Bench.{bench_process}
@@ -10,9 +10,9 @@ use Rattle.hart_cli.specs.FaultText.{fault_text}
 use Rattle.hart_cli.specs.declared.calls.serve.line.LineWord.{LineWord}
 use Rattle.hart_cli.specs.declared.calls.serve.line.LineWord.TheVariants.{Restart, Protect, Image, Counter}
 use Rattle.hart_cli.specs.declared.fault.CliFault.TheVariants.{BadHex}
-use Rattle.hart_cli.specs.input.Input.{input_limit}
+use Rattle.hart_cli.specs.session.Session.{bad_line}
 use Rattle.hart_cli.specs.sim.Text.{counter_line, image_line}
-use Rattle.hart_cli.specs.text.Items.{IsBadHexAt, ReadsAs}
+use Rattle.hart_cli.specs.text.Items.{HasBadHex, IsBadHexAt, ReadsAs, ReadsUpTo}
 use Rattle.hart_cli.specs.text.MessageLine.{IsMessageLine}
 use Rattle.hart_cli.specs.text.Words.{line_of}
 
@@ -54,17 +54,22 @@ pub record Hears (device : DeviceState) (delivery : List Character) (after : Dev
   pub becomes : after ≡ state_after_delivery device brought
   pub answered : IsReplyLine device (answer_to device bench_process brought) said
 
--- The answer to a bad line is a line that says why the line is bad.
-abbrev pub bad_line : List ℕ → List ℕ
-bad_line reason = codes "bad line: " ++ reason ++ 10 ∷ []
+-- A device's answer to one line, and the device's state afterwards. A line that is too long changes nothing. Any other line is one of the
+-- words, or hex for characters that the device hears, or bad hex, which changes nothing.
+pub data ServesLine (device : DeviceState) : Option (List ℕ) → DeviceState → List ℕ → Type 0 where
+  too_long : ServesLine device None device (bad_line (codes "too long"))
+  word : (line : List ℕ) (word : LineWord) → named_in line_words line ≡ Some word
+      → ServesLine device (Some line) (after_word word device) (word_said word device)
+  delivery : (line : List ℕ) (delivery : List Character) (after : DeviceState) (said : List ℕ) → named_in line_words line ≡ None
+      → ReadsAs line delivery → Hears device delivery after said → ServesLine device (Some line) after said
+  bad_hex : (line : List ℕ) (chars : List Character) (place : ℕ) → named_in line_words line ≡ None
+      → IsBadHexAt line chars place → ServesLine device (Some line) device (bad_line (fault_text (BadHex place)))
 
--- A device's answer to one line, and the device's state afterwards. A line of more than 1,048,576 bytes is too long and changes nothing.
--- Any other line is one of the words, or hex for characters that the device hears, or bad hex, which changes nothing.
-pub data ServesLine (device : DeviceState) (line : List ℕ) : DeviceState → List ℕ → Type 0 where
-  too_long : input_limit < length line → ServesLine device line device (bad_line (codes "too long"))
-  word : (word : LineWord) → length line ≤ input_limit → named_in line_words line ≡ Some word
-      → ServesLine device line (after_word word device) (word_said word device)
-  delivery : (delivery : List Character) (after : DeviceState) (said : List ℕ) → length line ≤ input_limit → named_in line_words line ≡ None
-      → ReadsAs line delivery → Hears device delivery after said → ServesLine device line after said
-  bad_hex : (chars : List Character) (place : ℕ) → length line ≤ input_limit → named_in line_words line ≡ None
-      → IsBadHexAt line chars place → ServesLine device line device (bad_line (fault_text (BadHex place)))
+-- Only private calls use the next definition.
+
+-- A text is read as characters, and a device heard them. Or the text has bad hex at a place, and the device does not change.
+abbrev pub HearsText : DeviceState → List ℕ → DeviceState → List ℕ → Type 0
+HearsText device text after said =
+    ((delivery : List Character) × ReadsUpTo text delivery [] × Hears device delivery after said)
+    ⊎ ((chars : List Character) × (place : ℕ) × HasBadHex text chars place × (after ≡ device)
+    × (said ≡ bad_line (fault_text (BadHex place))))

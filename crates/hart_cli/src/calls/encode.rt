@@ -97,7 +97,7 @@ pub fn one_encoding()
 /// # Errors
 ///
 /// [`CliFault::BadWord`] with the number of the first bad word.
-fn read_request(words: &EncodeWords<'_>) -> Result<Frame, CliFault>
+pub fn read_request(words: &EncodeWords<'_>) -> Result<Frame, CliFault>
     ensures { WordsOutcome words.now result }
 {
     let Some(master) = read_who(words.who.as_bytes()) else {

@@ -3,10 +3,11 @@
 ghost use Rattle.std.specs.Prelude.{◌≡◌, ◌≢◌, IfErr, None, map, string_bytes};
 ghost use Rattle.clap.specs.Words.{subcommand_rows_of};
 ghost use Rattle.hart_cli.specs.program.CommandLine.{call_of};
-ghost use Rattle.hart_cli.specs.program.Program.{CallOutcome, HasPreambleCount, Made, Ran, status_of};
+ghost use Rattle.hart_cli.specs.program.Program.{CallOutcome, HasNumbersInRange, Made, Ran, status_of};
 ghost use Rattle.hart_cli.specs.FaultText.{fault_line};
 ghost use Rattle.hart_cli.specs.stream.Stream.{WritesUnlessFailed};
 
+mod arguments;
 pub mod command_line;
 mod help;
 pub mod laws;
@@ -15,6 +16,7 @@ use crate::calls::answer::answer;
 use crate::calls::dump::dump;
 use crate::calls::encode::{EncodeWords, encode_text};
 use crate::calls::explain::{explain, explain_json, explain_raw, explain_raw_json};
+use crate::calls::master::master_by_words;
 use crate::calls::request::request;
 use crate::calls::serve::serve;
 use crate::calls::sim::simulate;
@@ -38,7 +40,7 @@ pub const NO_CALL: u8 = 2;
 
 /// Makes the call that the words after the program's name ask for, and returns the program's status.
 ///
-/// `answer`, `dump`, `explain`, `serve` and `sim` read from `reader` and write to `writer`; `encode` and `request` read only their words.
+/// `answer`, `dump`, `explain`, `serve`, `master` and `sim` read from `reader` and write to `writer`; `encode` and `request` read only their words.
 /// At status 0 nothing goes to `errors`. At status 1 the line of the call's fault goes to `errors`, or a beginning of that line if `errors`
 /// failed. Status 2 means that clap found no matches for the words, but no clause of the contract promises this meaning. At status 2 the
 /// reader and the writer are not touched, and clap's own text goes to `errors`, even if the text is help. No clause says what this text is.
@@ -100,7 +102,7 @@ fn make_call<R: Source, W: Sink>(
     reader: &mut R,
     writer: &mut W,
 ) -> Result<(), CliFault>
-    requires { HasPreambleCount call }
+    requires { HasNumbersInRange call }
     ensures { CallOutcome call.entry
         (R.stream reader.old) (R.stream reader.new)
         (W.stream writer.old) (W.stream writer.new)
@@ -114,6 +116,7 @@ fn make_call<R: Source, W: Sink>(
         Call::ExplainJson => explain_json(alloc, reader, writer),
         Call::ExplainRawJson => explain_raw_json(alloc, reader, writer),
         Call::Serve(image) => serve(alloc, image.word, reader, writer),
+        Call::Master(words) => master_by_words(alloc, &words, reader, writer),
         Call::Sim(image) => simulate(alloc, image.word, reader, writer),
         Call::Request(words) => request(alloc, &words, writer),
         Call::Encode(words) => {

@@ -2,20 +2,20 @@
 ghost use Rattle.std.specs.Prelude.{◌≡◌, [], ℕ, List};
 ghost use Rattle.std.specs.Option.{option_map};
 ghost use Rattle.hart_device.specs.Device.{DeviceState};
-ghost use Rattle.hart_cli.specs.serve.Serve.{IsServed, ServeOutcome, ServedOutcome};
-ghost use Rattle.hart_cli.specs.serve.Server.{Keeps, ServesInput};
+ghost use Rattle.hart_cli.specs.serve.Line.{ServesLine};
+ghost use Rattle.hart_cli.specs.serve.Serve.{ServeOutcome};
+ghost use Rattle.hart_cli.specs.session.Session.{IsServed, ServedOutcome};
 ghost use Rattle.hart_cli.specs.input.Input.{Ending};
 
-use crate::calls::serve::server::Server;
+use crate::calls::serve::line::DeviceLines;
 use crate::fault::CliFault;
 use crate::image_word::device_of;
-use crate::input::{InputEnd, PORTION_LEN, read_portion};
-use crate::stream::{Failed, Sink, Source};
+use crate::session::serve_lines;
+use crate::stream::{Sink, Source};
 use hart_device::{Device, ImageRegisters};
 use std::alloc::Global;
 
 mod line;
-mod server;
 
 /// Reads lines until the input ends, and writes the answer to each line.
 ///
@@ -51,7 +51,7 @@ pub fn serve<R: Source, W: Sink>(
 /// The text of a device's answers to the lines of an input is unique. So the image and the input determine what `serve` writes.
 pub fn one_service()
     ensures { (device : DeviceState) (input : List ℕ) (ending : Ending) (xs ys : List ℕ)
-        → IsServed device input ending xs → IsServed device input ending ys → xs ≡ ys }
+        → IsServed ServesLine device input ending xs → IsServed ServesLine device input ending ys → xs ≡ ys }
 {}
 
 /// Serves the lines of an input with a device.
@@ -61,44 +61,11 @@ fn serve_with<R: Source, W: Sink>(
     reader: &mut R,
     writer: &mut W,
 ) -> Result<(), CliFault>
-    ensures { ServedOutcome device
+    ensures { ServedOutcome ServesLine device
         (R.stream reader.old) (R.stream reader.new)
         (W.stream writer.old) (W.stream writer.new)
         result }
 {
-    let mut server = Server::new(alloc, device)?;
-    match serve_input(reader, writer, &mut server)? {
-        InputEnd::Ended => Ok(server.serve_rest(writer)?),
-        InputEnd::ReadFailed => Err(CliFault::Read),
-        InputEnd::TooLong => Err(CliFault::TooLong),
-    }
-}
-
-/// Reads an input until it comes to its end, and serves its whole lines.
-///
-/// # Errors
-///
-/// `Failed` at the first write that fails.
-fn serve_input<R: Source, W: Sink>(
-    reader: &mut R,
-    writer: &mut W,
-    server: &mut Server,
-) -> Result<InputEnd, Failed>
-    requires quiet { server.old.kept ≡ [] }
-    requires keeps { Keeps server.old [] }
-    ensures { ServesInput server.old.device server.new
-        (R.stream reader.old) (R.stream reader.new)
-        (W.stream writer.old) (W.stream writer.new)
-        result }
-{
-    let mut buffer = [0; PORTION_LEN];
-    let mut room = usize::MAX;
-    loop {
-        let portion = read_portion(reader, &mut buffer, room);
-        server.serve_more(writer, &buffer[..portion.len])?;
-        if let Some(end) = portion.end {
-            return Ok(end);
-        }
-        room -= portion.len;
-    }
+    let lines = DeviceLines::new(alloc, device)?;
+    serve_lines(alloc, lines, reader, writer)
 }

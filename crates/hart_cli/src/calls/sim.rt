@@ -24,10 +24,10 @@ mod text;
 const RETRIES: u8 = 3;
 
 /// The reply timeout of the primary master, in character times.
-const PRIMARY_REPLY_LIMIT: u8 = 33;
+pub const PRIMARY_REPLY_LIMIT: u8 = 33;
 
 /// The reply timeout of the secondary master, in character times.
-const SECONDARY_REPLY_LIMIT: u8 = 41;
+pub const SECONDARY_REPLY_LIMIT: u8 = 41;
 
 /// Reads a script, carries it out with the bench device and two masters, and writes what was spoken, what became of each
 /// submission, and what the device holds at the end. If the caller gives an image, as a word of hex, the device goes on from that

@@ -1,8 +1,8 @@
 //! A call of hart_cli, which is made by the name of its function or by words of the command line.
 
 use hart_cli::{
-    CliFault, RequestWords, Sink, Source, answer, dump, encode_text, explain, explain_json,
-    explain_raw, explain_raw_json, request, serve, simulate,
+    CliFault, MasterWords, RequestWords, Sink, Source, answer, dump, encode_text, explain,
+    explain_json, explain_raw, explain_raw_json, master_by_words, request, serve, simulate,
 };
 use hart_frame::{LEAST_PREAMBLES, is_preamble_count};
 use std::alloc::{AllocError, Global};
@@ -28,6 +28,23 @@ pub struct Named<'a> {
     pub preambles: u8,
 }
 
+/// What a master is given, in the words of the command line. Without a limit, the option is left out.
+#[derive(Clone, Copy)]
+pub struct Asker<'a> {
+    pub who: &'a str,
+    pub retries: u8,
+    pub limit: Option<u8>,
+    pub preambles: u8,
+}
+
+/// What `hart master` is given without options.
+pub const USUAL: Asker = Asker {
+    who: "P",
+    retries: 3,
+    limit: None,
+    preambles: 20,
+};
+
 /// A call and its arguments. The streams of the call are not included.
 #[derive(Clone, Copy)]
 pub enum Call<'a> {
@@ -43,6 +60,7 @@ pub enum Call<'a> {
     Answer(Option<&'a str>),
     /// With the word of an image, if one is given.
     Serve(Option<&'a str>),
+    Master(Asker<'a>),
     /// With the word of an image, if one is given.
     Simulate(Option<&'a str>),
     Encode(Words<'a>),
@@ -130,6 +148,50 @@ impl Words<'_> {
     }
 }
 
+impl Asker<'_> {
+    /// Appends the words of the command line.
+    fn push_to(self, alloc: Global, words: &mut Vec<String>) -> Result<(), AllocError> {
+        push_words(alloc, words, &["--who", self.who])?;
+        push_number(alloc, words, "--retries", self.retries)?;
+        push_number(alloc, words, "--preambles", self.preambles)?;
+        match self.limit {
+            Some(limit) => push_number(alloc, words, "--limit", limit),
+            None => Ok(()),
+        }
+    }
+
+    /// Makes the call of `master`.
+    fn serve<R: Source, W: Sink>(
+        self,
+        alloc: Global,
+        reader: &mut R,
+        writer: &mut W,
+    ) -> Result<Result<(), CliFault>, Fail> {
+        if self.retries > 15 || self.limit == Some(0) || !is_preamble_count(self.preambles) {
+            return Err("a number of a master".into());
+        }
+        let words = MasterWords {
+            who: self.who,
+            retries: self.retries,
+            limit: self.limit,
+            preambles: self.preambles,
+        };
+        Ok(master_by_words(alloc, &words, reader, writer))
+    }
+}
+
+/// Appends an option that gives a number.
+fn push_number(
+    alloc: Global,
+    words: &mut Vec<String>,
+    option: &str,
+    number: u8,
+) -> Result<(), AllocError> {
+    push_word(alloc, words, option)?;
+    words.push(format!(in alloc; "{number}")?)?;
+    Ok(())
+}
+
 impl Call<'_> {
     /// Returns the subcommand that makes the call.
     pub fn subcommand(self) -> &'static str {
@@ -140,6 +202,7 @@ impl Call<'_> {
             }
             Call::Answer(_) => "answer",
             Call::Serve(_) => "serve",
+            Call::Master(_) => "master",
             Call::Simulate(_) => "sim",
             Call::Encode(_) => "encode",
             Call::Request(_) => "request",
@@ -160,6 +223,7 @@ impl Call<'_> {
                 push_words(alloc, words, &["--image", image])
             }
             Call::Encode(message) => message.push_to(alloc, words),
+            Call::Master(asker) => asker.push_to(alloc, words),
             Call::ExplainRaw => push_word(alloc, words, "--raw"),
             Call::ExplainJson => push_word(alloc, words, "--json"),
             Call::ExplainRawJson => push_words(alloc, words, &["--raw", "--json"]),
@@ -187,6 +251,7 @@ impl Call<'_> {
             Call::ExplainRawJson => Ok(make_explain_raw_json(alloc, reader, writer)),
             Call::Answer(image) => Ok(make_answer(alloc, image, reader, writer)),
             Call::Serve(image) => Ok(make_serve(alloc, image, reader, writer)),
+            Call::Master(asker) => asker.serve(alloc, reader, writer),
             Call::Simulate(image) => Ok(make_simulate(alloc, image, reader, writer)),
             Call::Encode(message) => message.encode(alloc, writer),
             Call::Request(named) => named.request(alloc, writer),

@@ -3,7 +3,7 @@
 //! `tools/refused-growths.sh` runs this test again and again, and refuses a different allocation (a growth) each time. So only the calls
 //! may allocate here: inputs are constants, and texts go into an array.
 
-use super::call::{Call, Named, Words};
+use super::call::{Call, Named, USUAL, Words};
 use super::images::NEW;
 use hart_cli::Plain;
 use hart_device::{Device, FieldRegisters, bench};
@@ -35,6 +35,7 @@ const CALLS: &[(Call, &str, &str)] = &[
     (Call::Answer(Some(NEW)), "answer with an image", IDENTIFY),
     (Call::Serve(None), "serve", IDENTIFY),
     (Call::Serve(Some(NEW)), "serve with an image", IDENTIFY),
+    (Call::Master(USUAL), "master", "submit @0 0\n"),
     (Call::Simulate(None), "simulate", SCRIPT),
     (Call::Simulate(Some(NEW)), "simulate with an image", SCRIPT),
     (

@@ -56,6 +56,46 @@ spaced_read (suc count) [] (x ∷ bytes) long few are = absurd (omega (arith, lo
 spaced_read (suc count) (a ∷ []) (x ∷ bytes) long few are = absurd (omega (arith, long))
 spaced_read (suc count) (a ∷ b ∷ []) (x ∷ bytes) long few are = absurd (omega (arith, long))
 
+-- two digits with two separators after them are read as a byte before what follows
+wide_before : (high low gap next byte : ℕ) (rest bytes last : List ℕ) → AreDigitsOf byte high low → IsSeparator gap → IsSeparator next
+    → ReadsUpTo rest (faultless bytes) last → ReadsUpTo (high ∷ low ∷ gap ∷ next ∷ rest) (faultless (byte ∷ bytes)) last
+wide_before high low gap next byte rest bytes last digits first second reads =
+    let after : ReadsUpTo (next ∷ rest) (faultless bytes) last =
+    grind (arith, piece (next ∷ rest) (Separator next) rest (faultless bytes) last) in
+    spaced_before high low gap byte (next ∷ rest) bytes last digits first after
+
+-- the first items of a text, each with two separators after it, write these bytes
+abbrev pub AreWide : ℕ → List ℕ → List ℕ → Type 0
+AreWide count text bytes = (lane : ℕ) → lane < count
+    → AreDigitsOf (get_or bytes lane 0) (get_or text (4 * lane) 0) (get_or text (4 * lane + 1) 0)
+    × IsSeparator (get_or text (4 * lane + 2) 0) × IsSeparator (get_or text (4 * lane + 3) 0)
+
+-- so do the items after the first one
+wide_later : (count a b c d x : ℕ) (text bytes : List ℕ) → AreWide (suc count) (a ∷ b ∷ c ∷ d ∷ text) (x ∷ bytes)
+    → AreWide count text bytes
+wide_later count a b c d x text bytes are lane below =
+    let at = are (suc lane) (omega (arith, below)) in
+    let first : 4 * suc lane ≡ suc (suc (suc (suc (4 * lane)))) = omega arith in
+    let second : 4 * suc lane + 1 ≡ suc (suc (suc (suc (4 * lane + 1)))) = omega arith in
+    let third : 4 * suc lane + 2 ≡ suc (suc (suc (suc (4 * lane + 2)))) = omega arith in
+    let fourth : 4 * suc lane + 3 ≡ suc (suc (suc (suc (4 * lane + 3)))) = omega arith in
+    rw (fourth, third, second, first) at at
+
+-- items with two separators after each are read at once
+pub wide_read : (count : ℕ) (text bytes : List ℕ) → 4 * count ≤ length text → count ≤ length bytes → AreWide count text bytes
+    → ReadsUpTo text (faultless (take count bytes)) (drop (4 * count) text)
+wide_read zero text bytes long few are = nothing text
+wide_read (suc count) (a ∷ b ∷ c ∷ d ∷ text) (x ∷ bytes) long few are =
+    let past : 4 * suc count ≡ suc (suc (suc (suc (4 * count)))) = omega arith in
+    let later = wide_read count text bytes (omega (arith, long)) (omega (arith, few)) (wide_later count a b c d x text bytes are) in
+    let (digits, gap, next) = are 0 (omega arith) in
+    rw past (wide_before a b c d x text (take count bytes) (drop (4 * count) text) digits gap next later)
+wide_read (suc count) text [] long few are = absurd (omega (arith, few))
+wide_read (suc count) [] (x ∷ bytes) long few are = absurd (omega (arith, long))
+wide_read (suc count) (a ∷ []) (x ∷ bytes) long few are = absurd (omega (arith, long))
+wide_read (suc count) (a ∷ b ∷ []) (x ∷ bytes) long few are = absurd (omega (arith, long))
+wide_read (suc count) (a ∷ b ∷ c ∷ []) (x ∷ bytes) long few are = absurd (omega (arith, long))
+
 -- the first items of a text, with nothing between them, write these bytes
 abbrev pub AreDense : ℕ → List ℕ → List ℕ → Type 0
 AreDense count text bytes = (lane : ℕ) → lane < count
@@ -100,6 +140,19 @@ spaced_are text high low after bytes digits gaps count pairs separators first at
     let within : lane < 16 = omega (arith, below, first.few) in
     let (are, gap) = ((both digits gaps _ _ pairs.digits separators).bits lane within).0 (first.set lane below) in
     rw (← at_high lane within, ← at_low lane within, ← at_after lane within) (pairs.byte lane within are, gap)
+
+-- the lanes that are set say where the items with two separators after each stand
+pub wide_are : (text high low after next bytes : List ℕ) (digits gaps ends count : ℕ) → ArePairLanes high low bytes digits
+    → AreSeparatorLanes after gaps → AreSeparatorLanes next ends → AreLeading (bit_and digits (bit_and gaps ends)) count
+    → ((lane : ℕ) → lane < 16 → get_or high lane 0 ≡ get_or text (4 * lane) 0)
+    → ((lane : ℕ) → lane < 16 → get_or low lane 0 ≡ get_or text (4 * lane + 1) 0)
+    → ((lane : ℕ) → lane < 16 → get_or after lane 0 ≡ get_or text (4 * lane + 2) 0)
+    → ((lane : ℕ) → lane < 16 → get_or next lane 0 ≡ get_or text (4 * lane + 3) 0) → AreWide count text bytes
+wide_are text high low after next bytes digits gaps ends count pairs separators others first at_high at_low at_after at_next lane below =
+    let within : lane < 16 = omega (arith, below, first.few) in
+    let parted = both gaps ends _ _ separators others in
+    let (are, (gap, end)) = ((both digits (bit_and gaps ends) _ _ pairs.digits parted).bits lane within).0 (first.set lane below) in
+    rw (← at_high lane within, ← at_low lane within, ← at_after lane within, ← at_next lane within) (pairs.byte lane within are, gap, end)
 
 -- the lanes that are set say where the items with nothing between them stand
 pub dense_are : (text high low bytes : List ℕ) (digits count : ℕ) → ArePairLanes high low bytes digits → AreLeading digits count

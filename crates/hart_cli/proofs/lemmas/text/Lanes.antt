@@ -1,7 +1,7 @@
 -- Lanes that are computed from bytes: what a lane holds is compared with a test at each of the 256 bytes.
 use Rattle.std.proofs.Common.{◌≡◌, ◌↔◌, ◌∙◌, ℕ, ◌+◌, ◌-◌, ◌*◌, ◌<◌, ◌≤◌, ◌%◌, ◌^◌, bit_and, refl, ap, ap₂, arith, w8, w64, Fits}
 use Rattle.std.proofs.Common.{Bool, true, false, not, ◌||◌, ◌&&◌, IsTrue, cond, eqb, eqb-true, ltb, ltb-true, ltb-false}
-use Rattle.std.proofs.Common.{List, [], ◌∷◌, ◌++◌, length, map, take, drop, get_or, replicate}
+use Rattle.std.proofs.Common.{sym, take-add, List, [], ◌∷◌, ◌++◌, length, map, take, drop, get_or, replicate}
 use Rattle.std.proofs.lemmas.Bool.{agree_below, agree_below_at, and_parts}
 use Rattle.std.proofs.lemmas.Grind.{common_steps}
 use Rattle.std.proofs.lemmas.List.{get_or-append_right, get_or-drop, get_or-map, get_or-take, get_or_append_left, length-map, length-take}
@@ -140,6 +140,11 @@ picked text lanes places width place wanted stands long all lane below =
 pub in_front : (n : ℕ) (text more : List ℕ) → n ≤ length text → (k : ℕ) → k < n → get_or (take n text ++ more) k 0 ≡ get_or text k 0
 in_front n text more long k below =
     get_or_append_left (take n text) more 0 k (omega (arith, length-take n text, long, below)) ∙ get_or-take n text k 0 below
+
+-- The first 32 bytes of a text and the 32 bytes after them stand at their places.
+pub in_64 : (text : List ℕ) → 64 ≤ length text → (k : ℕ) → k < 64
+    → get_or (take 32 text ++ take 32 (drop 32 text)) k 0 ≡ get_or text k 0
+in_64 text long k below = ap (λ l. get_or l k 0) (sym (take-add 32 32 text)) ∙ get_or-take 64 text k 0 below
 
 -- The first 32 bytes of a text and the 32 bytes from place 16 on are joined; this is where the byte at `k` stands in the text.
 abbrev pub place_in_48 : ℕ → ℕ

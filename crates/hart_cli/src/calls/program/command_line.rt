@@ -1,22 +1,28 @@
 //! The call that the words after the program's name ask for.
 
-ghost use Rattle.std.specs.Prelude.{◌≡◌, [], IfErr, IfOk, OnOk, codes, false, map, string_bytes, true};
-ghost use Rattle.clap.specs.Words.{App, HasKind, Rule, all_of, app_of, fault_of, first_of, found_of, new_app, new_rule, rows_of, rule_of};
+ghost use Rattle.std.specs.Prelude.{◌≡◌, IfErr, IfOk, OnOk, [], map, string_bytes, true};
+ghost use Rattle.clap.specs.Words.{App, HasKind, Rule, all_of, app_of, fault_of, first_of, found_of, new_app, rows_of, rule_of};
 ghost use Rattle.clap.specs.Words.{subcommand_of, subcommand_rows_of};
 ghost use Rattle.clap.specs.Words.{with_rule, with_subcommand};
 ghost use Rattle.std.specs.Option.{option_map};
 ghost use Rattle.hart_cli.specs.program.CommandLine.{app_with_required_words, asking_app, call_of, encode_app, explain_app};
-ghost use Rattle.hart_cli.specs.program.CommandLine.{explain_call, fields_rule, hart_alone, hart_app, hearing_app, image_app};
-ghost use Rattle.hart_cli.specs.program.CommandLine.{flag_rule, image_rule, is_set, preambles_of, preambles_rule};
-ghost use Rattle.hart_cli.specs.program.CommandLine.{reading_app, request_app, request_words_of, required_rule, words_of};
+ghost use Rattle.hart_cli.specs.program.CommandLine.{explain_call, hart_alone, hart_app, hearing_app, image_app};
+ghost use Rattle.hart_cli.specs.program.CommandLine.{is_set, master_app, master_words_of, number_of};
+ghost use Rattle.hart_cli.specs.program.CommandLine.{optional_number, preambles_of, reading_app, request_app};
+ghost use Rattle.hart_cli.specs.program.CommandLine.{request_words_of, words_of};
 
+use super::arguments::{
+    data_word, field_words, flag, image_option, limit_option, preambles_option, required_word,
+    retries_option, who_option,
+};
 use super::help;
-use super::help::HelpPage;
+use super::help::{HelpPage, stations, words};
 use crate::calls::encode::EncodeWords;
+use crate::calls::master::MasterWords;
 use crate::calls::request::RequestWords;
 use crate::image_word::ImageWord;
-use clap::{Arg, ArgAction, ArgMatches, Command, value_parser};
-use hart_frame::{LEAST_PREAMBLES, MOST_PREAMBLES, is_preamble_count};
+use clap::{Arg, ArgMatches, Command};
+use hart_frame::{LEAST_PREAMBLES, MOST_PREAMBLES};
 use std::alloc::{AllocError, Global};
 
 /// The version that `hart --version` shows.
@@ -39,6 +45,8 @@ pub enum Call<'w, 'a: 'w> {
     ExplainRawJson,
     /// `hart serve`.
     Serve(ImageWord<'a>),
+    /// `hart master`.
+    Master(MasterWords<'a>),
     /// `hart sim`.
     Sim(ImageWord<'a>),
     /// `hart encode`.
@@ -61,7 +69,7 @@ pub fn matches_of<'a>(alloc: Global, words: &'a [String]) -> Result<ArgMatches<'
     Ok(matches)
 }
 
-/// Returns the call of the subcommand that the words name. Returns `None` if the words name none of the seven subcommands, or if
+/// Returns the call of the subcommand that the words name. Returns `None` if the words name none of the eight subcommands, or if
 /// `encode_words` or `request_words` returns `None`. clap excludes all three cases.
 pub fn call_of<'w, 'a: 'w>(matches: &'w ArgMatches<'a>) -> Option<Call<'w, 'a>>
     ensures { result ≡ call_of (subcommand_rows_of matches.now) }
@@ -72,6 +80,7 @@ pub fn call_of<'w, 'a: 'w>(matches: &'w ArgMatches<'a>) -> Option<Call<'w, 'a>>
         "dump" => Some(Call::Dump),
         "explain" => Some(explain_call(given)),
         "serve" => Some(Call::Serve(image_word(given))),
+        "master" => Some(Call::Master(master_words(given)?)),
         "sim" => Some(Call::Sim(image_word(given))),
         "encode" => Some(Call::Encode(encode_words(given)?)),
         "request" => Some(Call::Request(request_words(given)?)),
@@ -149,6 +158,18 @@ fn request_words<'w, 'a: 'w>(given: &'w ArgMatches<'a>) -> Option<RequestWords<'
     })
 }
 
+/// Returns the words of `hart master`. Returns `None` if one of its numbers is missing or out of range. clap excludes these cases.
+fn master_words<'a>(given: &ArgMatches<'a>) -> Option<MasterWords<'a>>
+    ensures { result ≡ master_words_of (rows_of (found_of given.now)) }
+{
+    Some(MasterWords {
+        who: word_of(given, "who")?,
+        retries: number_of(0, 15, word_of(given, "retries")?)?,
+        limit: optional_number(1, 255, word_of(given, "limit"))?,
+        preambles: preambles_of(word_of(given, "preambles")?)?,
+    })
+}
+
 /// Returns the words that were given under a name, or `None` if no words were given.
 fn words_of<'w, 'a: 'w>(given: &'w ArgMatches<'a>, id: &str) -> Option<&'w [&'a str]>
     ensures { option_map (λ words. map (λ word. word.now) words.now) result ≡ all_of id.now (rows_of (found_of given.now)) }
@@ -160,11 +181,28 @@ fn words_of<'w, 'a: 'w>(given: &'w ArgMatches<'a>, id: &str) -> Option<&'w [&'a 
 fn preambles_of(word: &str) -> Option<u8>
     ensures { result ≡ preambles_of word.now }
 {
+    number_of(LEAST_PREAMBLES, MOST_PREAMBLES, word)
+}
+
+/// Returns the number that a word writes, or `None` if it is no number within these bounds.
+fn number_of(least: u8, most: u8, word: &str) -> Option<u8>
+    ensures { result ≡ number_of least most word.now }
+{
     let count = word.parse::<u8>().ok()?;
-    if !is_preamble_count(count) {
+    if count < least || count > most {
         return None;
     }
     Some(count)
+}
+
+/// Returns the number of an option that may be absent, or `None` if its word is no number within these bounds.
+fn optional_number(least: u8, most: u8, word: Option<&str>) -> Option<Option<u8>>
+    ensures { result ≡ optional_number least most (option_map (λ word. word.now) word.entry) }
+{
+    match word {
+        Some(word) => Some(Some(number_of(least, most, word)?)),
+        None => Some(None),
+    }
 }
 
 /// Returns the command that the words are matched against.
@@ -188,8 +226,9 @@ fn reading_command<'a>(alloc: Global) -> Result<Command<'a>, AllocError>
     ensures { IfOk result (λ command. app_of command ≡ reading_app) }
 {
     let hart = hearing_command(alloc);
-    let hart = with_made(hart, image_command(alloc, "serve", help::SERVE));
-    with_made(hart, image_command(alloc, "sim", help::SIM))
+    let hart = with_made(hart, image_command(alloc, "serve", stations::SERVE));
+    let hart = with_made(hart, master_command(alloc));
+    with_made(hart, image_command(alloc, "sim", stations::SIM))
 }
 
 /// Returns `hart` with the subcommands that read what is heard: `answer`, `dump` and `explain`.
@@ -207,8 +246,19 @@ fn explain_command<'a>(alloc: Global) -> Result<Command<'a>, AllocError>
     ensures { IfOk result (λ command. app_of command ≡ explain_app) }
 {
     let explain = Ok(plain_command(alloc, "explain", help::EXPLAIN));
-    let explain = with_arg(explain, flag(alloc, "raw", help::RAW_HELP));
-    with_arg(explain, flag(alloc, "json", help::JSON_HELP))
+    let explain = with_arg(explain, flag(alloc, "raw", words::RAW_HELP));
+    with_arg(explain, flag(alloc, "json", words::JSON_HELP))
+}
+
+/// Returns `hart master` with its options.
+fn master_command<'a>(alloc: Global) -> Result<Command<'a>, AllocError>
+    ensures { IfOk result (λ command. app_of command ≡ master_app) }
+{
+    let master = Ok(plain_command(alloc, "master", stations::MASTER));
+    let master = with_arg(master, who_option(alloc));
+    let master = with_arg(master, retries_option(alloc));
+    let master = with_arg(master, limit_option(alloc));
+    with_arg(master, preambles_option(alloc, "20"))
 }
 
 /// Returns `hart` without its subcommands.
@@ -219,6 +269,8 @@ fn hart_alone<'a>(alloc: Global) -> Command<'a>
         .about(help::HART_ABOUT)
         .version(VERSION)
         .after_help(help::HART_HELP)
+        .subcommand_value_name("SUBCOMMAND")
+        .subcommand_help_heading("Subcommands")
         .no_binary_name(true)
         .subcommand_required(true)
         .arg_required_else_help(true)
@@ -230,7 +282,7 @@ fn encode_command<'a>(alloc: Global) -> Result<Command<'a>, AllocError>
 {
     let encode = with_required_words(alloc, "encode", help::ENCODE);
     let encode = with_arg(encode, data_word(alloc));
-    with_arg(encode, preambles_option(alloc))
+    with_arg(encode, preambles_option(alloc, "5"))
 }
 
 /// Returns `hart request` with its words and its option.
@@ -239,17 +291,7 @@ fn request_command<'a>(alloc: Global) -> Result<Command<'a>, AllocError>
 {
     let request = with_required_words(alloc, "request", help::REQUEST);
     let request = with_arg(request, field_words(alloc));
-    with_arg(request, preambles_option(alloc))
-}
-
-/// Returns the argument for the words of fields, which may be left out.
-fn field_words<'a>(alloc: Global) -> Arg<'a>
-    ensures rule { rule_of result ≡ fields_rule }
-    ensures local { result.global ≡ false }
-{
-    Arg::new(alloc, "FIELD")
-        .action(ArgAction::Append)
-        .help(help::FIELD_HELP)
+    with_arg(request, preambles_option(alloc, "5"))
 }
 
 /// Returns a subcommand with its required words.
@@ -261,17 +303,15 @@ fn with_required_words<'a>(
     ensures { IfOk result (λ command. app_of command ≡ app_with_required_words name.entry.now) }
 {
     let command = Ok(plain_command(alloc, name, page));
-    let command = with_arg(command, required_word(alloc, "WHO", help::WHO_HELP));
-    let command = with_arg(command, required_word(alloc, "ADDRESS", help::ADDRESS_HELP));
-    with_arg(command, required_word(alloc, "COMMAND", help::COMMAND_HELP))
-}
-
-/// Returns the argument for the data, which may be left out.
-fn data_word<'a>(alloc: Global) -> Arg<'a>
-    ensures rule { rule_of result ≡ new_rule (codes "DATA") }
-    ensures local { result.global ≡ false }
-{
-    Arg::new(alloc, "DATA").help(help::DATA_HELP)
+    let command = with_arg(command, required_word(alloc, "WHO", words::WHO_HELP));
+    let command = with_arg(
+        command,
+        required_word(alloc, "ADDRESS", words::ADDRESS_HELP),
+    );
+    with_arg(
+        command,
+        required_word(alloc, "COMMAND", words::COMMAND_HELP),
+    )
 }
 
 /// Returns a subcommand that takes an image.
@@ -322,49 +362,4 @@ fn plain_command<'a>(alloc: Global, name: &'a str, page: HelpPage<'a>) -> Comman
         .override_usage(page.usage)
         .long_about(page.help)
         .after_long_help(page.example)
-}
-
-/// Returns the argument for a required word.
-fn required_word<'a>(alloc: Global, id: &'a str, help: &'a str) -> Arg<'a>
-    ensures rule { rule_of result ≡ required_rule id.entry.now }
-    ensures local { result.global ≡ false }
-{
-    Arg::new(alloc, id).required(true).help(help)
-}
-
-/// Returns the option for the image that the device of a call starts from.
-fn image_option<'a>(alloc: Global) -> Arg<'a>
-    ensures rule { rule_of result ≡ image_rule }
-    ensures local { result.global ≡ false }
-{
-    Arg::new(alloc, "image")
-        .long("image")
-        .value_name("HEX")
-        .help(help::IMAGE_HELP)
-}
-
-/// Returns the flag with this name.
-fn flag<'a>(alloc: Global, name: &'a str, help: &'a str) -> Arg<'a>
-    ensures rule { rule_of result ≡ flag_rule name.entry.now }
-    ensures local { result.global ≡ false }
-{
-    Arg::new(alloc, name)
-        .long(name)
-        .action(ArgAction::SetTrue)
-        .help(help)
-}
-
-/// Returns the option for how many preamble bytes a message begins with.
-fn preambles_option<'a>(alloc: Global) -> Arg<'a>
-    ensures rule { rule_of result ≡ preambles_rule }
-    ensures local { result.global ≡ false }
-{
-    Arg::new(alloc, "preambles")
-        .long("preambles")
-        .value_name("N")
-        .value_parser(value_parser!(u8).range(
-            i64::from(LEAST_PREAMBLES)..=i64::from(MOST_PREAMBLES),
-        ))
-        .default_value("5")
-        .help(help::PREAMBLES_HELP)
 }

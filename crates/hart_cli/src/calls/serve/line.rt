@@ -1,24 +1,90 @@
-//! One line that a device serves.
-ghost use Rattle.std.specs.Prelude.{◌≡◌, ◌≤◌, ◌+◌, ◌*◌, ◌++◌, ◌∷◌, [], ℕ, List, codes, length};
+//! A device that answers lines.
+ghost use Rattle.std.specs.Prelude.{◌≡◌, ◌≤◌, ◌+◌, ◌*◌, ◌++◌, ◌∷◌, [], ℕ, List, IfErr, IfOk, codes, length};
+ghost use Rattle.hart_frame.specs.wire.Message.{IsPreambleCount};
 ghost use Rattle.hart_line.specs.script.Words.{named_in};
 ghost use Rattle.hart_cli.specs.FaultText.{fault_text};
-ghost use Rattle.hart_cli.specs.serve.Line.{Hears, ServesLine, after_word, bad_line, line_words, word_said};
-ghost use Rattle.hart_cli.specs.serve.Server.{HearsText};
-ghost use Rattle.hart_cli.specs.serve.Serve.{chars_room};
+ghost use Rattle.hart_cli.specs.serve.Line.{Hears, HearsText, after_word, line_words, word_said};
+ghost use Rattle.hart_cli.specs.session.Session.{bad_line, chars_room};
+ghost use Rattle.hart_cli.specs.text.MessageLine.{IsMessageLine};
 ghost use Rattle.hart_cli.specs.text.Words.{line_of};
 ghost use Rattle.hart_cli.specs.declared.fault.CliFault.TheVariants.{BadHex};
 
 use crate::fault::CliFault;
 use crate::input::INPUT_LIMIT;
+use crate::session::{SaidLine, Station};
 use crate::text::device_lines::{push_counter_line, push_image_line};
-use crate::text::hex_text::HexLine;
 use crate::text::input_chars::read_pieces;
 use crate::text::message_line::message_line;
 use crate::text::pairs::Pairs;
 use crate::text::words::push_text;
 use hart_device::{Device, ImageRegisters, bench};
-use hart_frame::Char;
-use hart_line::{Digits, Filling};
+use hart_frame::{Char, Frame};
+use hart_line::{Digits, Filling, NoRoom};
+use std::alloc::Global;
+use std::marker::Model;
+
+/// The most characters that a line can have: each is written with two bytes of the line or more.
+const CHARS_ROOM: usize = INPUT_LIMIT / 2;
+
+/// A device that answers lines.
+#[derive(Drop)]
+pub struct DeviceLines {
+    device: Device<ImageRegisters>,
+    /// The characters of a line.
+    chars: Filling<Char>,
+    /// The table of what hex digits mean, for reading lines.
+    digits: Digits,
+    /// The table of hex digits, for writing answers.
+    pairs: Pairs,
+}
+
+impl Model for DeviceLines {
+    ghost use Rattle.std.specs.Prelude.{◌≡◌};
+    ghost use Rattle.hart_device.specs.Device.{DeviceState};
+    ghost use Rattle.hart_cli.specs.session.Session.{chars_room};
+
+    ghost Value = { DeviceState };
+
+    ghost view = { λ lines. lines.device };
+
+    ghost invariant = { λ lines. lines.chars.room ≡ chars_room };
+}
+
+impl DeviceLines {
+    /// Allocates the room for the characters of a line.
+    ///
+    /// # Errors
+    ///
+    /// [`NoRoom`] if this room was refused.
+    pub fn new(alloc: Global, device: Device<ImageRegisters>) -> Result<Self, NoRoom>
+        ensures device { IfOk result (λ lines. lines ≡ device) }
+        ensures refused { IfErr result (λ none. none.items ≡ chars_room) }
+    {
+        let chars = Filling::with_room(alloc, CHARS_ROOM)?;
+        Ok(DeviceLines {
+            device,
+            chars,
+            digits: Digits::new(),
+            pairs: Pairs::new(),
+        })
+    }
+}
+
+impl Station for DeviceLines {
+    ghost use Rattle.hart_cli.specs.serve.Line.{ServesLine, too_long};
+
+    ghost serves = { ServesLine };
+
+    fn answer(&mut self, text: &[u8]) -> SaidLine {
+        let line = &text[..text.len().saturating_sub(1)];
+        match word_of(line) {
+            Some(word) => obey(&mut self.device, &self.pairs, word),
+            None => hear_text(&mut self.device, &self.digits, &mut self.chars, text),
+        }
+    }
+
+    ghost too_long = { λ station. too_long };
+}
 
 /// What a line of words asks of the device. Such a line is no delivery.
 #[derive(Clone, Copy)]
@@ -31,28 +97,6 @@ pub enum LineWord {
     Image,
     /// The configuration change counter of the device is asked for.
     Counter,
-}
-
-/// Serves a line, which is passed with one space after it, and returns the answer to the line.
-pub fn serve_line(
-    device: &mut Device<ImageRegisters>,
-    digits: &Digits,
-    pairs: &Pairs,
-    chars: &mut Filling<Char>,
-    text: &[u8],
-) -> HexLine
-    requires room { chars.old.room ≡ chars_room }
-    ensures serves { (line : List ℕ) → text.now ≡ line ++ 32 ∷ [] → ServesLine device.old line device.new result }
-    ensures kept { chars.new.room ≡ chars.old.room }
-{
-    let line = &text[..text.len().saturating_sub(1)];
-    if line.len() > INPUT_LIMIT {
-        return too_long();
-    }
-    match word_of(line) {
-        Some(word) => obey(device, pairs, word),
-        None => hear_text(device, digits, chars, text),
-    }
 }
 
 /// Reads a line as one of the words of `LineWord`, or returns `None` if the line is no such word.
@@ -75,11 +119,11 @@ fn word_of(line: &[u8]) -> Option<LineWord>
 }
 
 /// Does what a word asks, and returns the answer to the word.
-fn obey(device: &mut Device<ImageRegisters>, pairs: &Pairs, word: LineWord) -> HexLine
+fn obey(device: &mut Device<ImageRegisters>, pairs: &Pairs, word: LineWord) -> SaidLine
     ensures device { device.new ≡ after_word word device.old }
     ensures said { result ≡ word_said word device.old }
 {
-    let mut said = HexLine::new();
+    let mut said = SaidLine::new();
     match word {
         LineWord::Restart => {
             device.restart();
@@ -101,7 +145,7 @@ fn hear_text(
     digits: &Digits,
     chars: &mut Filling<Char>,
     text: &[u8],
-) -> HexLine
+) -> SaidLine
     requires { length text.now ≤ 2 * chars.old.room + 2 }
     ensures hears { HearsText device.old text.now device.new result }
     ensures kept { chars.new.room ≡ chars.old.room }
@@ -115,39 +159,40 @@ fn hear_text(
 }
 
 /// Lets a device hear a delivery, and returns the line with its answer.
-fn hear(device: &mut Device<ImageRegisters>, delivery: &[Char]) -> HexLine
+fn hear(device: &mut Device<ImageRegisters>, delivery: &[Char]) -> SaidLine
     ensures { Hears device.old delivery.now device.new result }
 {
     let preambles = device.response_preambles();
     match device.hear(delivery, &bench::process()) {
-        Some(reply) => message_line(&reply, preambles),
+        Some(reply) => reply_line(&reply, preambles),
         None => silence(),
     }
 }
 
+/// Returns the line of a reply's message with this number of preamble bytes.
+fn reply_line(reply: &Frame, preambles: u8) -> SaidLine
+    requires { IsPreambleCount preambles }
+    ensures { IsMessageLine reply.now preambles result }
+{
+    let mut said = SaidLine::new();
+    said.extend_from_slice(message_line(reply, preambles).as_slice());
+    said
+}
+
 /// Returns the line of silence.
-fn silence() -> HexLine
+fn silence() -> SaidLine
     ensures { result ≡ line_of (codes "-" ∷ []) }
 {
-    let mut said = HexLine::new();
+    let mut said = SaidLine::new();
     push_text(&mut said, "-\n");
     said
 }
 
-/// Returns the answer to a line that is too long.
-fn too_long() -> HexLine
-    ensures { result ≡ bad_line (codes "too long") }
-{
-    let mut said = HexLine::new();
-    push_text(&mut said, "bad line: too long\n");
-    said
-}
-
 /// Returns the answer to a line with bad hex at a place.
-fn bad_hex(place: usize) -> HexLine
+fn bad_hex(place: usize) -> SaidLine
     ensures { result ≡ bad_line (fault_text (BadHex place)) }
 {
-    let mut said = HexLine::new();
+    let mut said = SaidLine::new();
     push_text(&mut said, "bad line: ");
     push_text(&mut said, CliFault::BadHex { place }.text_line().as_str());
     said

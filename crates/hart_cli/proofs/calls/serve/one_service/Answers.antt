@@ -1,7 +1,9 @@
-use Rattle.hart_cli.proofs.lemmas.serve.Served.{one_list, one_text}
+use Rattle.hart_cli.specs.serve.Line.{ServesLine}
+use Rattle.hart_cli.proofs.lemmas.serve.Lines.{one_line}
+use Rattle.hart_cli.proofs.lemmas.session.Served.{one_list, one_text}
 use Rattle.hart_cli.proofs.calls.serve.one_service.Goals as goal
 
 pub returns : goal.returns
 returns c device input ending xs ys h k =
     let same = one_list input ending h.lines k.lines h.has_lines k.has_lines in
-    (one_text device h.after k.after k.lines xs ys (rw same at h.serves) k.serves).1
+    (one_text ServesLine one_line device h.after k.after k.lines xs ys (rw same at h.serves) k.serves).1

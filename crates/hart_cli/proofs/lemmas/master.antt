@@ -1,0 +1,5 @@
+-- `hart master`.
+pub mod Ask
+pub mod Line
+pub mod Promise
+pub mod Words

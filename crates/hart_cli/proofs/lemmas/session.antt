@@ -1,0 +1,6 @@
+-- Calls that answer lines.
+pub mod Cuts
+pub mod Lines
+pub mod Served
+pub mod Server
+pub mod Input

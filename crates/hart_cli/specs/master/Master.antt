@@ -1,0 +1,50 @@
+-- What `hart master` writes for the lines that it reads (own profile).
+use Rattle.std.specs.Prelude.{◌≡◌, ◌⊎◌, ℕ, ◌≤◌, ◌<◌, Err, unwrap_or}
+use Rattle.hart_values.specs.declared.master_id.MasterId.{MasterId}
+use Rattle.hart_values.specs.declared.master_id.MasterId.TheVariants.{Primary, Secondary}
+use Rattle.hart_frame.specs.wire.Message.{IsPreambleCount}
+use Rattle.hart_master.specs.declared.frame_hand.FrameHand.TheVariants.{Empty}
+use Rattle.hart_line.specs.script.Words.{HasNoValue, IsWho}
+use Rattle.hart_cli.specs.ImageWord.{OutcomeRelation}
+use Rattle.hart_cli.specs.declared.calls.master.MasterSettings.{MasterSettings}
+use Rattle.hart_cli.specs.declared.fault.CliFault.TheVariants.{BadWord}
+use Rattle.hart_cli.specs.master.Line.{LineMaster, ServesMasterLine}
+use Rattle.hart_cli.specs.master.MasterWords.{MasterWords}
+use Rattle.hart_cli.specs.session.Session.{ServedOutcome}
+
+-- A session begins with nothing in hand.
+abbrev pub new_master : MasterSettings → LineMaster
+new_master settings = record {
+  who = settings.who;
+  preambles = settings.preambles;
+  master = record { retries = settings.retries; reply_limit = settings.reply_limit; hand = Empty };
+}
+
+-- At most 15 retries, a limit of at least 1, and 5 to 20 preamble bytes.
+abbrev pub AreSettings : MasterSettings → Type 0
+AreSettings settings = (settings.retries ≤ 15) × (0 < settings.reply_limit) × IsPreambleCount settings.preambles
+
+-- The master served the lines that the call read.
+abbrev pub MasterOutcome : MasterSettings → OutcomeRelation
+MasterOutcome settings = ServedOutcome ServesMasterLine (new_master settings)
+
+-- The time for which the masters of `hart sim` await a reply: 33 character times for the primary master, and 41 for the secondary.
+abbrev pub usual_limit : MasterId → ℕ
+usual_limit Primary = 33
+usual_limit Secondary = 41
+
+-- The settings that words give to this master.
+abbrev pub settings_of : MasterId → MasterWords → MasterSettings
+settings_of who words = record {
+  who = who;
+  retries = words.retries;
+  reply_limit = unwrap_or words.limit (usual_limit who);
+  preambles = words.preambles;
+}
+
+-- If the word of the master is neither `P` nor `S`, a call returned this and touched neither the reader nor the writer. Otherwise the master
+-- with the settings of the words served the lines that the call read.
+abbrev pub MasterCallOutcome : MasterWords → OutcomeRelation
+MasterCallOutcome words reader reader_after writer writer_after result =
+    (HasNoValue (IsWho words.who) × (result ≡ Err (BadWord 1)) × (reader_after ≡ reader) × (writer_after ≡ writer))
+    ⊎ ((who : MasterId) × IsWho words.who who × MasterOutcome (settings_of who words) reader reader_after writer writer_after result)

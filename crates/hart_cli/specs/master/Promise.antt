@@ -1,0 +1,95 @@
+-- What `hart master` promises of a whole session (own profile).
+use Rattle.std.specs.Prelude.{◌≡◌, ℕ, ◌+◌, ◌≤◌, ◌||◌, All, Bool, true, false, not, List, [], ◌∷◌, ◌++◌, codes, count_by, length, map, take, Ok}
+use Rattle.std.specs.List.{flat_map}
+use Rattle.std.specs.Str.{bytes_eq}
+use Rattle.hart_values.specs.declared.master_id.MasterId.{MasterId}
+use Rattle.hart_frame.specs.declared.heard.found.Found.{Found}
+use Rattle.hart_frame.specs.heard.Character.{Character}
+use Rattle.hart_frame.specs.heard.Frames.{AreFrames}
+use Rattle.hart_frame.specs.wire.FrameParts.{FrameParts}
+use Rattle.hart_master.specs.Acceptance.{IsReplyFrame}
+use Rattle.hart_cli.specs.declared.calls.master.ask.Ask.TheVariants.{Submit}
+use Rattle.hart_cli.specs.master.Ask.{ReadsAsk}
+use Rattle.hart_cli.specs.master.Line.{IsSendLine, LineMaster, ServesMasterLine, answered_line, items_of}
+use Rattle.hart_cli.specs.session.Session.{line_read}
+use Rattle.hart_cli.specs.text.Items.{ReadsAs}
+use Rattle.hart_cli.specs.text.Words.{line_of}
+use Rattle.std.specs.Prelude.{Some, decimal}
+
+-- A line and its answer.
+pub record Exchange : Type 0 where
+  pub line : List ℕ
+  pub said : List ℕ
+
+-- A session: each line has the answer of the master in the state that the earlier lines led to.
+pub data Session : LineMaster → List Exchange → LineMaster → Type 0 where
+  nothing : (asker : LineMaster) → Session asker [] asker
+  first : (asker next after : LineMaster) (exchange : Exchange) (exchanges : List Exchange)
+      → ServesMasterLine asker (line_read exchange.line) next exchange.said → Session next exchanges after
+      → Session asker (exchange ∷ exchanges) after
+
+-- Whether a text begins with a word.
+abbrev pub begins : List ℕ → List ℕ → Bool
+begins word text = bytes_eq (take (length word) text) word
+
+-- Whether an answer sends a message.
+abbrev pub is_sending : Exchange → Bool
+is_sending exchange = begins (codes "send ") exchange.said
+
+-- Whether an answer ends a request or begins one: it was answered or given up, or a new one was taken.
+abbrev pub is_turn : Exchange → Bool
+is_turn exchange =
+    begins (codes "answered ") exchange.said || begins (codes "noreply ") exchange.said || bytes_eq exchange.said (codes "ok\n")
+
+-- After these exchanges, this request is in hand and was sent so often: a line asked for it, the master took it, since then it was neither
+-- answered nor given up, and no other was taken.
+pub record IsInHand (who : MasterId) (before : List Exchange) (request : FrameParts) (sendings : ℕ) : Type 0 where
+  pub earlier : List Exchange
+  pub line : List ℕ
+  pub since : List Exchange
+  pub split : before ≡ earlier ++ record { line = line; said = codes "ok\n" } ∷ since
+  pub asked : ReadsAsk who line (Ok (Submit request))
+  pub goes_on : All (λ exchange. is_turn exchange ≡ false) since
+  pub counted : sendings ≡ count_by is_sending since
+
+-- A line says that a delivery was heard whose only frame is this one.
+pub record SaysHeard (line : List ℕ) (frame : FrameParts) : Type 0 where
+  pub items : List ℕ
+  pub delivery : List Character
+  pub found : Found
+  pub says : items_of line ≡ Some items
+  pub reads : ReadsAs items delivery
+  pub alone : AreFrames delivery 0 (found ∷ [])
+  pub is_frame : frame ≡ found.frame
+
+-- Whether an answer tells nothing of a request: it is none of the other answers of `KeepsPromise`.
+abbrev pub is_quiet : List ℕ → Bool
+is_quiet said = not (begins (codes "send ") said || begins (codes "answered ") said || begins (codes "retry") said
+    || begins (codes "noreply ") said || begins (codes "refused: a request is pending") said)
+
+-- What an answer says of a request is true of the request that is in hand after the exchanges before:
+-- it is sent at most `retries + 1` times; its reply is the only frame of the delivery in this very line; it is due again at most `retries`
+-- times; it is given up after `retries + 1` sendings; and only then another is refused as long as it is in hand.
+pub data KeepsPromise (who : MasterId) (preambles retries : ℕ) (before : List Exchange) (line : List ℕ) : List ℕ → Type 0 where
+  quiet : (said : List ℕ) → is_quiet said ≡ true → KeepsPromise who preambles retries before line said
+  sends : (request : FrameParts) (sendings : ℕ) (said : List ℕ) → IsInHand who before request sendings → sendings ≤ retries
+      → IsSendLine preambles request said → KeepsPromise who preambles retries before line said
+  answers : (request reply : FrameParts) (sendings : ℕ) → IsInHand who before request sendings → 1 ≤ sendings → sendings ≤ retries + 1
+      → SaysHeard line reply → IsReplyFrame request reply
+      → KeepsPromise who preambles retries before line (answered_line sendings reply.payload)
+  tries_again : (request : FrameParts) (sendings : ℕ) → IsInHand who before request sendings → 1 ≤ sendings → sendings ≤ retries
+      → KeepsPromise who preambles retries before line (line_of (codes "retry" ∷ []))
+  gives_up : (request : FrameParts) → IsInHand who before request (retries + 1)
+      → KeepsPromise who preambles retries before line (line_of (codes "noreply" ∷ decimal (retries + 1) ∷ []))
+  is_busy : (request : FrameParts) (sendings : ℕ) → IsInHand who before request sendings
+      → KeepsPromise who preambles retries before line (codes "refused: a request is pending\n")
+
+-- The lines and their answers are those of a session, and each answer keeps the promise.
+pub record KeepsPromises (asker : LineMaster) (lines : List (List ℕ)) (text : List ℕ) : Type 0 where
+  pub exchanges : List Exchange
+  pub after : LineMaster
+  pub session : Session asker exchanges after
+  pub lines_are : lines ≡ map (λ exchange. exchange.line) exchanges
+  pub text_is : text ≡ flat_map (λ exchange. exchange.said) exchanges
+  pub kept : (before later : List Exchange) (exchange : Exchange) → exchanges ≡ before ++ exchange ∷ later
+      → KeepsPromise asker.who asker.preambles asker.master.retries before exchange.line exchange.said

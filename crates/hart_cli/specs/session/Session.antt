@@ -1,0 +1,109 @@
+-- What a call writes that answers each line that it reads (own profile).
+use Rattle.std.specs.Prelude.{◌≡◌, ◌⊎◌, ℕ, ◌/◌, ◌+◌, List, [], ◌∷◌, ◌++◌, Option, None, Some, Ok, Err, codes, if◌then◌else◌, length, nat_le}
+use Rattle.hart_line.specs.script.Lines.{lines_of}
+use Rattle.hart_line.specs.declared.memory.NoRoom.{NoRoom}
+use Rattle.hart_cli.specs.declared.fault.CliFault.TheVariants as faults
+use Rattle.hart_cli.specs.declared.input.InputEnd.TheVariants.{Ended, ReadFailed, TooLong}
+use Rattle.hart_cli.specs.ImageWord.{OutcomeRelation}
+use Rattle.hart_cli.specs.input.Input.{CameTo, Ending, Left, ReadsToWithin, input_limit, stream_limit}
+use Rattle.hart_cli.specs.input.LiveInput.{WroteInTime}
+use Rattle.hart_cli.specs.stream.Stream.{FailsToWrite, Stream, WritesAll}
+
+-- What a station reads of a line: the whole line, or nothing of a line of more than 1,048,576 bytes, which is too long.
+abbrev pub line_read : List ℕ → Option (List ℕ)
+line_read line = if nat_le (length line) input_limit then Some line else None
+
+-- The answer to a bad line is a line that says why the line is bad.
+abbrev pub bad_line : List ℕ → List ℕ
+bad_line reason = codes "bad line: " ++ reason ++ 10 ∷ []
+
+-- How a station answers one line: its state before, what it reads of the line, its state afterwards, and its answer.
+abbrev pub Manner : Type 0 → Type 1
+Manner Station = Station → Option (List ℕ) → Station → List ℕ → Type 0
+
+-- A station serves lines one after another, each in the state that the earlier lines led to.
+pub data Serves {Station : Type 0} (ServesLine : Manner Station) : Station → List (List ℕ) → Station → List ℕ → Type 0 where
+  nothing : (station : Station) → Serves ServesLine station [] station []
+  first : (station next after : Station) (line : List ℕ) (lines : List (List ℕ)) (said text : List ℕ)
+      → ServesLine station (line_read line) next said → Serves ServesLine next lines after text
+      → Serves ServesLine station (line ∷ lines) after (said ++ text)
+
+-- The last line of a text, which has no line feed after it, is served if the input ended and the line is not empty.
+abbrev pub last_lines : Ending → List ℕ → List (List ℕ)
+last_lines (CameTo Ended) (byte ∷ more) = (byte ∷ more) ∷ []
+last_lines ending last = []
+
+-- The lines of an input are split like the lines of a script. `last_lines` says whether the last line counts.
+pub record HasLines (input : List ℕ) (ending : Ending) (lines : List (List ℕ)) : Type 0 where
+  pub whole : List (List ℕ)
+  pub last : List ℕ
+  pub split : lines_of input ≡ whole ++ last ∷ []
+  pub all : lines ≡ whole ++ last_lines ending last
+
+-- The text of a station's answers to the lines of an input.
+pub record IsServed {Station : Type 0} (ServesLine : Manner Station) (station : Station) (input : List ℕ) (ending : Ending) (text : List ℕ)
+    : Type 0 where
+  pub lines : List (List ℕ)
+  pub has_lines : HasLines input ending lines
+  pub after : Station
+  pub serves : Serves ServesLine station lines after text
+
+-- An input was read to this ending, and the station's answers to all lines that `HasLines` gives for this ending were written.
+pub record ServesTo {Station : Type 0} (ServesLine : Manner Station) (station : Station) (ending : Ending)
+    (reader reader_after writer writer_after : Stream) : Type 0 where
+  pub input : List ℕ
+  pub reads : ReadsToWithin stream_limit reader reader_after input ending
+  pub text : List ℕ
+  pub is_served : IsServed ServesLine station input ending text
+  pub wrote : WritesAll writer writer_after text
+
+-- The text of a station's answers to the whole lines of an input that may go on.
+abbrev pub IsServedSoFar : {Station : Type 0} → Manner Station → Station → List ℕ → List ℕ → Type 0
+IsServedSoFar ServesLine station input text = IsServed ServesLine station input Left text
+
+-- A write failed within the station's answers to some first lines. A prefix of these answers was written, but not all of them. No answer
+-- was late: the answers to the whole lines of the input without its last bytes were written, as `WroteInTime` says.
+pub record StopsSaying {Station : Type 0} (ServesLine : Manner Station) (station : Station) (reader reader_after writer writer_after : Stream)
+    : Type 0 where
+  pub input : List ℕ
+  pub ending : Ending
+  pub reads : ReadsToWithin stream_limit reader reader_after input ending
+  pub first : List (List ℕ)
+  pub later : List (List ℕ)
+  pub has_lines : HasLines input ending (first ++ later)
+  pub after : Station
+  pub text : List ℕ
+  pub serves : Serves ServesLine station first after text
+  pub fails : FailsToWrite writer writer_after text
+  pub in_time : WroteInTime (IsServedSoFar ServesLine station) input writer writer_after
+
+-- Room for a line: the greatest number of bytes that a line may have, and three more. These three are for a byte that shows that the line
+-- is too long, for a carriage return, and for the space that makes the last item whole.
+abbrev pub line_room : ℕ
+line_room = input_limit + 3
+
+-- Room for the characters of a line: one character for every two bytes that the line may have.
+abbrev pub chars_room : ℕ
+chars_room = input_limit / 2
+
+-- Room for a line or for its characters was refused, and nothing was read or written.
+pub record LacksLineRoom (none : NoRoom) (reader reader_after writer writer_after : Stream) : Type 0 where
+  pub refused : (none.items ≡ line_room) ⊎ (none.items ≡ chars_room)
+  pub unread : reader_after ≡ reader
+  pub unwritten : writer_after ≡ writer
+
+-- At `Ok`, a call served its whole input. If a read failed, or the input was longer than the limit, the call served the whole lines that
+-- it had read by then. If a write failed, the call wrote a prefix of the station's answers. If memory was refused, the call read nothing
+-- and wrote nothing.
+abbrev pub ServedOutcome : {Station : Type 0} → Manner Station → Station → OutcomeRelation
+ServedOutcome ServesLine station reader reader_after writer writer_after (Ok done) =
+    ServesTo ServesLine station (CameTo Ended) reader reader_after writer writer_after
+ServedOutcome ServesLine station reader reader_after writer writer_after (Err faults.Read) =
+    ServesTo ServesLine station (CameTo ReadFailed) reader reader_after writer writer_after
+ServedOutcome ServesLine station reader reader_after writer writer_after (Err faults.TooLong) =
+    ServesTo ServesLine station (CameTo TooLong) reader reader_after writer writer_after
+ServedOutcome ServesLine station reader reader_after writer writer_after (Err faults.Write) =
+    StopsSaying ServesLine station reader reader_after writer writer_after
+ServedOutcome ServesLine station reader reader_after writer writer_after (Err (faults.Memory none)) =
+    LacksLineRoom none reader reader_after writer writer_after
+ServedOutcome ServesLine station reader reader_after writer writer_after (Err fault) = ⊥

@@ -1,0 +1,141 @@
+//! `hart master`: a master that answers line after line.
+ghost use Rattle.std.specs.Prelude.{◌≡◌, ℕ, List};
+ghost use Rattle.hart_cli.specs.master.Line.{LineMaster, ServesMasterLine};
+ghost use Rattle.hart_cli.specs.master.Master.{AreSettings, MasterCallOutcome, MasterOutcome, new_master, usual_limit};
+ghost use Rattle.hart_cli.specs.master.MasterWords.{AreInRange};
+ghost use Rattle.hart_cli.specs.master.Promise.{KeepsPromises};
+ghost use Rattle.hart_cli.specs.session.Session.{Serves};
+
+use crate::calls::master::line::MasterLines;
+use crate::calls::sim::{PRIMARY_REPLY_LIMIT, SECONDARY_REPLY_LIMIT};
+use crate::fault::CliFault;
+use crate::session::serve_lines;
+use crate::stream::{Sink, Source};
+use hart_line::read_who;
+use hart_values::MasterId;
+use std::alloc::Global;
+use std::marker::Model;
+
+pub mod ask;
+mod line;
+mod words;
+
+/// What a session of `hart master` starts with.
+#[derive(Clone, Copy, Debug)]
+pub struct MasterSettings {
+    /// Which of the two masters it is.
+    pub who: MasterId,
+    /// How often a request is sent again, at most 15 times.
+    pub retries: u8,
+    /// How many character times a reply is awaited, at least 1.
+    pub reply_limit: u8,
+    /// How many preamble bytes a message begins with, from 5 to 20.
+    pub preambles: u8,
+}
+
+/// What `hart master` was given.
+#[derive(Drop)]
+pub struct MasterWords<'a> {
+    /// WHO, which of the two masters it is.
+    pub who: &'a str,
+    /// How often a request is sent again, at most 15 times.
+    pub retries: u8,
+    /// How many character times a reply is awaited, at least 1; `None` for the limit of this master in `hart sim`.
+    pub limit: Option<u8>,
+    /// How many preamble bytes a message begins with, from 5 to 20.
+    pub preambles: u8,
+}
+
+impl<'a> Model for MasterWords<'a> {
+    ghost use Rattle.hart_cli.specs.master.MasterWords.{MasterWords};
+
+    ghost Value = { MasterWords };
+
+    ghost view = { λ words. record {
+      who = words.who.now;
+      retries = words.retries;
+      limit = words.limit;
+      preambles = words.preambles;
+    } };
+}
+
+/// Reads lines until the input ends, and writes the answer of a master to each line.
+///
+/// A line either says what was heard, or asks something of the master:
+///
+/// - `heard ITEMS`: the items of a delivery. If its only frame is the reply to the request in hand, the answer is `answered`, the number of
+///   sendings, and the payload of the reply in hex. Otherwise it is `-`.
+/// - `submit ADDRESS COMMAND [DATA]` and `ask ADDRESS COMMAND [NAME=VALUE..]`: the master takes a request in hand, given as in
+///   [`encode_text`](crate::encode_text) and [`request`](crate::request). The answer is `ok`, or `refused:` and the fault of the master.
+/// - `send`: the answer is `send` and the message that is due, or `-` if none is due. From then on its reply is awaited.
+/// - `tick N`: so many character times pass, at most 255. The answer is `retry` if the request is due again, `noreply` and the number of
+///   sendings if it is given up, and otherwise `-`.
+///
+/// Words have spaces between them. If a line has a tab, they have tabs between them instead, and a value can have spaces. A line has at
+/// most 64 words and 1,048,576 bytes. Any other line gives `bad line:` and the reason, and changes nothing.
+///
+/// As in [`serve`](crate::serve), the answers to all whole lines read so far are written before each read. All memory is allocated before
+/// the first line is read.
+///
+/// # Errors
+///
+/// [`CliFault::Memory`] if memory for a line is refused. Then nothing is read. After that [`CliFault::Read`], and [`CliFault::TooLong`] at
+/// an input of more than 2^64 - 1 bytes: the answers to the whole lines before the fault are written. If a write fails, the fault is
+/// [`CliFault::Write`], and a prefix of the answers to what was read by then is written.
+pub fn master<R: Source, W: Sink>(
+    alloc: Global,
+    settings: MasterSettings,
+    reader: &mut R,
+    writer: &mut W,
+) -> Result<(), CliFault>
+    requires { AreSettings settings }
+    ensures outcome { MasterOutcome settings
+        (R.stream reader.old) (R.stream reader.new)
+        (W.stream writer.old) (W.stream writer.new)
+        result }
+    // Each session that begins with these settings keeps the promise.
+    ensures promise { (lines : List (List ℕ)) (after : LineMaster) (text : List ℕ)
+        → Serves ServesMasterLine (new_master settings) lines after text → KeepsPromises (new_master settings) lines text }
+{
+    let lines = MasterLines::new(alloc, settings)?;
+    serve_lines(alloc, lines, reader, writer)
+}
+
+/// Makes the call of [`master`] that the words of the command line ask for.
+///
+/// # Errors
+///
+/// [`CliFault::BadWord`] with the number 1 if WHO is neither `P` nor `S`. Then nothing is read. After that the errors of [`master`].
+pub fn master_by_words<R: Source, W: Sink>(
+    alloc: Global,
+    words: &MasterWords<'_>,
+    reader: &mut R,
+    writer: &mut W,
+) -> Result<(), CliFault>
+    requires { AreInRange words.now }
+    ensures { MasterCallOutcome words.now
+        (R.stream reader.old) (R.stream reader.new)
+        (W.stream writer.old) (W.stream writer.new)
+        result }
+{
+    let Some(who) = read_who(words.who.as_bytes()) else {
+        return Err(CliFault::BadWord { number: 1 });
+    };
+    let settings = MasterSettings {
+        who,
+        retries: words.retries,
+        reply_limit: words.limit.unwrap_or(usual_limit(who)),
+        preambles: words.preambles,
+    };
+    master(alloc, settings, reader, writer)
+}
+
+/// Returns for how many character times a master of `hart sim` awaits a reply.
+fn usual_limit(who: MasterId) -> u8
+    ensures { result ≡ usual_limit who }
+{
+    match who {
+        MasterId::Primary => PRIMARY_REPLY_LIMIT,
+        MasterId::Secondary => SECONDARY_REPLY_LIMIT,
+    }
+}

@@ -1,0 +1,173 @@
+//! What a line asks of a master.
+ghost use Rattle.std.specs.Prelude.{◌≡◌, map};
+ghost use Rattle.hart_line.specs.script.Words.{named_in};
+ghost use Rattle.hart_cli.specs.master.Ask.{AsksBy, ReadsAsk, ReadsWords, message_words, most_words, request_words, submitted};
+ghost use Rattle.hart_cli.specs.master.Ask.{ticked, verbs, who_word};
+ghost use Rattle.hart_cli.specs.master.Words.{word_at};
+
+use crate::calls::encode::{self, EncodeWords};
+use crate::calls::master::words::read_words;
+use crate::calls::request::{self, RequestWords};
+use crate::fault::CliFault;
+use hart_frame::Frame;
+use hart_line::read_command;
+use hart_values::MasterId;
+
+/// What a line asks of a master, other than to hear a delivery.
+#[derive(Debug, Drop)]
+pub enum Ask {
+    /// To take this request in hand.
+    Submit(Frame),
+    /// To send the message that is due.
+    Send,
+    /// To let this number of character times pass; 255 means 255 or more.
+    Tick(u8),
+}
+
+/// The first word of a line that asks something.
+#[derive(Clone, Copy)]
+pub enum Verb {
+    /// `submit`: a request, its data in hex.
+    Submit,
+    /// `ask`: a request, its data by the names of fields.
+    Ask,
+    /// `send`: the message that is due.
+    Send,
+    /// `tick`: time passes.
+    Tick,
+}
+
+/// The number of preamble bytes that the words of a request have. No message is made of the words, so it does not matter.
+const PREAMBLES: u8 = 5;
+
+/// Returns what a line asks.
+///
+/// # Errors
+///
+/// [`CliFault::BadWord`] or [`CliFault::BadField`] of the first bad word; the first word of the line has the number 1. A word that is
+/// missing is read as an empty one.
+pub fn read_ask(who: MasterId, line: &[u8]) -> Result<Ask, CliFault>
+    ensures { ReadsAsk who line.now result }
+{
+    match read_words(line) {
+        Ok(words) => read_asking_words(who, words.as_slice()),
+        Err(number) => Err(CliFault::BadWord { number }),
+    }
+}
+
+/// Returns what words ask.
+fn read_asking_words(who: MasterId, words: &[&str]) -> Result<Ask, CliFault>
+    ensures { ReadsWords who (map (λ word. word.now) words.now) result }
+{
+    let Some(verb) = verb_of(word_at(words, 0)) else {
+        return Err(CliFault::BadWord { number: 1 });
+    };
+    let most = most_words(verb);
+    if words.len() > usize::from(most) {
+        return Err(CliFault::BadWord { number: most + 1 });
+    }
+    ask_by(who, words, verb)
+}
+
+/// Returns what words with this first word ask.
+fn ask_by(who: MasterId, words: &[&str], verb: Verb) -> Result<Ask, CliFault>
+    ensures { AsksBy who (map (λ word. word.now) words.now) verb result }
+{
+    match verb {
+        Verb::Submit => submitted(encode::read_request(&message_words(who, words))),
+        Verb::Ask => submitted(request::read_request(&request_words(who, words))),
+        Verb::Send => Ok(Ask::Send),
+        Verb::Tick => ticked(read_command(word_at(words, 1).as_bytes())),
+    }
+}
+
+/// Returns what a line asks whose words were read as a request.
+fn submitted(read: Result<Frame, CliFault>) -> Result<Ask, CliFault>
+    ensures { result ≡ submitted read }
+{
+    match read {
+        Ok(request) => Ok(Ask::Submit(request)),
+        Err(fault) => Err(fault),
+    }
+}
+
+/// Returns what a line asks whose second word was read as a number of character times.
+fn ticked(count: Option<u8>) -> Result<Ask, CliFault>
+    ensures { result ≡ ticked count }
+{
+    match count {
+        Some(count) => Ok(Ask::Tick(count)),
+        None => Err(CliFault::BadWord { number: 2 }),
+    }
+}
+
+/// Returns the word at a place, counted from 0, or the empty word if there is none.
+fn word_at<'a>(words: &[&'a str], place: usize) -> &'a str
+    ensures { result.now ≡ word_at (map (λ word. word.now) words.now) place }
+{
+    match words.get(place) {
+        Some(word) => word,
+        None => "",
+    }
+}
+
+/// Reads the first word of a line. Returns `None` for any other word.
+fn verb_of(word: &str) -> Option<Verb>
+    ensures { result ≡ named_in verbs word.now }
+{
+    match word {
+        "submit" => Some(Verb::Submit),
+        "ask" => Some(Verb::Ask),
+        "send" => Some(Verb::Send),
+        "tick" => Some(Verb::Tick),
+        _ => None,
+    }
+}
+
+/// Returns the most words that a line with this first word can have.
+fn most_words(verb: Verb) -> u8
+    ensures { result ≡ most_words verb }
+{
+    match verb {
+        Verb::Submit => 4,
+        Verb::Ask => 64,
+        Verb::Send => 1,
+        Verb::Tick => 2,
+    }
+}
+
+/// Returns the words of `submit` as those of `hart encode`.
+fn message_words<'a>(who: MasterId, words: &[&'a str]) -> EncodeWords<'a>
+    ensures { result ≡ message_words who (map (λ word. word.now) words.now) }
+{
+    EncodeWords {
+        who: who_word(who),
+        address: word_at(words, 1),
+        command: word_at(words, 2),
+        payload: word_at(words, 3),
+        preambles: PREAMBLES,
+    }
+}
+
+/// Returns the words of `ask` as those of `hart request`.
+fn request_words<'w, 'a: 'w>(who: MasterId, words: &'w [&'a str]) -> RequestWords<'w, 'a>
+    ensures { result ≡ request_words who (map (λ word. word.now) words.now) }
+{
+    RequestWords {
+        who: who_word(who),
+        address: word_at(words, 1),
+        command: word_at(words, 2),
+        fields: words.get(3..),
+        preambles: PREAMBLES,
+    }
+}
+
+/// Returns the word of a master.
+fn who_word(who: MasterId) -> &'static str
+    ensures { result.now ≡ who_word who }
+{
+    match who {
+        MasterId::Primary => "P",
+        MasterId::Secondary => "S",
+    }
+}

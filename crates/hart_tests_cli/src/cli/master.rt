@@ -1,0 +1,342 @@
+//! `master`: a master over many lines.
+
+use super::call::{Asker, Call, USUAL};
+use super::calls::{
+    EMPTY, Fault, Given, NONE, READ, Row, WRITE, Wanted, does, does_by_name, hold_rows,
+};
+use super::fakes::{ALL, After};
+use hart_cli::INPUT_LIMIT;
+use hart_rows::hold_ok;
+use std::alloc::Global;
+use std::test::Fail;
+
+/// A master that sends a request again at most once, and 5 preamble bytes.
+const SHORT: Asker = Asker {
+    retries: 1,
+    preambles: 5,
+    ..USUAL
+};
+
+/// A request that is sent twice: the first reply is damaged, and the second one is accepted. Then nothing is in hand.
+const LIFE: Row = (
+    "send\n\
+    submit 37420A1B2C 19 012345\n\
+    tick 255\n\
+    heard FF FF 86 B7 42 0A 1B 2C 13 05 00 40 01 23 45 7F\n\
+    send\n\
+    send\n\
+    submit 37420A1B2C 16\n\
+    heard FF FF 86 B7 42 0A 1B 2C 13 05 00 40 01 23 45 7E\n\
+    tick 32\n\
+    tick 1\n\
+    tick 255\n\
+    send\n\
+    heard FF FF 86 B7 42 0A 1B 2C 13 05 00 40 01 23 45 7F\n\
+    heard FF FF 86 B7 42 0A 1B 2C 13 05 00 40 01 23 45 7F\n\
+    tick 255\n\
+    send\n\
+    submit 37420A1B2C 16\n",
+    "-\n\
+    ok\n\
+    -\n\
+    -\n\
+    send FF FF FF FF FF 82 B7 42 0A 1B 2C 13 03 01 23 45 3D\n\
+    -\n\
+    refused: a request is pending\n\
+    -\n\
+    -\n\
+    retry\n\
+    -\n\
+    send FF FF FF FF FF 82 B7 42 0A 1B 2C 13 03 01 23 45 3D\n\
+    answered 2 0040012345\n\
+    -\n\
+    -\n\
+    -\n\
+    ok\n",
+    NONE,
+);
+
+/// Lines of each kind, good and bad.
+const LINES: &[Row] = &[
+    LIFE,
+    ("", "", NONE),
+    // The last line needs no line feed. If it is empty, it does not count as a line.
+    ("send", "-\n", NONE),
+    ("send\n\r", "-\n", NONE),
+    ("send\r\ntick 1\r", "-\n-\n", NONE),
+    // After the last sending a request is given up, and is sent no more.
+    (
+        "submit @0 0\nsend\ntick 33\nsend\ntick 33\nsend\ntick 33\n",
+        "ok\n\
+        send FF FF FF FF FF 02 80 00 00 82\n\
+        retry\n\
+        send FF FF FF FF FF 02 80 00 00 82\n\
+        noreply 2\n\
+        -\n\
+        -\n",
+        NONE,
+    ),
+    // A reply to the other master, of another device or command, a request, and two messages are no reply.
+    (
+        "submit 37420A1B2C 19 012345\nsend\n\
+        heard FF FF 06 37 42 0A 1B 2C 13 05 00 40 01 23 45 7F\n\
+        heard FF FF 86 37 42 0A 1B 2C 13 05 00 40 01 23 45 FF\n\
+        heard FF FF 86 B7 42 0A 1B 2D 13 05 00 40 01 23 45 7E\n\
+        heard FF FF 86 B7 42 0A 1B 2C 10 05 00 40 01 23 45 7C\n\
+        heard FF FF 82 B7 42 0A 1B 2C 13 03 01 23 45 3D\n\
+        heard FF FF 86 B7 42 0A 1B 2C 13 02 C0 00 9F\n\
+        heard FF FF 86 B7 42 0A 1B 2C 13 05 00 40 01 23 45 7F FF FF 02 80 00 00 82\n\
+        heard\n\
+        heard 00 FF FF FF 86 B7 42 0A 1B 2C 13 05 00 40 01 23 45 7F\n",
+        "ok\n\
+        send FF FF FF FF FF 82 B7 42 0A 1B 2C 13 03 01 23 45 3D\n\
+        -\n-\n-\n-\n-\n-\n-\n-\n\
+        answered 1 0040012345\n",
+        NONE,
+    ),
+    // Any reply to a command that is not known counts, unless it has communication faults.
+    (
+        "submit 37420A1B2C 200 AA\nsend\n\
+        heard FF FF 86 B7 42 0A 1B 2C C8 02 80 00 04\n\
+        heard FF FF 86 B7 42 0A 1B 2C C8 03 40 00 BB 7E\n",
+        "ok\n\
+        send FF FF FF FF FF 82 B7 42 0A 1B 2C C8 01 AA 29\n\
+        -\n\
+        answered 1 4000BB\n",
+        NONE,
+    ),
+    // Requests by the names of fields. With tabs between words, a value can have spaces.
+    (
+        "ask 37420A1B2C 19 final_assembly_number=0x012345\nsend\n",
+        "ok\nsend FF FF FF FF FF 82 B7 42 0A 1B 2C 13 03 01 23 45 3D\n",
+        NONE,
+    ),
+    (
+        "ask\t37420A1B2C\t18\tdescriptor=FEED PUMP\tdate=2026-11-27\ttag=FT-1204\nsend\n",
+        "ok\nsend FF FF FF FF FF 82 B7 42 0A 1B 2C 12 15 \
+        19 4B 71 CB 0D 20 18 51 44 81 05 4D 42 08 20 82 08 20 1B 0B 7E E2\n",
+        NONE,
+    ),
+    // A bad line changes nothing.
+    (
+        "submit @0 0\n\
+        \n\
+        frob\n\
+        Send\n\
+        send now\n\
+        tick\n\
+        tick 256\n\
+        tick -1\n\
+        tick 1 2\n\
+        submit\n\
+        submit @64 0\n\
+        submit @0\n\
+        submit @0 256\n\
+        submit @0 0 0\n\
+        submit @0 0 00 00\n\
+        ask @0 200\n\
+        ask 37420A1B2C 19\n\
+        ask 37420A1B2C 19 number=1\n\
+        ask 37420A1B2C 19 final_assembly_number=1\n\
+        heard 0G\n\
+        heard FF 8\n\
+        heardFF\n\
+        send\n",
+        "ok\n\
+        bad line: bad word 1\n\
+        bad line: bad word 1\n\
+        bad line: bad word 1\n\
+        bad line: bad word 2\n\
+        bad line: bad word 2\n\
+        bad line: bad word 2\n\
+        bad line: bad word 2\n\
+        bad line: bad word 3\n\
+        bad line: bad word 2\n\
+        bad line: bad word 2\n\
+        bad line: bad word 3\n\
+        bad line: bad word 3\n\
+        bad line: bad word 4\n\
+        bad line: bad word 5\n\
+        bad line: bad word 3: unknown command\n\
+        bad line: bad word 4: missing field final assembly number\n\
+        bad line: bad word 4: unknown field\n\
+        bad line: bad word 4: not 0x and 3 bytes in hex\n\
+        bad line: bad hex at 6\n\
+        bad line: bad hex at 9\n\
+        bad line: bad word 1\n\
+        send FF FF FF FF FF 02 80 00 00 82\n",
+        NONE,
+    ),
+    // A known command goes only where it may be asked; any other one goes anywhere.
+    (
+        "submit @0 1\nsubmit all 0\nsubmit all 200\n",
+        "refused: wrong address\nrefused: wrong address\nok\n",
+        NONE,
+    ),
+    // Spaces before and between words do not count.
+    ("  tick   1 \n submit  @0  0\n", "-\nok\n", NONE),
+];
+
+#[test]
+fn lines_are_answered_in_turn(rt: HostRuntime) -> Result<(), Fail> {
+    hold_rows(
+        &rt,
+        rt.alloc(),
+        Call::Master(SHORT),
+        After::End,
+        "row",
+        LINES,
+    )?;
+    Ok(())
+}
+
+/// What is answered before a read that fails: only whole lines.
+const BEFORE_FAILURE: &[Row] = &[
+    ("", "", READ),
+    ("send", "", READ),
+    ("tick 1\nsend", "-\n", READ),
+    ("tick 1\nbad\n", "-\nbad line: bad word 1\n", READ),
+];
+
+#[test]
+fn whole_lines_are_answered_before_a_failure(rt: HostRuntime) -> Result<(), Fail> {
+    hold_rows(
+        &rt,
+        rt.alloc(),
+        Call::Master(USUAL),
+        After::Failure,
+        "row",
+        BEFORE_FAILURE,
+    )?;
+    Ok(())
+}
+
+/// What a master is given, its answers to a request that nobody replies to, and its fault.
+const SETTINGS: &[(Asker, &str, &str, Fault)] = &[
+    (
+        Asker {
+            preambles: 5,
+            ..USUAL
+        },
+        "submit @0 0\nsend\ntick 32\ntick 1\n",
+        "ok\nsend FF FF FF FF FF 02 80 00 00 82\n-\nretry\n",
+        NONE,
+    ),
+    (
+        Asker {
+            who: "S",
+            retries: 0,
+            preambles: 6,
+            ..USUAL
+        },
+        "submit @0 0\nsend\ntick 40\ntick 1\n",
+        "ok\nsend FF FF FF FF FF FF 02 00 00 00 02\n-\nnoreply 1\n",
+        NONE,
+    ),
+    (
+        Asker {
+            limit: Some(1),
+            retries: 0,
+            preambles: 5,
+            ..USUAL
+        },
+        "submit @0 0\nsend\ntick 0\ntick 1\n",
+        "ok\nsend FF FF FF FF FF 02 80 00 00 82\n-\nnoreply 1\n",
+        NONE,
+    ),
+    (
+        Asker { who: "p", ..USUAL },
+        "submit @0 0\n",
+        "",
+        (8, "bad word 1"),
+    ),
+];
+
+#[test]
+fn settings_are_those_given(rt: HostRuntime) -> Result<(), Fail> {
+    for (number, (asker, input, text, fault)) in SETTINGS.iter().enumerate() {
+        let given = Given { input, ..EMPTY };
+        let reads = (fault.0 != 0).then_some(0);
+        let wanted = Wanted {
+            fault: *fault,
+            text,
+            reads,
+            writes: None,
+        };
+        let done = does(&rt, rt.alloc(), Call::Master(*asker), &given, &wanted);
+        hold_ok(&rt, done, "row", number)?;
+    }
+    Ok(())
+}
+
+/// A number of spaces, the input after them, and the answers to both.
+const LONG: &[(usize, &str, &str)] = &[
+    (INPUT_LIMIT - 4, "send\nsend\n", "-\n-\n"),
+    (INPUT_LIMIT - 3, "send\nsend\n", "bad line: too long\n-\n"),
+    (INPUT_LIMIT, "\n", "bad line: bad word 1\n"),
+    (INPUT_LIMIT + 1, "", "bad line: too long\n"),
+];
+
+/// Whether a master answers the spaces and the input of a row with the text of the row.
+fn says(rt: &impl Eprint, alloc: Global, row: &(usize, &str, &str)) -> Result<bool, Fail> {
+    let (spaces, input, text) = *row;
+    let given = Given {
+        spaces,
+        input,
+        ..EMPTY
+    };
+    let wanted = Wanted {
+        fault: NONE,
+        text,
+        reads: None,
+        writes: None,
+    };
+    does_by_name(rt, alloc, Call::Master(USUAL), &given, &wanted)
+}
+
+#[test]
+fn lines_of_a_master_have_a_longest_one(rt: HostRuntime) -> Result<(), Fail> {
+    for (number, row) in LONG.iter().enumerate() {
+        hold_ok(&rt, says(&rt, rt.alloc(), row), "row", number)?;
+    }
+    Ok(())
+}
+
+/// Whether a failed write ends the call, after all bytes before it were written.
+fn ends_at(
+    rt: &impl Eprint,
+    alloc: Global,
+    most_read: usize,
+    fails_at: usize,
+) -> Result<bool, Fail> {
+    let text = "ok\n-\n-\n";
+    let given = Given {
+        input: "submit @0 0\ntick 1\nheard",
+        most_read,
+        most_written: 1,
+        fails_at: Some(fails_at),
+        ..EMPTY
+    };
+    let wanted = Wanted {
+        fault: WRITE,
+        text: text.get(..fails_at).ok_or("a write")?,
+        reads: None,
+        writes: Some(fails_at.saturating_add(1)),
+    };
+    does(rt, alloc, Call::Master(USUAL), &given, &wanted)
+}
+
+#[test]
+fn failed_writes_end_a_session(rt: HostRuntime) -> Result<(), Fail> {
+    for fails_at in 0..7 {
+        for most_read in [1, 3, ALL] {
+            hold_ok(
+                &rt,
+                ends_at(&rt, rt.alloc(), most_read, fails_at),
+                "write",
+                fails_at,
+            )?;
+        }
+    }
+    Ok(())
+}
