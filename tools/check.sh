@@ -77,7 +77,9 @@ beside() {
     RT_JOBS=2 python3 tools/mistakes.py --gate
     run_all "python3 tools/mistakes.py --can-fail" "sh tools/held-view.sh" "python3 tools/vector_bugs.py"
     until_said "hart proved"
-    run_on_program "sh tools/library-examples.sh $program && sh tools/library-examples.sh --target aarch64-linux-gnu $program"
+    # Each of these builds the library, and a crate is built for one target at a time.
+    run_on_program "sh tools/library-examples.sh $program && sh tools/library-examples.sh --target aarch64-linux-gnu $program && \
+sh tools/packages.sh $program && sh examples/cortex-m/run.sh"
 }
 
 # Runs scripts on the program, if `rt ci` has built it.
@@ -121,6 +123,7 @@ failed=$((failed + ${lost:-0}))
 run_on_program "python3 tools/vector_bugs.py --random $program"
 run_on_program "sh tools/examples.sh $program"
 run_on_program "python3 tools/listen.py $program"
+run_on_program "python3 tools/ask.py $program"
 passed=$((passed + $(wc -l <"$work/passed")))
 failed=$((failed + $(wc -l <"$work/failed")))
 

@@ -5,6 +5,9 @@ Characters go to the pseudo-terminal at 1200 baud. `hart explain` has to say eac
 each cut message at most 0.2 s after the silence behind it, each with a time of day. Then the port goes away. All this happens once more
 with `hart explain --json`.
 
+The items begin with a silence, also after a stall and when hart-listen starts again at the same port; that port may refuse parity. RTS is
+cleared, and --silence sets how long a silence is.
+
 Usage: tools/listen.py PROGRAM
 """
 
@@ -15,8 +18,10 @@ import os
 import pathlib
 import re
 import select
+import signal
 import subprocess
 import sys
+import termios
 import time
 import tty
 
@@ -128,11 +133,101 @@ def try_call(call, lines):
         fails(f"{' '.join(call)} did not end with 0")
 
 
+def started(terminal, *words):
+    """Starts hart-listen at a pseudo-terminal, and returns it once it has said that the line is silent."""
+    heard = subprocess.Popen([LISTENER, *words, os.ttyname(terminal)], stdout=subprocess.PIPE, stderr=subprocess.PIPE)
+    if first_line(heard.stdout, 5) != "/\n":
+        fails(f"with the words {words} it does not begin with a silence")
+    return heard
+
+
+def ended(heard):
+    """Ends hart-listen, and returns what it says of the port."""
+    heard.send_signal(signal.SIGINT)
+    if heard.wait(timeout=5) != 0:
+        fails(f"at Control-C it ends with {heard.returncode}")
+    return heard.stderr.read().decode()
+
+
+def items_of(line):
+    """The items of a line, without its date."""
+    return " ".join(line.split()[1:]) if line and line.startswith("@") else line
+
+
+def try_starts():
+    """Starts hart-listen twice at one port, where the second start finds all set but parity."""
+    port, terminal = os.openpty()
+    tty.setraw(terminal)
+    ended(started(terminal))
+    again = started(terminal)
+    os.write(port, CUT)
+    if items_of(first_line(again.stdout, 1)) != CUT.hex(" ").upper():
+        fails("started again, it hears something else")
+    said = ended(again)
+    if "refuses parity" not in said:
+        fails(f"started again at a port that refuses parity, it says {said!r}")
+    os.close(port)
+    os.close(terminal)
+    print("listen: started twice at one port")
+
+
+def try_stall():
+    """Stops hart-listen for longer than a silence: what came meanwhile stands after a silence."""
+    port, terminal = os.openpty()
+    tty.setraw(terminal)
+    heard = started(terminal, "--silence", "1000")
+    os.write(port, b"\x02")
+    first = first_line(heard.stdout, 1)
+    heard.send_signal(signal.SIGSTOP)
+    time.sleep(1.2)
+    os.write(port, b"\x80")
+    heard.send_signal(signal.SIGCONT)
+    lines = [items_of(line) for line in (first, first_line(heard.stdout, 1), first_line(heard.stdout, 1))]
+    if lines != ["02", "/\n", "80"]:
+        fails(f"around a stall it says {lines}")
+    ended(heard)
+    os.close(port)
+    os.close(terminal)
+    print("listen: a stall is a silence")
+
+
+def try_silence():
+    """Lets the line be silent, for as long as --silence says."""
+    port, terminal = os.openpty()
+    tty.setraw(terminal)
+    heard = started(terminal, "--silence", "400")
+    os.write(port, b"\x02")
+    first_line(heard.stdout, 1)
+    if first_line(heard.stdout, 0.3) is not None or first_line(heard.stdout, 0.3) != "/\n":
+        fails("a silence of 400 ms is not told after 400 ms")
+    ended(heard)
+    os.close(port)
+    os.close(terminal)
+    print("listen: a silence is as long as it is said to be")
+
+
+def try_rts():
+    """Opens a port whose calls are recorded: RTS is cleared once, and never raised."""
+    module, calls = listener(), []
+    module.fcntl = type("Recorded", (), {"ioctl": staticmethod(lambda port, request, bits: calls.append((request, bits)))})
+    port, terminal = os.openpty()
+    os.close(module.opened(os.ttyname(terminal)))
+    os.close(port)
+    os.close(terminal)
+    if calls != [(termios.TIOCMBIC, termios.TIOCM_RTS.to_bytes(4, sys.byteorder))]:
+        fails(f"opening a port makes the calls {calls}")
+    print("listen: RTS is cleared")
+
+
 def main():
     parser = argparse.ArgumentParser()
     parser.add_argument("program")
     program = parser.parse_args().program
     try_readings()
+    try_rts()
+    try_starts()
+    try_stall()
+    try_silence()
     for words, lines in CALLS:
         try_call([program, *words], lines)
     print("listen: as wanted")

@@ -1,7 +1,7 @@
 #!/bin/sh
 # Holds the man page and the bash completion against the help of the program. Both have to name each subcommand and each option that
-# `hart --help` and `hart COMMAND --help` name, and no other. The man page names each option with its commands. Options go by their
-# long names.
+# `hart --help` and `hart SUBCOMMAND --help` name, and no other. The man page names each option with its commands. Options go by their
+# long names. The man page of hart-listen has to name the options of its help.
 #
 # Usage: tools/manual.sh [PROGRAM]; PROGRAM is the ./hart of the repository if absent.
 set -eu
@@ -33,7 +33,7 @@ named_in() {
         { before = $0 }'
 }
 
-commands=$("$program" --help 2>&1 | awk '/^Commands:/ { on = 1; next } /^$/ { on = 0 } on { print $1 }')
+commands=$("$program" --help 2>&1 | awk '/^Subcommands:/ { on = 1; next } /^$/ { on = 0 } on { print $1 }')
 options=$(options_of)
 pairs=
 for command in $commands; do
@@ -44,7 +44,7 @@ for command in $commands; do
     done
 done
 
-same 'docs/hart.1, under COMMANDS,' "$(named_in COMMANDS)" "$commands"
+same 'docs/hart.1, under SUBCOMMANDS,' "$(named_in SUBCOMMANDS)" "$commands"
 same 'docs/hart.1, under OPTIONS,' "$(named_in OPTIONS | grep -v =)" "$options"
 same 'docs/hart.1, option by option,' "$(named_in OPTIONS | grep = | grep -v '=hart$')" "${pairs# }"
 version=$("$program" --version 2>&1 || true)
@@ -64,4 +64,13 @@ for command in $commands; do
     same "docs/hart.bash, after $command," "$(offered "$command")" "$(options_of "$command")"
 done
 same 'docs/hart.bash, after help,' "$(offered help)" "$commands"
-echo "docs/hart.1 and docs/hart.bash name what help names"
+same 'docs/hart-listen.1' "$(sed 's/\\-/-/g' docs/hart-listen.1 | grep -E '^\.B[RI]? ' | grep -oE -- '--[a-z]+')" \
+    "$(tools/hart-listen --help | grep -oE '^ +(-h, )?--[a-z]+' | grep -oE -- '--[a-z]+')"
+
+# hart-ask: its man page and its completion name the options of its help.
+asked=$(tools/hart-ask --help | grep -oE '^ +(-h, )?--[a-z]+' | grep -oE -- '--[a-z]+')
+same 'docs/hart-ask.1' "$(sed 's/\\-/-/g' docs/hart-ask.1 | grep -oE '^\.BI? --[a-z]+' | grep -oE -- '--[a-z]+') --help" "$asked"
+same 'docs/hart.bash, after hart-ask,' \
+    "$(bash -c '. docs/hart.bash; COMP_WORDS=(hart-ask ""); COMP_CWORD=1; _hart_ask; echo "${COMPREPLY[@]}"')" "$asked"
+
+echo "docs/*.1 and docs/hart.bash name what help names"
