@@ -1,4 +1,4 @@
--- Whether a frame is the reply to a request, and why not, for a caller in C (own profile).
+-- Whether a frame is the reply to a request, and why not, for a caller in C (implementation choice).
 use Rattle.std.specs.Prelude.{◌≡◌, ◌≤◌, ◌<◌, ◌++◌, ◌↔◌, ℕ, Bool, IsTrue, true, false, List, [], ◌∷◌, None, Result, Ok, Err, slice_index}
 use Rattle.hart_values.specs.declared.{address.Address.Address, master_id.MasterId.MasterId}
 use Rattle.hart_frame.specs.wire.FrameParts.{FrameParts}

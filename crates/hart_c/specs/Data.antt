@@ -1,4 +1,4 @@
--- What a caller in C can rely on when it reads the data of a message, or asks for the names of its fields (own profile).
+-- What a caller in C can rely on when it reads the data of a message, or asks for the names of its fields (implementation choice).
 use Rattle.std.specs.Prelude.{◌≡◌, ◌<◌, ◌≤◌, ◌⊎◌, ◌++◌, ◌+◌, ℕ, Bool, true, false, List, [], ◌∷◌, drop, length, slice_get, take}
 use Rattle.std.specs.Prelude.{Option, None, Some, option_map, MatchOption, MatchResult}
 use Rattle.hart_commands.specs.{ReplyData.reply_reading, RequestData.request_data, RequestData.request_reading}

@@ -1,4 +1,4 @@
--- The device that a caller in C keeps, and how the calls change it (own profile).
+-- The device that a caller in C keeps, and how the calls change it (implementation choice).
 use Rattle.std.specs.Prelude.{◌≡◌, ◌≤◌, ◌+◌, ◌-◌, ◌%◌, ◌++◌, if◌then◌else◌, ℕ, Bool, List, [], ◌∷◌, Option, None, Some, length, map}
 use Rattle.std.specs.Prelude.{slice_index, slice_set, take}
 use Rattle.hart_frame.specs.{wire.FrameParts.FrameParts, wire.Message.IsMessage}

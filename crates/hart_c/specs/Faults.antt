@@ -1,4 +1,4 @@
--- The faults of calls: their numbers in C, the checks of a call, and which fault a call returns (own profile).
+-- The faults of calls: their numbers in C, the checks of a call, and which fault a call returns (implementation choice).
 use Rattle.std.specs.Prelude.{◌≡◌, ◌⊎◌, ℕ, Result, Ok, Err, List, [], ◌∷◌}
 use Rattle.hart_frame.specs.wire.FaultNumbers.{frame_fault_number}
 use Rattle.hart_device.specs.declared.fault.DeviceFault.TheVariants.{BadField, BadLength, BadVersion, BroadcastAddress, OutOfRange}

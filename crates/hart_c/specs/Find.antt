@@ -1,4 +1,4 @@
--- What is heard, as a caller in C passes it, and what a search promises if the unused characters are passed again (own profile).
+-- What is heard, as a caller in C passes it, and what a search promises if the unused characters are passed again (implementation choice).
 use Rattle.std.specs.Prelude.{◌≤◌, ◌≡◌, ◌+◌, ◌<◌, ◌⊎◌, ◌++◌, List, [], ◌∷◌, length, ℕ, Bool, IsTrue, false, drop, map, take, All}
 use Rattle.hart_frame.specs.heard.Character.{AreFaultBits, Character}
 use Rattle.hart_frame.specs.{declared.heard.found.Found.Found, heard.Frames.IsUndecided, heard.Frames.moved, scan.Next.AreNext}

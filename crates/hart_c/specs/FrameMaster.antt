@@ -1,4 +1,4 @@
--- The master that a caller in C keeps, and how the calls change it (own profile).
+-- The master that a caller in C keeps, and how the calls change it (implementation choice).
 use Rattle.std.specs.Prelude.{◌≡◌, ◌≤◌, ◌<◌, ◌++◌, ℕ, IsTrue, false, List, [], ◌∷◌, Result, Ok, Err, length, replicate}
 use Rattle.hart_frame.specs.wire.Message.{IsPreambleCount}
 use Rattle.hart_frame.specs.declared.wire.fault.FrameFault.TheVariants.{BadPreamble}
@@ -130,7 +130,8 @@ submit_fault rejected.WrongAddress = WrongAddress
 -- the kept master is idle, and then whether the request may be sent to its address.
 abbrev pub submit_checks : HartFrame → HartMaster → List Check
 submit_checks request before =
-    master_checks before ++ request_frame_checks request ++ needs ((state : FrameMasterState) × IsMaster before state × IsTrue (is_idle state.hand)) Pending
+    master_checks before ++ request_frame_checks request
+    ++ needs ((state : FrameMasterState) × IsMaster before state × IsTrue (is_idle state.hand)) Pending
     ∷ needs (IsTrue (may_send (frame_in request))) WrongAddress ∷ []
 
 -- Either all checks are passed and the request is in hand, or the call returns a fault, and the kept master is unchanged.
@@ -171,7 +172,8 @@ abbrev pub ReceiveOutcome : HartFrame → HartMaster → HartMaster → HartEven
 ReceiveOutcome frame before after =
     Outcome (receive_checks frame before)
     (λ event. AllPass (receive_checks frame before) × (state : FrameMasterState)
-    × Becomes before after before.request state (hand_received state.hand event) × IsReceived state.hand (frame_in frame) event) (after ≡ before) event_of
+    × Becomes before after before.request state (hand_received state.hand event) × IsReceived state.hand (frame_in frame) event)
+    (after ≡ before) event_of
 
 -- The time passes, and the result has the event; or the call returns a fault, and the kept master is unchanged.
 abbrev pub TickOutcome : ℕ → HartMaster → HartMaster → HartEvent → Type 0

@@ -1,9 +1,10 @@
--- The marks with which a POSIX port tells receive errors (own profile).
+-- The marks with which a POSIX port tells receive errors (implementation choice).
 use Rattle.std.specs.Prelude.{◌≡◌, ◌≢◌, ◌≤◌, ◌<◌, ◌++◌, ℕ, List, [], ◌∷◌, drop, length, take}
 use Rattle.hart_c.specs.declared.find.HartChar.{HartChar}
 use Rattle.hart_c.specs.declared.mark.HartUnmarked.{HartUnmarked}
 
--- A port with PARMRK delivers FF 00 before a byte that was heard with a receive error, which shows as vertical parity. It delivers FF before
+-- A port with PARMRK delivers FF 00 before a byte that was heard with a receive error, which shows as vertical parity. It delivers FF
+-- before
 -- the byte FF. If FF is before any other byte but 00, it is ignored.
 abbrev pub IsMarked : List ℕ → HartChar → Type 0
 IsMarked (byte ∷ []) char = (byte ≢ 0xFF) × (char ≡ record { byte = byte; faults = 0 })

@@ -1,4 +1,4 @@
--- What reading and writing a frame promise to a caller in C (own profile).
+-- What reading and writing a frame promise to a caller in C (implementation choice).
 use Rattle.std.specs.Prelude.{◌≡◌, ◌<◌, ◌≤◌, ◌^◌, ◌++◌, ℕ, List, Bool, true, false, [], ◌∷◌, drop, length}
 use Rattle.hart_frame.specs.wire.FrameParts.{FrameParts, IsLongEnough}
 use Rattle.hart_frame.specs.declared.wire.fault.FrameFault.TheVariants.{BadPreamble, TooShortReply}

@@ -1,4 +1,4 @@
--- What the numbers for C mean: a frame, and the identity, the process and the registers of a device (own profile).
+-- What the numbers for C mean: a frame, and the identity, the process and the registers of a device (implementation choice).
 use Rattle.std.specs.Prelude.{◌≡◌, ◌≤◌, if◌then◌else◌, ℕ, Bool, true, false, List, map, take, [], ◌∷◌}
 use Rattle.hart_values.specs.declared.address.Address.TheVariants.{Polling, Unique}
 use Rattle.hart_values.specs.declared.master_id.MasterId.TheVariants.{Primary, Secondary}

@@ -1,4 +1,4 @@
--- A device with commands of its maker's own, for a caller in C (own profile).
+-- A device with commands of its maker's own, for a caller in C (implementation choice).
 use Rattle.std.specs.Prelude.{◌≡◌, ◌≤◌, ◌<◌, ◌⊎◌, ◌++◌, ◌==◌, ◌&&◌, ℕ, Bool, IsTrue, true, false, List, [], ◌∷◌, Some, length, map}
 use Rattle.std.specs.List.{list_any}
 use Rattle.hart_frame.specs.wire.FrameParts.{FrameParts}

@@ -1,4 +1,4 @@
--- Packed text for a caller in C (own profile: a text is filled up with spaces).
+-- Packed text for a caller in C (implementation choice: a text is filled up with spaces).
 use Rattle.std.specs.Prelude.{◌≡◌, ◌≤◌, ◌-◌, ◌*◌, ◌/◌, ◌++◌, ℕ, All, List, [], ◌∷◌, length, replicate}
 use Rattle.hart_values.specs.packed_text.Packing.{IsCharacter, IsPacked, IsPackedSize}
 use Rattle.hart_device.specs.declared.fault.DeviceFault.TheVariants.{BadLength}
@@ -21,7 +21,8 @@ pack_checks text size =
 abbrev pub PackOutcome : List ℕ → List ℕ → List ℕ → HartOutcome → Type 0
 PackOutcome text before after =
     Outcome (pack_checks text (length before))
-    (λ len. AllPass (pack_checks text (length before)) × (len ≡ length before) × IsPacked (padded (4 * length before / 3) text) after) (after ≡ before) outcome_of
+    (λ len. AllPass (pack_checks text (length before)) × (len ≡ length before) × IsPacked (padded (4 * length before / 3) text) after)
+    (after ≡ before) outcome_of
 
 -- First it is checked whether there are 6, 12 or 24 bytes, and then whether the text fits into the output.
 abbrev pub unpack_checks : List ℕ → ℕ → List Check

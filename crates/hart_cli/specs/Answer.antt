@@ -1,4 +1,4 @@
--- What `hart answer` writes for what it reads (own profile).
+-- What `hart answer` writes for what it reads (implementation choice).
 use Rattle.std.specs.Prelude.{◌≡◌, ℕ, List, [], Option, None, Some}
 use Rattle.hart_frame.specs.heard.Character.{Character}
 use Rattle.hart_frame.specs.wire.FrameParts.{FrameParts}

@@ -1,4 +1,4 @@
--- The numbers of the faults of a call (own profile).
+-- The numbers of the faults of a call (implementation choice).
 use Rattle.std.specs.Prelude.{ℕ}
 use Rattle.hart_cli.specs.declared.fault.CliFault.{CliFault}
 use Rattle.hart_cli.specs.declared.fault.CliFault.TheVariants.{Read, Write, TooLong, BadHex, Line, Image, Memory, BadWord, BadField}

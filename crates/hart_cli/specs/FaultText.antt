@@ -1,4 +1,4 @@
--- The texts of faults (own profile).
+-- The texts of faults (implementation choice).
 use Rattle.std.specs.Prelude.{◌++◌, ◌∷◌, [], ℕ, List, codes, decimal}
 use Rattle.hart_device.specs.FaultText.{device_fault_text}
 use Rattle.hart_line.specs.FaultText.{line_fault_text}

@@ -1,4 +1,4 @@
--- The device of a call, and the word of the image from which it starts (own profile).
+-- The device of a call, and the word of the image from which it starts (implementation choice).
 use Rattle.std.specs.Prelude.{◌≡◌, ℕ, ◌%◌, ◌/◌, ◌<◌, ◌⊎◌, false, List, length, take, slice_index, Option, None, Some, Result, Ok, Err}
 use Rattle.std.specs.List.{AllPass}
 use Rattle.hex.specs.Hex.{decode_of, is_hex_digit}

@@ -1,4 +1,4 @@
--- The response code of a request (HCF_SPEC-127; own profile: the order of the codes).
+-- The response code of a request (HCF_SPEC-127; implementation choice: the order of the codes).
 use Rattle.std.specs.Prelude.{ℕ, ◌==◌, ◌||◌, ◌&&◌, if◌then◌else◌, Bool, true, false, List, [], ◌∷◌, Ok, Err, Some}
 use Rattle.hart_commands.specs.declared.register.Register.{Register}
 use Rattle.hart_commands.specs.declared.request.Request.{Request}

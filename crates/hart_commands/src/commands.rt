@@ -73,7 +73,7 @@ pub fn is_write(command: u8) -> bool
 }
 
 /// Returns true if a command may be sent by broadcast. Only Commands 11 and 21 may be broadcast, because they find a device by its
-/// tag or its long tag (own profile).
+/// tag or its long tag (implementation choice).
 pub fn may_be_broadcast(command: u8) -> bool
     ensures { result ≡ may_be_broadcast command }
 {

@@ -1,4 +1,4 @@
--- The bench device: the default device of a program (own profile).
+-- The bench device: the default device of a program (implementation choice).
 use Rattle.std.specs.Prelude.{ℕ, List, [], ◌∷◌, ◌++◌, replicate}
 use Rattle.hart_values.specs.hart_date.Calendar.{not_set}
 use Rattle.hart_values.specs.declared.bits32.Bits32.{Bits32}

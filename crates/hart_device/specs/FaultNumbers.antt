@@ -1,4 +1,4 @@
--- The numbers of the faults of a device (own profile).
+-- The numbers of the faults of a device (implementation choice).
 use Rattle.std.specs.Prelude.{ℕ}
 use Rattle.hart_device.specs.declared.fault.DeviceFault.{DeviceFault}
 use Rattle.hart_device.specs.declared.fault.DeviceFault.TheVariants.{BroadcastAddress, OutOfRange, BadVersion, BadLength, BadField}

@@ -1,4 +1,4 @@
--- The texts of the faults of a device (own profile).
+-- The texts of the faults of a device (implementation choice).
 use Rattle.std.specs.Prelude.{ℕ, List, codes}
 use Rattle.hart_device.specs.declared.fault.DeviceFault.{DeviceFault}
 use Rattle.hart_device.specs.declared.fault.DeviceFault.TheVariants.{BroadcastAddress, OutOfRange, BadVersion, BadLength, BadField}

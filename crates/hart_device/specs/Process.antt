@@ -1,4 +1,4 @@
--- The process values that are passed to a device with each request (HCF_SPEC-127; own profile: how these values are passed).
+-- The process values that are passed to a device with each request (HCF_SPEC-127; implementation choice: how these values are passed).
 use Rattle.std.specs.Prelude.{◌≡◌, ◌≤◌, ℕ, Bool, ◌||◌, not, ◌==◌, All, List, ◌∷◌, length, take, drop, slice_index}
 use Rattle.std.specs.List.{list_any}
 use Rattle.hart_values.specs.declared.bits32.Bits32.{Bits32}

@@ -1,4 +1,4 @@
-//! The image of a device: the bytes that are kept of the device while it is stopped (own profile).
+//! The image of a device: the bytes that are kept of the device while it is stopped (implementation choice).
 ghost use Rattle.std.specs.Prelude.{◌≡◌, ◌<◌, ◌^◌, ◌↔◌, ◌⊎◌, [], ◌∷◌, ◌++◌, false, IsOk, IfOk, IfErr, IfSome, IfNone, length, slice_index};
 ghost use Rattle.hart_commands.specs.Registers.{AreValid};
 ghost use Rattle.hart_device.specs.Identity.{two_bytes};

@@ -1,4 +1,4 @@
--- The response codes that have a name (HCF_SPEC-099; own profile for 9 and 12).
+-- The response codes that have a name (HCF_SPEC-099; implementation choice for 9 and 12).
 use Rattle.std.specs.Prelude.{◌==◌, ◌&&◌, if◌then◌else◌, ℕ, List, Option, None, Some, codes}
 
 -- The name of a response code, in a reply to a command or for refused data of a request. A code whose meaning depends on the

@@ -1,4 +1,4 @@
--- A reading as members of an object of JSON (own profile).
+-- A reading as members of an object of JSON (implementation choice).
 use Prim.Native.String.{String}
 use Rattle.std.specs.Prelude.{◌==◌, if◌then◌else◌, [], ◌∷◌, ◌++◌, ℕ, List, Option, None, Some, codes, map, slice_index, slice_range}
 use Rattle.std.specs.List.{flat_map}

@@ -1,4 +1,4 @@
--- What the data of a message mean: the fields that are found, the bytes that are ignored, and what is wrong (own profile).
+-- What the data of a message mean: the fields that are found, the bytes that are ignored, and what is wrong (implementation choice).
 use Rattle.std.specs.Prelude.{◌==◌, nat_lt, is_some, if◌then◌else◌, [], ◌∷◌, ℕ, List, Option, None, Some, Ok, Err, drop, length, take}
 use Rattle.hart_commands.specs.Commands.{command_name, reply_rows, request_rows}
 use Rattle.hart_commands.specs.Fields.{Field, Row, bytes_of, fields_of}

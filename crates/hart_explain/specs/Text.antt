@@ -1,4 +1,4 @@
--- What a text in memory keeps (own profile).
+-- What a text in memory keeps (implementation choice).
 use Rattle.std.specs.Prelude.{◌-◌, ◌++◌, ℕ, List, length, take}
 
 -- A text in memory has at most 32,768 bytes. A text that is given more keeps what has room, and drops the rest.

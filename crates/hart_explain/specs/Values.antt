@@ -1,4 +1,4 @@
--- The value of a field, by the kind of the field (own profile).
+-- The value of a field, by the kind of the field (implementation choice).
 use Rattle.std.specs.Prelude.{◌+◌, ◌*◌, ◌/◌, ◌%◌, ◌==◌, ◌&&◌, ◌||◌, nat_le, nat_lt, if◌then◌else◌, ◌++◌, [], ◌∷◌, ℕ, Bool, true, List}
 use Rattle.std.specs.Prelude.{codes, decimal, encode_utf8_all, false, length}
 use Rattle.std.specs.List.{fold, list_all}

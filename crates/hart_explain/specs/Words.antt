@@ -1,4 +1,4 @@
--- The words of a reading (own profile).
+-- The words of a reading (implementation choice).
 use Rattle.std.specs.Prelude.{◌++◌, [], ◌∷◌, ℕ, List, Option, None, Some, codes, decimal, length}
 use Rattle.std.specs.Prelude.{slice_index, slice_range}
 use Rattle.std.specs.List.{flat_map, join_by}

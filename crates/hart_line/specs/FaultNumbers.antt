@@ -1,4 +1,4 @@
--- The numbers of the faults of a script (own profile).
+-- The numbers of the faults of a script (implementation choice).
 use Rattle.std.specs.Prelude.{ℕ}
 use Rattle.hart_line.specs.Types.{LineFault, Undetected, Memory, BadLine}
 

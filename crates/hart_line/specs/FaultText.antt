@@ -1,4 +1,4 @@
--- The texts of the faults of a script (own profile).
+-- The texts of the faults of a script (implementation choice).
 use Rattle.std.specs.Prelude.{ℕ, ◌++◌, List, [], Option, None, Some, codes, decimal}
 use Rattle.hart_line.specs.Types.{Leg, LineFault, Undetected, Memory, BadLine}
 use Rattle.hart_line.specs.declared.fault.Leg.TheVariants.{Up, Down, Noise}

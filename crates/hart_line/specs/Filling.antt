@@ -1,4 +1,4 @@
--- Lists that reserve room for their items before they are filled (own profile).
+-- Lists that reserve room for their items before they are filled (implementation choice).
 use Rattle.std.specs.Prelude.{ℕ, ◌≤◌, List}
 use denote.Memory.{lone}
 use denote.RattleType.{RattleType}

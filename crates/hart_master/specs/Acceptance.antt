@@ -1,4 +1,4 @@
--- Which deliveries a master accepts as the reply to its request (HCF_SPEC-081; own profile: the burst bit is ignored).
+-- Which deliveries a master accepts as the reply to its request (HCF_SPEC-081; implementation choice: the burst bit is ignored).
 use Rattle.std.specs.Prelude.{◌≡◌, ◌<◌, ℕ, List, [], ◌∷◌, Some, IsSome, slice_index}
 use Rattle.hart_values.specs.declared.master_id.MasterId.{MasterId}
 use Rattle.hart_values.specs.declared.address.Address.{Address}

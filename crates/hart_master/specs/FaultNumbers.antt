@@ -1,4 +1,4 @@
--- The numbers of the faults of a master (own profile).
+-- The numbers of the faults of a master (implementation choice).
 use Rattle.std.specs.Prelude.{ℕ}
 use Rattle.hart_master.specs.declared.fault.MasterFault.{MasterFault}
 use Rattle.hart_master.specs.declared.fault.MasterFault.TheVariants.{OutOfRange, Pending, WrongAddress}

@@ -1,4 +1,4 @@
--- The state of a master over frames in contracts, and what its calls return and change (HCF_SPEC-081; own profile: the limits).
+-- The state of a master over frames in contracts, and what its calls return and change (HCF_SPEC-081; implementation choice: the limits).
 use Rattle.std.specs.Prelude.{◌≡◌, ◌≤◌, ◌<◌, ◌+◌, ◌&&◌, ℕ, nat_le, nat_lt, if◌then◌else◌, not, Bool, true, false, Option, None, Some}
 use Rattle.std.specs.Prelude.{IsTrue, Result, Ok, Err}
 use Rattle.hart_values.specs.declared.{address.Address.Address, master_id.MasterId.MasterId}

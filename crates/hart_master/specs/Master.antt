@@ -1,4 +1,4 @@
--- The state of a master in contracts, and what its calls return and change (HCF_SPEC-081; own profile: the limits).
+-- The state of a master in contracts, and what its calls return and change (HCF_SPEC-081; implementation choice: the limits).
 use Rattle.std.specs.Prelude.{◌≡◌, ◌≤◌, ◌<◌, ℕ, ◌+◌, min, nat_le, nat_lt, if◌then◌else◌, List, Option, None, Some, Result, Ok, Err}
 use Rattle.hart_values.specs.declared.master_id.MasterId.{MasterId}
 use Rattle.hart_values.specs.declared.address.Address.{Address}

@@ -1,4 +1,4 @@
--- Which requests are sent to which addresses (own profile).
+-- Which requests are sent to which addresses (implementation choice).
 use Rattle.std.specs.Prelude.{◌==◌, ◌||◌, not, ℕ, Bool, is_some}
 use Rattle.hart_values.specs.address.AddressBytes.{is_broadcast}
 use Rattle.hart_values.specs.declared.address.Address.{Address}

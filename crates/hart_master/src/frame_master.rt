@@ -2,7 +2,8 @@ ghost use Rattle.std.specs.Prelude.{◌≡◌, ◌≤◌, ◌<◌, ◌↔◌, �
 ghost use Rattle.hart_master.specs.declared.frame_hand.FrameHand.{FrameHand};
 ghost use Rattle.hart_master.specs.declared.frame_hand.FrameHand.TheVariants as hands;
 ghost use Rattle.hart_master.specs.FrameMaster.{IsReceived, IsRequestFrame, IsWithin, MayBeSent, event_again, event_ended, event_ticked};
-ghost use Rattle.hart_master.specs.FrameMaster.{BringsReply, frame_due, hand_again, hand_ended, hand_received, hand_sent, hand_submitted, hand_ticked};
+ghost use Rattle.hart_master.specs.FrameMaster.{BringsReply, frame_due, hand_again, hand_ended, hand_received, hand_sent, hand_submitted};
+ghost use Rattle.hart_master.specs.FrameMaster.{hand_ticked};
 ghost use Rattle.hart_master.specs.FrameMaster.{is_idle, result_submitted, sendings_of};
 
 use crate::acceptance::is_reply_frame;

@@ -1,4 +1,4 @@
--- The lines of a text, and the words of a line (own profile).
+-- The lines of a text, and the words of a line (implementation choice).
 use Rattle.std.specs.Prelude.{◌≡◌, ◌<◌, ℕ, Bool, true, false, ◌==◌, ◌||◌, ◌+◌, List, [], ◌∷◌, drop, filter, get_or, length}
 use Rattle.std.specs.Prelude.{map, if◌then◌else◌}
 use Rattle.std.specs.Int.{bit_at}

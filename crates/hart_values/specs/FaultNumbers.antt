@@ -1,4 +1,4 @@
--- The numbers that report why a value was refused (own profile).
+-- The numbers that report why a value was refused (implementation choice).
 use Rattle.std.specs.Prelude.{ℕ}
 use Rattle.hart_values.specs.declared.fault.ValueFault.{ValueFault}
 use Rattle.hart_values.specs.declared.fault.ValueFault.TheVariants.{WrongLength, BadCharacter, BadDate, OutOfRange}

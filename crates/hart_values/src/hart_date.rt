@@ -11,7 +11,7 @@ mod calendar;
 /// The bytes of the date "not set".
 const NOT_SET: [u8; 3] = [0; 3];
 
-/// A day of the years 1900 to 2155 (HCF_SPEC-127), or "not set" (own profile).
+/// A day of the years 1900 to 2155 (HCF_SPEC-127), or "not set" (implementation choice).
 ///
 /// In contracts, a date is its three bytes: the day, the month, and the year minus 1900.
 #[derive(Clone, Copy, Debug, PartialEq, Eq)]

@@ -1,5 +1,6 @@
 -- The numbers of a call that words make.
-use Rattle.std.proofs.Common.{◌≡◌, ◌≤◌, ◌<◌, ℕ, arith, refl, List, [], None, Option, option_map, Bool, codes, Some, unwrap_or, if◌then◌else◌}
+use Rattle.std.proofs.Common.{◌≡◌, ◌≤◌, ◌<◌, ℕ, arith, refl, List, [], None, Option, option_map, Bool, codes, Some, unwrap_or}
+use Rattle.std.proofs.Common.{if◌then◌else◌}
 use Rattle.std.proofs.lemmas.Bool.Decides.{nat_tests}
 use Rattle.std.proofs.lemmas.Grind.{common_steps}
 use Rattle.std.specs.Option.{option_and_then}
@@ -110,7 +111,8 @@ call_counted (Some found) (Encode words) gives =
     (first_of (codes "COMMAND") found.1) (unwrap_or (first_of (codes "DATA") found.1) []) words
     (words_called
     (bytes_eq found.0 (codes "answer")) (bytes_eq found.0 (codes "dump")) (bytes_eq found.0 (codes "explain"))
-    (bytes_eq found.0 (codes "serve")) (bytes_eq found.0 (codes "master")) (bytes_eq found.0 (codes "sim")) (bytes_eq found.0 (codes "encode"))
+    (bytes_eq found.0 (codes "serve")) (bytes_eq found.0 (codes "master")) (bytes_eq found.0 (codes "sim"))
+    (bytes_eq found.0 (codes "encode"))
     (bytes_eq found.0 (codes "request"))
     (first_of (codes "image") found.1) (first_of (codes "raw") found.1) (first_of (codes "json") found.1) (words_of found.1)
     (request_words_of found.1) (master_words_of found.1) words gives)
@@ -120,7 +122,8 @@ call_counted (Some found) (Request words) gives =
     (first_of (codes "COMMAND") found.1) (unwrap_or (all_of (codes "FIELD") found.1) []) words
     (request_called
     (bytes_eq found.0 (codes "answer")) (bytes_eq found.0 (codes "dump")) (bytes_eq found.0 (codes "explain"))
-    (bytes_eq found.0 (codes "serve")) (bytes_eq found.0 (codes "master")) (bytes_eq found.0 (codes "sim")) (bytes_eq found.0 (codes "encode"))
+    (bytes_eq found.0 (codes "serve")) (bytes_eq found.0 (codes "master")) (bytes_eq found.0 (codes "sim"))
+    (bytes_eq found.0 (codes "encode"))
     (bytes_eq found.0 (codes "request"))
     (first_of (codes "image") found.1) (first_of (codes "raw") found.1) (first_of (codes "json") found.1) (words_of found.1)
     (request_words_of found.1) (master_words_of found.1) words gives)

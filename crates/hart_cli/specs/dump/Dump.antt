@@ -1,4 +1,4 @@
--- What `hart dump` writes for what it reads (own profile).
+-- What `hart dump` writes for what it reads (implementation choice).
 use Rattle.std.specs.Prelude.{◌≡◌, ℕ, List, ◌++◌, length, Option}
 use Rattle.hart_frame.specs.heard.Character.{Character}
 use Rattle.hart_frame.specs.heard.Frames.{AreFrames, IsUndecided}

@@ -1,4 +1,4 @@
--- What is heard, and the lines that are kept of it. Only private calls use these definitions (own profile).
+-- What is heard, and the lines that are kept of it. Only private calls use these definitions (implementation choice).
 use Rattle.std.specs.Prelude.{◌≡◌, ◌+◌, ◌*◌, ◌<◌, ◌≤◌, ◌^◌, ℕ, Bool, List, [], ◌++◌, false, IsTrue, drop, length, map}
 use Rattle.std.specs.Prelude.{Option, Result, Ok, Err}
 use Rattle.hart_frame.specs.heard.Character.{Character, faultless}

@@ -1,4 +1,4 @@
--- The lines of `hart dump` (own profile).
+-- The lines of `hart dump` (implementation choice).
 use Rattle.std.specs.Prelude.{ℕ, ◌+◌, ◌*◌, Bool, true, false, if◌then◌else◌, List, [], ◌∷◌, codes, decimal, length}
 use Rattle.std.specs.List.{flat_map}
 use Rattle.hart_values.specs.address.AddressBytes.{is_broadcast}

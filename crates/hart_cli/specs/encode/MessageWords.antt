@@ -1,4 +1,4 @@
--- What `hart encode` is given (own profile).
+-- What `hart encode` is given (implementation choice).
 use Rattle.std.specs.Prelude.{ℕ, List}
 
 -- A message to send is given by four words and the number of its preamble bytes.

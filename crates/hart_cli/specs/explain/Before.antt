@@ -1,4 +1,4 @@
--- What the messages before a message say of it (own profile).
+-- What the messages before a message say of it (implementation choice).
 use Rattle.std.specs.Prelude.{◌+◌, ◌==◌, ◌&&◌, if◌then◌else◌, ℕ, Bool, true, false, List, [], ◌∷◌, Option, None, Some, reverse}
 use Rattle.std.specs.List.{flat_map, prefix_len}
 use Rattle.std.specs.Bool.{beq}

@@ -1,4 +1,4 @@
--- The words of a response code in `hart explain` (own profile).
+-- The words of a response code in `hart explain` (implementation choice).
 use Rattle.std.specs.Prelude.{ℕ, List}
 use Rattle.hart_explain.specs.Codes.{code_name}
 use Rattle.hart_cli.specs.explain.Words.{named_number}

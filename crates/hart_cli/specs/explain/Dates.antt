@@ -1,4 +1,4 @@
--- The dates of what is held. Only private calls use these definitions (own profile).
+-- The dates of what is held. Only private calls use these definitions (implementation choice).
 use Rattle.std.specs.Prelude.{◌-◌, ℕ, List, drop, get_or, min, take}
 use Rattle.hart_cli.specs.declared.calls.explain.dates.Dates.{Dates}
 use Rattle.hart_cli.specs.declared.calls.explain.telling.Telling.{Telling}

@@ -1,4 +1,4 @@
--- What `hart explain` and `hart dump` say of the same input (own profile).
+-- What `hart explain` and `hart dump` say of the same input (implementation choice).
 use Rattle.std.specs.Prelude.{◌≡◌, ℕ, List, Option}
 use Rattle.hart_frame.specs.heard.Character.{Character}
 use Rattle.hart_frame.specs.heard.Frames.{AreFrames}

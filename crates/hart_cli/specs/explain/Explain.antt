@@ -1,4 +1,4 @@
--- What `hart explain` writes for what it reads (own profile).
+-- What `hart explain` writes for what it reads (implementation choice).
 use Rattle.std.specs.Prelude.{ℕ, List, Option}
 use Rattle.hart_cli.specs.declared.fault.CliFault.{CliFault}
 use Rattle.hart_cli.specs.declared.calls.explain.teller.Style.{Style}

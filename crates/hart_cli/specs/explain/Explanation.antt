@@ -1,4 +1,4 @@
--- What `hart explain` says of what was heard (own profile).
+-- What `hart explain` says of what was heard (implementation choice).
 use Rattle.std.specs.Prelude.{◌≡◌, ◌+◌, ℕ, zero, suc, List, [], ◌∷◌, ◌++◌, length, map}
 use Rattle.std.specs.List.{flat_map}
 use Rattle.hart_frame.specs.heard.Character.{Character}

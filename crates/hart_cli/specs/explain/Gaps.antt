@@ -1,4 +1,4 @@
--- The places outside all messages, and the lines of the places at which a message seems to start (own profile).
+-- The places outside all messages, and the lines of the places at which a message seems to start (implementation choice).
 use Rattle.std.specs.Prelude.{◌≡◌, ◌≢◌, ◌≤◌, ◌<◌, ◌+◌, ◌⊎◌, ◌++◌, [], ◌∷◌, ℕ, All, Contains, List, Some, length, slice_get}
 use Rattle.hart_frame.specs.heard.Character.{Character}
 use Rattle.hart_frame.specs.heard.Sighting.{Message, Missed, Seen}

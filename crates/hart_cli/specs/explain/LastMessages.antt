@@ -1,4 +1,4 @@
--- The last message of each master. Only private calls use these definitions (own profile).
+-- The last message of each master. Only private calls use these definitions (implementation choice).
 use Rattle.std.specs.Prelude.{◌≡◌, ◌<◌, ◌++◌, ℕ, List, [], ◌∷◌, Option, None, Some, IfSome, map, replicate}
 use Rattle.hart_values.specs.declared.each_master.EachMaster.{EachMaster}
 use Rattle.hart_values.specs.declared.master_id.MasterId.{MasterId}

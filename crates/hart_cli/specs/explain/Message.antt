@@ -1,4 +1,4 @@
--- What `hart explain` says of a message (own profile).
+-- What `hart explain` says of a message (implementation choice).
 use Rattle.std.specs.Prelude.{◌++◌, [], ◌∷◌, ℕ, Bool, false, true, List, codes, decimal}
 use Rattle.hart_frame.specs.declared.heard.found.Found.{Found}
 use Rattle.hart_frame.specs.declared.wire.kind.FrameKind.{FrameKind}

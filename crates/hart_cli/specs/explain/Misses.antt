@@ -1,4 +1,4 @@
--- What `hart explain` says of places at which no message stands, though one seems to start there (own profile).
+-- What `hart explain` says of places at which no message stands, though one seems to start there (implementation choice).
 use Rattle.std.specs.Prelude.{◌==◌, if◌then◌else◌, ◌++◌, [], ◌∷◌, ℕ, List, Option, None, Some, codes, decimal}
 use Rattle.hart_frame.specs.declared.heard.miss.Miss.{Miss}
 use Rattle.hart_frame.specs.declared.heard.miss.Miss.TheVariants.{Faulty, Burst, BadDelimiter, EndsBeforeByteCount, ShortReply, Missing}

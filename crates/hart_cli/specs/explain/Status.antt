@@ -1,4 +1,4 @@
--- What `hart explain` says of the two status bytes of a reply (HCF_SPEC-099; own profile).
+-- What `hart explain` says of the two status bytes of a reply (HCF_SPEC-099; implementation choice).
 use Rattle.std.specs.Prelude.{◌==◌, not, nat_le, nat_lt, bit_and, if◌then◌else◌, ◌++◌, [], ◌∷◌, ℕ, Bool, List, codes, length}
 use Rattle.std.specs.List.{flat_map, list_all}
 use Rattle.hart_cli.specs.declared.calls.explain.status.NamedBit as code

@@ -1,4 +1,4 @@
--- What is told when characters and marks are heard. Only private calls use these definitions (own profile).
+-- What is told when characters and marks are heard. Only private calls use these definitions (implementation choice).
 use Rattle.std.specs.Prelude.{◌≡◌, ◌≤◌, ◌<◌, ◌+◌, ◌-◌, ◌^◌, ℕ, Bool, false, true, List, [], ◌∷◌, ◌++◌, Option, None, Result, Ok, Err}
 use Rattle.std.specs.Prelude.{MatchResult}
 use Rattle.std.specs.Prelude.{IfSome, drop, length, map}

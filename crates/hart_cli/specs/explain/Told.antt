@@ -1,4 +1,4 @@
--- What `hart explain` and `hart explain --json` say of the same input (own profile).
+-- What `hart explain` and `hart explain --json` say of the same input (implementation choice).
 use Rattle.std.specs.Prelude.{◌≡◌, ℕ, List, [], Option}
 use Rattle.hart_frame.specs.heard.Sighting.{Seen}
 use Rattle.hart_cli.specs.declared.fault.CliFault.{CliFault}

@@ -1,4 +1,5 @@
--- The words of `hart explain` for bytes, for numbers with names, for who speaks to whom and for headers, and its lines (own profile).
+-- The words of `hart explain` for bytes, for numbers with names, for who speaks to whom and for headers, and its lines (implementation
+-- choice).
 use Rattle.std.specs.Prelude.{if◌then◌else◌, ◌++◌, [], ◌∷◌, ℕ, List, Option, None, Some, codes, decimal}
 use Rattle.hex.specs.Hex.{encode_upper}
 use Rattle.hart_explain.specs.Words.{name_words}

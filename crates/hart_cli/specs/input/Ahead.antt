@@ -1,4 +1,4 @@
--- The bytes of an input that are read but not yet decoded. Only private calls use these definitions (own profile).
+-- The bytes of an input that are read but not yet decoded. Only private calls use these definitions (implementation choice).
 use Rattle.std.specs.Prelude.{◌≡◌, ◌≢◌, ◌⊎◌, ◌+◌, ◌≤◌, ℕ, List, [], ◌++◌, length, Option, None, Some}
 use Rattle.hart_cli.specs.declared.fault.CliFault.{CliFault}
 use Rattle.hart_cli.specs.declared.fault.CliFault.TheVariants as faults

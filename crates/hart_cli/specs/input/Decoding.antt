@@ -1,4 +1,4 @@
--- How the bytes of an input are read as what was heard (own profile): as hex items, or as the characters themselves.
+-- How the bytes of an input are read as what was heard (implementation choice): as hex items, or as the characters themselves.
 use Rattle.std.specs.Prelude.{◌≡◌, ◌≤◌, ℕ, ◌+◌, ◌-◌, ◌^◌, List, length, Option, Some, None}
 use Rattle.hart_frame.specs.heard.Character.{Character, faultless}
 use Rattle.hart_cli.specs.declared.fault.CliFault.{CliFault}

@@ -1,4 +1,4 @@
--- What a call writes if it does not wait for the end of its input (own profile).
+-- What a call writes if it does not wait for the end of its input (implementation choice).
 use Rattle.std.specs.Prelude.{◌≡◌, ◌≤◌, ℕ, ◌+◌, List, ◌++◌, length, Option, Some, None, Ok, Err, ⊤}
 use Rattle.std.specs.Io.KnownBytes.{Appends}
 use Rattle.hart_cli.specs.declared.fault.CliFault.{CliFault}

@@ -1,4 +1,4 @@
--- What a call writes if it reads its whole input first (own profile).
+-- What a call writes if it reads its whole input first (implementation choice).
 use Rattle.std.specs.Prelude.{◌⊎◌, ℕ, List, Result, Ok, Err}
 use Rattle.hart_cli.specs.declared.fault.CliFault.{CliFault}
 use Rattle.hart_cli.specs.declared.fault.CliFault.TheVariants.{Write}

@@ -1,4 +1,4 @@
--- What a line of `hart master` asks, unless it says what was heard (own profile).
+-- What a line of `hart master` asks, unless it says what was heard (implementation choice).
 use Rattle.std.specs.Prelude.{◌≡◌, ◌⊎◌, ℕ, ◌+◌, ◌<◌, ◌≤◌, List, [], ◌∷◌, codes, drop, length, Option, None, Some, Result, Ok, Err}
 use Rattle.hart_values.specs.declared.master_id.MasterId.{MasterId}
 use Rattle.hart_values.specs.declared.master_id.MasterId.TheVariants.{Primary, Secondary}
@@ -64,8 +64,10 @@ ticked None = Err (BadWord 2)
 
 -- What words with this first word ask, or what is wrong with them. `tick` takes a number from 0 to 255.
 abbrev pub AsksBy : MasterId → List (List ℕ) → Verb → Result Ask CliFault → Type 0
-AsksBy who words Submit result = (read : Result FrameParts CliFault) × WordsOutcome (message_words who words) read × (result ≡ submitted read)
-AsksBy who words AskVerb result = (read : Result FrameParts CliFault) × ReadOutcome (request_words who words) read × (result ≡ submitted read)
+AsksBy who words Submit result =
+    (read : Result FrameParts CliFault) × WordsOutcome (message_words who words) read × (result ≡ submitted read)
+AsksBy who words AskVerb result =
+    (read : Result FrameParts CliFault) × ReadOutcome (request_words who words) read × (result ≡ submitted read)
 AsksBy who words Send result = result ≡ Ok asks.Send
 AsksBy who words Tick result = result ≡ ticked (decimal_of 3 255 (word_at words 1))
 

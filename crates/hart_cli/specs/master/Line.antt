@@ -1,4 +1,4 @@
--- How `hart master` answers one line (own profile).
+-- How `hart master` answers one line (implementation choice).
 use Rattle.std.specs.Prelude.{◌≡◌, ◌⊎◌, ℕ, ◌+◌, ◌&&◌, Bool, true, List, [], ◌∷◌, ◌++◌, codes, decimal, drop, if◌then◌else◌, take}
 use Rattle.std.specs.Prelude.{Option, None, Some, Result, Ok, Err}
 use Rattle.std.specs.Str.{bytes_eq}

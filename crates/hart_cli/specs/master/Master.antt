@@ -1,4 +1,4 @@
--- What `hart master` writes for the lines that it reads (own profile).
+-- What `hart master` writes for the lines that it reads (implementation choice).
 use Rattle.std.specs.Prelude.{◌≡◌, ◌⊎◌, ℕ, ◌≤◌, ◌<◌, Err, unwrap_or}
 use Rattle.hart_values.specs.declared.master_id.MasterId.{MasterId}
 use Rattle.hart_values.specs.declared.master_id.MasterId.TheVariants.{Primary, Secondary}
@@ -42,7 +42,8 @@ settings_of who words = record {
   preambles = words.preambles;
 }
 
--- If the word of the master is neither `P` nor `S`, a call returned this and touched neither the reader nor the writer. Otherwise the master
+-- If the word of the master is neither `P` nor `S`, a call returned this and touched neither the reader nor the writer. Otherwise the
+-- master
 -- with the settings of the words served the lines that the call read.
 abbrev pub MasterCallOutcome : MasterWords → OutcomeRelation
 MasterCallOutcome words reader reader_after writer writer_after result =

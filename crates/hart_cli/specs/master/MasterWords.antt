@@ -1,4 +1,4 @@
--- What `hart master` is given (own profile).
+-- What `hart master` is given (implementation choice).
 use Rattle.std.specs.Prelude.{◌≤◌, ◌<◌, ℕ, List, Option, OnSome, IfSome}
 use Rattle.hart_frame.specs.wire.Message.{IsPreambleCount}
 

@@ -1,5 +1,6 @@
--- What `hart master` promises of a whole session (own profile).
-use Rattle.std.specs.Prelude.{◌≡◌, ℕ, ◌+◌, ◌≤◌, ◌||◌, All, Bool, true, false, not, List, [], ◌∷◌, ◌++◌, codes, count_by, length, map, take, Ok}
+-- What `hart master` promises of a whole session (implementation choice).
+use Rattle.std.specs.Prelude.{◌≡◌, ℕ, ◌+◌, ◌≤◌, ◌||◌, All, Bool, true, false, not, List, [], ◌∷◌, ◌++◌, codes, count_by, length, map}
+use Rattle.std.specs.Prelude.{take, Ok}
 use Rattle.std.specs.List.{flat_map}
 use Rattle.std.specs.Str.{bytes_eq}
 use Rattle.hart_values.specs.declared.master_id.MasterId.{MasterId}

@@ -1,4 +1,4 @@
--- What the words after the program's name ask for, as clap reads them (own profile).
+-- What the words after the program's name ask for, as clap reads them (implementation choice).
 use Rattle.std.specs.Prelude.{◌≡◌, ◌&&◌, if◌then◌else◌, [], ◌∷◌, ℕ, Bool, List, Option, None, Some, codes, false, length, nat_le, nat_lt}
 use Rattle.std.specs.Prelude.{option_map, pos, true, unwrap_or}
 use Rattle.std.specs.Option.{option_and_then}

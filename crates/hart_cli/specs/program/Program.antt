@@ -1,4 +1,4 @@
--- What the program does with the call that its words make (own profile).
+-- What the program does with the call that its words make (implementation choice).
 use Rattle.std.specs.Prelude.{◌≡◌, ℕ, IfErr, List, Option, Some, Result, Ok, Err}
 use Rattle.clap.specs.Words.{Row, Text}
 use Rattle.hart_frame.specs.wire.Message.{IsPreambleCount}

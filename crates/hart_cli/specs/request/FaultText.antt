@@ -1,4 +1,4 @@
--- The texts of the reasons why a word of `hart request` is bad (own profile).
+-- The texts of the reasons why a word of `hart request` is bad (implementation choice).
 use Rattle.std.specs.Prelude.{◌++◌, ℕ, List, [], codes, decimal, slice_get}
 use Rattle.std.specs.Option.{option_map_or}
 use Rattle.hart_commands.specs.Commands.{request_rows}

@@ -1,4 +1,4 @@
--- The words of the fields of a request (own profile).
+-- The words of the fields of a request (implementation choice).
 use Rattle.std.specs.Prelude.{ℕ, ◌+◌, ◌==◌, ◌&&◌, ◌||◌, nat_le, nat_lt, not, if◌then◌else◌, Bool, true, false}
 use Rattle.std.specs.Prelude.{List, [], ◌∷◌, ◌++◌, drop, get_or, is_some, length, map, take, Result, Ok, Err, Option, None, Some}
 use Rattle.std.specs.Prelude.{option_map}

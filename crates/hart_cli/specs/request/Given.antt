@@ -1,4 +1,4 @@
--- The fields of a request are the fields that its words give (own profile).
+-- The fields of a request are the fields that its words give (implementation choice).
 use Rattle.std.specs.Prelude.{◌≡◌, ◌<◌, ℕ, List, [], ◌∷◌, Ok, get_or, length}
 use Rattle.hart_commands.specs.Fields.{Field, Row}
 use Rattle.hart_cli.specs.request.Fields.{place_for, value_in}

@@ -1,4 +1,4 @@
--- How the text of a reason is put together (own profile).
+-- How the text of a reason is put together (implementation choice).
 use Rattle.std.specs.Prelude.{◌++◌, ℕ, List}
 use Rattle.hart_line.specs.FaultText.{number_text}
 use Rattle.hart_cli.specs.declared.calls.request.reason.Reason.{Reason}

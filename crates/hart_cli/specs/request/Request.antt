@@ -1,4 +1,4 @@
--- What `hart request` writes for its words (own profile).
+-- What `hart request` writes for its words (implementation choice).
 use Rattle.std.specs.Prelude.{◌≡◌, ℕ, false, List, [], Result, Ok, Err}
 use Rattle.hart_values.specs.declared.address.Address.{Address}
 use Rattle.hart_values.specs.declared.master_id.MasterId.{MasterId}

@@ -1,4 +1,4 @@
--- What `hart request` is given (own profile).
+-- What `hart request` is given (implementation choice).
 use Rattle.std.specs.Prelude.{ℕ, List}
 
 -- A request is given by three words, the words of its fields, and the number of preamble bytes of its message.

@@ -1,4 +1,4 @@
--- The bytes that encode the value of a field, by the kind of the field (own profile).
+-- The bytes that encode the value of a field, by the kind of the field (implementation choice).
 use Rattle.std.specs.Prelude.{ℕ, ℤ, ◌+◌, ◌-◌, ◌*◌, ◌/◌, ◌%◌, ◌==◌, ◌&&◌, nat_le, nat_lt, if◌then◌else◌, Bool, List, [], ◌∷◌, ◌++◌, pos}
 use Rattle.std.specs.Prelude.{codes, drop, false, length, replicate, take, Result, Ok, Err, Option, None, Some}
 use Rattle.std.specs.List.{prefix_len}

@@ -1,4 +1,4 @@
--- What `hart serve` writes for the lines that it reads (own profile).
+-- What `hart serve` writes for the lines that it reads (implementation choice).
 use Rattle.std.specs.Prelude.{ℕ, List, Option}
 use Rattle.hart_cli.specs.ImageWord.{OutcomeWith, OutcomeRelation}
 use Rattle.hart_cli.specs.serve.Line.{ServesLine}

@@ -1,4 +1,4 @@
--- What is kept of an input while its lines are served. Only private calls use these definitions (own profile).
+-- What is kept of an input while its lines are served. Only private calls use these definitions (implementation choice).
 use Rattle.std.specs.Prelude.{◌≡◌, ℕ, ◌+◌, ◌==◌, false, All, List, [], ◌∷◌, ◌++◌, map, take, Result, Ok, Err, MatchResult}
 use Rattle.std.specs.List.{AllByRecursion, flat_map}
 use Rattle.std.specs.Str.Lines.{strip_carriage_return}

@@ -1,4 +1,4 @@
--- What a call writes that answers each line that it reads (own profile).
+-- What a call writes that answers each line that it reads (implementation choice).
 use Rattle.std.specs.Prelude.{◌≡◌, ◌⊎◌, ℕ, ◌/◌, ◌+◌, List, [], ◌∷◌, ◌++◌, Option, None, Some, Ok, Err, codes, if◌then◌else◌, length, nat_le}
 use Rattle.hart_line.specs.script.Lines.{lines_of}
 use Rattle.hart_line.specs.declared.memory.NoRoom.{NoRoom}
@@ -63,7 +63,8 @@ IsServedSoFar ServesLine station input text = IsServed ServesLine station input 
 
 -- A write failed within the station's answers to some first lines. A prefix of these answers was written, but not all of them. No answer
 -- was late: the answers to the whole lines of the input without its last bytes were written, as `WroteInTime` says.
-pub record StopsSaying {Station : Type 0} (ServesLine : Manner Station) (station : Station) (reader reader_after writer writer_after : Stream)
+pub record StopsSaying {Station : Type 0} (ServesLine : Manner Station) (station : Station)
+    (reader reader_after writer writer_after : Stream)
     : Type 0 where
   pub input : List ℕ
   pub ending : Ending

@@ -1,4 +1,4 @@
--- What `hart sim` writes for what it reads (own profile).
+-- What `hart sim` writes for what it reads (implementation choice).
 use Rattle.std.specs.Prelude.{◌≡◌, ◌⊎◌, ◌<◌, ℕ, List, Option}
 use Rattle.hart_device.specs.Bench.{bench_process}
 use Rattle.hart_device.specs.Device.{DeviceState}

@@ -1,4 +1,4 @@
--- The text of `hart sim` (own profile).
+-- The text of `hart sim` (implementation choice).
 use Rattle.std.specs.Prelude.{◌≡◌, ℕ, Any, List, [], ◌∷◌, ◌++◌, codes, decimal, length}
 use Rattle.std.specs.List.{enumerate_from, flat_map}
 use Rattle.hex.specs.Hex.{encode_upper}

@@ -1,4 +1,4 @@
--- The two parts of a `Plain` (own profile).
+-- The two parts of a `Plain` (implementation choice).
 use Rattle.std.specs.Prelude.{ℕ}
 use Rattle.hart_cli.specs.declared.stream.plain.Plain.{Plain}
 

@@ -1,4 +1,4 @@
--- Readers and writers as contracts see them (own profile).
+-- Readers and writers as contracts see them (implementation choice).
 use Rattle.std.specs.Prelude.{◌≡◌, ◌≢◌, ◌⊎◌, ℕ, ◌+◌, ◌-◌, ◌^◌, min, List, [], ◌++◌, Option, Result, MatchResult}
 use Rattle.std.specs.Io.KnownBytes.{Appends, Keeps}
 use Rattle.hart_cli.specs.declared.stream.Failed.{Failed}

@@ -1,4 +1,4 @@
--- The ten digits of a device (own profile).
+-- The ten digits of a device (implementation choice).
 use Rattle.std.specs.Prelude.{◌/◌, ◌%◌, ℕ, List, [], ◌∷◌}
 use Rattle.hex.specs.Hex.{encode_upper}
 use Rattle.hart_values.specs.address.DeviceNumbers.{DeviceNumbers}

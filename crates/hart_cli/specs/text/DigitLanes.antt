@@ -1,4 +1,4 @@
--- What sixteen lanes say of a text. Only private calls use these definitions (own profile).
+-- What sixteen lanes say of a text. Only private calls use these definitions (implementation choice).
 use Rattle.std.specs.Prelude.{◌≡◌, ◌<◌, ◌≤◌, ◌↔◌, ℕ, List, get_or, length, IsTrue}
 use Rattle.std.specs.Int.{bit_at}
 use Rattle.hex.specs.Hex.{is_hex_digit}

@@ -1,4 +1,4 @@
--- Texts of hex items with marks (own profile): a `/` stands for each silence of the line, and a `@` with a word for each date.
+-- Texts of hex items with marks (implementation choice): a `/` stands for each silence of the line, and a `@` with a word for each date.
 use Rattle.std.specs.Prelude.{◌≡◌, ◌≤◌, ◌<◌, ℕ, List, [], ◌∷◌, ◌++◌, length, map, All, Option}
 use Rattle.hart_frame.specs.heard.Character.{Character}
 use Rattle.hart_cli.specs.declared.fault.CliFault.{CliFault}

@@ -1,4 +1,4 @@
--- Bytes as hex text (own profile).
+-- Bytes as hex text (implementation choice).
 use Rattle.std.specs.Prelude.{ℕ, List, [], ◌∷◌, ◌++◌, map}
 use Rattle.std.specs.List.{join_with_byte}
 use Rattle.hex.specs.Hex.{encode_upper}

@@ -1,4 +1,4 @@
--- Which characters an input has (own profile): those up to its first fault, and that fault. The fault bits of a character are no
+-- Which characters an input has (implementation choice): those up to its first fault, and that fault. The fault bits of a character are no
 -- fault of the input.
 use Rattle.std.specs.Prelude.{◌≡◌, ℕ, ◌/◌, List, [], ◌++◌, length, Option, Some, None}
 use Rattle.hart_frame.specs.heard.Character.{Character}

@@ -1,4 +1,4 @@
--- What is read of several items at once. Only private calls use these definitions (own profile).
+-- What is read of several items at once. Only private calls use these definitions (implementation choice).
 use Rattle.std.specs.Prelude.{◌≤◌, ℕ, List, take, length}
 use Rattle.hart_frame.specs.heard.Character.{faultless}
 use Rattle.hart_cli.specs.text.Reading.{ReadsFirst}

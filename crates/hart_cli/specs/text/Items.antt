@@ -1,4 +1,4 @@
--- Texts of hex items with separators (own profile): pieces end to end, each a separator or an item.
+-- Texts of hex items with separators (implementation choice): pieces end to end, each a separator or an item.
 use Rattle.std.specs.Prelude.{◌≡◌, ◌≢◌, ℕ, ◌+◌, ◌⊎◌, List, [], ◌∷◌, ◌++◌, length, Option, ⊤}
 use Rattle.std.specs.Option.{option_to_list}
 use Rattle.hart_frame.specs.heard.Character.{Character}

@@ -1,4 +1,4 @@
--- The mark that begins a text. Only private calls use these definitions (own profile).
+-- The mark that begins a text. Only private calls use these definitions (implementation choice).
 use Rattle.std.specs.Prelude.{◌≡◌, ◌≤◌, ◌+◌, ℕ, List, ◌∷◌, All, drop, length, take}
 use Rattle.hart_cli.specs.declared.text.marks.Mark.{Mark}
 use Rattle.hart_cli.specs.declared.text.marks.Mark.TheVariants as given

@@ -1,4 +1,4 @@
--- The line of hex that a message is written as (own profile).
+-- The line of hex that a message is written as (implementation choice).
 use Rattle.std.specs.Prelude.{◌≡◌, ℕ, List}
 use Rattle.hart_frame.specs.wire.FrameParts.{FrameParts}
 use Rattle.hart_frame.specs.wire.Message.{IsMessage}

@@ -1,4 +1,4 @@
--- What reading the first pieces of a text returns. Only private calls use these definitions (own profile).
+-- What reading the first pieces of a text returns. Only private calls use these definitions (implementation choice).
 use Rattle.std.specs.Prelude.{◌<◌, ◌≤◌, ℕ, List, drop, length}
 use Rattle.hart_frame.specs.heard.Character.{Character}
 use Rattle.hart_cli.specs.text.Items.{ReadsUpTo}

@@ -1,4 +1,4 @@
--- Lines of words (own profile).
+-- Lines of words (implementation choice).
 use Rattle.std.specs.Prelude.{ℕ, List, [], ◌∷◌, ◌++◌, codes}
 use Rattle.std.specs.List.{join_with_byte}
 use Rattle.hex.specs.Hex.{encode_upper}

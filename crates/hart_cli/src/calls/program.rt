@@ -40,7 +40,8 @@ pub const NO_CALL: u8 = 2;
 
 /// Makes the call that the words after the program's name ask for, and returns the program's status.
 ///
-/// `answer`, `dump`, `explain`, `serve`, `master` and `sim` read from `reader` and write to `writer`; `encode` and `request` read only their words.
+/// `answer`, `dump`, `explain`, `serve`, `master` and `sim` read from `reader` and write to `writer`; `encode` and `request` read only
+/// their words.
 /// At status 0 nothing goes to `errors`. At status 1 the line of the call's fault goes to `errors`, or a beginning of that line if `errors`
 /// failed. Status 2 means that clap found no matches for the words, but no clause of the contract promises this meaning. At status 2 the
 /// reader and the writer are not touched, and clap's own text goes to `errors`, even if the text is help. No clause says what this text is.

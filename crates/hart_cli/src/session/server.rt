@@ -1,6 +1,7 @@
 //! A server: a station that answers lines. It keeps the bytes of the next line that were read so far, and its answers until they are
 //! written.
-ghost use Rattle.std.specs.Prelude.{◌≡◌, ◌≤◌, ◌↔◌, ◌+◌, ◌++◌, ◌∷◌, [], ℕ, List, IfErr, IfOk, IsTrue, MatchOption, OnOk, codes, length, take};
+ghost use Rattle.std.specs.Prelude.{◌≡◌, ◌≤◌, ◌↔◌, ◌+◌, ◌++◌, ◌∷◌, [], ℕ, List, IfErr, IfOk, IsTrue, MatchOption, OnOk, codes, length};
+ghost use Rattle.std.specs.Prelude.{take};
 ghost use Rattle.std.specs.Str.Lines.{strip_carriage_return};
 ghost use Rattle.hart_cli.specs.session.Session.{bad_line, line_read, line_room};
 ghost use Rattle.hart_cli.specs.session.Server.{BeginsWithPart, HasNoFeed, Keeps, ServesLast, ServesPart, ServesText, most_kept};

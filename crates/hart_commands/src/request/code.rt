@@ -1,4 +1,4 @@
-//! The response code of a request (HCF_SPEC-127; own profile: the order of the codes).
+//! The response code of a request (HCF_SPEC-127; implementation choice: the order of the codes).
 ghost use Rattle.std.specs.Prelude.{◌≡◌};
 ghost use Rattle.hart_commands.specs.RequestCode.{counter_code, data_code, request_code};
 

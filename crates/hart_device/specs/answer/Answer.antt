@@ -1,4 +1,5 @@
--- What a device answers to a frame, and how the frame changes the device (HCF_SPEC-081, HCF_SPEC-127; own profile: which frames are
+-- What a device answers to a frame, and how the frame changes the device (HCF_SPEC-081, HCF_SPEC-127; implementation choice: which frames
+-- are
 -- answered, and the order of refusals).
 use Rattle.std.specs.Prelude.{ℕ, ◌==◌, ◌&&◌, ◌||◌, not, if◌then◌else◌, Bool, true, false, length, slice_index}
 use Rattle.std.specs.Prelude.{Option, Some, None, Ok, Err}

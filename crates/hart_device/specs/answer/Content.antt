@@ -24,7 +24,7 @@ reply_identity state process =
 abbrev pub unit_value : ProcessVariable → UnitValue
 unit_value variable = record { unit = variable.unit; value = variable.value }
 
--- The classification of the dynamic variable at a place, or 0 if the process has no variable there (own profile).
+-- The classification of the dynamic variable at a place, or 0 if the process has no variable there (implementation choice).
 abbrev pub class_at : Process → ℕ → ℕ
 class_at process place = option_map_or (λ variable. variable.classification) (slice_get (dynamic_variables process) place) 0
 

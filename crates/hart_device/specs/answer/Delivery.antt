@@ -1,4 +1,4 @@
--- What a delivery (all that a device heard at once) brings the device, and how the device answers and changes (own profile).
+-- What a delivery (all that a device heard at once) brings the device, and how the device answers and changes (implementation choice).
 use Rattle.std.specs.Prelude.{◌≡◌, List, [], ◌∷◌, Option, None, Some}
 use Rattle.hart_frame.specs.heard.Character.{Character}
 use Rattle.hart_frame.specs.wire.FrameParts.{FrameParts}

@@ -1,4 +1,5 @@
--- Requests that a device heard with faults, and its replies to them (HCF_SPEC-081, HCF_SPEC-099; own profile: which of these requests a
+-- Requests that a device heard with faults, and its replies to them (HCF_SPEC-081, HCF_SPEC-099; implementation choice: which of these
+-- requests a
 -- device answers).
 use Rattle.std.specs.Prelude.{◌≡◌, ◌+◌, ◌%◌, ◌==◌, ℕ, Bool, false, List, [], ◌∷◌, ◌++◌, length, map, drop}
 use Rattle.std.specs.Int.{bit_at}

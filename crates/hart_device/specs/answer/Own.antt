@@ -1,4 +1,5 @@
--- The commands that the maker of a device adds to those of the tables, and how a device answers them (HCF_SPEC-099; own profile: which
+-- The commands that the maker of a device adds to those of the tables, and how a device answers them (HCF_SPEC-099; implementation choice:
+-- which
 -- requests are handed to the maker).
 use Rattle.std.specs.Prelude.{ℕ, ◌&&◌, Bool, true, false, not, is_some, List, ◌∷◌, if◌then◌else◌}
 use Rattle.hart_frame.specs.wire.FrameParts.{FrameParts, reply_parts}

@@ -1,4 +1,4 @@
--- The device status, the second status byte of a reply (HCF_SPEC-099; own profile: the meaning of hex 10).
+-- The device status, the second status byte of a reply (HCF_SPEC-099; implementation choice: the meaning of hex 10).
 use Rattle.std.specs.Prelude.{ℕ, Bool, ◌==◌, bit_and, bit_or, slice_index}
 use Rattle.hart_values.specs.declared.master_id.MasterId.{MasterId}
 use Rattle.hart_values.specs.EachMaster.{of_master}

@@ -1,4 +1,4 @@
--- The image of a device: the bytes that are kept of the device while it is stopped (own profile).
+-- The image of a device: the bytes that are kept of the device while it is stopped (implementation choice).
 use Rattle.std.specs.Prelude.{◌≡◌, ◌≢◌, ℕ, ◌+◌, ◌-◌, ◌<◌, ◌^◌, ◌⊎◌, Bool, if◌then◌else◌, ◌==◌, Option, Some, None, List, [], ◌∷◌, ◌++◌}
 use Rattle.std.specs.Prelude.{length, drop, replicate, slice_index}
 use Rattle.std.specs.List.{Contains, flat_map, sum_by}

@@ -1,4 +1,4 @@
--- The state that is read from an image (own profile).
+-- The state that is read from an image (implementation choice).
 use Rattle.std.specs.Prelude.{false}
 use Rattle.hart_device.specs.declared.identity_parts.IdentityParts.{IdentityParts}
 use Rattle.hart_device.specs.declared.image.ImageParts.{ImageParts}

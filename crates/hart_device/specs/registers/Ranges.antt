@@ -1,4 +1,4 @@
--- Where each register stands in the array of all registers (own profile).
+-- Where each register stands in the array of all registers (implementation choice).
 use Rattle.std.specs.Prelude.{◌≢◌, ℕ, ◌+◌, List, slice_range}
 use Rattle.hart_commands.specs.Registers.{Contents, IsValidIn, contents_by, size_of}
 use Rattle.hart_commands.specs.declared.register.Register.{Register}

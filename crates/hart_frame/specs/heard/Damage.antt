@@ -1,4 +1,4 @@
--- Damage to a message that a receiver can detect (HCF_SPEC-081; own profile).
+-- Damage to a message that a receiver can detect (HCF_SPEC-081; implementation choice).
 use Rattle.std.specs.Prelude.{◌≡◌, ◌≢◌, ◌<◌, ◌≤◌, ◌+◌, ◌⊎◌, ℕ, List, [], ◌∷◌, ◌++◌, length, drop, replicate}
 use Rattle.std.specs.List.{All, AllZip}
 use Rattle.hart_frame.specs.wire.Body.{IsBody}

@@ -1,4 +1,4 @@
--- A request as it is heard with marked damage, with check damage, and with damage of neither kind (HCF_SPEC-081; own profile).
+-- A request as it is heard with marked damage, with check damage, and with damage of neither kind (HCF_SPEC-081; implementation choice).
 use Rattle.std.specs.Prelude.{List, [], ◌∷◌, ◌++◌}
 use Rattle.hart_values.specs.declared.master_id.MasterId.TheVariants.{Primary}
 use Rattle.hart_values.specs.declared.address.Address.TheVariants.{Polling}

@@ -1,4 +1,4 @@
--- Whether a delivery has no frame, one frame or several. A delivery is what is heard at once (own profile).
+-- Whether a delivery has no frame, one frame or several. A delivery is what is heard at once (implementation choice).
 use Rattle.std.specs.Prelude.{List, [], ◌∷◌}
 use Rattle.hart_frame.specs.heard.Character.{Character}
 use Rattle.hart_frame.specs.heard.Frames.{AreFrames}

@@ -1,4 +1,4 @@
--- The frames in a list of received characters (HCF_SPEC-081; own profile where possible frames overlap).
+-- The frames in a list of received characters (HCF_SPEC-081; implementation choice where possible frames overlap).
 use Rattle.std.specs.Prelude.{◌+◌, ◌≤◌, ◌<◌, ◌⊎◌, ℕ, List, [], ◌∷◌}
 use Rattle.hart_frame.specs.heard.Character.{Character}
 use Rattle.hart_frame.specs.heard.Place.{IsOpen, StandsIn}

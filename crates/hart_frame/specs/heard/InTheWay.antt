@@ -1,4 +1,4 @@
--- Why no frame stands where a message seems to start: what stands in the way of a body there (HCF_SPEC-081; own profile).
+-- Why no frame stands where a message seems to start: what stands in the way of a body there (HCF_SPEC-081; implementation choice).
 use Rattle.std.specs.Prelude.{◌≡◌, ◌≢◌, ◌⊎◌, ◌<◌, ◌+◌, ◌-◌, ◌%◌, ℕ, List, [], ◌∷◌, ◌++◌, Option, None, Some, drop, length, slice_get}
 use Rattle.std.specs.Prelude.{take}
 use Rattle.hart_frame.specs.heard.Character.{Character, faultless, faultless_bytes}

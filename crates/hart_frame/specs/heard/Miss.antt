@@ -1,4 +1,5 @@
--- The miss of a place, found step by step (HCF_SPEC-081; own profile). By the law `misses_are_in_the_way`, it is exactly the miss that
+-- The miss of a place, found step by step (HCF_SPEC-081; implementation choice). By the law `misses_are_in_the_way`, it is exactly the miss
+-- that
 -- `IsMiss` of InTheWay describes. The texts of `explain` and the sightings of a list use `miss_of`.
 use Rattle.std.specs.Prelude.{◌+◌, ◌-◌, ◌%◌, ◌==◌, ◌&&◌, not, nat_le, nat_lt, if◌then◌else◌, ℕ, zero, suc, Bool, false}
 use Rattle.std.specs.Prelude.{List, Option, None, Some, drop, fold, is_none, length, slice_get, slice_index, take, bit_xor}

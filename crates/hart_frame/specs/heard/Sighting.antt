@@ -1,4 +1,4 @@
--- What is seen in characters, in order: messages, and places where a message seems to start but no frame stands (own profile).
+-- What is seen in characters, in order: messages, and places where a message seems to start but no frame stands (implementation choice).
 use Rattle.std.specs.Prelude.{◌≡◌, ◌+◌, ◌-◌, ◌==◌, ◌&&◌, if◌then◌else◌, ℕ, Bool, IsTrue, List, [], ◌∷◌, ◌++◌}
 use Rattle.std.specs.Prelude.{Option, None, drop, length, take, zip}
 use Rattle.std.specs.List.{flat_map, list_any, range_with_len}

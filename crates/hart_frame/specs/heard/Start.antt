@@ -1,4 +1,4 @@
--- Where the body of a message may start in what was heard, whether or not an intact body follows (own profile).
+-- Where the body of a message may start in what was heard, whether or not an intact body follows (implementation choice).
 use Rattle.std.specs.Prelude.{◌≡◌, ◌≢◌, ◌≤◌, ◌+◌, ℕ, List, [], ◌∷◌, ◌++◌, length}
 use Rattle.hart_frame.specs.heard.Character.{Character, faultless}
 

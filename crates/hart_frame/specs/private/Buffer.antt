@@ -1,4 +1,4 @@
--- What a buffer of a scanner holds, and what it knows of the characters that it holds (own profile).
+-- What a buffer of a scanner holds, and what it knows of the characters that it holds (implementation choice).
 use Rattle.std.specs.Prelude.{◌≡◌, ◌≢◌, ◌<◌, ◌≤◌, ◌+◌, ◌^◌, ℕ, Bool, true, false, Option, None, Some, IfSome, ◌⊎◌, List, ◌++◌, drop, length}
 use Rattle.std.specs.Option.{option_to_list}
 use Rattle.hart_frame.specs.heard.Character.{faultless}

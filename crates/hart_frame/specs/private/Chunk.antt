@@ -1,4 +1,4 @@
--- How many characters of a chunk a scanner hears in one call (own profile).
+-- How many characters of a chunk a scanner hears in one call (implementation choice).
 use Rattle.std.specs.Prelude.{◌<◌, ◌≤◌, ℕ, List, [], ◌++◌, length, take}
 use Rattle.hart_frame.specs.heard.Character.{Character}
 use Rattle.hart_frame.specs.heard.Frames.{IsUndecided}

@@ -1,4 +1,4 @@
--- What a scanner's buffer decides: that a frame stands in it, or no frame yet (own profile).
+-- What a scanner's buffer decides: that a frame stands in it, or no frame yet (implementation choice).
 use Rattle.std.specs.Prelude.{◌≡◌, ◌≤◌, ◌<◌, ◌+◌, ◌⊎◌, ℕ, false, IsTrue, None, MatchOption, List, [], ◌++◌, drop, length}
 use Rattle.std.specs.List.{slice_range}
 use Rattle.std.specs.Option.{option_to_list}

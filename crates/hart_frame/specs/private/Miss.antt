@@ -1,4 +1,4 @@
--- Why no body begins at a place where a body may start, as the bytes at this place show (own profile).
+-- Why no body begins at a place where a body may start, as the bytes at this place show (implementation choice).
 use Rattle.std.specs.Prelude.{◌+◌, ◌-◌, ◌<◌, ℕ, List, Option, None, Some, take}
 use Rattle.std.specs.List.{All}
 use Rattle.hart_frame.specs.heard.Character.{Character, faultless_bytes}

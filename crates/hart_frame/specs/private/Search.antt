@@ -1,4 +1,4 @@
--- What a search for frames finds in faultless bytes (own profile).
+-- What a search for frames finds in faultless bytes (implementation choice).
 use Rattle.std.specs.Prelude.{◌≡◌, ◌≢◌, ℕ, Bool, false, IsTrue, ◌+◌, ◌<◌, ◌≤◌, ◌⊎◌, List, ◌++◌, MatchOption, length, slice_index, take}
 use Rattle.std.specs.Prelude.{drop}
 use Rattle.hart_frame.specs.heard.Character.{Character, faultless}

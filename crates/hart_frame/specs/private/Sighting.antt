@@ -1,4 +1,4 @@
--- The next sighting in bytes, and the places before it at which nothing is seen (own profile).
+-- The next sighting in bytes, and the places before it at which nothing is seen (implementation choice).
 use Rattle.std.specs.Prelude.{◌≡◌, ◌≢◌, ◌<◌, ◌≤◌, ◌+◌, ◌-◌, ◌&&◌, ◌⊎◌, not, ℕ, Bool, true, false, ⊤, List, [], ◌∷◌, ◌++◌, Option}
 use Rattle.std.specs.Prelude.{None, Some, drop, is_none, length, slice_index}
 use Rattle.hart_frame.specs.heard.Character.{Character, faultless}

@@ -1,4 +1,4 @@
--- Check bytes of the first bytes from a place on (own profile).
+-- Check bytes of the first bytes from a place on (implementation choice).
 use Rattle.std.specs.Prelude.{◌≡◌, ℕ, ◌+◌, ◌≤◌, List, drop, length, slice_index, take}
 use Rattle.hart_frame.specs.wire.Parity.{IsCheckByte}
 use Rattle.hart_frame.specs.declared.wire.sums.Sums.{Sums}

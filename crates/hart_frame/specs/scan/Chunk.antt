@@ -1,4 +1,4 @@
--- What a scanner promises about a chunk of characters that it hears in one call (own profile).
+-- What a scanner promises about a chunk of characters that it hears in one call (implementation choice).
 use Rattle.std.specs.Prelude.{◌≡◌, ℕ, true, false, ◌⊎◌}
 use Rattle.hart_frame.specs.heard.Frames.{IsUndecided}
 use Rattle.hart_frame.specs.heard.Place.{StandsIn}

@@ -1,4 +1,4 @@
--- The next frames of what was heard, while more may still be heard (own profile).
+-- The next frames of what was heard, while more may still be heard (implementation choice).
 use Rattle.std.specs.Prelude.{◌≡◌, ◌≤◌, ℕ, Bool, IsTrue, Option, List, [], ◌++◌, length, map}
 use Rattle.std.specs.List.{All}
 use Rattle.std.specs.Option.{option_to_list}

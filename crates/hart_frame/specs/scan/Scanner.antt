@@ -1,4 +1,4 @@
--- What a scanner promises: the frames of what is heard, each given as soon as it is decided (own profile).
+-- What a scanner promises: the frames of what is heard, each given as soon as it is decided (implementation choice).
 use Rattle.std.specs.Prelude.{◌≡◌, ◌+◌, ◌≤◌, ◌⊎◌, ℕ, Bool, true, false, List, [], ◌∷◌, ◌++◌, Option, MatchOption, drop, length, map}
 use Rattle.hart_frame.specs.heard.Character.{Character}
 use Rattle.hart_frame.specs.heard.Frames.{HasNoFrame, IsUndecided, moved}

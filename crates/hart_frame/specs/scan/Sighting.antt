@@ -1,4 +1,4 @@
--- What the search for the next message or miss in bytes in memory promises (own profile).
+-- What the search for the next message or miss in bytes in memory promises (implementation choice).
 use Rattle.std.specs.Prelude.{◌≡◌, ◌≢◌, ◌<◌, ℕ, Bool, true, false, ⊤, List, [], ◌∷◌, ◌++◌, Option, None, Some, option_map}
 use Rattle.hart_frame.specs.heard.Character.{Character, faultless}
 use Rattle.hart_frame.specs.heard.Sighting.{Message, Missed, Seen}

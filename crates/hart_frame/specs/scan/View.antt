@@ -1,4 +1,4 @@
--- What a view of a found frame says (own profile).
+-- What a view of a found frame says (implementation choice).
 use Rattle.hart_frame.specs.wire.View.{parts_of}
 use Rattle.hart_frame.specs.declared.heard.found.Found.{Found}
 use Rattle.hart_frame.specs.declared.scan.view.FoundView.{FoundView}

@@ -1,4 +1,4 @@
--- The numbers of the faults of frames (own profile).
+-- The numbers of the faults of frames (implementation choice).
 use Rattle.std.specs.Prelude.{ℕ}
 use Rattle.hart_frame.specs.declared.wire.fault.FrameFault.{FrameFault}
 use Rattle.hart_frame.specs.declared.wire.fault.FrameFault.TheVariants.{TooShortReply, BadPreamble, BadDelimiter, Truncated, BadCheck}

@@ -1,4 +1,4 @@
--- Why the bytes of a list are not decoded: the first thing that is wrong when they are read from the front (own profile).
+-- Why the bytes of a list are not decoded: the first thing that is wrong when they are read from the front (implementation choice).
 use Rattle.std.specs.Prelude.{◌≡◌, ℕ, ◌%◌, ◌<◌, ◌≤◌, ◌⊎◌, List, length, take}
 use Rattle.hart_frame.specs.declared.wire.fault.FrameFault.{FrameFault}
 use Rattle.hart_frame.specs.declared.wire.fault.FrameFault.TheVariants.{TooShortReply, BadPreamble, BadDelimiter}

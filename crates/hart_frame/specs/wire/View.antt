@@ -1,4 +1,4 @@
--- What a view of a frame says (own profile).
+-- What a view of a frame says (implementation choice).
 use Rattle.hart_frame.specs.wire.FrameParts.{FrameParts}
 use Rattle.hart_frame.specs.wire.PlainAddress.{address_of}
 use Rattle.hart_frame.specs.declared.wire.view.FrameView.{FrameView}

@@ -1,4 +1,4 @@
--- What was sent in a leg, and how the device answers it. Only private calls use these definitions (own profile).
+-- What was sent in a leg, and how the device answers it. Only private calls use these definitions (implementation choice).
 use Rattle.std.specs.Prelude.{◌≡◌, ℕ, ◌≤◌, List, Option, IfSome}
 use Rattle.hart_frame.specs.wire.Body.{IsBody}
 use Rattle.hart_line.specs.Types.{FrameParts, Brought, DeviceState, Process}

@@ -1,4 +1,4 @@
--- The line as one value, and the world that it stands for. Only private calls use these definitions (own profile).
+-- The line as one value, and the world that it stands for. Only private calls use these definitions (implementation choice).
 use Rattle.std.specs.Prelude.{◌≡◌, ◌++◌, ℕ, List}
 use Rattle.hart_line.specs.Types.{DeviceState, Process, LineEvent, Leg, Outcome, Spoken}
 use Rattle.hart_line.specs.line.Masters.{AreHeld}

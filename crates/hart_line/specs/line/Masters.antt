@@ -1,4 +1,5 @@
--- The two masters of a line, and how they agree with the world of a script. Only private calls use these definitions (own profile).
+-- The two masters of a line, and how they agree with the world of a script. Only private calls use these definitions (implementation
+-- choice).
 use Rattle.std.specs.Prelude.{◌≡◌, ℕ, ◌+◌, List, slice_set, Option, None, Some, IfSome, option_and_then, option_map}
 use Rattle.hart_line.specs.Types.{Address, MasterId, Primary, Secondary, FrameParts, EachMaster, Reply, Request, MasterFault, Outcome}
 use Rattle.hart_line.specs.Types.{Unfinished, Refused}

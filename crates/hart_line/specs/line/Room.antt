@@ -1,4 +1,4 @@
--- The room on the line, and in the list in which spoken frames are noted. Only private calls use these definitions (own profile).
+-- The room on the line, and in the list in which spoken frames are noted. Only private calls use these definitions (implementation choice).
 use Rattle.std.specs.Prelude.{◌≡◌, ◌≤◌, ◌+◌, List, [], ◌∷◌, ◌++◌, count_by, length}
 use Rattle.hart_line.specs.Filling.{Filled}
 use Rattle.hart_line.specs.line.Line.{LineState}

@@ -1,4 +1,4 @@
--- What a table of hex digits holds (own profile).
+-- What a table of hex digits holds (implementation choice).
 use Rattle.std.specs.Prelude.{◌≡◌, ◌<◌, ℕ, List, get_or, if◌then◌else◌}
 use Rattle.hex.specs.Hex.{is_hex_digit}
 use Rattle.hart_line.specs.script.Items.{AreDigits, byte_of, hex_value}

@@ -1,4 +1,4 @@
--- Texts of hex items (own profile): an item is two hex digits, after which a `!` and two more hex digits may give fault bits.
+-- Texts of hex items (implementation choice): an item is two hex digits, after which a `!` and two more hex digits may give fault bits.
 use Rattle.std.specs.Prelude.{◌≡◌, ◌≢◌, ℕ, ◌+◌, ◌*◌, List, [], ◌∷◌, ◌++◌, length, map, unwrap_or, IsTrue, ⊤}
 use Rattle.std.specs.List.{AllByRecursion, flat_map}
 use Rattle.hart_frame.specs.heard.Character.{AreFaultBits}

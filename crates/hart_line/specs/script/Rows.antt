@@ -1,4 +1,4 @@
--- What the lines of a script say (own profile): the words that write each kind of event.
+-- What the lines of a script say (implementation choice): the words that write each kind of event.
 use Rattle.std.specs.Prelude.{◌≡◌, ◌≢◌, ◌⊎◌, ℕ, ◌+◌, ◌++◌, ◌/◌, ◌<◌, Any, Bool, true, false, not, nat_eq, List, [], ◌∷◌, codes, filter}
 use Rattle.std.specs.Prelude.{length, slice_get, take, Option, None, Some, Result, Ok, Err}
 use Rattle.std.specs.List.{AllZip, starts_with}

@@ -1,4 +1,4 @@
--- The words that describe a message to send, in scripts and on the command line (own profile).
+-- The words that describe a message to send, in scripts and on the command line (implementation choice).
 use Rattle.std.specs.Prelude.{◌≡◌, ℕ, ◌+◌, ◌*◌, ◌%◌, ◌&&◌, ◌==◌, nat_le, if◌then◌else◌, List, [], ◌∷◌, length, slice_index, codes, Option}
 use Rattle.std.specs.Prelude.{None, Some, option_and_then, option_map}
 use Rattle.std.specs.Map.{lookup}

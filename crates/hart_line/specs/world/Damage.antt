@@ -1,4 +1,4 @@
--- What arrives of a message that was sent in a leg of the line (HCF_SPEC-081; the own profile says which damage is detected).
+-- What arrives of a message that was sent in a leg of the line (HCF_SPEC-081; the implementation choice says which damage is detected).
 use Rattle.std.specs.Prelude.{◌≡◌, ◌⊎◌, ℕ, List, [], ◌∷◌, Option, None, Some}
 use Rattle.hart_line.specs.Types.{Character, FrameParts, Brought, Heard, Clean, Lost, Chars}
 use Rattle.hart_frame.specs.heard.Character.{faultless}

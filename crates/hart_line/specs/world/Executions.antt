@@ -1,5 +1,5 @@
 -- The last execution of each submission in a list of executions, and how often a submission was executed. The executions of a script's last
--- world are those of all unrefused writes in the script (own profile).
+-- world are those of all unrefused writes in the script (implementation choice).
 use Rattle.std.specs.Prelude.{ℕ, ◌==◌, Bool, List, [], ◌∷◌, count_by, if◌then◌else◌}
 use Rattle.std.specs.List.{list_any}
 use Rattle.hart_line.specs.world.World.{Execution}

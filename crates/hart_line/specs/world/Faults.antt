@@ -1,4 +1,4 @@
--- Why a script is not carried out (own profile).
+-- Why a script is not carried out (implementation choice).
 use Rattle.std.specs.Prelude.{◌≡◌, List, ◌∷◌, ◌++◌, take, slice_get, Option, None, Some}
 use Rattle.hart_line.specs.Types.{FrameParts, Brought, Heard, Chars, LineEvent, Turn, Noise, Leg, LineFault, BadLine, Memory, Undetected}
 use Rattle.hart_values.specs.EachMaster.{of_master}

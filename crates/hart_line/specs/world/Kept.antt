@@ -1,4 +1,4 @@
--- The promises about a script that `Led` does not make: about its worlds, and the returned device and outcomes (own profile).
+-- The promises about a script that `Led` does not make: about its worlds, and the returned device and outcomes (implementation choice).
 use Rattle.std.specs.Prelude.{◌≡◌, ◌≤◌, ◌+◌, ◌%◌, ◌^◌, List, [], ℕ, Option, Some, IfSome, IsTrue, false, length, slice_get}
 use Rattle.hart_values.specs.EachMaster.{of_master}
 use Rattle.hart_line.specs.Types.{MasterId, Reply, Request, DeviceState, Heard, LineEvent, Turn, Outcome, Answered}

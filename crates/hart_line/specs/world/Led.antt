@@ -1,4 +1,4 @@
--- What a script leads to, as it is returned (own profile).
+-- What a script leads to, as it is returned (implementation choice).
 use Rattle.std.specs.Prelude.{◌≡◌, List}
 use Rattle.hart_line.specs.Types.{DeviceState, LineEvent, Outcome, Spoken}
 use Rattle.hart_line.specs.world.Spoken.{AreSpoken}

@@ -1,4 +1,4 @@
--- The room that a script needs (own profile).
+-- The room that a script needs (implementation choice).
 use Rattle.std.specs.Prelude.{◌≡◌, ◌⊎◌, ℕ, ◌+◌, ◌*◌, ◌<◌, Bool, true, false, List, count_by}
 use Rattle.hart_line.specs.Types.{LineEvent, Submit, Turn, Noise}
 

@@ -1,4 +1,4 @@
--- Scripts whose spoken frames are noted in a log while they are carried out (own profile).
+-- Scripts whose spoken frames are noted in a log while they are carried out (implementation choice).
 use Rattle.std.specs.Prelude.{◌⊎◌, ◌<◌, ℕ, Any, List, [], take}
 use Rattle.hart_line.specs.world.Faults.{IsFault}
 use Rattle.hart_line.specs.world.Needs.{IsNeededForOutcomes}

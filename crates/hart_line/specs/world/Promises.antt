@@ -1,4 +1,4 @@
--- What is promised of a whole script (own profile).
+-- What is promised of a whole script (implementation choice).
 use Rattle.std.specs.Prelude.{◌≡◌, ◌≢◌, ◌⊎◌, ℕ, ◌+◌, List, [], ◌∷◌, ◌++◌, map, All, Option, None, Some, IsTrue, Ok, false, true, slice_get}
 use Rattle.hart_line.specs.Types.{Address, MasterId, FrameParts, Overwrite, Reply, Request, Brought, NoMessage, OneFrame, DeviceState}
 use Rattle.hart_line.specs.Types.{Resets, Process, Heard, LineEvent, Submit, Turn, Outcome, Answered, NoReply, Unfinished, Refused}

@@ -1,4 +1,4 @@
--- What an event does to a world, and what a script does (own profile).
+-- What an event does to a world, and what a script does (implementation choice).
 use Rattle.std.specs.Prelude.{◌≡◌, Bool, true, false, ℕ, ◌+◌, nat_le, if◌then◌else◌, List, [], ◌∷◌, ◌++◌, length, slice_set, Option, None}
 use Rattle.std.specs.Prelude.{Some}
 use Rattle.std.specs.Option.{option_to_list}

@@ -1,4 +1,5 @@
--- The world of a script (own profile): what has happened on the line. Device and masters do not know its executions and numbers of
+-- The world of a script (implementation choice): what has happened on the line. Device and masters do not know its executions and numbers
+-- of
 -- submissions.
 use Rattle.std.specs.Prelude.{◌≡◌, ℕ, ◌≤◌, ◌+◌, ◌%◌, ◌^◌, ◌||◌, nat_lt, Bool, List, [], length, map, Option, None, Some}
 use Rattle.hart_line.specs.Types.{Address, EachMaster, MasterId, Overwrite, Request, DeviceState, Process, Outcome}

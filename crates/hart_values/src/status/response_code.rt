@@ -36,13 +36,13 @@ impl ResponseCode {
     /// The device is write protected, and the command is a configuration write.
     pub const IN_WRITE_PROTECT_MODE: ResponseCode = ResponseCode { value: 7 };
 
-    /// The counter in a request of Command 38 is not the device's configuration change counter (own profile).
+    /// The counter in a request of Command 38 is not the device's configuration change counter (implementation choice).
     pub const COUNTER_MISMATCH: ResponseCode = ResponseCode { value: 9 };
 
-    /// The date of Command 18 is neither a day of the calendar nor "not set" (own profile).
+    /// The date of Command 18 is neither a day of the calendar nor "not set" (implementation choice).
     pub const INVALID_DATE: ResponseCode = ResponseCode { value: 9 };
 
-    /// The loop current mode of Command 6 is neither 0 nor 1 (own profile).
+    /// The loop current mode of Command 6 is neither 0 nor 1 (implementation choice).
     pub const INVALID_MODE: ResponseCode = ResponseCode { value: 12 };
 
     /// The device does not know the command.

@@ -1,4 +1,5 @@
-use Rattle.std.proofs.Common.{◌≡◌, ◌<◌, ◌≤◌, ◌∙◌, ap, inl, inr, ℕ, Bool, true, false, List, Err, Some, arith, length, refl, rules, subst, sym}
+use Rattle.std.proofs.Common.{◌≡◌, ◌<◌, ◌≤◌, ◌∙◌, ap, inl, inr, ℕ, Bool, true, false, List, Err, Some, arith, length, refl, rules, subst}
+use Rattle.std.proofs.Common.{sym}
 use Rattle.std.proofs.lemmas.Grind.{common_steps}
 use Rattle.hart_values.specs.declared.master_id.MasterId.{MasterId}
 use Rattle.hart_frame.specs.wire.FrameParts.{FrameParts}
@@ -164,5 +165,6 @@ returns-clause-refused c =
     (λ fault why. after_frame c.args.identity.now c.args.process.now c.args.asked.now c.args.code c.args.is_write c.args.«data».now
     c.args.device.now (length c.args.reply.now) fault c.in_ok-state.state kept measured.count c.in_ok-frame.ensures.frame
     (unanswered c.args.identity.now c.args.process.now c.args.asked.now c.args.code c.args.is_write c.args.«data».now
-    c.args.device.now answer c.answer_own-said.result c.answer_own-said.new.self code_is few sent after (length c.args.reply.now) fault why))
+    c.args.device.now answer c.answer_own-said.result c.answer_own-said.new.self code_is few sent after
+        (length c.args.reply.now) fault why))
     c.say_and_keep.ensures.refused

@@ -1,5 +1,6 @@
 -- One line that a master answers.
-use Rattle.std.proofs.Common.{◌≡◌, ◌-◌, ◌⊎◌, ℕ, List, [], ◌∷◌, ◌++◌, Bool, true, false, Option, None, Some, Ok, Err, codes, length, take, refl, arith, inl, inr}
+use Rattle.std.proofs.Common.{◌≡◌, ◌-◌, ◌⊎◌, ℕ, List, [], ◌∷◌, ◌++◌, Bool, true, false, Option, None, Some, Ok, Err, codes, length, take}
+use Rattle.std.proofs.Common.{refl, arith, inl, inr}
 use Rattle.std.proofs.lemmas.Grind.{common_steps}
 use Rattle.hart_frame.specs.declared.heard.found.Found.{Found}
 use Rattle.hart_frame.specs.declared.scan.first.LoneFrame.{LoneFrame}
@@ -18,7 +19,8 @@ use Rattle.hart_cli.specs.FaultText.{fault_text}
 use Rattle.hart_cli.specs.declared.calls.master.ask.Ask.{Ask}
 use Rattle.hart_cli.specs.declared.fault.CliFault.{CliFault}
 use Rattle.hart_cli.specs.master.Ask.{ReadsAsk}
-use Rattle.hart_cli.specs.master.Line.{Hears, HearsItems, IsAskedLine, LineMaster, ServesMasterLine, answered, answered_line, asked, bad_hex}
+use Rattle.hart_cli.specs.master.Line.{Hears, HearsItems, IsAskedLine, LineMaster, ServesMasterLine, answered, answered_line, asked}
+use Rattle.hart_cli.specs.master.Line.{bad_hex}
 use Rattle.hart_cli.specs.master.Line.{bad_word, begins_blank, dash_line, hand_asked, heard, items_of, nothing, with_hand}
 use Rattle.hart_cli.specs.session.Session.{bad_line}
 

@@ -19,7 +19,8 @@ use Rattle.hart_cli.proofs.lemmas.session.Served.{Serves-on}
 use Rattle.hart_cli.proofs.lemmas.session.Server.{parts_on}
 
 -- an input was read so far, and all of the station's answers to its whole lines were written
-pub record ServedUpTo {S : Type 0} (M : Manner S) (station : S) (server : ServerState S) (room : ℕ) (old new writer writer_after : Stream) : Type 0 where
+pub record ServedUpTo {S : Type 0} (M : Manner S) (station : S) (server : ServerState S) (room : ℕ)
+    (old new writer writer_after : Stream) : Type 0 where
   pub input : List ℕ
   pub read : ReadsWell old new input
   pub left : length input + room ≡ stream_limit
@@ -32,7 +33,8 @@ pub record ServedUpTo {S : Type 0} (M : Manner S) (station : S) (server : Server
   pub wrote : WritesAll writer writer_after said
 
 -- the bytes of the last read were served, and the input came to its end
-pub served_end : {S : Type 0} (M : Manner S) (station : S) (now next : ServerState S) (room : ℕ) (r r1 r2 w w1 w2 : Stream) (bytes : List ℕ) (end : InputEnd)
+pub served_end : {S : Type 0} (M : Manner S) (station : S) (now next : ServerState S) (room : ℕ) (r r1 r2 w w1 w2 : Stream)
+    (bytes : List ℕ) (end : InputEnd)
     → (h : ServedUpTo M station now room r r1 w w1) → ReadsPortion r1 r2 bytes room (Some end) → now.kept ≡ [] → next.kept ≡ []
     → ServesWhole M now next (h.rest ++ bytes) w1 w2 → ServesAll M station next end r r2 w w2
 served_end M station now next room r r1 r2 w w1 w2 bytes end h more was quiet k =
@@ -70,7 +72,8 @@ served_on M station now next room r r1 r2 w w1 w2 bytes h more was quiet k =
     }
 
 -- answers were written in time: the answers to the whole lines of an input without its last bytes had been written
-said_in_time : {S : Type 0} (M : Manner S) (station after : S) (input bytes : List ℕ) (parts : List (List ℕ)) (rest said : List ℕ) (w w1 w2 : Stream)
+said_in_time : {S : Type 0} (M : Manner S) (station after : S) (input bytes : List ℕ) (parts : List (List ℕ)) (rest said : List ℕ)
+    (w w1 w2 : Stream)
     → IsCut input parts rest → ServesParts M station parts after said → WritesAll w w1 said → length bytes ≤ most_at_once
     → (more : List ℕ) → Appends w1.bytes w2.bytes more → WroteInTime (IsServedSoFar M station) (input ++ bytes) w w2
 said_in_time M station after input bytes parts rest said w w1 w2 cut serves wrote few more written = record {
@@ -90,7 +93,8 @@ said_in_time M station after input bytes parts rest said w w1 w2 cut serves wrot
 }
 
 -- a write failed within the answers to the lines that one read completed
-pub stops_saying : {S : Type 0} (M : Manner S) (station : S) (now : ServerState S) (room : ℕ) (r r1 r2 w w1 w2 : Stream) (bytes : List ℕ) (end : Option InputEnd)
+pub stops_saying : {S : Type 0} (M : Manner S) (station : S) (now : ServerState S) (room : ℕ) (r r1 r2 w w1 w2 : Stream)
+    (bytes : List ℕ) (end : Option InputEnd)
     → (h : ServedUpTo M station now room r r1 w w1) → ReadsPortion r1 r2 bytes room end → length bytes ≤ most_at_once → now.kept ≡ []
     → FailsInParts M now.station now.kept (h.rest ++ bytes) w1 w2 → StopsSaying M station r r2 w w2
 stops_saying M station now room r r1 r2 w w1 w2 bytes end h more few was k =

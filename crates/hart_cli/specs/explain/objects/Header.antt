@@ -1,4 +1,4 @@
--- What a line of JSON says of a header (own profile).
+-- What a line of JSON says of a header (implementation choice).
 use Rattle.std.specs.Prelude.{[], ◌∷◌, ◌++◌, ℕ, List, codes}
 use Rattle.serde_json.specs.Data.{Data, string}
 use Rattle.hart_commands.specs.Commands.{command_name}

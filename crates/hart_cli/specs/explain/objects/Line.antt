@@ -1,4 +1,4 @@
--- The line of JSON of a sighting (own profile).
+-- The line of JSON of a sighting (implementation choice).
 use Rattle.std.specs.Prelude.{[], ◌∷◌, ◌++◌, ℕ, List}
 use Rattle.serde_json.specs.Data.{Data, string}
 use Rattle.serde_json.specs.Written.{compact_text}

@@ -1,4 +1,4 @@
--- Parts of objects of JSON (own profile).
+-- Parts of objects of JSON (implementation choice).
 use Rattle.std.specs.Prelude.{[], ◌∷◌, ◌++◌, ℕ, List, Option, None, Some}
 use Rattle.json.specs.Print.{quoted}
 use Rattle.serde_json.specs.Data.{Data, null}

@@ -1,4 +1,4 @@
--- What a line of JSON says of a message (own profile).
+-- What a line of JSON says of a message (implementation choice).
 use Rattle.std.specs.Prelude.{[], ◌∷◌, ◌++◌, ℕ, List}
 use Rattle.serde_json.specs.Data.{boolean}
 use Rattle.hart_frame.specs.declared.heard.found.Found.{Found}

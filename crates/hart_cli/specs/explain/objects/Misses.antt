@@ -1,4 +1,4 @@
--- What a line of JSON says of a place at which no message stands, though one seems to start there (own profile).
+-- What a line of JSON says of a place at which no message stands, though one seems to start there (implementation choice).
 use Rattle.std.specs.Prelude.{[], ◌∷◌, ◌++◌, ℕ, List, Option, None, Some}
 use Rattle.serde_json.specs.Data.{Data, null}
 use Rattle.hart_frame.specs.declared.heard.miss.Miss.{Miss}

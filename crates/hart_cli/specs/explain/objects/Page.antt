@@ -1,4 +1,4 @@
--- What a page was given of a text. Only private calls use these definitions (own profile).
+-- What a page was given of a text. Only private calls use these definitions (implementation choice).
 use Rattle.std.specs.Prelude.{◌≡◌, ℕ, true, false, List, ◌++◌}
 use Rattle.hart_cli.specs.stream.Stream.{FailsToWrite, Stream, WritesAll}
 use Rattle.hart_cli.specs.declared.calls.explain.objects.page.Page.{Page}

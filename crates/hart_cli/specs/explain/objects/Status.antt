@@ -1,4 +1,4 @@
--- What a line of JSON says of the two status bytes of a reply (HCF_SPEC-099; own profile).
+-- What a line of JSON says of the two status bytes of a reply (HCF_SPEC-099; implementation choice).
 use Rattle.std.specs.Prelude.{nat_lt, if◌then◌else◌, [], ◌∷◌, ℕ, List, map}
 use Rattle.serde_json.specs.Data.{Data, null, string}
 use Rattle.hart_explain.specs.Codes.{code_name}

@@ -2,7 +2,8 @@
 
 ghost use Rattle.std.specs.Prelude.{◌≡◌, ◌∷◌, [], codes, false};
 ghost use Rattle.clap.specs.Words.{new_rule, rule_of};
-ghost use Rattle.hart_cli.specs.program.CommandLine.{fields_rule, flag_rule, image_rule, number_rule, preambles_rule, required_rule, who_rule};
+ghost use Rattle.hart_cli.specs.program.CommandLine.{fields_rule, flag_rule, image_rule, number_rule, preambles_rule, required_rule};
+ghost use Rattle.hart_cli.specs.program.CommandLine.{who_rule};
 
 use super::help::words;
 use clap::{Arg, ArgAction, value_parser};

@@ -6,13 +6,15 @@ use Rattle.hart_frame.proofs.Common.{IsUndecided, BeginWithNone, IsWhole, MayBeg
 use Rattle.hart_frame.specs.declared.scan.candidate.Candidate.TheVariants.{Never, Whole}
 use Rattle.hart_frame.specs.declared.wire.prefix.Prefix.{Prefix}
 use Rattle.hart_frame.specs.declared.wire.prefix.Prefix.TheVariants as prefix
-use Rattle.hart_frame.specs.private.Candidate.{IsCandidate, IsShort, IsShortPrefix, MayBeginBefore, NothingFollows, NeverBegin, candidate_of}
+use Rattle.hart_frame.specs.private.Candidate.{IsCandidate, IsShort, IsShortPrefix, MayBeginBefore, NothingFollows, NeverBegin}
+use Rattle.hart_frame.specs.private.Candidate.{candidate_of}
 use Rattle.hart_frame.specs.private.Prefix.{fault_in, shown_by}
 use Rattle.hart_frame.proofs.lemmas.heard.Front.{bytes_of-faultless, faultless_bytes-append, faultless_bytes-end}
 use Rattle.hart_frame.proofs.lemmas.heard.Place.{StandsIn-at, StandsIn-within, preamble}
 use Rattle.hart_frame.proofs.lemmas.wire.Parity.{fits_drop}
 use Rattle.hart_frame.proofs.lemmas.wire.Prefix.{refused_more}
-use Rattle.hart_frame.proofs.lemmas.wire.Reading.{cut_truncated, whole_has, wrong_few, wrong_fewer, wrong_refused, wrong_shown, wrong_within}
+use Rattle.hart_frame.proofs.lemmas.wire.Reading.{cut_truncated, whole_has, wrong_few, wrong_fewer, wrong_refused, wrong_shown}
+use Rattle.hart_frame.proofs.lemmas.wire.Reading.{wrong_within}
 use Rattle.hart_frame.proofs.lemmas.wire.Refusal.{not_refused}
 use Rattle.hart_frame.proofs.lemmas.wire.Truncated.{truncated_check, truncated_few}
 use Rattle.hart_frame.proofs.lemmas.wire.UnambiguousBodies.{BeginsWithBody-append}

@@ -1,5 +1,6 @@
 -- The check byte of joined bytes, of a part of bytes, and of the lanes up to each lane.
-use Rattle.hart_frame.proofs.Common.{◌≡◌, ℕ, zero, suc, ◌+◌, ◌-◌, ◌<◌, ◌≤◌, List, [], ◌∷◌, ◌++◌, refl, sym, ap, ◌∙◌, arith, bit_xor, take, drop}
+use Rattle.hart_frame.proofs.Common.{◌≡◌, ℕ, zero, suc, ◌+◌, ◌-◌, ◌<◌, ◌≤◌, List, [], ◌∷◌, ◌++◌, refl, sym, ap, ◌∙◌, arith, bit_xor, take}
+use Rattle.hart_frame.proofs.Common.{drop}
 use Rattle.hart_frame.proofs.Common.{length, get_or, replicate, true, ltb, length-take-le, get_or_append_left, get_or-map, take-take}
 use Rattle.hart_frame.proofs.Common.{IsCheckByte, get_or-take, common_steps, take-add, drop-drop, length-append, length-drop}
 use Rattle.std.proofs.Common.{Bool, Fits, w8, cond, eqb, eqb-true, false, ltb-true, ltb-false}

@@ -4,7 +4,8 @@ use Rattle.hart_frame.proofs.lemmas.wire.Sums.{fits_lanes, running_checks, sums_
 use Rattle.hart_frame.proofs.wire.sums.running_checks.Goals as goal
 
 pub returns-clause-len : goal.returns-clause-len
-returns-clause-len c = (sums_last_all c.args.lanes c.fits-lanes.0 ONE_ON TWO_ON FOUR_ON EIGHT_ON refl refl refl refl refl refl refl refl).long
+returns-clause-len c =
+    (sums_last_all c.args.lanes c.fits-lanes.0 ONE_ON TWO_ON FOUR_ON EIGHT_ON refl refl refl refl refl refl refl refl).long
 
 pub returns-clause-checks : goal.returns-clause-checks
 returns-clause-checks c =

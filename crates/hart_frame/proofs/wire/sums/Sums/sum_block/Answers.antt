@@ -1,4 +1,5 @@
-use Rattle.hart_frame.proofs.Common.{◌≡◌, ◌+◌, ◌-◌, length, take, drop, arith, bit_xor, get_or, length-take-le, length-drop, refl, replicate, sym, ◌∙◌}
+use Rattle.hart_frame.proofs.Common.{◌≡◌, ◌+◌, ◌-◌, length, take, drop, arith, bit_xor, get_or, length-take-le, length-drop, refl}
+use Rattle.hart_frame.proofs.Common.{replicate, sym, ◌∙◌}
 use Rattle.std.proofs.lemmas.Simd.{put_chunk_whole, length-zip2}
 use Rattle.std.specs.Simd.Lanes.{zip2}
 use Rattle.hart_frame.proofs.lemmas.wire.Sums.{sums_block}
