@@ -63,9 +63,9 @@ run_all() {
     wait
 }
 
-# Waits until `rt ci` has said this, or has ended.
-until_said() {
-    until grep -q "^rt: $1" "$log" || [ ! -e "$work/proving" ]; do
+# Waits until `rt ci` has built the program, which it does after it has proved it, or has ended.
+until_built() {
+    until { grep -q "^rt: hart proved" "$log" && [ -x "$program" ]; } || [ ! -e "$work/proving" ]; do
         sleep 1
     done
 }
@@ -76,15 +76,19 @@ beside() {
     python3 tools/build.py --jobs 1 hart_c && (cd crates/hart_c && rt lib --jobs 1) >build/logs/hart_c.log 2>&1
     RT_JOBS=2 python3 tools/mistakes.py --gate
     run_all "python3 tools/mistakes.py --can-fail" "sh tools/held-view.sh" "python3 tools/vector_bugs.py"
-    until_said "hart proved"
+    until_built
     # Each of these builds the library, and a crate is built for one target at a time.
     run_on_program "sh tools/library-examples.sh $program && sh tools/library-examples.sh --target aarch64-linux-gnu $program && \
 sh tools/packages.sh $program && sh examples/cortex-m/run.sh"
 }
 
-# Runs scripts on the program, if `rt ci` has built it.
+# Runs scripts on the program. Each of them has failed if there is none.
 run_on_program() {
-    [ ! -f "$program" ] || run_all "$@"
+    if [ -x "$program" ]; then
+        run_all "$@"
+    else
+        printf '%s: FAILED; there is no program\n' "${@//$work\/tree\/}" >>"$work/failed"
+    fi
 }
 
 rt version
@@ -103,7 +107,7 @@ tar -cf - --exclude=out --exclude=must-fail --exclude=mistakes crates crates.txt
 : >"$log"
 touch "$work/proving"
 beside >"$work/beside" 2>&1 </dev/null &
-(until_said "hart proved" && run_on_program "${scripts[@]}") >"$work/on_program" 2>&1 </dev/null &
+(until_built && run_on_program "${scripts[@]}") >"$work/on_program" 2>&1 </dev/null &
 (cd "$work/tree" && rt ci) 2>&1 | tee "$log" | grep --line-buffered -E '^rt: |NOT PROVED|passed, .* failed|\berror\b'
 [ "${PIPESTATUS[0]}" -eq 0 ] || echo "rt ci: FAILED; what was not proved stands in $log" >>"$work/failed"
 rm "$work/proving"
@@ -118,7 +122,6 @@ passed=$((passed + ${ok:-0}))
 failed=$((failed + ${lost:-0}))
 [ -n "${lost:-}" ] || echo "python3 tools/mistakes.py --gate: FAILED; it counted nothing" >>"$work/failed"
 
-[ -f "$program" ] || echo "rt ci: FAILED; it built no program, so no script ran on it" >>"$work/failed"
 # These measure times, or wait for what has to come in time, so each runs alone.
 run_on_program "python3 tools/vector_bugs.py --random $program"
 run_on_program "sh tools/examples.sh $program"
