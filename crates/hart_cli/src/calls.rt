@@ -1,4 +1,5 @@
-//! The calls: one for each subcommand, over any reader and writer. The program makes the call of the subcommand on its command line.
+//! The calls: one for each subcommand, over any reader and writer. The program makes the call of the subcommand on its command line. Their
+//! modules stand here, because the toolchain refuses a module beside a function of the same name.
 
 pub mod answer;
 pub mod dump;

@@ -1,4 +1,4 @@
-//! Why a call of the command line ended early.
+//! Why a call of the command line ended early. Functions return the texts and numbers, because attributes of `thiserror` have no contracts.
 
 ghost use Rattle.std.specs.Prelude.{◌≡◌, ◌++◌, ◌≤◌, [], length, Some};
 ghost use Rattle.hart_line.specs.FaultText.{joined};

@@ -13,7 +13,7 @@ use hex::FromHexError;
 use std::alloc::Global;
 use std::marker::Model;
 
-/// The word of an image, if a call was given an image.
+/// The word of an image, if a call was given an image. A call checks it before it reads anything.
 #[derive(Drop)]
 pub struct ImageWord<'a> {
     /// The image in hex, two digits for each byte, or `None` if the call was given no image.

@@ -1,4 +1,5 @@
-//! Readers and writers as the command line sees them: what they give and take, and when they fail.
+//! Readers and writers as the command line sees them: what they give and take, and when they fail. No contract counts the reads from a
+//! file or pipe, or sees the order of reads and writes.
 
 ghost use Rattle.std.specs.Prelude.{◌<◌, IfOk, length};
 ghost use Rattle.std.specs.Io.{ReadsAtMost, WritesAtMost};

@@ -1,5 +1,6 @@
 -- The data of requests and replies as parts, one for each field, and how the parts are joined (HCF_SPEC-127). Own profile: Command 6 is
--- always written with two bytes.
+-- always written with two bytes. If parts were swapped here or had a wrong length, the laws `written_data_are_read_again` and
+-- `fields_are_the_parts` would be false.
 use Rattle.std.specs.Prelude.{ℕ, ◌/◌, ◌%◌, List, [], ◌∷◌, map, None, Some}
 use Rattle.std.specs.List.{flat_map}
 pub use Rattle.hart_values.specs.LoopMode.{mode_byte}

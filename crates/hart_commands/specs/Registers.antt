@@ -59,7 +59,8 @@ size_of register = (row_of register).size
 abbrev pub IsValidIn : Register → List ℕ → Type 0
 IsValidIn register bytes = (length bytes ≡ size_of register) × (row_of register).IsValid bytes
 
--- The contents of a device are the bytes of every register.
+-- The contents of a device are the bytes of every register. They are a record, because a contract cannot see a struct as a function from
+-- registers to bytes.
 pub record Contents : Type 0 where
   pub polling : List ℕ
   pub mode : List ℕ

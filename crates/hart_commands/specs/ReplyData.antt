@@ -32,6 +32,6 @@ reply_reading command _ = None
 abbrev pub reply_payload : Reply → List ℕ
 reply_payload reply = reply.code ∷ reply.status.0 ∷ content_bytes reply.content
 
--- A reply is well made if some payload is read as that reply.
+-- A reply is well made if some payload is read as that reply. So only the table of commands has sizes and codes.
 abbrev pub IsReply : Reply → Type 0
 IsReply reply = (payload : List ℕ) × (reply_reading reply.command payload ≡ Some reply)

@@ -1,4 +1,5 @@
-//! The table of commands (HCF_SPEC-099, HCF_SPEC-127).
+//! The table of commands (HCF_SPEC-099, HCF_SPEC-127). Proofs see its rows only where they say `unfolding`. Otherwise each proof about a
+//! command would split into a case for each row.
 ghost use Rattle.std.specs.Prelude.{◌≡◌, ◌==◌, find, map, option_map};
 ghost use Rattle.hart_commands.specs.Commands.{command_name, is_known, known, may_be_broadcast, reply_rows, request_rows, seen_command};
 ghost use Rattle.hart_commands.specs.Fields.{seen};

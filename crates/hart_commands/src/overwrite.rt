@@ -7,7 +7,8 @@ use std::marker::Model;
 
 /// The registers that a write sets, each with its new bytes (HCF_SPEC-127).
 ///
-/// In contracts, an overwrite is the write request. This request determines which registers are set, and their new bytes.
+/// In contracts, an overwrite is the write request. This request determines which registers are set, and their new bytes. It is borrowed,
+/// so that nothing is copied.
 #[derive(Debug, Drop)]
 pub struct Overwrite<'a> {
     write: &'a Request,

@@ -141,7 +141,8 @@ impl Request {
         }
     }
 
-    /// Returns a copy of the request.
+    /// Returns a copy of the request. A derived `Clone` could run out of memory. The contract also says that the request is well made, so
+    /// callers need not require this.
     pub fn copy(&self) -> Self
         ensures same { result ≡ self.now }
         ensures well_made { IsRequest self.now }

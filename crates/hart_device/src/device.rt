@@ -13,7 +13,8 @@ use std::marker::Model;
 /// A HART field device (HCF_SPEC-081, HCF_SPEC-127), generic over the store of its registers.
 ///
 /// In contracts, a device is its identity, the contents of its registers, its configuration change counter, whether it is write protected,
-/// and the configuration-changed bit and the cold start bit of each master. Every register holds bytes that are valid in it.
+/// and the configuration-changed bit and the cold start bit of each master. Every register holds bytes that are valid in it, so the image
+/// of a device can always be read.
 #[derive(Debug, Drop)]
 pub struct Device<S: RegisterStore> {
     pub(crate) identity: Identity,

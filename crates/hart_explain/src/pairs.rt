@@ -1,4 +1,5 @@
-//! The two digits of each byte, as the library writes them, kept in a table.
+//! The two digits of each byte, as the library writes them, kept in a table. To write digits by lanes was slower, because most data are
+//! short.
 ghost use Rattle.std.specs.Prelude.{◌≡◌, ◌∷◌, []};
 ghost use Rattle.hex.specs.Hex.{encode_upper};
 

@@ -30,7 +30,8 @@ pub enum LineEvent {
     },
     /// The write protection of the device is switched on or off.
     Protect(bool),
-    /// The device and both masters hear these characters. Both masters also hear the device's answer, without damage.
+    /// The device and both masters hear these characters, which can look to the device like a damaged request. Both masters also hear the
+    /// device's answer, without damage, because a script has no word for it.
     Noise(CharList),
     /// The device lost power and is on again. The masters keep what they have in hand.
     Restart,

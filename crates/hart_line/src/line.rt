@@ -43,7 +43,8 @@ pub struct Line<S: RegisterStore> {
     spoken: EventFrames,
     /// The number of preamble bytes of the device's replies.
     response_preambles: u8,
-    /// The request and the reply of an event are written into these two fields, because each frame takes about 300 bytes.
+    /// The request and the reply of an event are written into these two fields, because each frame takes about 300 bytes. Calls that return
+    /// frames instead cost a fourth more instructions in clean turns, and twice as many in empty turns.
     request: Frame,
     reply: Frame,
 }

@@ -7,7 +7,8 @@ pub enum MasterEvent {
     Answered(Reply, u8),
     /// Nothing new: no request is in hand, the request in hand is due to be sent, or the reply to it is still awaited.
     Nothing,
-    /// The reply did not come in time, and the request is due to be sent again.
+    /// The reply did not come in time, and the request is due to be sent again. [`Master::sendings`](crate::Master::sendings) says how
+    /// often it was sent.
     Retry,
     /// The request was given up: it was sent this number of times, and no reply was accepted.
     NoReply(u8),

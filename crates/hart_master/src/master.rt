@@ -200,8 +200,8 @@ impl Master {
         }
     }
 
-    /// Receives a frame. If the frame is the awaited reply, returns the reply and the number of sendings, and drops the request. Otherwise
-    /// the result is [`MasterEvent::Nothing`], and the master is unchanged.
+    /// Receives a frame that the caller has found. If the frame is the awaited reply, returns the reply and the number of sendings, and
+    /// drops the request. Otherwise the result is [`MasterEvent::Nothing`], and the master is unchanged.
     ///
     /// A reply is an ACK without expansion bytes. It has this master's bit and the request's address and command, and
     /// [`Reply::read`](hart_commands::Reply::read) accepts its payload. Its burst bit is ignored.

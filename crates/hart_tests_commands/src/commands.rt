@@ -156,7 +156,7 @@ fn are_listed(len: usize, is_list: bool) -> Result<bool, Fail> {
     }
 }
 
-/// Numbers of codes, and whether so many codes are a list.
+/// How many codes there are, and whether a list can have that number.
 const LISTED: &[(usize, bool)] = &[(0, false), (1, true), (7, true), (8, true), (9, false)];
 
 #[test]

@@ -129,7 +129,7 @@ const REQUESTS: &[(&[u8], bool)] = &[
     (ANSWERS_128, false),
 ];
 
-/// Whether a body is told to be a request or not, and whether a master takes it in hand or not.
+/// Checks that a body counts as a request, and that a master takes it in hand, exactly if the row says so.
 fn is_told_and_taken(row: &(&[u8], bool)) -> Result<bool, Fail> {
     let (body, want) = *row;
     let (frame, _) = decode(body)?;

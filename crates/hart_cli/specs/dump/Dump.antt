@@ -36,7 +36,7 @@ pub record AreDecidedLines (chars : List Character) (lines : List ℕ) : Type 0 
   pub decided : AreDecided chars frames
   pub text : lines ≡ dump_text frames
 
--- A call of `dump` reads an input of at most 1,048,576 bytes, and writes the line of each frame in the input. If a write fails, only lines
--- that the last 16,384 bytes read decide can be missing.
+-- A call of `dump` reads an input of at most 1,048,576 bytes, and writes the line of each frame in the input. If a write fails, no line is
+-- missing but of frames that the last 16,384 bytes decided.
 abbrev pub DumpOutcome : OutcomeRelation
 DumpOutcome = LiveOutcome item_decoding input_limit AreFrameLines AreDecidedLines

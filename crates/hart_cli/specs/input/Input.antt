@@ -47,7 +47,7 @@ ReadsWithin limit old new text TooLong = ReadsPast limit old new text
 abbrev pub Reads : Stream → Stream → List ℕ → InputEnd → Type 0
 Reads old new text end = ReadsWithin input_limit old new text end
 
--- A call reads an input to its end, or leaves it before that.
+-- A call reads an input to its end, or leaves it before that. If it leaves it, definitions demand only what is true whatever follows.
 pub data Ending : Type 0 where
   Left : Ending
   CameTo : (end : InputEnd) → Ending

@@ -22,7 +22,8 @@ mod text;
 ///
 /// The call reads a portion at a time. If a write fails, only lines that were decided by the last 16,384 bytes read can be missing. The
 /// contract says no more about when a line is written. Tests show that before each read the lines of all frames decided by then are
-/// written. So a live HART line is dumped while it is heard, up to the limit of an input. The call allocates nothing.
+/// written. So a live HART line is dumped while it is heard, up to the limit of an input. The call allocates nothing. It
+/// takes an allocator only to be called like the other calls.
 ///
 /// # Errors
 ///

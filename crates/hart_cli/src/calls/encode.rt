@@ -1,4 +1,4 @@
-//! `hart encode`: a message to send.
+//! `hart encode`: a message to send. Its data need not fit its command, so that bad requests can be made too.
 ghost use Rattle.std.specs.Prelude.{◌≡◌, ℕ, List};
 ghost use Rattle.hart_frame.specs.wire.Message.{IsPreambleCount};
 ghost use Rattle.hart_cli.specs.encode.Encode.{EncodeOutcome, IsEncoding, IsFirstBad, WordsOutcome};

@@ -25,7 +25,8 @@ mod line;
 /// The bench device hears all items of a line at once. The line written for them is the reply in hex, or `-` for silence. `restart`,
 /// `protect on` and `protect off` give `ok`, `image` gives the image of the device, and `counter` its counter. Any other line, or a line of
 /// more than 1,048,576 bytes, gives `bad line:` and the reason, and changes nothing. If the caller gives an image, as a word of hex, the
-/// device starts from that image. All memory is allocated before the first line is read.
+/// device starts from that image. All memory is allocated before the first line is read. Words must be exactly as here, because programs
+/// write them. No line sets an image: another process can start from it.
 ///
 /// # Errors
 ///

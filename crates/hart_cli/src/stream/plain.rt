@@ -10,6 +10,9 @@ use std::io::{Read, Write};
 ///
 /// Each error counts as a failure, even an interruption. A write of 1 or more bytes that takes none of them also counts as a failure.
 /// No read and no write is tried again.
+///
+/// No contract can say that a reader or writer of the standard library succeeds. So a `Plain` that always fails would meet its clauses, and
+/// only a test finds it.
 #[derive(Drop)]
 pub struct Plain<T> {
     inner: T,

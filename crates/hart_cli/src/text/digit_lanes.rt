@@ -1,4 +1,5 @@
-//! Sixteen bytes of a text at once, one in each lane of a vector.
+//! Sixteen bytes of a text at once, one in each lane of a vector. The proof compares the values of digits with those of the crate `hex`,
+//! for all 256 bytes.
 ghost use Rattle.std.specs.Prelude.{◌<◌};
 ghost use Rattle.hart_cli.specs.text.DigitLanes.{AreDigitLanes, AreLeading, ArePairLanes, AreSeparatorLanes};
 

@@ -1,4 +1,5 @@
-//! Lines of words, in buffers of a fixed size.
+//! Lines of words, in buffers of a fixed size. So no line needs memory, and no contract has to allow that a line is left out because memory
+//! was refused.
 ghost use Rattle.std.specs.Prelude.{◌≡◌, ◌∷◌, [], ◌++◌, ◌+◌, ◌*◌, ◌<◌, ◌≤◌, length, max};
 ghost use Rattle.hart_cli.specs.text.Words.{bytes_word};
 

@@ -1,4 +1,5 @@
-//! The table of the commands (HCF_SPEC-099, HCF_SPEC-127).
+//! The table of the commands (HCF_SPEC-099, HCF_SPEC-127). With a file for each command in place of the table, the crate was a tenth longer
+//! and took a seventh longer to check, and a new command changed no fewer files.
 use crate::FieldSize::{AllBut, Exactly};
 use crate::{FieldKind, FieldRow, Register};
 

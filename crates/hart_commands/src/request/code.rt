@@ -7,7 +7,8 @@ use hart_values::ResponseCode;
 
 /// Returns the response code of a request of this command. `reading` is the result of [`Request::read`]; `protected` and `counter` are the
 /// device's write protection and configuration change counter. The result is the first of these codes that applies: code 64 or 5 of
-/// `reading`; code 7 for a write to a protected device; any other code of `reading`; code 9 for a wrong counter; code 0.
+/// `reading`; code 7 for a write to a protected device; any other code of `reading`; code 9 for a wrong counter; code 0. A protected device
+/// answers Command 38, which writes nothing.
 pub fn request_code(
     command: u8,
     reading: &Result<Request, ResponseCode>,

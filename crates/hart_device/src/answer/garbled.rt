@@ -113,7 +113,8 @@ fn is_own(identity: &Identity, address: Address) -> bool
     }
 }
 
-/// Returns the communication faults of the characters.
+/// Returns the communication faults of the characters. Longitudinal parity does not follow from the fault bits: each occurs without the
+/// other.
 fn communication_faults(chars: &[Char]) -> CommFaults
     ensures { result ≡ communication_faults chars.now }
 {

@@ -22,7 +22,8 @@ abbrev pub IsHeardOrMarked : ℕ → Character → Type 0
 IsHeardOrMarked byte character = (character ≡ record { byte = byte; faults = 0 }) ⊎ IsMarked character
 
 -- Damage to a message of `preambles` preamble bytes and a body. The last `left` preamble bytes are heard, and the earlier preamble bytes
--- are missing. `AreHeard` says how these `left` bytes and the body are heard. No two faultless FF in a row are heard after the delimiter.
+-- are missing. `AreHeard` says how these `left` bytes and the body are heard. No two faultless FF in a row are heard after the delimiter,
+-- since another frame could begin there.
 pub record IsDamage (frame : FrameParts) (preambles : ℕ) (chars : List Character) (AreHeard : ℕ → List ℕ → Type 0) : Type 0 where
   pub left : ℕ
   pub left_within : left ≤ preambles

@@ -13,8 +13,9 @@ use crate::scan::search::{SearchResult, search};
 use crate::wire::layout::Layout;
 use hart_values::ByteList;
 
-/// The greatest number of faultless characters that are searched together. They are copied before the search. Because of this limit, a
-/// frame at the front does not cost a copy of many characters after it.
+/// The greatest number of faultless characters that are searched together. Their bytes are copied first, because only bytes are searched:
+/// a second search over characters would repeat the code. Because of this limit, a frame at the front does not cost a copy of many
+/// characters after it.
 const STRETCH: usize = 64;
 
 impl Buffer {

@@ -1,4 +1,4 @@
-//! The next frame in bytes in memory.
+//! The next frame in bytes in memory. The caller passes the state of the search, so nothing is kept.
 ghost use Rattle.std.specs.Prelude.{None, ◌≡◌, ◌<◌, ◌≤◌, ◌+◌, ◌++◌, ◌∷◌, [], Bool, List, ℕ, false, true, IsTrue, IfSome, drop, length, map};
 ghost use Rattle.hart_frame.specs.heard.Character.{Character, faultless};
 ghost use Rattle.hart_frame.specs.heard.Frames.{AreFrames, IsUndecided, moved};

@@ -52,8 +52,9 @@ pub(crate) fn search(bytes: &[u8], from: usize, seen: usize) -> SearchResult
 }
 
 /// Goes on at `from` with a search that began at `first`, and has looked at the first `seen` bytes. The caller of that search already knew
-/// that no prefix of fewer than `known` bytes decides a frame. After a false start, bodies that may begin often overlap. So their check
-/// bytes come from sums.
+/// that no prefix of fewer than `known` bytes decides a frame. After a false start it looks at the next place, not behind the length that
+/// the false start gives, because a whole message may stand there. So bodies that may begin often overlap, and their check bytes come from
+/// sums.
 #[inline(never)]
 fn search_on(bytes: &[u8], first: usize, known: usize, from: usize, seen: usize) -> SearchResult
     requires { IsSearching bytes.now first known from seen }
@@ -138,7 +139,7 @@ fn whole_at(place: usize, seen: usize, layout: Layout) -> SearchResult
 }
 
 /// Returns the first place from `from` on at which a pair stands, or `None` if no pair stands there. A pair is two preamble bytes and then
-/// a byte that is no preamble byte.
+/// a byte that is no preamble byte. In noise pairs are rare, and single preamble bytes are frequent.
 #[inline(always)]
 fn next_pair(bytes: &[u8], from: usize) -> Option<usize>
     requires { from ≤ length bytes.now }

@@ -190,7 +190,7 @@ fn after_two(bytes: &[u8], after: &After, start: usize) -> Standing
 }
 
 /// Returns what stands at `start` if exactly one preamble byte stands right before it. A whole body at `start` is a miss, unless
-/// two preamble bytes in a row begin within that body.
+/// two preamble bytes in a row begin within that body: then up to 535 characters would be held until a later message decides.
 fn after_one(bytes: &[u8], after: &After, start: usize) -> Standing
     requires one { 1 ≤ start }
     requires within { start ≤ length bytes.now }

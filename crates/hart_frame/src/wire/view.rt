@@ -10,6 +10,8 @@ use crate::{Expansion, Frame, FrameKind, Payload};
 use hart_values::{Address, MasterId};
 
 /// A frame that borrows its expansion bytes and its payload from a scanner, or from bytes in memory.
+///
+/// Its address is in numbers, and ghost facts take the place of a model: the prover handles no borrowing struct whose fields have models.
 #[derive(Drop)]
 pub struct FrameView<'a> {
     kind: FrameKind,

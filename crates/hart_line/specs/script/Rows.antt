@@ -1,4 +1,5 @@
--- What the lines of a script say (implementation choice): the words that write each kind of event.
+-- What the lines of a script say (implementation choice): the words that write each kind of event. This is a relation, because a function
+-- would have to read items byte by byte, as the code does.
 use Rattle.std.specs.Prelude.{◌≡◌, ◌≢◌, ◌⊎◌, ℕ, ◌+◌, ◌++◌, ◌/◌, ◌<◌, Any, Bool, true, false, not, nat_eq, List, [], ◌∷◌, codes, filter}
 use Rattle.std.specs.Prelude.{length, slice_get, take, Option, None, Some, Result, Ok, Err}
 use Rattle.std.specs.List.{AllZip, starts_with}

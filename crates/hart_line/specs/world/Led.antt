@@ -1,4 +1,4 @@
--- What a script leads to, as it is returned (implementation choice).
+-- What a script leads to, as it is returned (implementation choice). A statement about the script alone would hold whatever a call returns.
 use Rattle.std.specs.Prelude.{◌≡◌, List}
 use Rattle.hart_line.specs.Types.{DeviceState, LineEvent, Outcome, Spoken}
 use Rattle.hart_line.specs.world.Spoken.{AreSpoken}

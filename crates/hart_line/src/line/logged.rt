@@ -56,7 +56,8 @@ pub fn run_logged<S: RegisterStore + Drop, L: Log>(
     carry_out(outcomes, device, primary, secondary, events, process, log)
 }
 
-/// Carries out a script as [`run_logged`] does, in room already reserved for its outcomes. Only the log can run out of memory.
+/// Carries out a script as [`run_logged`] does, in room already reserved for its outcomes. Only the log can run out of memory. If
+/// [`run`](crate::run) called [`run_logged`] in place of this function, nothing would say which of its reservations may be refused.
 pub fn carry_out<S: RegisterStore + Drop, L: Log>(
     outcomes: Filling<Outcome>,
     device: Device<S>,

@@ -15,7 +15,8 @@ use hart_frame::{Char, Frame};
 use hart_master::{Master, MasterEvent};
 use hart_values::{Address, MasterId};
 
-/// How many character times pass at the end of a turn: enough to end every wait.
+/// How many character times pass at the end of a turn: the longest reply limit. So a reply comes in its turn or never, and a shorter limit
+/// makes no difference.
 const TURN_TIME: u8 = 255;
 
 /// A master. If it has a request in hand, `place` is the index of the outcome of this request.

@@ -1,4 +1,4 @@
-//! The room that a script needs.
+//! The room that a script needs. Room that stays unused costs only address space.
 ghost use Rattle.std.specs.Prelude.{◌≡◌, ◌≤◌, ◌*◌, [], IfErr, IfOk, count_by, length};
 ghost use Rattle.hart_line.specs.world.Needs.{IsNeededBy, IsNeededForOutcomes, is_noise, is_submission, is_turn, most_spoken};
 

@@ -29,7 +29,7 @@ use std::alloc::Global;
 /// [`LineFault::Memory`] if room was refused. Before the first event, room is reserved for an outcome of each submission, for two spoken
 /// frames of each turn and for one spoken frame of each noise. Otherwise [`LineFault::Undetected`] for the first leg with undetected
 /// damage: a frame was heard that was not sent in this leg, or several frames were heard. The fault has the number of the event, counted
-/// from 0. Only the fault is returned.
+/// from 0. Only the fault is returned. The device is dropped then, so its store has to be `Drop`.
 pub fn run<S: RegisterStore + Drop>(
     alloc: Global,
     device: Device<S>,

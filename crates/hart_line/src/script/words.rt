@@ -1,4 +1,4 @@
-//! The words that describe a message to send.
+//! The words that describe a message to send. Hex digits may have either case, because tools write both; any other word has one spelling.
 
 ghost use Rattle.std.specs.Prelude.{◌≡◌, ◌≤◌, [], ◌∷◌, MatchOption};
 ghost use Rattle.hart_line.specs.script.Words.{decimal_of, device_of, polling_of, Finds, HasNoValue};

@@ -54,7 +54,7 @@ frame_is_alike id address request frame is =
     let (reply, read) = some_reply (reply_reading frame.command frame.payload) (is.read named) in
     (reply, record { answers = is.answers; read = read })
 
--- both make the same of a frame
+-- a frame brings a reply to both masters, or to neither
 pub received_alike : (id : MasterId) (hand : Hand) (other : FrameHand) (frame : FrameParts) (event : MasterEvent) (told : FrameEvent)
     → AreAlike id hand other → IsHeard hand (FrameBrings id hand frame) event → IsReceived other frame told
     → (told ≡ event_of event) × AreAlike id (hand_heard hand event) (hand_received other told)

@@ -1,4 +1,5 @@
-//! The calendar of the years 1900 to 2155.
+//! The calendar of the years 1900 to 2155, from the crate `jiff`. The definition has the lengths of the months and the leap years itself,
+//! so that a reader can check them.
 ghost use Rattle.std.specs.Prelude.{◌+◌, ◌↔◌, IsTrue};
 ghost use Rattle.hart_values.specs.hart_date.Calendar.{IsCalendarDay};
 

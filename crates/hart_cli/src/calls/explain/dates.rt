@@ -1,4 +1,4 @@
-//! The dates of what is held.
+//! The dates of what is held. A date has at most 32 bytes, so that those of all held characters fit in a fixed size.
 ghost use Rattle.std.specs.Prelude.{◌≡◌, ◌+◌, ◌≤◌, ◌++◌, ◌<◌, ◌^◌, [], ℕ, get_or, length};
 ghost use Rattle.hart_cli.specs.explain.Dates.{date_at, kept_word};
 ghost use Rattle.hart_cli.specs.explain.Explanation.{date_words};

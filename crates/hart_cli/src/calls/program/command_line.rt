@@ -60,6 +60,7 @@ pub enum Call<'w, 'a: 'w> {
 /// # Errors
 ///
 /// The error that clap returns if it finds no matches for the words, or if memory is refused. The text of this error may be clap's help.
+/// No clause says that memory was refused, so a body that refuses more than 64 words would meet this contract.
 pub fn matches_of<'a>(alloc: Global, words: &'a [String]) -> Result<ArgMatches<'a>, clap::Error>
     ensures fits { OnOk result (fault_of hart_app (map string_bytes words.now) ≡ []) }
     ensures matches { IfOk result (λ matches. subcommand_rows_of matches ≡ subcommand_of hart_app (map string_bytes words.now)) }
@@ -70,7 +71,8 @@ pub fn matches_of<'a>(alloc: Global, words: &'a [String]) -> Result<ArgMatches<'
 }
 
 /// Returns the call of the subcommand that the words name. Returns `None` if the words name none of the eight subcommands, or if
-/// `encode_words` or `request_words` returns `None`. clap excludes all three cases.
+/// `encode_words` or `request_words` returns `None`. clap excludes all three cases. No clause says so: the proof would take about 800
+/// lines, and no clause of the program would say more.
 pub fn call_of<'w, 'a: 'w>(matches: &'w ArgMatches<'a>) -> Option<Call<'w, 'a>>
     ensures { result ≡ call_of (subcommand_rows_of matches.now) }
 {
