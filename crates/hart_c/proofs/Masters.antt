@@ -45,15 +45,15 @@ idle_or hand = grind arith
 pub submit_refused : (request : HartFrame) (before : HartMaster) (state : FrameMasterState) (frame : FrameParts) (rejected : RejectedFrame)
     (fault : Fault) → frame ≡ frame_in request → IsMaster before state → AllPass (request_frame_checks request)
     → result_submitted state.hand frame ≡ Err rejected → fault ≡ submit_fault rejected.fault
-        → IsFirstOf (submit_checks request before) fault
+    → IsFirstOf (submit_checks request before) fault
 submit_refused request before state frame rejected fault same is passed said told =
     let (address, (expansion, (payload, (asked, end)))) = passed in
     elim (idle_or state.hand) [
       | inl idle ↦
           let none : IsTrue (may_send (frame_in request)) → ⊥ = grind (arith, idle, said, same) in
           let named : fault ≡ WrongAddress = grind (arith, idle, said, same, told) in
-          inr ((state, is), inr (address, inr (expansion, inr (payload, inr (asked, inr ((state, is, grind (arith, idle)), inl
-              (none, named)))))))
+          let free : IsTrue (is_idle state.hand) = grind (arith, idle) in
+          inr ((state, is), inr (address, inr (expansion, inr (payload, inr (asked, inr ((state, is, free), inl (none, named)))))))
       | inr busy ↦
           let none : ((other : FrameMasterState) × IsMaster before other × IsTrue (is_idle other.hand)) → ⊥ =
           λ other. grind (arith, one_master before state other.0 is other.1, busy, other.2) in

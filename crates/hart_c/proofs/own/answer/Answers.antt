@@ -166,5 +166,5 @@ returns-clause-refused c =
     c.args.device.now (length c.args.reply.now) fault c.in_ok-state.state kept measured.count c.in_ok-frame.ensures.frame
     (unanswered c.args.identity.now c.args.process.now c.args.asked.now c.args.code c.args.is_write c.args.«data».now
     c.args.device.now answer c.answer_own-said.result c.answer_own-said.new.self code_is few sent after
-        (length c.args.reply.now) fault why))
+    (length c.args.reply.now) fault why))
     c.say_and_keep.ensures.refused

@@ -28,8 +28,8 @@ small size is = grind arith
 -- a text that is filled up has only characters of packed text, if it had before
 all_padded : (text : List ℕ) (count : ℕ) → All IsCharacter text → All IsCharacter (padded count text)
 all_padded text count all =
-    All-append IsCharacter text (replicate (count - length text) 0x20) all (All-replicate IsCharacter (count - length text) 0x20
-        (grind arith))
+    All-append IsCharacter text (replicate (count - length text) 0x20) all
+    (All-replicate IsCharacter (count - length text) 0x20 (grind arith))
 
 pub returns-in_default-clause-refused : goal.returns-in_default-clause-refused
 returns-in_default-clause-refused g c =

@@ -206,7 +206,7 @@ ticks who preambles retries limit before (Answered t) count line h =
     quietly who preambles retries before (Answered t) line _ h refl refl refl
 ticks who preambles retries limit before (Awaiting t time) count line h =
     waits who preambles retries limit before t time count line (nat_lt (time_ticked time count) limit)
-        (nat_le t.sendings retries) h refl refl
+    (nat_le t.sendings retries) h refl refl
 
 -- what a line asks was done
 obeys : (asker : LineMaster) (before : List Exchange) (line said : List ℕ) (ask : Ask)

@@ -51,7 +51,7 @@ returns-in-Some g c =
     let portion = c.read_portion-portion in
     let bytes = take portion.result.len portion.new.buffer in
     served_end g.S.Station.serves c.args.server.now.station c.loop-end.server c.serve_more.new.self c.loop-end.room _ _ _ _ _ _ bytes
-        c.in-Some.end served
+    c.in-Some.end served
     (rw c.in-Some.is at portion.ensures.reads) c.loop-end.invariant.quiet c.in_ok-serve_more.ensures.quiet
     (c.in_ok-serve_more.ensures.serves served.rest served.cut.open_end served.keeps)
 
@@ -64,7 +64,7 @@ loop-end-preserved g c =
       buffer_length = portion.ensures.kept ∙ c.loop-end.invariant.buffer_length;
       served = rw (len_of portion.result.len portion.new.buffer portion.ensures.within) at
           (served_on g.S.Station.serves c.args.server.now.station c.loop-end.server c.serve_more.new.self c.loop-end.room _ _ _ _ _ _
-              bytes served
+          bytes served
           (rw c.in_default.is at portion.ensures.reads) c.loop-end.invariant.quiet c.in_ok-serve_more.ensures.quiet
           (c.in_ok-serve_more.ensures.serves served.rest served.cut.open_end served.keeps));
       quiet = c.in_ok-serve_more.ensures.quiet;
