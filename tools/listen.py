@@ -6,7 +6,8 @@ each cut message at most 0.2 s after the silence behind it, each with a time of 
 with `hart explain --json`.
 
 The items begin with a silence, also after a stall and when hart-listen starts again at the same port; that port may refuse parity. RTS is
-cleared, and --silence sets how long a silence is.
+cleared, and --silence sets how long a silence is. On a busy machine each of these may take longer by what the machine is late, and is
+tried again if it fails.
 
 Usage: tools/listen.py PROGRAM
 """
@@ -25,11 +26,18 @@ import termios
 import time
 import tty
 
+sys.dont_write_bytecode = True
+
+from busy import Busy, Failed, patiently  # noqa: E402
+
 LISTENER = pathlib.Path(__file__).with_name("hart-listen")
 # A character has a start bit, 8 data bits, a parity bit and a stop bit.
 CHARACTER = 11 / 1200
 SILENCE = 0.050
 LATE = 0.2
+# How long is waited for what has to come at any time, and how often the programs wake before they say something.
+PATIENCE = 10.0
+WAKINGS = 3
 REQUEST = bytes.fromhex("FFFFFFFFFF82B7420A1B2C1303012345 3D")
 CUT = REQUEST[:-3]
 # The time of day of each line.
@@ -59,7 +67,7 @@ READINGS = (
 
 
 def fails(why):
-    sys.exit(f"listen: {why}")
+    raise Failed(why)
 
 
 def listener():
@@ -87,7 +95,7 @@ def play(port, characters):
     return time.monotonic()
 
 
-def first_line(output, patience):
+def first_line(output, patience=PATIENCE):
     """Returns the next line that is written, or None if none comes in time."""
     line = b""
     deadline = time.monotonic() + patience
@@ -107,36 +115,37 @@ def drop_rest(output):
 def try_rows(port, output, lines):
     for number, ((heard, limit), wanted) in enumerate(zip(HEARD, lines), start=1):
         ended = play(port, heard)
-        line = first_line(output, limit)
-        if line is None:
-            fails(f"row {number}: nothing was said within {limit} s")
+        with Busy() as busy:
+            line = first_line(output)
+            took = time.monotonic() - ended
+        if line is None or took > limit + WAKINGS * busy.late:
+            fails(f"row {number}: {line!r} was said after {took:.2f} s, and {limit} s are wanted")
         if not re.match(wanted, line):
             fails(f"row {number}: it says {line!r}, but {wanted!r} is wanted")
-        print(f"listen: row {number}: said after {time.monotonic() - ended:.3f} s")
+        print(f"listen: row {number}: said after {took:.3f} s")
         drop_rest(output)
 
 
 def try_call(call, lines):
     port, terminal = os.openpty()
     tty.setraw(terminal)
-    heard = subprocess.Popen([LISTENER, os.ttyname(terminal)], stdout=subprocess.PIPE, stderr=subprocess.PIPE, text=True)
+    heard = started(terminal)
     said = subprocess.Popen(call, stdin=heard.stdout, stdout=subprocess.PIPE)
     heard.stdout.close()
-    time.sleep(0.5)
     os.close(terminal)
     try_rows(port, said.stdout, lines)
     os.close(port)
-    status, sentence = heard.wait(timeout=5), heard.stderr.read()
+    status, sentence = heard.wait(timeout=PATIENCE), heard.stderr.read().decode()
     if status != 1 or not sentence.endswith(" is gone\n"):
         fails(f"without a port it ends with {status} and {sentence!r}")
-    if said.wait(timeout=5) != 0:
+    if said.wait(timeout=PATIENCE) != 0:
         fails(f"{' '.join(call)} did not end with 0")
 
 
 def started(terminal, *words):
     """Starts hart-listen at a pseudo-terminal, and returns it once it has said that the line is silent."""
-    heard = subprocess.Popen([LISTENER, *words, os.ttyname(terminal)], stdout=subprocess.PIPE, stderr=subprocess.PIPE)
-    if first_line(heard.stdout, 5) != "/\n":
+    heard = subprocess.Popen([sys.executable, LISTENER, *words, os.ttyname(terminal)], stdout=subprocess.PIPE, stderr=subprocess.PIPE)
+    if first_line(heard.stdout) != "/\n":
         fails(f"with the words {words} it does not begin with a silence")
     return heard
 
@@ -144,7 +153,7 @@ def started(terminal, *words):
 def ended(heard):
     """Ends hart-listen, and returns what it says of the port."""
     heard.send_signal(signal.SIGINT)
-    if heard.wait(timeout=5) != 0:
+    if heard.wait(timeout=PATIENCE) != 0:
         fails(f"at Control-C it ends with {heard.returncode}")
     return heard.stderr.read().decode()
 
@@ -161,7 +170,7 @@ def try_starts():
     ended(started(terminal))
     again = started(terminal)
     os.write(port, CUT)
-    if items_of(first_line(again.stdout, 1)) != CUT.hex(" ").upper():
+    if items_of(first_line(again.stdout)) != CUT.hex(" ").upper():
         fails("started again, it hears something else")
     said = ended(again)
     if "refuses parity" not in said:
@@ -177,12 +186,12 @@ def try_stall():
     tty.setraw(terminal)
     heard = started(terminal, "--silence", "1000")
     os.write(port, b"\x02")
-    first = first_line(heard.stdout, 1)
+    first = first_line(heard.stdout)
     heard.send_signal(signal.SIGSTOP)
     time.sleep(1.2)
     os.write(port, b"\x80")
     heard.send_signal(signal.SIGCONT)
-    lines = [items_of(line) for line in (first, first_line(heard.stdout, 1), first_line(heard.stdout, 1))]
+    lines = [items_of(line) for line in (first, first_line(heard.stdout), first_line(heard.stdout))]
     if lines != ["02", "/\n", "80"]:
         fails(f"around a stall it says {lines}")
     ended(heard)
@@ -196,14 +205,26 @@ def try_silence():
     port, terminal = os.openpty()
     tty.setraw(terminal)
     heard = started(terminal, "--silence", "400")
-    os.write(port, b"\x02")
-    first_line(heard.stdout, 1)
-    if first_line(heard.stdout, 0.3) is not None or first_line(heard.stdout, 0.3) != "/\n":
-        fails("a silence of 400 ms is not told after 400 ms")
+    with Busy() as busy:
+        os.write(port, b"\x02")
+        first_line(heard.stdout)
+        start = time.monotonic()
+        line, took = first_line(heard.stdout), time.monotonic() - start
+    # The line of the byte may be read a little later than it is written.
+    if line != "/\n" or not 0.35 - busy.late <= took <= 0.45 + WAKINGS * busy.late:
+        fails(f"a silence of 400 ms is told as {line!r} after {took:.2f} s")
     ended(heard)
     os.close(port)
     os.close(terminal)
-    print("listen: a silence is as long as it is said to be")
+    print(f"listen: a silence of 0.4 s was told after {took:.3f} s")
+
+
+def try_words():
+    """Numbers that are no silence end hart-listen with status 2."""
+    for word in ("0", "-1", "nan", "inf", "x"):
+        heard = subprocess.run([sys.executable, LISTENER, f"--silence={word}", "/dev/null"], capture_output=True, text=True, check=False)
+        if heard.returncode != 2 or "argument --silence" not in heard.stderr:
+            fails(f"at --silence={word} it ends with {heard.returncode} and {heard.stderr!r}")
 
 
 def try_rts():
@@ -223,13 +244,10 @@ def main():
     parser = argparse.ArgumentParser()
     parser.add_argument("program")
     program = parser.parse_args().program
-    try_readings()
-    try_rts()
-    try_starts()
-    try_stall()
-    try_silence()
+    for check in (try_readings, try_rts, try_starts, try_stall, try_silence, try_words):
+        patiently("listen", check)
     for words, lines in CALLS:
-        try_call([program, *words], lines)
+        patiently("listen", try_call, [program, *words], lines)
     print("listen: as wanted")
 
 

@@ -1,0 +1,51 @@
+"""Checks that measure time, on a machine that may be busy."""
+
+import sys
+import threading
+import time
+
+STEP = 0.009
+# How late a sleep ends at most on an idle machine.
+ON_TIME = 0.002
+TRIES = 5
+
+
+class Failed(Exception):
+    """Why a check failed."""
+
+
+class Busy(threading.Thread):
+    """Sleeps again and again while a `with` block runs. `late` is how late these sleeps ended in all, in seconds: 0 on an idle machine. A
+    process that sleeps as often is as late."""
+
+    def __init__(self):
+        super().__init__(daemon=True)
+        self.late, self.ends = 0.0, False
+
+    def run(self):
+        while not self.ends:
+            start = time.monotonic()
+            time.sleep(STEP)
+            self.late += max(0.0, time.monotonic() - start - STEP - ON_TIME)
+
+    def __enter__(self):
+        self.start()
+        return self
+
+    def __exit__(self, *_):
+        self.ends = True
+        self.join()
+
+
+def patiently(script, check, *given):
+    """Makes a check, and ends the script if it fails. On a busy machine it is made a few times before, since there a program may stall, or
+    what it hears may have a silence in it."""
+    for number in range(1, TRIES + 1):
+        try:
+            with Busy() as busy:
+                return check(*given)
+        except Failed as failed:
+            if not busy.late or number == TRIES:
+                sys.exit(f"{script}: {failed}")
+            print(f"{script}: the machine is {busy.late:.2f} s late: {failed}", flush=True)
+    return None
