@@ -4,25 +4,34 @@
 The device is `hart serve` behind the bridge of hart-bench, which loses, flips and cuts messages by plan. hart-ask has to read the primary
 variable within 1.0 s when nothing is lost, write a tag, find a device by its tag, and get over a lost and a damaged message with as many
 retries. A refused write ends with status 3, wrong words end with status 2, and a dead device with status 1 in the time of the limits.
+A line that is never silent and a signal end hart-ask with status 1, and RTS is set only while it sends.
+
+On a busy machine each of these may take longer by what the machine is late, and is tried again if it fails.
 
 Usage: tools/ask.py PROGRAM
 """
 
 import argparse
+import contextlib
+import importlib.machinery
+import importlib.util
 import os
 import pathlib
 import random
+import signal
 import subprocess
 import sys
 import threading
 import time
 import tty
 from typing import NamedTuple
+from unittest import mock
 
 sys.dont_write_bytecode = True
 HERE = pathlib.Path(__file__).resolve().parent
 sys.path.insert(0, str(HERE))
 
+from busy import Busy, Failed, patiently  # noqa: E402
 from hart_bench import faults  # noqa: E402
 from hart_bench.bridge import GAP, Gone, Lines, Port, now  # noqa: E402
 from hart_bench.master import Bench  # noqa: E402
@@ -35,14 +44,19 @@ DEAD_SENDING = (8 + 29 + 33) * CHARACTER
 SLACK = 0.5
 QUICK = 1.0
 LIMIT = 0.305
+# How often hart-ask, hart master and the device wake for a character.
+WAKINGS = 3
+NOISE = b"\x55" * 64
+NOWHERE = "/dev/null/none"
 
 
 class Row(NamedTuple):
-    """A call of hart-ask: its words, the faults on the way, and what has to come of it."""
+    """A call of hart-ask: its words, the faults on the way, whether its modem hears what it sends, and what has to come of it."""
 
     name: str
     words: tuple
     plan: tuple = ()
+    echoes: bool = False
     status: int = 0
     says: str = ""
     sendings: int = 1
@@ -58,32 +72,48 @@ ROWS = (
     Row("reads as JSON", ("--json", *READS), says='"type":"message"'),
     Row("reads as it came", ("--raw", *READS), says="86 B7 42 0A 1B 2C 01"),
     Row("asks as the secondary master", ("--master", "S", *READS), says="to the secondary master"),
+    Row("does not take its own message for a reply", READS, echoes=True, says="primary variable: 0x"),
+    Row("shows no message of its own", ("--raw", *READS), ("noise-reply",), echoes=True, says=" FF FF FF FF FF 86 B7 42 0A 1B 2C 01"),
     Row("gets over a lost request", READS, ("lose-request",), says="primary variable: 0x", sendings=2),
     Row("gets over a lost reply", READS, ("lose-reply",), says="primary variable: 0x", sendings=2),
     Row("gets over a lost and a damaged message", READS, ("lose-request", "flip-reply"), says="primary variable: 0x", sendings=3),
+    Row("gets over a damaged request", READS, ("flip-request",), says="primary variable: 0x", sendings=2),
     Row("gets over a cut reply and noise", READS, ("cut-reply", "noise-reply"), says="primary variable: 0x", sendings=2),
-    Row("sends no more often than it may", ("--retries", "1", *READS), ("lose-request",) * 4, status=1, says="no reply to 2 sendings",
-        sendings=2),
-    Row("ends in time without a device", READS, ("lose-request",) * 9, status=1, says="no reply to 4 sendings", sendings=4,
-        at_most=4 * DEAD_SENDING + SLACK, at_least=3 * DEAD_SENDING),
-    Row("tells a response code", (DEVICE, "6", "polling_address=99", "loop_current_mode=0"), status=2, says="bad word 3", sendings=0),
+    Row("sends no more often than it may", ("--retries", "1", *READS), ("lose-request",) * 4, status=1, says="sent 2 times", sendings=2),
+    Row("ends in time without a device", READS, ("lose-request",) * 9, status=1, says="Command 1, sent 4 times", sendings=4,
+        at_most=4 * DEAD_SENDING + SLACK, at_least=4 * DEAD_SENDING),
+    Row("waits as long as it is told", ("--retries", "0", "--limit", "200", *READS), ("lose-reply",), status=1, says="sent once",
+        at_most=(8 + 29 + 200) * CHARACTER + SLACK, at_least=(8 + 29 + 200) * CHARACTER),
+    Row("tells a response code", (DEVICE, "6", "polling_address=99", "loop_current_mode=0"), status=2, says="6: refused with code 2",
+        sendings=0),
     Row("tells a refusal of the device", ("--raw", DEVICE, "6", "6300"), status=3, says="86 B7 42 0A 1B 2C 06", sendings=1),
-    Row("refuses a field that it does not know", (DEVICE, "19", "number=1"), status=2, says="bad word 4: unknown field", sendings=0),
-    Row("refuses an address that may not be asked", ("@0", "1"), status=2, says="wrong address", sendings=0),
+    Row("refuses a field that it does not know", (DEVICE, "19", "number=1"), status=2, says="number=1: unknown field", sendings=0),
+    Row("wants each field", (DEVICE, "19"), status=2, says="ask: missing field final assembly number", sendings=0),
+    Row("wants a command", ("@0",), status=2, says="ADDRESS and COMMAND are needed", sendings=0),
+    Row("refuses an address that may not be asked", ("@0", "1"), status=2, says="Command 1 does not go to @0", sendings=0),
+    Row("refuses a bad address", ("@64", "0"), status=2, says="@64: wrong word", sendings=0),
+    Row("refuses a second line", (DEVICE, "22", "long_tag=A\nsend"), status=2, says="control character", sendings=0),
+    Row("refuses a number that hart master refuses", ("--retries", "16", *READS), status=2, says="hart master ended", sendings=0),
 )
 
 
 def fails(why):
-    sys.exit(f"ask: {why}")
+    raise Failed(why)
 
 
 class PacedPort(Port):
     """A port at which bytes take as long as on a line at 1200 baud."""
 
+    def __init__(self, port, echoes):
+        super().__init__(port, GAP / 10, has_marks=False)
+        self.echoes = echoes
+
     def hear(self, patience):
         """Returns what comes between two silences, no earlier than its last character would come."""
         heard = super().hear(patience)
         if heard:
+            if self.echoes:
+                super().send(bytes.fromhex(heard))
             self.ended = self.began + len(heard.split()) * CHARACTER
             time.sleep(max(0.0, self.ended - now()))
         return heard
@@ -107,10 +137,10 @@ class Device:
         self.ends = False
         self.heard = 0
 
-    def run(self, plan):
-        """Hears a master until it is told to end, with the faults of a plan."""
-        watch = Watch(15, LIMIT, lambda: "")
-        bench = Bench(PacedPort(self.port, GAP / 10, has_marks=False), self.serve, faults.planned(list(plan)), random.Random(1), 0.0, watch)
+    def run(self, row):
+        """Hears a master until it is told to end, with the faults of a row."""
+        watch, plan = Watch(15, LIMIT, lambda: ""), faults.planned(list(row.plan))
+        bench = Bench(PacedPort(self.port, row.echoes), self.serve, plan, random.Random(1), 0.0, watch)
         try:
             while not self.ends:
                 self.heard += bench.hear(0.02)
@@ -123,22 +153,28 @@ class Device:
         self.serve.close()
 
 
+def command(device, program, words):
+    """The words of a call of hart-ask at a device."""
+    return [sys.executable, HERE / "hart-ask", device.name, "--hart", program, *words]
+
+
 def asked(device, program, row):
-    """Runs hart-ask on a row. Returns what it wrote, its status and its time."""
+    """Runs hart-ask on a row. Returns what it wrote and its status, its time, and how late a busy machine may make it."""
     device.ends, device.heard = False, 0
+    hearing = threading.Thread(target=device.run, args=(row,))
     # What the bench says of the line is not shown.
-    hearing = threading.Thread(target=device.run, args=(row.plan,))
-    hearing.start()
-    start = time.monotonic()
-    ended = subprocess.run([HERE / "hart-ask", device.name, "--hart", program, *row.words], capture_output=True, text=True, check=False)
-    took = time.monotonic() - start
-    device.ends = True
-    hearing.join()
-    return ended, took
+    with open(os.devnull, "w", encoding="utf-8") as nowhere, contextlib.redirect_stdout(nowhere), Busy() as busy:
+        hearing.start()
+        start = time.monotonic()
+        ended = subprocess.run(command(device, program, row.words), capture_output=True, text=True, check=False)
+        took = time.monotonic() - start
+        device.ends = True
+        hearing.join()
+    return ended, took, WAKINGS * busy.late
 
 
-def check(row, ended, took, heard):
-    """Ends the script if a row did not come out as wanted."""
+def check(row, ended, heard):
+    """Ends the script if a row with this number of messages did not come out as wanted."""
     said = ended.stdout + ended.stderr
     if ended.returncode != row.status:
         fails(f"{row.name}: status {ended.returncode}, and {row.status} is wanted: {said}")
@@ -150,8 +186,77 @@ def check(row, ended, took, heard):
     wanted = 0 if "--tag" in row.words else max(0, row.sendings - 1)
     if retries != wanted:
         fails(f"{row.name}: it tells {retries} retries, and {wanted} are wanted: {ended.stderr}")
-    if not row.at_least <= took <= row.at_most:
-        fails(f"{row.name}: it took {took:.2f} s, and {row.at_least:.2f} to {row.at_most:.2f} are wanted")
+
+
+def try_row(device, program, row):
+    """Runs a row."""
+    ended, took, late = asked(device, program, row)
+    check(row, ended, device.heard)
+    if not row.at_least <= took <= row.at_most + late:
+        fails(f"{row.name}: {took:.2f} s, and {row.at_least:.2f} to {row.at_most:.2f} are wanted")
+    print(f"ask: {row.name}: {took:.2f} s")
+
+
+def try_gone(program):
+    """Asks where there is no port, and with no program."""
+    for words in (NOWHERE, "--hart", program), ("/dev/null", "--hart", NOWHERE):
+        ended = subprocess.run([sys.executable, HERE / "hart-ask", *words, *READS], capture_output=True, text=True, check=False)
+        if ended.returncode != 1 or ended.stderr != f"hart-ask: {NOWHERE}: Not a directory\n":
+            fails(f"with {words} it ends with {ended.returncode} and {ended.stderr!r}")
+
+
+def try_noise(device, program):
+    """Lets noise come without an end, before hart-ask may send."""
+    asks = subprocess.Popen(command(device, program, READS), stderr=subprocess.PIPE, text=True)
+    while asks.poll() is None:
+        os.write(device.port, NOISE)
+        time.sleep(0.01)
+    if (said := asks.stderr.read().splitlines()[-1:]) != ["hart-ask: the line is never silent"] or asks.returncode != 1:
+        fails(f"at noise it ends with {asks.returncode} and says {said}")
+    print("ask: ends at noise without an end")
+
+
+def try_signals(device, program):
+    """Ends hart-ask by a signal once it sends."""
+    for number in (signal.SIGINT, signal.SIGTERM):
+        asks = subprocess.Popen(command(device, program, READS), stderr=subprocess.PIPE, text=True)
+        os.read(device.port, 1)
+        asks.send_signal(number)
+        if asks.wait(timeout=10) != 1 or "Traceback" in asks.stderr.read():
+            fails(f"at {number.name} it ends with {asks.returncode}")
+        # The rest of the message.
+        os.read(device.port, 4096)
+    print("ask: ends at a signal")
+
+
+def calls_of_sending(module, write):
+    """The calls of a port that sending makes, with this call in the place of `os.write`."""
+    port, terminal = os.openpty()
+    tty.setraw(terminal)
+    calls = []
+    with mock.patch.object(module.LISTENER, "set_rts", lambda _, is_raised: calls.append("raise" if is_raised else "clear")), \
+            mock.patch.object(module.os, "write", lambda _, data: calls.append("write") or write(data)), \
+            mock.patch.object(module.termios, "tcdrain", lambda _: calls.append("drain")), contextlib.suppress(KeyboardInterrupt):
+        module.Line(terminal, GAP).send(bytes(5))
+    os.close(port)
+    os.close(terminal)
+    return calls
+
+
+def breaks_off(_):
+    """A write that is broken off."""
+    raise KeyboardInterrupt
+
+
+def try_rts():
+    """RTS is raised before a message is written, and cleared after it is sent or broken off."""
+    loader = importlib.machinery.SourceFileLoader("hart_ask", str(HERE / "hart-ask"))
+    module = importlib.util.module_from_spec(importlib.util.spec_from_loader("hart_ask", loader))
+    loader.exec_module(module)
+    for write, wanted in ((len, ["raise", "write", "drain", "clear"]), (breaks_off, ["raise", "write", "clear"])):
+        if (calls := calls_of_sending(module, write)) != wanted:
+            fails(f"sending makes the calls {calls}, and {wanted} are wanted")
+    print("ask: RTS is set only while it sends")
 
 
 def main():
@@ -159,19 +264,13 @@ def main():
     parser.add_argument("program")
     program = str(pathlib.Path(parser.parse_args().program).resolve())
     device = Device(program)
+    patiently("ask", try_rts)
+    patiently("ask", try_gone, program)
     for row in ROWS:
-        with open(os.devnull, "w", encoding="utf-8") as nowhere:
-            shown, sys.stdout = sys.stdout, nowhere
-            try:
-                ended, took = asked(device, program, row)
-            finally:
-                sys.stdout = shown
-        check(row, ended, took, device.heard)
-        print(f"ask: {row.name}: {took:.2f} s")
+        patiently("ask", try_row, device, program, row)
+    patiently("ask", try_noise, device, program)
+    patiently("ask", try_signals, device, program)
     device.close()
-    gone = subprocess.run([HERE / "hart-ask", "/dev/null/none", "--hart", program, *READS], capture_output=True, text=True, check=False)
-    if gone.returncode != 1:
-        fails(f"without a port it ends with {gone.returncode}")
     print("ask: as wanted")
 
 
