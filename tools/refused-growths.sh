@@ -110,9 +110,21 @@ yes counter | head -n 3000 >"$work/input"
 yes 'counter 0' | head -n 3000 >"$work/wanted"
 refuse_each 2 serve
 refuse_each 3 serve --image "$image"
-yes 'tick 1' | head -n 3000 >"$work/input"
-yes '-' | head -n 3000 >"$work/wanted"
-refuse_each 2 master
+exchange='submit 37420A1B2C 19 012345
+send
+heard FF FF 86 B7 42 0A 1B 2C 13 05 00 40 01 23 45 7F
+ask @0 19 final_assembly_number=0x012345
+heard 0G
+tick 33'
+yes "$exchange" | head -n 3000 >"$work/input"
+answers='ok
+send FF FF FF FF FF 82 B7 42 0A 1B 2C 13 03 01 23 45 3D
+answered 1 0040012345
+refused: wrong address
+bad line: bad hex at 6
+-'
+yes "$answers" | head -n 3000 >"$work/wanted"
+refuse_each 2 master --preambles 5
 
 echo 'FF FF 02 80 00 00 82 FF!40 FF FF 82 B7 42 0A 1B 2C 13 03 01 23 45 3D' >"$work/input"
 printf '%s\n' '2 7 STX P 0 @0 - 0 -' '10 22 STX P 0 37420A1B2C - 19 012345' >"$work/wanted"
