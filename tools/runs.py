@@ -151,10 +151,11 @@ def a_master_answers_lines_in_turn(runner):
 
 
 def a_line_is_served_before_more_is_read(runner):
-    # Each read gives a byte, and the second write fails: only `counter` and the empty line had been read by then.
-    run = runner.run(["serve"], "counter\n\nrestart\n", most_read=1, failed_output=1)
-    is_named = run.gave(FAULT, "counter 0\n", "write fault\n") and (run.reads, run.writes) == (9, 2)
-    runner.hold(is_named, ["serve"], run)
+    # Each read gives a byte, and the second write fails: only two lines had been read by then.
+    for word, lines, said in ("serve", "counter\n\n", "counter 0\n"), ("master", "submit @0 0\nsend\n", "ok\n"):
+        run = runner.run([word], lines + "restart\n", most_read=1, failed_output=1)
+        is_named = run.gave(FAULT, said, "write fault\n") and (run.reads, run.writes) == (len(lines), 2)
+        runner.hold(is_named, [word], run)
 
 
 def lines_up_to_the_longest_are_served(runner):
@@ -168,6 +169,15 @@ def lines_up_to_the_longest_are_served(runner):
         (longest * 3, "bad line: too long\n"),
     ):
         runner.serves(["serve"], f"protect on\n{line}\ncounter\n", f"ok\n{said}counter 0\n")
+
+
+def deliveries_up_to_the_longest_are_heard(runner):
+    room = INPUT_LIMIT - len("heard ") - len(master.REPLY)
+    longest = "heard " + "00" * (room // 2) + " " * (room % 2) + master.REPLY
+    answered = f"answered 1 {master.PAYLOAD}\n"
+    runner.hold(len(longest) == INPUT_LIMIT, [], "the longest line")
+    for line, said in (longest, answered), (longest + "\r", answered), (longest + " ", "bad line: too long\n"):
+        runner.serves(["master"], f"submit @0 0\nsend\n{line}\nsend\n", f"ok\nsend {master.MESSAGE}\n{said}-\n")
 
 
 def long_scripts_have_long_texts(runner):
@@ -371,6 +381,7 @@ CHECKS = (
     a_master_answers_lines_in_turn,
     a_line_is_served_before_more_is_read,
     lines_up_to_the_longest_are_served,
+    deliveries_up_to_the_longest_are_heard,
     long_scripts_have_long_texts,
     inputs_up_to_the_largest_are_taken,
     an_explanation_has_no_such_limit,
