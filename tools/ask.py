@@ -48,6 +48,7 @@ LIMIT = 0.305
 WAKINGS = 3
 NOISE = b"\x55" * 64
 NOWHERE = "/dev/null/none"
+PATIENCE = 30.0
 
 
 class Row(NamedTuple):
@@ -208,9 +209,12 @@ def try_gone(program):
 def try_noise(device, program):
     """Lets noise come without an end, before hart-ask may send."""
     asks = subprocess.Popen(command(device, program, READS), stderr=subprocess.PIPE, text=True)
+    latest = now() + PATIENCE
     while asks.poll() is None:
         os.write(device.port, NOISE)
         time.sleep(0.01)
+        if now() > latest:
+            asks.kill()
     if (said := asks.stderr.read().splitlines()[-1:]) != ["hart-ask: the line is never silent"] or asks.returncode != 1:
         fails(f"at noise it ends with {asks.returncode} and says {said}")
     print("ask: ends at noise without an end")
@@ -222,7 +226,7 @@ def try_signals(device, program):
         asks = subprocess.Popen(command(device, program, READS), stderr=subprocess.PIPE, text=True)
         os.read(device.port, 1)
         asks.send_signal(number)
-        if asks.wait(timeout=10) != 1 or "Traceback" in asks.stderr.read():
+        if asks.wait(timeout=PATIENCE) != 1 or "Traceback" in asks.stderr.read():
             fails(f"at {number.name} it ends with {asks.returncode}")
         # The rest of the message.
         os.read(device.port, 4096)
