@@ -1,6 +1,8 @@
 #!/bin/sh
 # Makes packages for Debian of a built program and a built library: `hart` has what `make install` installs, `libhart0` has libhart.so.0,
-# and `libhart-dev` has what else a program in C needs, with the examples. For arm64 the library alone is packed.
+# and `libhart-dev` has what else a program in C needs, with the examples. For arm64 the library alone is packed. `dpkg-deb` alone makes
+# them: what is packed is built by the toolchain, which Debian does not have. The vectors are in share/hart, since no program may need a
+# file of share/doc.
 #
 # Usage: tools/deb.sh FOLDER PROGRAM LIBRARY [LIBRARY_FOR_ARM64]. The packages are put into FOLDER. A LIBRARY is a folder with libhart.a
 # and libhart.so.0. DEBFULLNAME and DEBEMAIL name the maintainer. All files get the time SOURCE_DATE_EPOCH, or that of the last commit.
