@@ -11,6 +11,7 @@ was built here is left as it is. Two runs of `rt` in one tree wait for each othe
 import argparse
 import contextlib
 import hashlib
+import math
 import os
 import re
 import shutil
@@ -107,14 +108,15 @@ class Progress:
 
 
 def next_tasks(every, left, running, done, lanes):
-    """The libraries that can begin now, each with its jobs: a processor each, and more where too few can run to use them all."""
+    """The libraries that can begin now, each with its jobs: a processor each, and more where too few can run to use them all. What cannot be
+    shared out evenly goes to the first, since the others wait for it."""
     ready = [it for it in left if set(every[it].below) <= done]
     # Those with the most code above them come first.
     ready.sort(key=lambda it: -sum(it in other.below for other in every.values()))
     idle, found = lanes - sum(jobs for _, _, jobs in running.values()), []
     for at, name in enumerate(ready):
         if idle:
-            jobs = min(MOST_JOBS, max(1, idle // (len(ready) - at)))
+            jobs = min(MOST_JOBS, math.ceil(idle / (len(ready) - at)))
             found.append((name, jobs))
             idle -= jobs
     return found
