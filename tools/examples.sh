@@ -19,8 +19,8 @@ printf '#!/bin/sh\n' >"$work/bin/make"
 chmod +x "$work/bin/make"
 PATH=$work/bin:$PATH
 
-# A help text indents its commands and what they write by two spaces, with the word "writes" between. A page has "$ " before a
-# command, and "> " before a line that continues it.
+# A help text, below the line "$ hart .." that asks for it, indents its commands and what they write by two spaces, with the word
+# "writes" between. A page has "$ " before a command, and "> " before a line that continues it.
 awk -v folder="$work/examples" '
     function give() {
         if (text != "") {
@@ -39,13 +39,14 @@ awk -v folder="$work/examples" '
     page && on && command != "" && text == "" && /^> / { command = command substr($0, 3) "\n"; next }
     page && on && command != "" { text = text $0 "\n" }
     page { next }
+    /^\$ / { give(); on = 0; next }
     /^Examples?:$/ { on = 1; next }
     on && /^writes$/ { writes = 1; next }
     on && /^  / && writes { text = text substr($0, 3) "\n"; next }
     on && /^  / { command = command substr($0, 3) "\n"; next }
     on { give() }
     END { give() }
-' tools/texts/help-*.txt README.md docs/*.md
+' tools/texts.txt README.md docs/*.md
 
 ran=0
 for command in "$work/examples"/*.command; do

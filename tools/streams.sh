@@ -3,7 +3,7 @@
 # an unreadable input, a word that is not UTF-8. For example, if standard output were buffered, `hart dump >/dev/full` would wrongly
 # report success, and no proof or test would notice. On a pipe that stays open `hart dump` has to write each line before it
 # reads on, and to end at bad hex. All words have to reach the call, even a seventh one and an empty one, and the texts of clap have
-# to be those in tools/texts, each in its place.
+# to be those in tools/texts.txt, each below its words.
 #
 # Usage: tools/streams.sh [PROGRAM]; PROGRAM is the ./hart of the repository if absent.
 set -eu
@@ -56,19 +56,19 @@ writes() {
     echo "hart $*: wrote '$text'"
 }
 
-# Runs hart with the words that follow the name of a text: it has to show the whole of this text on standard error alone, and
-# to end with 2.
+# Runs hart with these words: it has to show the whole text that stands below them in tools/texts.txt on standard error alone, and to
+# end with 2.
 shows() {
-    wanted=tools/texts/$1.txt
-    shift
+    wanted=$work/text
+    awk -v line="\$ hart $*" '/^\$ / { on = $0 == line; next } on' tools/texts.txt >"$wanted"
     status=0
     "$program" "$@" </dev/null >"$work/output" 2>"$work/errors" || status=$?
-    if [ "$status" -ne 2 ] || [ -s "$work/output" ] || ! cmp -s "$wanted" "$work/errors"; then
-        echo "hart $*: status $status, but 2 is wanted, and against $wanted:" >&2
+    if [ "$status" -ne 2 ] || [ -s "$work/output" ] || [ ! -s "$wanted" ] || ! cmp -s "$wanted" "$work/errors"; then
+        echo "hart $*: status $status, but 2 is wanted, and against its text in tools/texts.txt:" >&2
         diff "$wanted" "$work/errors" >&2 || true
         exit 1
     fi
-    echo "hart $*: showed $wanted"
+    echo "hart $*: showed its text"
 }
 
 # Runs hart with these words on a pipe that stays open.
@@ -247,16 +247,16 @@ image=02050182082082082082082082082082082082082082082082082082082082082082082082
 writes "$(printf 'counter 1\nimage %s' "$image")" sim --image "$image"
 writes "$(printf 'counter 1\nimage %s' "$image")" sim "--image=$image"
 writes "$(printf 'counter 1\nimage %s' "$image")" sim --image "$earlier"
-shows help --help
+shows --help
 for word in answer dump explain serve master sim request encode; do
-    shows "help-$word" "$word" --help
+    shows "$word" --help
 done
-shows help-help help help
-shows version --version
-shows wrong-word frob
-shows missing-word encode P @0
+shows help help
+shows --version
+shows frob
+shows encode P @0
 # A file is no word of a call: the error for such a word names how a file goes in.
-shows wrong-file dump heard.txt
+shows dump heard.txt
 
 # An input may have as many bytes as the limit, and not one more.
 head -c 1048576 /dev/zero | tr '\0' ' ' >"$work/full"
