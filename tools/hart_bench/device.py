@@ -4,14 +4,13 @@ import random
 import sys
 import time
 
-from . import junit
 from .bridge import GAP, DeviceAtPort, Gone, Port
 from .compare import IDENTITY_BYTES, Yardstick
 from .places import program_of, serve_of, vectors_of
 from .tested import Reference, Tested
 from .trial import Trial
 from .vectors import NEW, rows_of
-from .words import difference_text, summary
+from .words import difference_text, summary, write_junit
 
 DELIVERIES = 20000
 PORT_DELIVERIES = 500
@@ -112,7 +111,7 @@ def told(trial, given, seed, found):
     if trial.tested.yardstick.left_out:
         print(f"{trial.tested.yardstick.left_out} replies were compared without what is the device's own")
     if given.junit:
-        junit.written(given.junit, trial.cases, lambda case: difference_text(program, case, ""))
+        write_junit(given.junit, trial.cases, lambda case: difference_text(program, case, ""))
     if found:
         print(difference_text(program, found, shortened))
     else:

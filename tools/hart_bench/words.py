@@ -1,6 +1,7 @@
-"""Says in words what was heard, expected and given, and sums up a trial."""
+"""Says in words, or as JUnit XML, what was heard, expected and given, and sums up a trial."""
 
 import subprocess
+import xml.etree.ElementTree as tree
 
 from .vectors import NEW, SILENCE
 
@@ -42,3 +43,22 @@ def summary(trial):
         codes = sorted((code, count) for (command, code), count in trial.codes.items() if command == name)
         shown = ", ".join(f"{f'0x{code:02X}' if code & 0x80 else code}: {count}" for code, count in codes)
         yield f"{name:<12}{trial.deliveries[name]:>10}{trial.replies[name]:>9}  {shown}".rstrip()
+
+
+def write_junit(path, cases, text_of):
+    """Writes what came of cases to a file, as JUnit XML; `text_of` says a difference in words."""
+    suites = tree.Element("testsuites", name="hart-bench")
+    groups = {}
+    for case in cases:
+        groups.setdefault(case.group, []).append(case)
+    for name, members in groups.items():
+        failures, skipped = sum(bool(case.difference) for case in members), sum(bool(case.left_out) for case in members)
+        suite = tree.SubElement(suites, "testsuite", name=name, tests=str(len(members)), failures=str(failures), errors="0",
+                                skipped=str(skipped))
+        for case in members:
+            shown = tree.SubElement(suite, "testcase", classname=f"hart-bench.{name}", name=case.name)
+            if case.difference:
+                tree.SubElement(shown, "failure", message="another answer than expected").text = text_of(case.difference)
+            elif case.left_out:
+                tree.SubElement(shown, "skipped", message=case.left_out)
+    tree.ElementTree(suites).write(path, encoding="utf-8", xml_declaration=True)

@@ -2,9 +2,11 @@
 import datetime
 import functools
 import re
+from collections import Counter
 
 DAY = 24 * 60 * 60
 GREATEST_PLACE = 2**64
+MOST_BINS = 80
 DATE = re.compile(r"(?:(\d{4}-\d\d-\d\d)[T_])?(\d\d):(\d\d)", re.ASCII)
 SECONDS = re.compile(r"\d\d(?:\.\d{1,9})?", re.ASCII)
 ZONE = re.compile(r"(?:Z|[+-]\d\d:?\d\d)$", re.ASCII)
@@ -77,3 +79,29 @@ class Axis:
             self.days += DAY
         self.last_date = date
         return seconds + (0 if names_day else self.days)
+
+
+class Bins:
+    """Counts by reason along an axis, in bins of equal width. When they no longer suffice, two neighbours become one."""
+
+    def __init__(self, width):
+        self.width = width
+        self.bins = {}
+
+    def add(self, offset, reason):
+        """Counts a reason at an offset from the beginning of the axis. An offset below 0 counts in the first bin."""
+        self.widen(offset)
+        index = max(0, int(offset // self.width))
+        counts = self.bins.get(index)
+        if counts is None:
+            counts = self.bins[index] = Counter()
+        counts[reason] += 1
+
+    def widen(self, offset):
+        """Joins neighbours until this offset lies in one of MOST_BINS bins."""
+        while offset >= MOST_BINS * self.width:
+            joined = {}
+            for index, counts in self.bins.items():
+                joined.setdefault(index // 2, Counter()).update(counts)
+            self.bins = joined
+            self.width *= 2

@@ -2,8 +2,7 @@
 from collections import Counter, deque
 from typing import NamedTuple
 
-from .axis import Axis
-from .bins import Bins
+from .axis import Axis, Bins
 from .exchanges import Exchanges
 from .shape import check
 from .stations import FACTS, Stations

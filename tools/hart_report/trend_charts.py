@@ -2,7 +2,7 @@
 from .charts import HEIGHT, WIDTH, axis_note, axis_words, chart, extent, nice_ticks
 from .html import counted, element, figure, section
 from .names import address_words, rank_of_station, tag_of
-from .trend import MOST_POINTS
+from .trends import MOST_POINTS
 from .words import number_text, unit_name
 
 QUANTITIES = ("primary variable", "percent of range", "loop current")

@@ -1,6 +1,6 @@
 """`hart dump`: what was heard, and its lines."""
 
-from rows.counted import FailedWrite, Read
+from rows import FailedWrite, Read
 
 # A message that begins and goes on far beyond the whole one within it.
 FALSE_START = "FF FF 82 B7 42 0A 1B 2C 13 FF FF FF FF FF FF 02 80 00 00 82"

@@ -4,7 +4,7 @@ import functools
 import operator
 
 from fuzz.units import unit_text
-from rows.counted import FailedWrite, Read
+from rows import FailedWrite, Read
 
 IDENTIFY_HEADER = "request of the primary master to the device at polling address 0, Command 0, read unique identifier\n"
 IDENTIFY = f"2-7: {IDENTIFY_HEADER}"

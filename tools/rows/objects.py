@@ -1,7 +1,7 @@
 """`hart explain --json`: what was heard, and the object of each message and each miss."""
 
 from rows.explain import MESSAGES
-from rows.counted import FailedWrite, Read
+from rows import FailedWrite, Read
 
 IDENTIFIES = '"address":"@0","burst":false,"expansion":"","command":0,"command_name":"read unique identifier","data":"",' \
     '"fields":{},"ignored":"","problem":null'
