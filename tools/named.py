@@ -35,7 +35,7 @@ def without_answers(edit, crate):
     body = wrong_body(edit, crate)
     answers = {f"{it.proofs()}/Answers.antt": None for it in body.functions if f"{it.proofs()}/Answers.antt" in crate.raw}
     with copied([crate.name]) as room:
-        said = [room.check(crate.name, sorted(body.paths()), {**texts, **answers}) for texts in (texts_of([body], crate), {})]
+        said = [room.check(crate.name, sorted(body.paths()), {**texts, **answers}) for texts in (texts_of([edit], crate), {})]
     wrong, right = (verdict_of(it, crate.name, body.functions) for it in said)
     if right.why != PROVED:
         return "", f"without its answers the right body is not proved either: {right.words() or right.why}"

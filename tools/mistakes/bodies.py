@@ -16,11 +16,11 @@ COMPILER = re.compile(r"^(?:note: )?(?:\./)?(src/\S+?\.rt):(\d+):\d+: error\b", 
 MOST = 64
 
 
-def texts_of(bodies, crate):
-    """The texts of the files that these wrong bodies change, by their paths in the crate."""
+def texts_of(edits, crate):
+    """The texts of the files that these edits change, by their paths in the crate."""
     texts = {}
-    for body in bodies:
-        apply(body.edit, crate, texts)
+    for it in edits:
+        apply(it, crate, texts)
     return texts
 
 
@@ -30,7 +30,7 @@ def has_room(batch, body, crate):
     if len(batch) == MOST or any(it.is_alone() or it.paths() & body.paths() for it in batch) or batch and body.is_alone():
         return False
     try:
-        texts_of([*batch, body], crate)
+        texts_of([it.edit for it in (*batch, body)], crate)
     except BadEdit:
         return False
     return True
@@ -59,7 +59,7 @@ def parts_of(batch, said):
 
 def judged(room, batch, crate):
     """Returns the verdict on each wrong body of a batch. One that is not refused beside others is tried once more, alone."""
-    said = room.check(crate.name, sorted({path for body in batch for path in body.paths()}), texts_of(batch, crate))
+    said = room.check(crate.name, sorted({path for body in batch for path in body.paths()}), texts_of([it.edit for it in batch], crate))
     found = [(it, verdict_of(said, crate.name, it.functions)) for it in batch]
     if len(batch) == 1:
         return found

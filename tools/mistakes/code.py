@@ -1,17 +1,17 @@
 """Reads the code of a crate by the layout that `rt fmt` gives it: its functions, and its items as callers see them."""
 
-import itertools
 import re
 from typing import NamedTuple
 
 PUB = r"(?:pub(?:\([^)]*\))? )?"
 FN = rf"{PUB}(?:const )?(?:unsafe )?(?:extern \"C\" )?fn (\w+)"
-HEAD = re.compile(rf"( *){FN}")
-BLOCK = re.compile(rf"{PUB}(impl|trait|mod)\b(.*) \{{$")
+FUNCTION = re.compile(rf"( *){FN}")
+BLOCK = re.compile(rf"{PUB}(impl|trait)\b(.*) \{{$")
 DECLARED = re.compile(rf"^{PUB}(?:struct|enum) (\w+)", re.M)
 NAMED = re.compile(rf"{PUB}(?:struct|enum|union|trait|type|const|static|macro_rules!) ?(?:mut )?(\w+)")
 START = re.compile(rf"{FN}|{NAMED.pattern}|{PUB}(?:impl|mod|use|ghost)\b|#!?\[")
-PARAMETERS = re.compile(r"^<((?:[^<>]|<[^<>]*>)*)>")
+# The first line of an item behind its attributes.
+HEAD = re.compile(r"^ *(?!#\[)(\S.*)", re.M)
 COMMENT = re.compile(r'//[^\n]*|/\*.*?\*/|("(?:\\.|[^"\\])*"|b?\'(?:\\.|[^\'\\\n])\')', re.S)
 
 
@@ -61,25 +61,27 @@ def bare(type_text):
 
 def parts_of_impl(head):
     """The parameters, the trait if there is one, and the type of what stands after the word `impl`."""
-    parameters = PARAMETERS.match(head)
-    trait, _, of = PARAMETERS.sub("", head).partition(" where ")[0].strip(" {}").rpartition(" for ")
-    return re.findall(r"\w+", parameters[1]) if parameters else [], trait, of
+    parameters, rest = re.fullmatch(r"\s*(?:<((?:[^<>]|<[^<>]*>)*)>)?(.*)", head).groups("")
+    trait, _, of = rest.partition(" where ")[0].strip(" {}").rpartition(" for ")
+    return re.findall(r"\w+", parameters), trait, of
 
 
 def with_given(text, free):
     """The name of a type or a trait, and of the types that it is given but for those that are free."""
-    given = re.search(r"<(.*)>", text)
-    names = re.findall(r"(?<!')\b[A-Z]\w*", given[1]) if given else []
-    return "".join([bare(text), *(it for it in names if it not in free)])
+    given = re.findall(r"(?<!')\b[A-Z]\w*", text.partition("<")[2])
+    return "".join([bare(text), *(it for it in given if it not in free)])
 
 
-def owner_of(head, module, modules):
-    """The path under which the prover names the functions of an `impl` block: those of a type where the type is declared, those of a trait
-    by type and trait, each with what it is given that is no parameter of the block."""
+def owner_of(block, module, types):
+    """The path under which the prover names the functions of an `impl` or a trait: those of a type where the type is declared, those of a
+    trait that a type has by type and trait, each with what it is given that is no parameter of the block."""
+    kind, head = block.groups()
+    if kind == "trait":
+        return joined(module, re.match(r" (\w+)", head)[1])
     free, trait, of = parts_of_impl(head)
     if trait:
         return joined(module, with_given(of, free) + with_given(trait, free))
-    declared = modules.get(bare(of), [module])
+    declared = types.get(bare(of), [module])
     return joined(module if module in declared else declared[0], bare(of))
 
 
@@ -100,28 +102,18 @@ def parts_of(lines, first, indent):
     return None
 
 
-def functions_in(file, text, modules):
-    """The functions of a file that have bodies of more than one line. `modules` are those in which types are declared, by their names."""
-    lines, found, owner = text.split("\n"), [], module_of(file)
+def functions_in(file, text, types):
+    """The functions of a file that have bodies of more than one line. `types` has the modules that declare types of these names."""
+    lines, module, found = text.split("\n"), module_of(file), []
+    owner = module
     for number, line in enumerate(lines):
-        block = BLOCK.match(line)
-        if block and block[1] == "impl":
-            owner = owner_of(block[2].strip(), module_of(file), modules)
-        elif block:
-            owner = joined(module_of(file), re.match(r" (\w+)", block[2])[1])
-        elif line == "}":
-            owner = module_of(file)
-        head = HEAD.match(line)
+        block, head = BLOCK.match(line), FUNCTION.match(line)
+        if block or line == "}":
+            owner = owner_of(block, module, types) if block else module
         parts = head and parts_of(lines, number, head[1])
         if parts:
             found.append(Function(joined(owner, head[2]), file, number, *parts))
     return found
-
-
-def first_with_attributes(lines, function):
-    """The line on which the attributes above a function begin."""
-    above = itertools.takewhile(lambda it: it.strip().startswith("#["), reversed(lines[: function.first]))
-    return function.first - len(list(above))
 
 
 def without_comments(text):
@@ -133,53 +125,37 @@ def packed(lines):
     return "\n".join(it.rstrip() for it in lines if it.strip())
 
 
-def head_of(lines):
-    return next((it.strip() for it in lines if not it.strip().startswith("#[")), "")
+def blocks_of(text, indent=""):
+    """The items that stand at this indent, each with the attributes above it. What begins no item belongs to the one before."""
+    found = []
+    for block in re.findall(rf"((?:.*\n)*?(?:#!.*|{indent}(?![ #]).*[;}}]|.+\Z))(?:\n|$)", text):
+        is_item = START.match(HEAD.search(block)[1])
+        found.append(block if is_item or not found else f"{found.pop()}\n{block}")
+    return found
 
 
-def blocks_of(lines, indent):
-    """The items that stand at this indent, each as lines with the attributes above it. What begins no item belongs to the one before."""
-    found, now = [], []
-    for line in lines:
-        now.append(line)
-        inside = line.removeprefix(indent)
-        is_end = line.startswith(indent) and not inside.startswith((" ", "#")) and inside.endswith((";", "}"))
-        if is_end or line.startswith("#!"):
-            if found and not START.match(head_of(now)):
-                found[-1] += now
-            else:
-                found.append(now)
-            now = []
-    return [*found, now] if now else found
-
-
-def items_of_block(crate, file, lines, kind, head):
-    """A trait, or an impl with its members but for functions, and the statements of the functions of a type."""
-    opened = next((at for at, it in enumerate(lines) if it.endswith(("{", "{}")) and not it.startswith("#")), 0)
-    members = blocks_of(lines[opened + 1 : -1], "    ")
-    functions = [(it[2], packed(member)) for member in members if (it := HEAD.match(f" {head_of(member)}"))]
-    shell = [*lines[: opened + 1], *(line for it in members if not HEAD.match(f" {head_of(it)}") for line in it)]
-    if kind == "trait":
-        return [Item(crate, file, re.match(r" (\w+)", head)[1], packed(lines))]
-    whole = " ".join(it.strip() for it in lines[: opened + 1] if not it.startswith("#"))
-    _, trait, of = parts_of_impl(whole.removeprefix("impl").strip())
+def items_of_impl(crate, file, block):
+    """An impl of a trait as it is; of a type, the impl without its functions, and the statement of each function."""
+    opening, brace, inside = block.partition("{\n")
+    head = " ".join(it.strip() for it in opening.split("\n") if not it.startswith("#"))
+    _, trait, of = parts_of_impl(head.removeprefix("impl"))
     if trait:
-        return [Item(crate, file, "", packed(lines), bare(of), bare(trait))]
-    return [Item(crate, file, "", packed(shell), bare(of)), *(Item(crate, file, name, text, bare(of)) for name, text in functions)]
+        return [Item(crate, file, "", block, bare(of), bare(trait))]
+    members = [(re.match(FN, HEAD.search(it)[1]), it) for it in blocks_of(inside.rpartition("\n")[0], "    ")]
+    shell = "\n".join([f"{opening}{brace}".rstrip(), *(it for function, it in members if not function)])
+    return [Item(crate, file, "", shell, bare(of)), *(Item(crate, file, it[1], text, bare(of)) for it, text in members if it)]
 
 
 def items_in(crate, file, text, functions):
     """The items of a text without comments as others see them: functions without their bodies. An impl has no name."""
-    lines = text.split("\n")
+    lines, found = text.split("\n"), []
     for it in functions:
         lines[it.body : it.last] = [""] * (it.last - it.body)
-    found = []
-    for block in blocks_of([it for it in lines if it.strip()], ""):
-        head = head_of(block)
-        opened = re.match(rf"{PUB}(impl|trait)\b(.*)", head)
+    for block in blocks_of(packed(lines)):
+        head = HEAD.search(block)[1]
         named = re.match(FN, head) or NAMED.match(head)
-        if opened:
-            found += items_of_block(crate, file, block, *opened.groups())
+        if re.match(r"impl\b", head):
+            found += items_of_impl(crate, file, block)
         elif named and named[1] != "_":
-            found.append(Item(crate, file, named[1], packed(block)))
+            found.append(Item(crate, file, named[1], block))
     return found

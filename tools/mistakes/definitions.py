@@ -11,40 +11,34 @@ from typing import NamedTuple
 
 from kit import copied, side_by_side, text_of
 from mistakes.places import places_of, unread_at, why_unread
-from mistakes.rests import Rests
-from mistakes.tree import module_at
+from mistakes.rests import Rests, Walk
 from mistakes.verdicts import Verdict
 
 ROWS = f"{os.path.dirname(__file__)}/definitions.txt"
-HEAD = re.compile(r"(?:(?:abbrev|unfoldable|opaque) )*pub (?:record |data )?(?!mod\b|use\b)([^\s:]+)")
+HEAD = re.compile(r"^(?:(?:abbrev|unfoldable|opaque) )*pub (?:record |data )?(?!mod\b|use\b)([^\s:]+)", re.M)
 # A type that says nothing of a value has no wrong variant that is read: what uses it names all its fields and cases.
 SHAPE = re.compile(r"(?:pub data \w+|pub record \w+(?: \(\w+ : Type \d\))*|abbrev pub \w+) : Type \d")
 # What a file says of definitions that no public contract names. In its first line it speaks of all its definitions.
-PRIVATE = re.compile(r"--.*\bOnly private calls use (these definitions|the definitions from here on|the next definition)\b")
+PRIVATE = re.compile(r"^--.*\bOnly private calls use (these definitions|the definitions from here on|the next definition)\b", re.M)
 # At how many places a variant is tried beside others at once and in all, and how many functions try one that is planted alone.
 FEW, MOST, MANY = 2, 6, 12
 PROVED = "its crate is still proved"
 
 
 class Variant(NamedTuple):
-    """A variant's name, the definition's crate, file, own name and text, and the text in it that the variant replaces."""
+    """A variant's name, the definition's crate, file, module with its own name, and text, and the text in it that the variant replaces."""
 
     name: str
     crate: str
     file: str
-    own: str
+    place: tuple
     block: str
-    old: str
-    new: str
+    old: str = ""
+    new: str = ""
 
-    def module(self):
-        return module_at(self.crate, self.file)
-
-    def plant(self, texts, plain):
-        """Plants the variant in its file as the texts that were changed before have it, or else as it is without comments."""
-        text = texts.get(self.file, plain[self.file])
-        start = text.index(self.block)
-        texts[self.file] = text[:start] + text[start:].replace(self.old, self.new, 1)
+    def planted(self, texts):
+        """These texts of files without comments, with the variant in its file."""
+        return {**texts, self.file: texts[self.file].replace(self.block, self.block.replace(self.old, self.new), 1)}
 
     def stands_at(self, file, line, plain):
         """Whether a line of a file without comments is one of the definition's."""
@@ -54,15 +48,9 @@ class Variant(NamedTuple):
 
 def private_in(text):
     """The names of the definitions of a file that only private calls use, as it says."""
-    found, scope = set(), ""
-    for line in text.split("\n"):
-        said, head = PRIVATE.match(line), HEAD.match(line)
-        if said:
-            scope = said[1]
-        elif head and scope:
-            found.add(head[1])
-            scope = "" if scope == "the next definition" else scope
-    return found
+    _, *parts = PRIVATE.split(text)
+    named = [(scope, HEAD.findall(part)) for scope, part in zip(parts[::2], parts[1::2])]
+    return {name for scope, names in named for name in (names[:1] if scope == "the next definition" else names)}
 
 
 def definitions_of(crate):
@@ -78,8 +66,8 @@ def definitions_of(crate):
         private = private_in(text)
         for own, it in crate.modules[module].items():
             if HEAD.match(it.whole) and not SHAPE.match(it.whole):
-                found.append((Variant("", crate.name, file, own, it.whole.strip("\n"), "", ""), own not in private))
-    keys = [f"{os.path.basename(it.file)[:-5]}.{it.own}" for it, _ in found]
+                found.append((Variant("", crate.name, file, (module, own), it.whole.strip("\n")), own not in private))
+    keys = [f"{os.path.basename(it.file)[:-5]}.{it.place[1]}" for it, _ in found]
     named = {f"{it[0].file.split('/')[-2]}/{key}" if keys.count(key) > 1 else key: it for key, it in zip(keys, found)}
     if len(named) < len(found):
         raise SystemExit(f"definitions: {crate.name}/specs has two definitions of one name in folders of one name")
@@ -122,13 +110,13 @@ class Trial:
 
     def __init__(self, tree, base, name, variants, above=()):
         self.tree, self.base, self.crate, self.above, self.left, self.tried = tree, base, tree.crate(name), above, dict(variants), Counter()
-        by_key, rests = {(it.module(), it.own): it.name for it in variants.values()}, Rests(tree, name)
+        by_key, rests = {it.place: it.name for it in variants.values()}, Rests(tree, name)
         self.cones, self.checked, read = {}, {}, {it: self.crate.modules_read_with(it) for it in self.crate.functions.values()}
         for function in sorted(read, key=lambda it: (it.file == "src/laws.rt", len(read[it]))):
             lemmas = [f"{lemma} of {self.crate.files[at]}" for at in sorted(read[function]) for lemma in self.crate.modules[at]]
             for place in [it for it in (function.path, *lemmas) if it not in self.checked]:
                 self.checked[place] = function.path
-                self.cones[place] = {by_key[it[:2]] for it in rests.walk(rests.starts_at(place)) if it[:2] in by_key}
+                self.cones[place] = {by_key[it[:2]] for it in Walk(rests, rests.starts_at(place)).reached if it[:2] in by_key}
 
     def resting_on(self, name):
         """The places that rest on a variant, those first that rest on the fewest that are left."""
@@ -148,9 +136,9 @@ class Trial:
 
     def check(self, names, functions, crate):
         """Plants these variants, and returns what the prover says of these functions of the crate, or of a crate above."""
-        texts = {}
+        texts = {self.left[it].file: self.crate.plain[self.left[it].file] for it in names}
         for it in names:
-            self.left[it].plant(texts, self.crate.plain)
+            texts = self.left[it].planted(texts)
         with copied([crate.name], self.base.folder) as room:
             return room.check(crate.name, functions, texts, self.crate.name)
 
@@ -171,26 +159,24 @@ class Trial:
                 del self.left[name]
                 yield name, found.get(name, []), unread.get(name, "")
 
-    def attempts(self, name):
-        """The checks of a variant that is planted alone, each a crate and functions of it: a few that rest on it, its whole crate, a few
-        of crates above, those first that rest on the least."""
-        some = list(dict.fromkeys(self.checked[it] for it in self.resting_on(name)))[:MANY]
-        yield from [(self.crate, some)] * bool(some) + [(self.crate, [])]
-        key = (self.left[name].module(), self.left[name].own)
-        for rests in (Rests(self.tree, it) for it in self.above):
-            walks = {path: rests.walk(rests.starts_of(it)) for path, it in rests.own.functions.items()}
-            fit = sorted((path for path, it in walks.items() if key in {at[:2] for at in it}), key=lambda path: len(walks[path]))
-            yield from [(rests.own, fit[:MANY])] * bool(fit)
-
     def alone(self, name):
-        """Plants a variant alone. Returns the places that refuse it, and why none does."""
-        for crate, functions in self.attempts(name):
-            said = self.check([name], functions, crate)
-            found, why = places_of(said, crate), why_unread(said)
+        """Plants a variant alone, and checks a few functions that rest on it, then its whole crate, then a few functions of crates above
+        that rest on the least. Returns the places that refuse it, and why none does."""
+        some = list(dict.fromkeys(self.checked[it] for it in self.resting_on(name)))[:MANY]
+        for functions in [some, []] if some else [[]]:
+            said = self.check([name], functions, self.crate)
+            found, why = places_of(said, self.crate), why_unread(said)
+            if found or why:
+                return found, why
+        if "logic=proved" not in said:
+            return [], "no place that is known refuses it"
+        for rests in (Rests(self.tree, it) for it in self.above):
+            walks = {path: Walk(rests, rests.starts_of(it)).reached for path, it in rests.own.functions.items()}
+            fit = [path for path, it in walks.items() if self.left[name].place in {at[:2] for at in it}]
+            some = sorted(fit, key=lambda path: len(walks[path]))[:MANY]
+            found = places_of(self.check([name], some, rests.own), rests.own) if some else []
             if found:
-                return [it if crate is self.crate else f"{crate.name}::{it}" for it in found], ""
-            if crate is self.crate and (why or not functions and "logic=proved" not in said):
-                return [], why or "no place that is known refuses it"
+                return [f"{rests.own.name}::{it}" for it in found], ""
         return [], PROVED
 
     def all(self):

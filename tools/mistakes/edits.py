@@ -60,35 +60,30 @@ def stanzas(text):
     """The lines of a text that have a colon, as what stands before and behind it: those before the first line `name:`, and those from each
     such line on."""
     found = [[]]
-    for word, colon, rest in (line.partition(":") for line in text.split("\n")):
+    for word, rest in re.findall(r"^([^:\n]*): ?(.*)$", text, re.M):
         if word == "name":
             found.append([])
-        if colon:
-            found[-1].append((word, rest.removeprefix(" ")))
+        found[-1].append((word, rest))
     return found
 
 
 def edit_of(lines, crate, file="", own=""):
     """The edit of a stanza. A line `file:` names another file, and a line `refused-at:` the function whose goal fails if no body of a
     function is changed."""
-    found, old = Edit(own, crate), ""
+    words, old, changes = {"name": own, "refused-at": "", **dict(lines)}, "", []
     for word, rest in lines:
-        if word == "name":
-            found = found._replace(own=rest.strip())
-        elif word == "file":
+        if word == "file":
             file = rest.strip()
-        elif word == "refused-at":
-            found = found._replace(refused_at=rest.strip())
         elif word == "old":
             old = rest
         elif word == "new":
-            found = found._replace(changes=(*found.changes, Change(file, old, rest)))
-    return found
+            changes.append(Change(file, old, rest))
+    return Edit(words["name"].strip(), crate, words["refused-at"].strip(), tuple(changes))
 
 
-def edits_of(crate, root=ROOT):
+def edits_of(crate):
     """The edits of a crate by their files."""
-    folder, found = f"{root}/crates/{crate}", {}
+    folder, found = f"{ROOT}/crates/{crate}", {}
     for path in sorted(glob.glob(f"{folder}/m*/**/*.edit*", recursive=True)):
         kind, _, inside = os.path.relpath(path, folder).partition("/")
         stem, end = os.path.splitext(inside)
@@ -107,20 +102,15 @@ def every_edit(tree):
     return {it.name(): it for crate in tree.crates for found in edits_of(crate).values() for it in found}
 
 
-def place_of(text, change):
-    """The place of the only `old` text, or of the only line that is this text."""
+def replaced(text, change):
+    """A text with a change in it, and the line on which it begins."""
     exact = re.escape(change.old)
     for form in (exact, f"^{exact}$") if change.old else ():
         places = [it.start() for it in re.finditer(form, text, re.M)]
         if len(places) == 1:
-            return places[0]
+            before, after = text[: places[0]], text[places[0] + len(change.old) :]
+            return before + change.new + after, before.count("\n")
     raise BadEdit(f"an `old` text stands {text.count(change.old) if change.old else 0} times in {change.file}, and not once")
-
-
-def replaced(text, change):
-    """A text with a change in it."""
-    place = place_of(text, change)
-    return text[:place] + change.new + text[place + len(change.old) :]
 
 
 def apply(edit, crate, texts):
@@ -133,8 +123,8 @@ def apply(edit, crate, texts):
         if change.file not in (crate.raw if edit.refused_at else crate.by_file):
             raise BadEdit(f"there is no file {change.file} of code")
         text = changed.get(change.file, crate.raw[change.file])
-        places.append((change.file, text.count("\n", 0, place_of(text, change)), text))
-        changed[change.file] = replaced(text, change)
+        changed[change.file], line = replaced(text, change)
+        places.append((change.file, line, text))
     texts.update(changed)
     return places
 

@@ -16,7 +16,7 @@ HEAD = (
     "# Where each wrong body was refused, written by `make mistakes`: "
     "its name, a digest of all on which that rests, the kit, the place: by what.\n"
 )
-LINE = re.compile(r"(\S+) ([0-9a-f]{20}) (\S+) (.*?)(?:: (.*))?")
+LINE = re.compile(r"^([^#\s]\S*) ([0-9a-f]{20}) (\S+) (.*?)(?:: (.*))?$", re.M)
 
 
 class Entry(NamedTuple):
@@ -30,9 +30,8 @@ class Entry(NamedTuple):
 
 def entries():
     """The lines of the ledger by name; none if there is no ledger."""
-    lines = text_of(LEDGER).split("\n") if os.path.isfile(LEDGER) else []
-    found = [LINE.fullmatch(it) for it in lines if not it.startswith("#")]
-    return {it[1]: Entry(*it.groups("")[1:]) for it in found if it}
+    text = text_of(LEDGER) if os.path.isfile(LEDGER) else ""
+    return {name: Entry(*rest) for name, *rest in LINE.findall(text)}
 
 
 class Ledger:
@@ -56,15 +55,15 @@ class Ledger:
 
     def digest_at(self, variant, where):
         """The digest of a wrong definition that the first of these places refuses, of its crate or of one above; "" if it is gone."""
-        place = where.partition(", ")[0]
+        place, (module, own) = where.partition(", ")[0], variant.place
         crate, _, inside = place.partition("::")
         rests = self.rests(crate if crate in self.tree.crates else variant.crate)
         try:
             starts = rests.starts_at(inside if crate in self.tree.crates else place)
-            block = rests.modules[variant.module()][variant.own].whole
+            block = rests.modules[module][own].whole
         except KeyError:
             return ""
-        said = (rules("places"), variant.crate, variant.own, variant.old, variant.new, place)
+        said = (rules("places"), variant.crate, own, variant.old, variant.new, place)
         return rests.digest(said, [*starts, (block, rests.own, "")])
 
     def put(self, name, digest, where, refused_by):

@@ -5,6 +5,7 @@ Against the prover it makes changes at random, chosen by the commit. Each functi
 but for one that only calls what is not proved any more."""
 
 import functools
+import itertools
 import os
 import random
 import re
@@ -12,19 +13,13 @@ import re
 from kit import copied, side_by_side, text_of
 from mistakes import definitions
 from mistakes.bodies import batches_of, judged, texts_of
-from mistakes.edits import BadEdit, Change, apply, edit_of, every_edit, replaced, stanzas, wrong_body
+from mistakes.edits import BadEdit, Change, edit_of, every_edit, replaced, stanzas, wrong_body
 from mistakes.ledger import Entry, Ledger, commit, sample
 from mistakes.rests import Rests
 from mistakes.tree import tree_at
 from mistakes.verdicts import Verdict, verdict_of
 
 CRATE = "hart_values"
-# Variants of definitions, and why each is not refused: one says what the definition says, one has no type, and one is wrong.
-VARIANTS = {
-    "EachMaster.with_master": ("primary = a; secondary = each.secondary", "secondary = each.secondary; primary = a", definitions.PROVED),
-    "EachMaster.of_master": ("each.secondary", "each", "unread: specs/"),
-    "LoopMode.mode_byte": ("Enabled = 1", "Enabled = 2", ""),
-}
 CHECKED = re.compile(r"^checked \w+?::(\S+?)(?:::fn::\S+)?, \d+ of \d+", re.M)
 TOLD = re.compile(r"^fn \w+?::(\S+?): (.*)$", re.M)
 ONLY_CALLS = re.compile(r"^not proved|it calls .* which (?:is|are) not proved")
@@ -39,29 +34,42 @@ def planted_in(name):
     return {lines[0][1]: lines for lines in stanzas(text_of(f"{os.path.dirname(__file__)}/{name}"))[1:]}
 
 
-def weak_verdict(room, body, crate, clause, weak):
-    """The verdict on a wrong body under a contract that was made weak."""
-    texts, file = texts_of([body], crate), body.functions[0].file
-    weakened = {**texts, file: replaced(texts[file], Change(file, clause, weak))}
-    return verdict_of(room.check(CRATE, body.paths(), weakened), CRATE, body.functions)
-
-
-def wrong_verdicts(crate):
-    """What is said of each planted edit on which the verdict is not the wanted one."""
-    planted, bodies, found = planted_in("planted.edits"), [], []
+def verdicts_on_edits(planted, crate):
+    """Yields the verdict on each planted edit. One with a line `clause:` is tried under a contract in which that text is a weak one."""
+    bodies = []
     with copied([CRATE]) as room:
         for name, lines in planted.items():
             words = dict(lines)
             try:
                 body = wrong_body(edit_of(lines, CRATE), crate)
-                if "clause" in words:
-                    found.append((name, weak_verdict(room, body, crate, words["clause"], words["weak"])))
-                else:
+                if "clause" not in words:
                     bodies.append(body)
+                    continue
+                texts, file = texts_of([body.edit], crate), body.functions[0].file
+                texts[file], _ = replaced(texts[file], Change(file, words["clause"], words["weak"]))
+                yield name, verdict_of(room.check(CRATE, body.paths(), texts), CRATE, body.functions)
             except BadEdit as why:
-                found.append((name, Verdict((), str(why))))
-        found += [(body.edit.own, verdict) for batch in batches_of(bodies, crate) for body, verdict in judged(room, batch, crate)]
-    for name, verdict in found:
+                yield name, Verdict((), str(why))
+        for batch in batches_of(bodies, crate):
+            yield from ((body.edit.own, verdict) for body, verdict in judged(room, batch, crate))
+
+
+def verdicts_on_definitions(planted, tree):
+    """Yields the verdict on each planted wrong definition."""
+    names = {(CRATE, dict(lines)["definition"]): name for name, lines in planted.items()}
+    table = {key: (dict(planted[name])["old"], dict(planted[name])["new"]) for key, name in names.items()}
+    variants, _ = definitions.variants(tree, table)
+    with copied([CRATE]) as base:
+        for key, where, why in definitions.Trial(tree, base, CRATE, variants).all():
+            yield names[CRATE, key.rpartition("/")[2]], Verdict(tuple(where), why)
+
+
+def wrong_verdicts(tree):
+    """What is said of each planted edit and each planted definition on which the verdict is not the wanted one."""
+    planted = planted_in("planted.edits")
+    variants = {name: lines for name, lines in planted.items() if "definition" in dict(lines)}
+    edits = {name: lines for name, lines in planted.items() if name not in variants}
+    for name, verdict in itertools.chain(verdicts_on_edits(edits, tree.crate(CRATE)), verdicts_on_definitions(variants, tree)):
         print(f"planted {name}: {'refused: ' + verdict.words() if verdict.is_refused() else verdict.why}", flush=True)
         wanted = dict(planted.pop(name))["wanted"]
         if wanted not in verdict.why if wanted else not verdict.is_refused():
@@ -81,7 +89,7 @@ def wrong_after_changes(tree, edits, variants):
     for what, lines in planted_in("changes.edits").items():
         words, names = dict(lines), [rest for word, rest in lines if word in ("again", "known")]
         change, wanted = Change(words["file"], words["old"], words["new"]), {rest for word, rest in lines if word == "again"}
-        changed = tree.with_text(change.file, replaced(tree.texts[change.file], change))
+        changed = tree.with_texts({change.file: replaced(tree.texts[change.file], change)[0]})
         before, after = digests(tree, names, edits, variants), digests(changed, names, edits, variants)
         again = {name for name in names if before[name] != after[name]}
         print(f"planted change of {what}: {len(again)} of {len(names)} are tried again", flush=True)
@@ -89,51 +97,35 @@ def wrong_after_changes(tree, edits, variants):
             yield f"planted change of {what}: {sorted(again)} are tried again, and not {sorted(wanted)}"
 
 
-def wrong_ledgers(tree, edits):
-    """What is said of each way in which a ledger answers for another wrong body, for another edit, or not as it should for another kit."""
+def wrong_answers(tree, edits):
+    """What is said of each way in which a ledger answers for another wrong body, for another edit, or not as it should for another kit, and
+    in which a run would not fail by a definition without a variant."""
+    ledger, names = Ledger(tree, (), {}), [f"{number % 9}/{number}" for number in range(1000)]
+    ledger.said = dict.fromkeys(names, Entry("", ledger.kit, "", ""))
     one, other = edits["hart_values/byte_list/clear_keeps_a_byte"], edits["hart_values/byte_list/len_is_halved"]
-    names = [f"{number % 9}/{number}" for number in range(1000)]
-    ledger, others = Ledger(tree, (), {}), Ledger(tree, (), {})
-    ledger.said = others.said = dict.fromkeys(names, Entry("", ledger.kit, "", ""))
-    others.kit = "rattle-kit-0"
     edited = one._replace(changes=tuple(it._replace(new=f"{it.new} ") for it in one.changes))
+    digest, sampled, seeds = ledger.digest(one), ledger.sampled(names), map(str, range(200))
+    ledger.kit = "rattle-kit-0"
+    table = {it: row for it, row in definitions.rows().items() if it[0] == CRATE}
+    without, _ = table.popitem()
     told = {
-        "another wrong body": ledger.digest(one) != ledger.digest(other),
-        "the edit": ledger.digest(one) != ledger.digest(edited),
-        "the kit": ledger.digest(one) == others.digest(one) and len(others.sampled(names)) == 100,
-        "the sample": len(ledger.sampled(names)) == 50 and set().union(*(sample(names, 20, str(seed)) for seed in range(200))) == {*names},
+        "another wrong body": digest != ledger.digest(other),
+        "another edit": digest != ledger.digest(edited),
+        "another kit": digest == ledger.digest(one) and len(ledger.sampled(names)) == 100,
+        "the sample": len(sampled) == 50 and set().union(*(sample(names, 20, it) for it in seeds)) == {*names},
+        "a definition without a variant": f"{'/'.join(without)}: it has no variant" in definitions.variants(tree, table)[1],
     }
-    return [f"planted change of {what}: the ledger answers wrongly" for what, is_right in told.items() if not is_right]
-
-
-def wrong_definitions(tree):
-    """What is said of each planted variant that has another outcome, and of a definition without a variant if no run would fail by it."""
-    table = {**definitions.rows(), **{(CRATE, key): it[:2] for key, it in VARIANTS.items()}}
-    variants, known = definitions.variants(tree, table)
-    planted = {f"{CRATE}/specs/{key}": it[2] for key, it in VARIANTS.items()}
-    with copied([CRATE]) as base:
-        for name, where, why in definitions.Trial(tree, base, CRATE, {it: variants[it] for it in [*planted]}).all():
-            wanted = planted.pop(name)
-            print(f"planted variant of {name}: {why or 'refused at ' + ', '.join(where)}", flush=True)
-            if bool(where) == bool(wanted) or not why.startswith(wanted):
-                yield f"planted variant of {name}: this is not `{wanted or 'refused'}`"
-    yield from (f"planted variant of {name}: there is no verdict" for name in planted)
-    key = next(iter(VARIANTS))
-    del table[CRATE, key]
-    if {*definitions.variants(tree, table)[1]} - {*known} != {f"{CRATE}/{key}: it has no variant"}:
-        yield "planted definition without a variant: it is not told"
+    return [f"planted {what}: the answer is wrong" for what, is_right in told.items() if not is_right]
 
 
 def changes(tree):
     """The changes, each in words, with its crate and the texts of the files that it changes."""
     some, found = random.Random(commit()), []
     variants, _ = definitions.variants(tree, definitions.rows())
-    for edit in some.sample(list(every_edit(tree).values()), EACH):
-        found.append((f"body {edit.name()}", edit.crate, {}))
-        apply(edit, tree.crate(edit.crate), found[-1][-1])
-    for name in some.sample(sorted(variants), EACH):
-        found.append((f"definition {name}", variants[name].crate, {}))
-        variants[name].plant(found[-1][-1], tree.crate(variants[name].crate).plain)
+    for it in some.sample(list(every_edit(tree).values()), EACH):
+        found.append((f"body {it.name()}", it.crate, texts_of([it], tree.crate(it.crate))))
+    for it in some.sample(sorted(variants.values()), EACH):
+        found.append((f"definition {it.name}", it.crate, it.planted({it.file: tree.crate(it.crate).plain[it.file]})))
     for form, part, new in ((CLAUSE, "src/", r"ensures planted_\1 {"), (LEMMA, "proofs/lemmas/", r"\g<0>ℕ → ")):
         files = {(name, file): text for name in tree.crates for file, text in tree.crate(name).raw.items() if file.startswith(part)}
         for (name, file), it in some.sample([(at, it) for at, text in files.items() for it in form.finditer(text)], EACH):
@@ -149,11 +141,9 @@ def digests_in(tree, name):
 
 def missed(tree, what, name, texts):
     """Tells of a change, and returns the functions that the prover checks anew though their digest is the same."""
-    after = tree
-    for file, text in texts.items():
-        after = after.with_text(f"crates/{name}/{file}", text)
     with copied([name]) as room:
         said = room.check(name, [], texts)
+    after = tree.with_texts({f"crates/{name}/{file}": text for file, text in texts.items()})
     then, now = digests_in(tree, name), digests_in(after, name)
     again, told = {it for it in CHECKED.findall(said) if it in now}, dict(TOLD.findall(said))
     same = {it for it in again if then.get(it) == now[it]}
@@ -174,8 +164,7 @@ def can_fail():
     """Tries all that is planted, and returns 0 if each has the wanted outcome."""
     tree = tree_at()
     edits, (variants, _) = every_edit(tree), definitions.variants(tree, definitions.rows())
-    wrong = [*wrong_after_changes(tree, edits, variants), *wrong_ledgers(tree, edits)]
-    wrong += [*wrong_verdicts(tree.crate(CRATE)), *wrong_definitions(tree)]
+    wrong = [*wrong_after_changes(tree, edits, variants), *wrong_answers(tree, edits), *wrong_verdicts(tree)]
     return status_of(wrong, "of the planted edits and changes had another outcome than they must have")
 
 

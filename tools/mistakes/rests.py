@@ -7,12 +7,13 @@ code stands for every item of that name in the crate and in the crates below it.
 
 import functools
 import hashlib
+import itertools
 import os
 import re
 from collections import defaultdict
 from typing import NamedTuple
 
-from mistakes.code import first_with_attributes, packed
+from mistakes.code import packed
 from mistakes.tree import module_at
 
 WORD = re.compile(r"[\w'][\w'-]*")
@@ -38,7 +39,7 @@ class Rests:
         self.lines = [tree.crates[it].line for it in names]
         self.modules = {module: it for crate in self.crates.values() for module, it in crate.modules.items()}
         self.files = {module: (crate, file) for crate in self.crates.values() for module, file in crate.files.items()}
-        self.items, self.impls, self.exported = {}, {}, {}
+        self.items, self.impls = {}, {}
         every = [it for crate in self.crates.values() for it in crate.items]
         self.types = {it.name for it in every if not it.of}
         for it in every:
@@ -46,29 +47,20 @@ class Rests:
             if it.trait and it.of not in self.types:
                 self.impls.setdefault(it.trait, []).append(it)
 
-    def exports(self, module):
-        """The declarations that a module shows by name, as their modules and names there."""
-        if module not in self.exported:
-            self.exported[module] = {}
-            found = {it: (module, it) for it in self.modules.get(module, ())}
-            crate, file = self.files.get(module, (self.own, ""))
-            for is_public, other, names in crate.uses.get(file, ()):
-                shown = self.exports(other) if is_public else {}
-                found.update({here: shown.get(there, (other, there)) for here, there in (names or {}).items() if is_public})
-            self.exported[module] = found
-        return self.exported[module]
-
     @functools.cache
-    def scope(self, crate, file):
-        """The declarations that a file can name, by its names for them; under "*" the modules of the toolchain that it takes whole."""
+    def scope(self, crate, file, is_outside=False):
+        """The declarations that a file can name, or only those that it shows to others, by its names for them; under "*" the modules of the
+        toolchain that it takes whole."""
         found = defaultdict(set)
-        for _, other, names in crate.uses.get(file, ()):
-            shown = self.exports(other)
-            pairs = [(here, shown.get(there, (other, there))) for here, there in (names or {}).items()]
+        for is_public, other, names in crate.uses.get(file, ()):
+            if is_outside and not is_public:
+                continue
+            shown = self.scope(*self.files[other], True) if other in self.files else {}
             if names is None:
-                pairs = [*shown.items(), (other.rpartition(".")[2], (other, ""))] + ([] if shown else [("*", (other, "*"))])
-            for here, target in pairs:
-                found[here].add(target)
+                found[other.rpartition(".")[2]].add((other, ""))
+                names = {it: it for it in shown or ("*",)}
+            for here, there in names.items():
+                found[here] |= shown.get(there, {(other, there)})
         module = module_at(crate.name, file)
         return {**found, **{it: {(module, it)} for it in self.modules.get(module, ())}}
 
@@ -78,26 +70,19 @@ class Rests:
         operators = [it for it in self.scope(crate, file) if "◌" in it and any(part and part in text for part in it.split("◌"))]
         return {*WORD.findall(text), *operators}
 
-    def walk(self, starts):
-        """All that texts can reach: declarations, and items and paths of code."""
-        return Walk(self, starts).reached
-
-    def block_of(self, function, lines):
-        """The head and the members of the block in which a function stands, as others see them."""
-        number = function.first
-        while number and (lines[number].startswith((" ", "}")) or not lines[number]):
-            number -= 1
-        if number == function.first:
-            return ""
-        items = [it.text for it in self.own.items if it.file == function.file and lines[number] in it.text.split("\n")]
-        return packed(items or [lines[number]])
-
     def starts_of(self, function):
-        """A function's own texts: its statement and body, its block, the crate's attributes, and its written proof."""
+        """A function's own texts: the attributes of its crate and file, its statement and body, its block as others see it, and its
+        written proof."""
         lines = self.own.lines[function.file]
         top = [it for file in ("src/lib.rt", "src/main.rt", function.file) for it in self.own.lines.get(file, ())]
-        own = [packed(lines[first_with_attributes(lines, function) : function.last + 1]), self.block_of(function, lines)]
-        found = [(packed(sorted(it for it in top if it.startswith("#!"))), self.own, ""), *((it, self.own, function.file) for it in own)]
+        above = list(itertools.takewhile(lambda it: it.strip().startswith("#["), reversed(lines[: function.first])))
+        head = next((it for it in reversed(lines[: function.first + 1]) if re.match(r"[^ }]", it)), lines[0])
+        blocks = [it.text for it in self.own.items if it.file == function.file and head in it.text.split("\n")] or [head]
+        found = [
+            (packed(sorted(it for it in top if it.startswith("#!"))), self.own, ""),
+            (packed([*reversed(above), *lines[function.first : function.last + 1]]), self.own, function.file),
+            ("" if head == lines[function.first] else packed(blocks), self.own, function.file),
+        ]
         for file in sorted(self.own.files.values()):
             if os.path.dirname(file) == function.proofs():
                 said = packed(it for it in self.own.lines[file] if not re.match(r"(?:unfoldable )?(?:pub )?use ", it))
@@ -120,11 +105,11 @@ class Rests:
 
     def digest(self, said, starts):
         """A sum of all on which a refusal rests: of what is tried, in these words, and of all that these texts can reach."""
-        return sum_of(rules(), self.lines, said, [it[0] for it in starts], sorted({it.key() for it in self.walk(starts)}))
+        return sum_of(rules(), self.lines, said, [it[0] for it in starts], sorted({it.key() for it in Walk(self, starts).reached}))
 
 
 class Walk:
-    """A walk from texts along the words in them to all that they can reach."""
+    """A walk from texts along the words in them to all that they can reach: declarations, and items and paths of code."""
 
     def __init__(self, rests, starts):
         self.rests, self.texts, self.reached, self.words, self.waiting = rests, list(starts), set(), set(), {}

@@ -72,8 +72,8 @@ class CrateTexts:
 
     def __init__(self, name, raw):
         self.name, self.raw, self.types = name, raw, {}
-        for file, text in sorted(raw.items()):
-            for it in DECLARED.findall(text) if file.endswith(".rt") else ():
+        for file in sorted(it for it in raw if it.endswith(".rt")):
+            for it in DECLARED.findall(raw[file]):
                 self.types.setdefault(it, []).append(module_of(file))
         plain = {it: without_comments(text) if it.endswith(".rt") else NOTE.sub("", f"{text}\n") for it, text in sorted(raw.items())}
         self.lines = {file: text.split("\n") for file, text in plain.items()}
@@ -87,12 +87,9 @@ class CrateTexts:
 
     def modules_read_with(self, function):
         """The modules of lemmas that are checked with a function, since its written proof takes names from them."""
-        left, found = [at for at, it in self.files.items() if os.path.dirname(it) == function.proofs()], set()
-        while left:
-            at = left.pop()
-            if at in self.files and at not in found:
-                found.add(at)
-                left += [module for _, module, _ in self.uses[self.files[at]]]
+        found = [at for at, it in self.files.items() if os.path.dirname(it) == function.proofs()]
+        for at in found:
+            found += {it for _, it, _ in self.uses[self.files[at]] if it in self.files} - {*found}
         return {at for at in found if re.match(r"proofs/(?:lemmas/|[^/]*$)", self.files[at])}
 
 
@@ -108,15 +105,15 @@ class Tree:
             self.read[name] = CrateTexts(name, {it.removeprefix(start): text for it, text in self.texts.items() if it.startswith(start)})
         return self.read[name]
 
-    def with_text(self, path, text):
-        """This tree with another text of a file."""
-        found = Tree({**self.texts, path: text})
-        found.read = {name: it for name, it in self.read.items() if not path.startswith(f"crates/{name}/")}
+    def with_texts(self, texts):
+        """This tree with other texts of some files."""
+        found, changed = Tree({**self.texts, **texts}), {path.split("/")[1] for path in texts if "/" in path}
+        found.read = {name: it for name, it in self.read.items() if name not in changed}
         return found
 
 
-def tree_at(root=ROOT):
-    """The crates of a folder as they stand."""
-    parts = [("src", "rt"), ("specs", "antt"), ("proofs", "antt")]
-    paths = [f"{root}/crates.txt", *(it for part, end in parts for it in glob.glob(f"{root}/crates/*/{part}/**/*.{end}", recursive=True))]
-    return Tree({os.path.relpath(it, root): text_of(it) for it in paths})
+def tree_at():
+    """The crates of the repository as they stand."""
+    parts = ("src/**/*.rt", "specs/**/*.antt", "proofs/**/*.antt")
+    paths = ["crates.txt", *(it for part in parts for it in glob.glob(f"crates/*/{part}", root_dir=ROOT, recursive=True))]
+    return Tree({it: text_of(f"{ROOT}/{it}") for it in paths})
