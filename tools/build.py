@@ -28,8 +28,8 @@ LOGS, SUMS = f"{BUILD}/logs", f"{BUILD}/sums"
 SOURCES = ("src", "specs", "proofs")
 # A check of the largest crate takes 4 GB of memory.
 MEMORY = 4_000_000
-# Further jobs of one check save little.
-MOST_JOBS = 4
+# Each further job of a check costs about a fifth more processor time, and saves less time than the one before.
+MOST_JOBS = 3
 
 
 def processors():
