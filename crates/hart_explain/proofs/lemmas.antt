@@ -3,7 +3,8 @@ pub mod Extended
 pub mod Laws
 pub mod HexText
 pub mod Rows
-pub mod JsonText
+pub mod Json
 pub mod Bounded
 pub mod Lengths
 pub mod JsonLengths
+pub mod SightingLengths

@@ -5,3 +5,8 @@ pub mod Values
 pub mod Reading
 pub mod Words
 pub mod Json
+pub mod Header
+pub mod Status
+pub mod Miss
+pub mod Message
+pub mod Sighting

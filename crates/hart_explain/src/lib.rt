@@ -1,8 +1,9 @@
-//! What the data of HART messages mean, and how that is printed: in words and in JSON.
+//! What HART messages mean, and how that is printed: in words and in JSON.
 //!
 //! [`read_request`] and [`read_reply`] decide once what data mean. They return a [`Reading`]: the fields that are found, the bytes that
-//! are ignored, and what is wrong. [`Field::value`] reads the bytes of a field by its kind. [`words::push_reading`] and
-//! [`objects::push_reading`] only print. They print into a [`Text`] in memory, so they know no reader and no writer, and never fail.
+//! are ignored, and what is wrong. [`Field::value`] reads the bytes of a field by its kind. [`words::push_sighting`] and
+//! [`objects::push_line`] print a whole message, or a place where one only seems to start. They print into a [`Text`] in memory, so they
+//! know no reader and no writer, and never fail.
 //!
 //! ```rust
 //! let data = [0x01, 0x23, 0x45];
@@ -17,7 +18,7 @@
 //! - `reading`: what data mean.
 //! - `field`, `fields`: one field, and the fields of data one after another.
 //! - `value`: what a field holds.
-//! - `codes`: the names of response codes.
+//! - `codes`, `status`: the names of response codes, and of the bits of the two status bytes.
 //! - `words`, `objects`: the two printers.
 //! - `text`: texts in memory.
 //! - `pairs`, `hex_text`: bytes as hex text.
@@ -34,6 +35,7 @@ pub mod laws;
 pub mod objects;
 mod pairs;
 mod reading;
+mod status;
 pub mod text;
 mod value;
 pub mod words;
@@ -43,5 +45,5 @@ pub use field::Field;
 pub use fields::Fields;
 pub use pairs::Pairs;
 pub use reading::{Problem, Reading, read_reply, read_request};
-pub use text::{TEXT_LEN, Text};
+pub use text::{SIGHTING_LEN, TEXT_LEN, Text};
 pub use value::{Characters, DayText, Value, day_text};

@@ -24,6 +24,12 @@ use crate::reading::{Problem, Reading};
 use crate::text::{Text, push_byte, push_bytes, push_hex, push_number, push_text};
 use crate::value::Value;
 
+mod header;
+mod sighting;
+mod status;
+
+pub use sighting::{Before, push_line};
+
 /// Adds the members of a reading of the data of a command. Each has a comma before it.
 pub fn push_reading(text: &mut Text, pairs: &Pairs, command: u8, bytes: &[u8], reading: Reading<'_>)
     ensures { text.new ≡ extended text.old (further_members (reading_members command bytes.now (seen_reading reading.entry))) }
@@ -78,7 +84,7 @@ fn push_object_of(text: &mut Text, command: u8, problem: Problem)
 }
 
 /// Adds the object of fields.
-#[tactic(auto, using(crate::proofs::lemmas::JsonText::printing))]
+#[tactic(auto, using(crate::proofs::lemmas::Json::said))]
 fn push_fields(text: &mut Text, pairs: &Pairs, fields: Fields<'_>)
     ensures { text.new ≡ extended text.old (compact_text (object_of (map field_member fields.entry))) }
 {
@@ -140,7 +146,7 @@ fn push_value(text: &mut Text, pairs: &Pairs, value: &Value<'_>)
 }
 
 /// Adds device variables as a list.
-#[tactic(auto, using(crate::proofs::lemmas::JsonText::printing))]
+#[tactic(auto, using(crate::proofs::lemmas::Json::said))]
 fn push_variables(text: &mut Text, pairs: &Pairs, variables: &[[u8; 8]])
     ensures { text.new ≡ extended text.old (compact_text (list_of (map variable_data variables.now))) }
 {
@@ -183,7 +189,7 @@ fn push_variable(text: &mut Text, pairs: &Pairs, variable: &[u8; 8])
 }
 
 /// Adds a name as a string, or null if there is no name.
-fn push_name(text: &mut Text, name: Option<&str>)
+pub(crate) fn push_name(text: &mut Text, name: Option<&str>)
     ensures { text.new ≡ extended text.old (compact_text (name_or_null (option_map (λ name. name.now) name.entry))) }
 {
     match name {
@@ -193,7 +199,7 @@ fn push_name(text: &mut Text, name: Option<&str>)
 }
 
 /// Adds bytes as a string of upper-case hex.
-fn push_quoted_hex(text: &mut Text, pairs: &Pairs, bytes: &[u8])
+pub(crate) fn push_quoted_hex(text: &mut Text, pairs: &Pairs, bytes: &[u8])
     ensures { text.new ≡ extended text.old (quoted (encode_upper bytes.now)) }
 {
     push_text(text, "\"");
@@ -202,14 +208,46 @@ fn push_quoted_hex(text: &mut Text, pairs: &Pairs, bytes: &[u8])
 }
 
 /// Adds a string.
-fn push_quoted(text: &mut Text, bytes: &[u8])
+#[inline(always)]
+pub(crate) fn push_quoted(text: &mut Text, bytes: &[u8])
     ensures { text.new ≡ extended text.old (quoted bytes.now) }
 {
     push_text(text, "\"");
+    push_escaped(text, bytes);
+    push_text(text, "\"");
+}
+
+/// Adds the characters of a string, escaped where JSON wants it.
+#[inline(always)]
+pub(crate) fn push_escaped(text: &mut Text, bytes: &[u8])
+    ensures { text.new ≡ extended text.old (escape bytes.now) }
+{
+    if are_plain(bytes) {
+        push_bytes(text, bytes);
+    } else {
+        push_each_escaped(text, bytes);
+    }
+}
+
+/// Adds the characters of a string one by one, escaped where JSON wants it.
+fn push_each_escaped(text: &mut Text, bytes: &[u8])
+    ensures { text.new ≡ extended text.old (escape bytes.now) }
+{
     for byte in bytes {
         push_escaped_byte(text, *byte);
     }
-    push_text(text, "\"");
+}
+
+/// Returns true only if no character of a string is escaped. It has no early exit, so the compiler can evaluate it for a string literal.
+#[inline(always)]
+fn are_plain(bytes: &[u8]) -> bool
+    ensures { OnTrue result (escape bytes.now ≡ bytes.now) }
+{
+    let mut plain = true;
+    for byte in bytes {
+        plain &= is_plain(*byte);
+    }
+    plain
 }
 
 /// Adds a byte of a string, escaped where JSON wants it.

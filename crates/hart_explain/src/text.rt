@@ -1,5 +1,5 @@
 //! Texts in memory. A text keeps what has room in it and drops the rest, so what prints a text asks for no room.
-ghost use Rattle.std.specs.Prelude.{◌≡◌, ◌∷◌, [], decimal};
+ghost use Rattle.std.specs.Prelude.{◌≡◌, ◌≤◌, ◌∷◌, [], decimal, length};
 ghost use Rattle.hex.specs.Hex.{encode_upper};
 ghost use Rattle.hart_explain.specs.Text.{extended};
 
@@ -10,6 +10,9 @@ use itoa::Buffer;
 
 /// The greatest number of bytes of a text.
 pub const TEXT_LEN: usize = 32_768;
+
+/// The greatest number of bytes of what is said of a message or a miss, with a date of at most 32 bytes.
+pub const SIGHTING_LEN: usize = 16_384;
 
 /// A text in memory.
 pub type Text = ByteList<TEXT_LEN>;
@@ -56,7 +59,8 @@ pub fn push_byte(text: &mut Text, byte: u8)
 
 /// Adds a number in decimal.
 pub fn push_number(text: &mut Text, number: u64)
-    ensures { text.new ≡ extended text.old (decimal number) }
+    ensures number { text.new ≡ extended text.old (decimal number) }
+    ensures few { length (decimal number) ≤ 20 }
 {
     push_text(text, Buffer::new().format(number));
 }

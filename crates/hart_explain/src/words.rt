@@ -19,6 +19,12 @@ use crate::text::{Text, push_byte, push_bytes, push_hex, push_number, push_text}
 use crate::value::Value;
 use hart_commands::unit_name;
 
+mod header;
+mod sighting;
+mod status;
+
+pub use sighting::push_sighting;
+
 /// Adds the lines of a reading of the data of a command.
 #[tactic(auto, using(crate::proofs::lemmas::Extended::extending), unfolding(crate::specs::Words::reading_lines))]
 pub fn push_reading(text: &mut Text, pairs: &Pairs, command: u8, bytes: &[u8], reading: Reading<'_>)
@@ -105,7 +111,7 @@ fn push_not_read(text: &mut Text, pairs: &Pairs, code: u8, bytes: &[u8])
 
 /// Begins a line: adds its name.
 #[inline(always)]
-fn push_name(text: &mut Text, name: &str)
+pub(crate) fn push_name(text: &mut Text, name: &str)
     ensures { text.new ≡ extended text.old (codes "    " ++ name.now ++ codes ": ") }
 {
     push_text(text, "    ");
@@ -114,7 +120,7 @@ fn push_name(text: &mut Text, name: &str)
 }
 
 /// Adds the line of bytes, if there are any.
-fn push_bytes_line(text: &mut Text, pairs: &Pairs, name: &str, bytes: &[u8])
+pub(crate) fn push_bytes_line(text: &mut Text, pairs: &Pairs, name: &str, bytes: &[u8])
     ensures { text.new ≡ extended text.old (bytes_line name.now bytes.now) }
 {
     if !bytes.is_empty() {
@@ -137,7 +143,7 @@ fn push_bytes_or_none(text: &mut Text, pairs: &Pairs, bytes: &[u8])
 
 /// Adds bytes in hex: `0x`, and two upper-case digits for each byte.
 #[tactic(auto, using(crate::proofs::lemmas::Extended::extending), unfolding(crate::specs::Words::hex_value))]
-fn push_hex_value(text: &mut Text, pairs: &Pairs, bytes: &[u8])
+pub(crate) fn push_hex_value(text: &mut Text, pairs: &Pairs, bytes: &[u8])
     ensures { text.new ≡ extended text.old (hex_value bytes.now) }
 {
     push_text(text, "0x");
@@ -145,7 +151,7 @@ fn push_hex_value(text: &mut Text, pairs: &Pairs, bytes: &[u8])
 }
 
 /// Adds a comma, a space and a name, if there is a name.
-fn push_name_after(text: &mut Text, name: Option<&str>)
+pub(crate) fn push_name_after(text: &mut Text, name: Option<&str>)
     ensures { text.new ≡ extended text.old (name_words (option_map (λ name. name.now) name.entry)) }
 {
     if let Some(name) = name {

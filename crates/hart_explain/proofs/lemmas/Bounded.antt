@@ -40,9 +40,10 @@ is_short row = nat_le (length row.name) 40
 abbrev pub rows_fit : List Row → Bool
 rows_fit rows = nat_le (length rows) 16 && list_all is_short rows && sizes_suit rows
 
--- whether the rows of a command fit, and it needs at most 255 data bytes
+-- whether the rows of a command fit, it needs at most 255 data bytes, and its name has at most 64 characters
 command_fits : Command → Bool
-command_fits command = rows_fit command.request && rows_fit command.reply && nat_le command.needed 255
+command_fits command =
+    rows_fit command.request && rows_fit command.reply && nat_le command.needed 255 && nat_le (length command.name) 64
 
 all_fit : AllByRecursion (λ row. command_fits row.command ≡ true) commands
 unfolding command_fits text
@@ -58,6 +59,10 @@ rows-fit command = grind (arith, common_steps, nat_tests, known-fits command)
 needed-small : (command : ℕ) → needed_data command ≤ 255
 unfolding command_fits
 needed-small command = grind (arith, common_steps, nat_tests, known-fits command)
+
+pub command_name-short : (command : ℕ) → IfSome (command_name command) (λ name. length name ≤ 64)
+unfolding command_fits
+command_name-short command = grind (arith, common_steps, nat_tests, known-fits command)
 
 -- the numbers of a problem are those of its type
 abbrev pub InRange : Problem → Type 0

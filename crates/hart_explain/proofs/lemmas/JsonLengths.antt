@@ -20,7 +20,7 @@ use Rattle.hart_commands.specs.Fields.{text}
 use Rattle.hart_commands.specs.declared.fields.FieldKind.{FieldKind}
 use Rattle.hart_commands.specs.declared.fields.FieldKind.TheVariants as kinds
 use Rattle.hart_explain.specs.Values.{day_words, held_date, held_latin, held_value, number_in, sizes_suit, suits, unpacked}
-use Rattle.hart_explain.proofs.lemmas.JsonText.{escape-hex, further-is, items-is}
+use Rattle.hart_explain.proofs.lemmas.Json.{escape-hex, further-is, items-is}
 use Rattle.hart_explain.specs.Json.{Named, field_member, further_member, further_members, hex, list_of, name_or_null, named, object_of}
 use Rattle.hart_explain.specs.Json.{problem_data, reading_members, underscored, value_data, variable_data}
 use Rattle.hart_explain.specs.Reading.{Reading}
@@ -44,7 +44,7 @@ escape-fits (byte ∷ bytes) = simp length-append (omega (arith, byte-fits byte,
 hex-data-fits : (bytes : List ℕ) → IsBytes bytes → length (compact_text (hex bytes)) ≡ 2 + 2 * length bytes
 hex-data-fits bytes are = grind (arith, length-append, length-encode_with, escape-hex bytes (λ i. omega (arith, are i)))
 
-string-fits : (text : List ℕ) → length (compact_text (string text)) ≤ 6 * length text + 2
+pub string-fits : (text : List ℕ) → length (compact_text (string text)) ≤ 6 * length text + 2
 string-fits text = simp length-append (omega (arith, escape-fits text))
 
 one_byte : (byte : ℕ) → byte < 256 → IsBytes (byte ∷ [])
@@ -119,7 +119,7 @@ member-fits field fit =
     simp length-append (omega (arith, length-map field.name underscored, name, value, fit.0))
 
 -- an object is as long as its members, each with a comma, and two characters
-object-fits : (members : List Named) → length (compact_text (object_of members)) ≤ length (further_members members) + 2
+pub object-fits : (members : List Named) → length (compact_text (object_of members)) ≤ length (further_members members) + 2
 unfolding further_member
 object-fits [] = omega arith
 object-fits (first ∷ others) =
@@ -139,7 +139,7 @@ name-data-fits : (name : Option (List ℕ)) → IfSome name (λ name. length nam
 name-data-fits None short = omega arith
 name-data-fits (Some name) short = omega (arith, string-fits name, short)
 
-code_name-short : (command code : ℕ) → IfSome (code_name command code) (λ name. length name ≤ 23)
+pub code_name-short : (command code : ℕ) → IfSome (code_name command code) (λ name. length name ≤ 23)
 code_name-short command code = grind (arith, common_steps, nat_tests)
 
 problem-data-fits : (command : ℕ) (problem : Problem) → InRange problem → length (compact_text (problem_data command problem)) ≤ 200
@@ -160,7 +160,7 @@ wrong-data-fits command None range = omega arith
 wrong-data-fits command (Some problem) range = problem-data-fits command problem range
 
 -- a member with a comma before it
-named-fits : (name : List ℕ) (value : Data)
+pub named-fits : (name : List ℕ) (value : Data)
     → length (further_member (record { name = name; value = value })) ≤ 4 + 6 * length name + length (compact_text value)
 unfolding further_member
 named-fits name value = simp length-append (omega (arith, escape-fits name))

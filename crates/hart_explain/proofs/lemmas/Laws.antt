@@ -6,7 +6,7 @@ use Rattle.json.specs.Print.{escape}
 use Rattle.serde_json.specs.Written.{compact_text}
 use Rattle.hart_explain.specs.Json.{Named, further_members, member_words, object_of}
 use Rattle.hart_explain.specs.Text.{extended}
-use Rattle.hart_explain.proofs.lemmas.JsonText.{escape-hex, object-is}
+use Rattle.hart_explain.proofs.lemmas.Json.{escape-hex, object-is}
 
 pub texts_keep_what_fits : (text more : List ℕ) → length text + length more ≤ 32768 → extended text more ≡ text ++ more
 unfolding extended

@@ -28,7 +28,7 @@ use Rattle.hart_explain.specs.declared.reading.Problem.{Problem}
 use Rattle.hart_explain.specs.declared.reading.Problem.TheVariants.{NoReply, NotRead, Refused, TooFew, UnknownCommand}
 use Rattle.hart_explain.specs.Words.{bytes_line, field_line, name_words, problem_lines, reading_lines, hex_value, unit_words, value_words}
 use Rattle.hart_explain.specs.Words.{variable_words}
-use Rattle.hart_explain.proofs.lemmas.Bounded.{InRange, IsBounded, drop_bytes, is_short, rows_fit, take_bytes}
+use Rattle.hart_explain.proofs.lemmas.Bounded.{InRange, IsBounded, drop_bytes, is_short, take_bytes}
 
 -- a byte has at most three decimal digits, and a number of two bytes at most five
 pub decimal_byte : (n : ℕ) → n < 256 → length (decimal n) ≤ 3
@@ -72,7 +72,7 @@ unit-fits : (code : ℕ) → code < 256 → length (unit_words code) ≤ 51
 unit-fits code small = grind (arith, common_steps, length-append, decimal_byte, unit_name-short)
 
 -- bytes have two hex digits each
-hex-fits : (bytes : List ℕ) → length (hex_value bytes) ≡ 2 + 2 * length bytes
+pub hex-fits : (bytes : List ℕ) → length (hex_value bytes) ≡ 2 + 2 * length bytes
 unfolding hex_value
 hex-fits bytes = grind (arith, length-encode_with)
 
@@ -211,11 +211,11 @@ line-fits : TextFits field_line 83
 unfolding field_line
 line-fits field fit = let value = value-fits field.kind field.bytes fit.1 fit.2 in simp length-append (omega (arith, value, fit.0))
 
-bytes-line-fits : (name bytes : List ℕ) → length (bytes_line name bytes) ≤ length name + 2 * length bytes + 9
+pub bytes-line-fits : (name bytes : List ℕ) → length (bytes_line name bytes) ≤ length name + 2 * length bytes + 9
 bytes-line-fits name [] = omega arith
 bytes-line-fits name (byte ∷ bytes) = grind (arith, length-append, hex-fits)
 
-name-fits : (command code : ℕ) → length (name_words (code_name command code)) ≤ 25
+pub name-fits : (command code : ℕ) → length (name_words (code_name command code)) ≤ 25
 name-fits command code = grind (arith, nat_tests)
 
 problem-fits : (command : ℕ) (bytes : List ℕ) (problem : Problem) → command < 256 → length bytes ≤ 255 → InRange problem

@@ -2,7 +2,7 @@ use Rattle.std.proofs.Common.{◌≡◌, ◌∙◌, List, ◌∷◌, ◌++◌, [
 use Rattle.serde_json.specs.Written.{compact_text}
 use Rattle.hart_commands.specs.Fields.{Field}
 use Rattle.hart_explain.specs.Json.{field_member, further_members, member_words, object_of}
-use Rattle.hart_explain.proofs.lemmas.JsonText.{object-is}
+use Rattle.hart_explain.proofs.lemmas.Json.{object-is}
 use Rattle.hart_explain.proofs.lemmas.Extended.{also}
 use Rattle.hart_explain.proofs.objects.push_fields.Goals as goal
 

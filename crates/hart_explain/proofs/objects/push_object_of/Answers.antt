@@ -11,7 +11,7 @@ returns-in-Refused c =
       c.push_name.ensures,
       c.code_name.ensures.name,
       c.push_text-in-Refused-2.ensures,
-      c.push_number-in-Refused.ensures,
+      c.push_number-in-Refused.ensures.number,
       c.from.ensures,
       c.push_text-in-Refused.ensures,
     ) (simp extending)
@@ -26,7 +26,7 @@ returns-in-NotRead c =
     rw (
       c.in-NotRead.is,
       c.push_text-in-NotRead-2.ensures,
-      c.push_number-in-NotRead.ensures,
+      c.push_number-in-NotRead.ensures.number,
       c.from-in-NotRead.ensures,
       c.push_text-in-NotRead.ensures,
     ) (simp extending)

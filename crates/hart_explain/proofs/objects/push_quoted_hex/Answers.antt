@@ -1,4 +1,4 @@
-use Rattle.hart_explain.proofs.lemmas.JsonText.{escape-hex}
+use Rattle.hart_explain.proofs.lemmas.Json.{escape-hex}
 use Rattle.hart_explain.proofs.lemmas.Extended.{extending}
 use Rattle.hart_explain.proofs.objects.push_quoted_hex.Goals as goal
 

@@ -6,9 +6,9 @@ returns-in-TooFew c =
     rw (
       c.in-TooFew.is,
       c.push_byte.ensures,
-      c.push_number-in-TooFew.ensures,
+      c.push_number-in-TooFew.ensures.number,
       c.push_text.ensures,
-      c.push_number.ensures,
+      c.push_number.ensures.number,
       c.push_name.ensures,
       c.push_bytes_line-in-TooFew.ensures,
     ) (simp extending)
@@ -20,7 +20,7 @@ returns-in-NoReply c =
       c.push_byte-in-NoReply.ensures,
       c.push_bytes_or_none.ensures,
       c.push_text-in-NoReply-2.ensures,
-      c.push_number-in-NoReply.ensures,
+      c.push_number-in-NoReply.ensures.number,
       c.from-in-NoReply.ensures,
       c.push_text-in-NoReply.ensures,
     ) (simp extending)

@@ -14,7 +14,7 @@ returns c =
       c.push_byte.ensures,
       c.push_hex_value.ensures,
       c.push_text-2.ensures,
-      c.push_number.ensures,
+      c.push_number.ensures.number,
       c.from.ensures,
       c.push_text.ensures,
       some-line _ c.args.bytes.now c.if-is_empty.ensures,

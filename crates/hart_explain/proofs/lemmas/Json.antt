@@ -2,7 +2,7 @@
 use Rattle.std.proofs.Common.{◌≡◌, ◌<◌, ◌/◌, ◌%◌, ℕ, suc, Bool, true, List, [], ◌∷◌, ◌++◌, append-nil, append_assoc, arith}
 use Rattle.std.proofs.Common.{Fits, get_or, map, nat_le, refl, w8}
 use Rattle.std.proofs.lemmas.Bool.Decides.{nat_tests}
-use Rattle.std.proofs.lemmas.Grind.{common_steps}
+use Rattle.std.proofs.lemmas.Grind.{common_steps, flat_map-append}
 use Rattle.std.proofs.lemmas.List.Folds.{list_all_at}
 use Rattle.std.specs.List.{flat_map}
 use Rattle.std.specs.Prelude.{◌&&◌, slice_index}
@@ -10,7 +10,8 @@ use Rattle.hex.specs.Hex.{encode_upper, encode_with, upper_digits}
 use Rattle.json.specs.Print.{escape, escape_byte}
 use Rattle.serde_json.specs.Data.{Data}
 use Rattle.serde_json.specs.Written.{compact_text, items_text, members_text}
-use Rattle.hart_explain.proofs.lemmas.Extended.{extended_nothing, extended_on}
+use Rattle.hart_explain.proofs.lemmas.Extended.{also, extended_nothing, extended_on}
+use Rattle.hart_explain.specs.Text.{extended}
 use Rattle.hart_explain.specs.Json.{Named, further_member, further_members, items_of, member_words, members_of, object_of}
 
 -- further members and a brace end an object
@@ -50,4 +51,9 @@ escape-hex (byte ∷ bytes) fits =
     grind (arith, escape-digit (byte / 16), escape-digit (byte % 16))
 
 -- objects and lists that are printed piece by piece
-pub ruleset printing = (extended_on, extended_nothing, append_assoc, append-nil, object-is, items-is)
+pub ruleset said = (extended_on, extended_nothing, append_assoc, append-nil, object-is, items-is)
+
+-- members that are printed one list after the other
+pub members-on : (a b c : List ℕ) (xs ys : List Named) → b ≡ extended a (further_members xs) → c ≡ extended b (further_members ys)
+    → c ≡ extended a (further_members (xs ++ ys))
+members-on a b c xs ys h k = rw (flat_map-append further_member xs ys) (also a b c _ _ h k)

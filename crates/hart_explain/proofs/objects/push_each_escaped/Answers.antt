@@ -1,10 +1,7 @@
 use Rattle.std.proofs.Common.{arith}
 use Rattle.std.proofs.lemmas.Grind.{common_steps}
 use Rattle.hart_explain.proofs.lemmas.Extended.{extending}
-use Rattle.hart_explain.proofs.objects.push_quoted.Goals as goal
+use Rattle.hart_explain.proofs.objects.push_each_escaped.Goals as goal
 
 pub loop-byte-preserved : goal.loop-byte-preserved
 loop-byte-preserved c = grind (arith, common_steps, extending)
-
-pub returns : goal.returns
-returns c = grind (arith, common_steps, extending)
