@@ -1,10 +1,4 @@
 -- `hart explain`.
-pub mod Words
-pub mod Codes
-pub mod Status
-pub mod Message
-pub mod Misses
-pub mod objects
 pub mod Before
 pub mod Explanation
 pub mod Explain

@@ -4,7 +4,6 @@ pub mod InputChars
 pub mod Heard
 pub mod Marks
 pub mod HexText
-pub mod DeviceDigits
 pub mod MessageLine
 pub mod Words
 pub mod Reading

@@ -4,13 +4,13 @@ ghost use Rattle.hart_cli.specs.stream.Kept.{HasRoomFor, Tells};
 
 use crate::output::write_all;
 use crate::stream::{Failed, Sink};
-use hart_explain::{TEXT_LEN, Text};
+use hart_explain::{SIGHTING_LEN, TEXT_LEN, Text};
 
 /// The greatest number of bytes of text that are kept.
 pub const KEPT_LEN: usize = TEXT_LEN;
 
-/// The greatest number of bytes in a piece of text: a date, a space and a paragraph.
-const PIECE_LEN: usize = 8_225;
+/// The greatest number of bytes in a piece of text.
+const PIECE_LEN: usize = SIGHTING_LEN;
 
 /// Text that is not yet written.
 pub type Kept = Text;
@@ -22,7 +22,7 @@ pub type Kept = Text;
 /// `Failed` if a write fails.
 pub fn make_room<W: Sink>(writer: &mut W, kept: &mut Kept) -> Result<(), Failed>
     ensures tells { Tells (W.stream writer.old) (W.stream writer.new) kept.old kept.new [] result }
-    ensures room { OnOk result (HasRoomFor 8225 kept.new) }
+    ensures room { OnOk result (HasRoomFor 16384 kept.new) }
 {
     if kept.len() > KEPT_LEN - PIECE_LEN {
         write_all(writer, kept.as_slice())?;

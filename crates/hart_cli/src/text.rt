@@ -1,7 +1,6 @@
 //! Texts: hex items, and lines of words and bytes.
 
 pub mod chunk;
-pub mod device_digits;
 pub mod device_lines;
 pub mod digit_lanes;
 pub mod hex_text;

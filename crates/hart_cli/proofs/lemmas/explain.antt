@@ -1,6 +1,5 @@
 -- `hart explain`.
 pub mod Fields
-pub mod Objects
 pub mod Gaps
 pub mod OnePreamble
 pub mod OneLine

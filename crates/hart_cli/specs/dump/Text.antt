@@ -1,15 +1,12 @@
 -- The lines of `hart dump` (implementation choice).
-use Rattle.std.specs.Prelude.{ℕ, ◌+◌, ◌*◌, Bool, true, false, if◌then◌else◌, List, [], ◌∷◌, codes, decimal, length}
+use Rattle.std.specs.Prelude.{ℕ, ◌+◌, ◌*◌, Bool, true, false, List, [], ◌∷◌, codes, decimal, length}
 use Rattle.std.specs.List.{flat_map}
-use Rattle.hart_values.specs.address.AddressBytes.{is_broadcast}
-use Rattle.hart_values.specs.declared.address.Address.{Address}
-use Rattle.hart_values.specs.declared.address.Address.TheVariants.{Polling, Unique}
 use Rattle.hart_values.specs.declared.master_id.MasterId.{MasterId}
 use Rattle.hart_values.specs.declared.master_id.MasterId.TheVariants.{Primary, Secondary}
 use Rattle.hart_frame.specs.declared.wire.kind.FrameKind.{FrameKind}
 use Rattle.hart_frame.specs.declared.wire.kind.FrameKind.TheVariants.{Stx, Ack}
 use Rattle.hart_frame.specs.declared.heard.found.Found.{Found}
-use Rattle.hart_cli.specs.text.DeviceDigits.{device_digits}
+use Rattle.hart_explain.specs.Header.{address_word}
 use Rattle.hart_cli.specs.text.Words.{bytes_word, line_of}
 
 -- The word of a kind of frame is `STX` for an STX and `ACK` for an ACK.
@@ -26,13 +23,6 @@ master_word Secondary = codes "S"
 abbrev pub burst_word : Bool → List ℕ
 burst_word false = codes "0"
 burst_word true = codes "1"
-
--- The word of a polling address is `@` and its number in decimal. The word of a unique address is the ten digits of the device, or
--- `all` for broadcast.
-abbrev pub address_word : Address → List ℕ
-address_word (Polling number) = 64 ∷ decimal number
-address_word (Unique numbers) =
-    if is_broadcast (Unique numbers) then codes "all" else device_digits numbers
 
 -- The line of a frame has these nine words.
 abbrev pub dump_line : Found → List ℕ

@@ -12,7 +12,7 @@ use Rattle.hart_frame.specs.declared.wire.kind.FrameKind.{FrameKind}
 use Rattle.hart_frame.specs.declared.wire.kind.FrameKind.TheVariants.{Ack, Stx}
 use Rattle.hart_frame.specs.heard.Sighting.{Message, Missed, Seen}
 use Rattle.hart_frame.specs.wire.FrameParts.{FrameParts}
-use Rattle.hart_cli.specs.declared.calls.explain.objects.Before.{Before}
+use Rattle.hart_explain.specs.declared.objects.sighting.Before.{Before}
 
 -- Whether two masters are the same.
 abbrev pub same_master : MasterId → MasterId → Bool

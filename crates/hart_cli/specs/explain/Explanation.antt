@@ -2,21 +2,13 @@
 use Rattle.std.specs.Prelude.{◌≡◌, ◌+◌, ℕ, zero, suc, List, [], ◌∷◌, ◌++◌, length, map}
 use Rattle.std.specs.List.{flat_map}
 use Rattle.hart_frame.specs.heard.Character.{Character}
-use Rattle.hart_frame.specs.heard.Sighting.{AreSightings, Message, Missed, Seen, moved_seen}
+use Rattle.hart_frame.specs.heard.Sighting.{AreSightings, Seen, moved_seen}
+use Rattle.hart_explain.specs.Sighting.{date_words, json_line, seen_text}
 use Rattle.hart_cli.specs.declared.calls.explain.teller.Style.{Style}
 use Rattle.hart_cli.specs.declared.calls.explain.teller.Style.TheVariants.{Objects, Words}
 use Rattle.hart_cli.specs.explain.Before.{before_of}
 use Rattle.hart_cli.specs.explain.Gaps.{seen_place}
-use Rattle.hart_cli.specs.explain.Message.{paragraph}
-use Rattle.hart_cli.specs.explain.Misses.{miss_line, seems_line}
-use Rattle.hart_cli.specs.explain.objects.Line.{json_line}
 use Rattle.hart_cli.specs.text.Heard.{Date, Heard, HeardChar, Silence, stretches}
-
--- The text of a sighting is the paragraph of a message, or the line of a place where a message only seems to start. If a header was
--- heard there, a second line says what the message seems to be.
-abbrev pub seen_text : Seen → List ℕ
-seen_text (Message found) = paragraph found
-seen_text (Missed place miss header) = miss_line place miss ++ seems_line header
 
 -- The date of a place is the word of the last date before the character at that place, counted through all stretches. It is `last` if
 -- no date stands there.
@@ -30,11 +22,6 @@ date_after last (Date word ∷ heard) place = date_after word heard place
 -- The date of a place in what was heard is empty if no date stands before that place.
 abbrev pub date_of : List Heard → ℕ → List ℕ
 date_of heard place = date_after [] heard place
-
--- A date is written as its word and a space. Nothing is written for no date.
-abbrev pub date_words : List ℕ → List ℕ
-date_words [] = []
-date_words (byte ∷ word) = byte ∷ word ++ 32 ∷ []
 
 -- `date` gives the date of each place. The dated text of a sighting is the date of its place, and then its text.
 abbrev pub dated_text : (ℕ → List ℕ) → Seen → List ℕ

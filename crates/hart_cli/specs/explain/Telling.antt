@@ -5,11 +5,9 @@ use Rattle.std.specs.Prelude.{IfSome, drop, length, map}
 use Rattle.hart_frame.specs.declared.scan.sighting.After.{After}
 use Rattle.hart_frame.specs.declared.scan.sighting.After.TheVariants.{Damaged, End, More}
 use Rattle.hart_frame.specs.declared.scan.sighting.NextSighting.{NextSighting}
-use Rattle.hart_frame.specs.declared.scan.sighting.Sighting.{Sighting}
-use Rattle.hart_frame.specs.declared.scan.sighting.Sighting.TheVariants as given
 use Rattle.hart_frame.specs.heard.Character.{Character, faultless}
 use Rattle.hart_frame.specs.heard.Sighting.{IsUndecidedSighting, Seen, SeesOn, moved_seen}
-use Rattle.hart_frame.specs.scan.Sighting.{EndsAt, NamesPlacesBelow, heard_with, is_end, sightings_of}
+use Rattle.hart_frame.specs.scan.Sighting.{EndsAt, heard_with, is_end, sightings_of}
 use Rattle.hart_cli.specs.declared.calls.explain.teller.Style.{Style}
 use Rattle.hart_cli.specs.declared.calls.explain.teller.Teller.{Teller}
 use Rattle.hart_cli.specs.declared.calls.explain.telling.Telling.{Telling}
@@ -25,11 +23,6 @@ use Rattle.hart_cli.specs.stream.Kept.{AddsText}
 use Rattle.hart_cli.specs.stream.Stream.{FailsToWrite, Stream, WritesAll}
 use Rattle.hart_cli.specs.text.Heard.{Date, Heard, HeardChar, ReadsHeard, Silence, heard_chars}
 use Rattle.hart_cli.specs.text.Items.{ReadsUpTo}
-
--- The places of a sighting, and the places that its miss names, fit in 64 bits when they are counted from `first` on.
-abbrev pub FitsFrom : ℕ → Sighting → Type 0
-FitsFrom first (given.Message view) = (first + view.start < 2 ^ 64) × (first + view.stop < 2 ^ 64)
-FitsFrom first (given.Missed place miss header) = (first + place < 2 ^ 64) × NamesPlacesBelow (2 ^ 64 - first) miss
 
 -- The next sighting from the place `from` on, in held bytes and in what comes after them. The search went up to the place `used`. If
 -- there is a sighting, `used` is beyond `from`. If there is none, at most 268 characters are left from `used` on, and they decide no

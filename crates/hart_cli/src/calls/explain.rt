@@ -17,18 +17,11 @@ use crate::text::chunk::CHUNK_LEN;
 use hart_line::Digits;
 use std::alloc::Global;
 
-mod codes;
 mod dates;
 mod last_messages;
 pub mod laws;
-mod message;
-mod misses;
-mod objects;
-mod sightings;
-mod status;
 mod teller;
 mod telling;
-mod words;
 
 /// The greatest number of bytes that a raw input may have, so that each place fits in 64 bits.
 const RAW_LIMIT: usize = usize::MAX - 1;

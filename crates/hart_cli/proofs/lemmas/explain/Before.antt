@@ -19,7 +19,7 @@ use Rattle.hart_frame.specs.heard.Sighting.{Message, Missed, Seen}
 use Rattle.hart_frame.specs.wire.FrameParts.{FrameParts}
 use Rattle.hart_frame.specs.wire.Header.{HeaderParts}
 use Rattle.hart_cli.specs.declared.calls.explain.last_messages.LastMessage.{LastMessage}
-use Rattle.hart_cli.specs.declared.calls.explain.objects.Before.{Before}
+use Rattle.hart_explain.specs.declared.objects.sighting.Before.{Before}
 use Rattle.hart_cli.specs.declared.calls.explain.teller.Style.TheVariants.{Objects}
 use Rattle.hart_cli.specs.explain.Before.{answered, before_of, message_of, messages_back, repeats, same_address}
 use Rattle.hart_cli.specs.explain.Before.{same_master, same_request}

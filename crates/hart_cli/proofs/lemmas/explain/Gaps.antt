@@ -26,7 +26,7 @@ use Rattle.hart_frame.proofs.lemmas.heard.Start.{start_test}
 use Rattle.hart_frame.specs.heard.Sighting.{Missed, Seen, header_at, miss_in_whole, missed, seen_miss}
 use Rattle.hart_frame.specs.wire.Header.{HeaderParts}
 use Rattle.hart_cli.specs.explain.Gaps.{IsGap, seen_place}
-use Rattle.hart_cli.specs.explain.Misses.{miss_words}
+use Rattle.hart_explain.specs.Miss.{miss_words}
 use Rattle.hart_explain.specs.Words.{hex_value}
 
 -- if a place has a miss, the sighting of this place with its miss, changed by `told`, and with its header

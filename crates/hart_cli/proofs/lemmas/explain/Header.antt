@@ -16,7 +16,7 @@ use Rattle.hart_values.specs.declared.address.Address.TheVariants.{Polling, Uniq
 use Rattle.hart_values.specs.declared.master_id.MasterId.{MasterId}
 use Rattle.hart_values.specs.declared.master_id.MasterId.TheVariants.{Primary, Secondary}
 use Rattle.hart_explain.specs.Words.{name_words}
-use Rattle.hart_cli.specs.explain.Words.{command_words, device_words, header_words, master_words, who_words}
+use Rattle.hart_explain.specs.Header.{command_words, device_words, header_words, master_words, who_words}
 use Rattle.hart_cli.proofs.lemmas.explain.Gaps.{no_line_feed, unbroken-decimal, unbroken-digit}
 
 -- whether the name of a command has no line feed

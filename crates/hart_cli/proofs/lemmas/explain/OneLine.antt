@@ -8,9 +8,9 @@ use Rattle.serde_json.specs.Data.{Data, Items, Members, Num, array, boolean, flo
 use Rattle.serde_json.specs.Data.{number, object, string, unsigned}
 use Rattle.serde_json.specs.Written.{comma_if, compact_text, items_text, members_text, number_text}
 use Rattle.hart_frame.specs.heard.Sighting.{Seen}
-use Rattle.hart_cli.specs.declared.calls.explain.objects.Before.{Before}
+use Rattle.hart_explain.specs.declared.objects.sighting.Before.{Before}
 use Rattle.hart_cli.specs.explain.Gaps.{IsOneLine}
-use Rattle.hart_cli.specs.explain.objects.Line.{data_of, json_line}
+use Rattle.hart_explain.specs.Sighting.{data_of, json_line}
 use Rattle.hart_cli.proofs.lemmas.explain.Gaps.{no_line_feed, unbroken-all, unbroken-decimal}
 
 -- a byte of a string is written with no line feed

@@ -2,11 +2,12 @@
 ghost use Rattle.std.specs.Prelude.{◌≡◌, ◌∷◌, [], ◌++◌, ◌+◌, ◌<◌, ◌≤◌, ◌^◌, decimal, length};
 ghost use Rattle.hart_frame.specs.heard.Frames.{moved};
 ghost use Rattle.hart_frame.specs.scan.View.{found_of};
-ghost use Rattle.hart_cli.specs.dump.Text.{address_word, burst_word, dump_line, kind_word, line_room, master_word};
+ghost use Rattle.hart_explain.specs.Header.{address_word};
+ghost use Rattle.hart_cli.specs.dump.Text.{burst_word, dump_line, kind_word, line_room, master_word};
 
-use crate::text::device_digits::push_device_digits;
 use crate::text::pairs::Pairs;
 use crate::text::words::{push_hex_word, push_word};
+use hart_explain::hex_text::{device_bytes, push_hex};
 use hart_frame::{FoundView, FrameKind};
 use hart_values::{Address, ByteList, MasterId};
 use itoa::Buffer;
@@ -107,7 +108,7 @@ fn push_address<const N: usize>(line: &mut ByteList<N>, pairs: &Pairs, address: 
             if address.is_broadcast() {
                 push_word(line, "all");
             } else {
-                push_device_digits(line, pairs, device);
+                push_hex(line, pairs, &device_bytes(device));
                 line.push(b' ');
             }
         }

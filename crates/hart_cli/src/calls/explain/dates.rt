@@ -1,11 +1,8 @@
 //! The dates of what is held. A date has at most 32 bytes, so that those of all held characters fit in a fixed size.
-ghost use Rattle.std.specs.Prelude.{◌≡◌, ◌+◌, ◌≤◌, ◌++◌, ◌<◌, ◌^◌, [], ℕ, get_or, length};
+ghost use Rattle.std.specs.Prelude.{◌≡◌, ◌+◌, ◌≤◌, ◌<◌, ◌^◌, [], ℕ, get_or, length};
 ghost use Rattle.hart_cli.specs.explain.Dates.{date_at, kept_word};
-ghost use Rattle.hart_cli.specs.explain.Explanation.{date_words};
-ghost use Rattle.hart_cli.specs.stream.Kept.{HasRoomFor};
 
 use crate::held::MOST_OPEN;
-use crate::kept::Kept;
 use crate::text::marks::DATE_LEN;
 use arrayvec::ArrayVec;
 
@@ -43,20 +40,6 @@ impl Dates {
         date[0] = word.len() as u8;
         date[1..=word.len()].copy_from_slice(word);
         self.last = date;
-    }
-
-    /// Appends the date of the held character at a place, and a space, if it has a date.
-    pub fn push_date(&self, text: &mut Kept, place: usize)
-        requires room { HasRoomFor 33 text.old }
-        ensures date { text.new ≡ text.old ++ date_words (date_at self.now place) }
-        ensures few { length text.new ≤ length text.old + 33 }
-    {
-        let date = self.date_at(place);
-        let word = word_of(&date);
-        if !word.is_empty() {
-            text.extend_from_slice(word);
-            text.push(b' ');
-        }
     }
 
     /// Drops the dates of the first `used` characters. The dates of `count` held characters are kept.

@@ -7,9 +7,10 @@ ghost use Rattle.hart_frame.specs.scan.View.{found_of};
 ghost use Rattle.hart_cli.specs.declared.calls.explain.teller.Style.TheVariants.{Objects};
 ghost use Rattle.hart_cli.specs.explain.Before.{answered, asks_for, before_of, repeats, same_content, same_ends, same_request};
 ghost use Rattle.hart_cli.specs.explain.LastMessages.{KeepsOwn, listed, no_messages, recalled};
-ghost use Rattle.hart_cli.specs.explain.Telling.{AreAlike, FitsFrom};
+ghost use Rattle.hart_cli.specs.explain.Telling.{AreAlike};
+ghost use Rattle.hart_explain.specs.Sighting.{FitsFrom};
 
-use crate::calls::explain::objects::Before;
+use hart_explain::objects::Before;
 use hart_frame::{FoundView, Frame, FrameKind, Sighting};
 use hart_values::EachMaster;
 

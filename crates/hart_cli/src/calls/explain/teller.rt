@@ -1,20 +1,19 @@
 //! How sightings are told: in words, or as JSON objects.
-ghost use Rattle.std.specs.Prelude.{◌≡◌, ◌+◌, ◌-◌, ◌^◌, ◌∷◌, [], ℕ, OnOk};
+ghost use Rattle.std.specs.Prelude.{◌≡◌, ◌+◌, ◌-◌, ◌^◌, ◌++◌, ◌∷◌, [], ℕ, OnOk};
 ghost use Rattle.hart_frame.specs.heard.Sighting.{moved_seen};
 ghost use Rattle.hart_frame.specs.scan.Sighting.{seen_of};
 ghost use Rattle.hart_cli.specs.explain.Dates.{date_at};
 ghost use Rattle.hart_cli.specs.explain.Gaps.{seen_place};
 ghost use Rattle.hart_cli.specs.explain.LastMessages.{KeepsOwn, no_messages, recalled};
-ghost use Rattle.hart_cli.specs.explain.Telling.{FitsFrom, GoesOn, told_text};
-ghost use Rattle.hart_cli.specs.stream.Kept.{Tells};
+ghost use Rattle.hart_explain.specs.Sighting.{FitsFrom};
+ghost use Rattle.hart_cli.specs.explain.Telling.{GoesOn, told_text};
+ghost use Rattle.hart_cli.specs.stream.Kept.{HasRoomFor, Tells};
 
 use crate::calls::explain::dates::{Dates, word_of};
 use crate::calls::explain::last_messages::{LastMessages, hear_sighting, no_messages};
-use crate::calls::explain::objects::tell_object;
-use crate::calls::explain::sightings::push_sighting;
 use crate::kept::{Kept, make_room};
 use crate::stream::{Failed, Sink};
-use crate::text::pairs::Pairs;
+use hart_explain::{Pairs, objects, words};
 use hart_frame::Sighting;
 
 /// How sightings are told.
@@ -73,24 +72,29 @@ impl Teller {
         ensures goes_on { OnOk result (GoesOn self.old self.new (moved_seen first (seen_of sighting.now) ∷ [])) }
         ensures own { OnOk result ((most : ℕ) → KeepsOwn most self.old.last → KeepsOwn (most + 1) self.new.last) }
     {
+        make_room(writer, kept)?;
+        self.push(kept, dates, first, sighting);
+        Ok(())
+    }
+
+    /// Appends what is said of a sighting, after the date of its place, to a text that has room for it. Its places are counted from
+    /// `first` on.
+    fn push(&mut self, kept: &mut Kept, dates: &Dates, first: u64, sighting: &Sighting<'_>)
+        requires room { HasRoomFor 16384 kept.old }
+        requires places { FitsFrom first sighting.now }
+        requires own { KeepsOwn (2 ^ 64 - 2) self.old.last }
+        ensures adds { kept.new ≡ kept.old
+            ++ told_text self.old (λ place. date_at dates.now (place - first)) (moved_seen first (seen_of sighting.now)) }
+        ensures goes_on { GoesOn self.old self.new (moved_seen first (seen_of sighting.now) ∷ []) }
+        ensures own { (most : ℕ) → KeepsOwn most self.old.last → KeepsOwn (most + 1) self.new.last }
+    {
+        let date = dates.date_at(place_of(sighting));
+        let date = word_of(&date);
         match self.style {
-            Style::Words => {
-                make_room(writer, kept)?;
-                push_sighting(kept, &self.pairs, dates, first, sighting);
-                Ok(())
-            }
+            Style::Words => words::push_sighting(kept, &self.pairs, date, first, sighting),
             Style::Objects => {
                 let before = hear_sighting(&mut self.last, first, sighting);
-                let date = dates.date_at(place_of(sighting));
-                tell_object(
-                    writer,
-                    kept,
-                    &self.pairs,
-                    word_of(&date),
-                    first,
-                    before,
-                    sighting,
-                )
+                objects::push_line(kept, &self.pairs, date, first, before, sighting);
             }
         }
     }

@@ -1,7 +1,8 @@
 use Rattle.std.proofs.Common.{◌≡◌, ℕ, List, [], ◌∷◌, ◌++◌, append_assoc, decimal}
 use Rattle.hart_frame.specs.heard.Frames.{moved}
 use Rattle.hart_frame.specs.scan.View.{found_of}
-use Rattle.hart_cli.specs.dump.Text.{address_word, burst_word, kind_word, master_word}
+use Rattle.hart_explain.specs.Header.{address_word}
+use Rattle.hart_cli.specs.dump.Text.{burst_word, kind_word, master_word}
 use Rattle.hart_cli.specs.text.Words.{bytes_word, line_of}
 use Rattle.hart_cli.proofs.calls.dump.text.push_frame_line.Goals as goal
 

@@ -4,11 +4,12 @@ use Rattle.std.proofs.lemmas.List.Elements.{All-append, All-drop, All-weaker}
 use Rattle.std.proofs.lemmas.List.Folds.{list_all-append}
 use Rattle.hart_frame.specs.heard.Character.{Character}
 use Rattle.hart_frame.specs.heard.Sighting.{Message, header_at, miss_in_whole, missed, seen_miss, sightings}
-use Rattle.hart_cli.specs.explain.Explanation.{date_words, dated_text, explanation}
+use Rattle.hart_cli.specs.explain.Explanation.{dated_text, explanation}
+use Rattle.hart_explain.specs.Sighting.{date_words}
 use Rattle.hart_cli.specs.text.Heard.{IsVisible}
-use Rattle.hart_cli.specs.explain.Message.{paragraph}
-use Rattle.hart_cli.specs.explain.Misses.{miss_words}
-use Rattle.hart_cli.specs.explain.Words.{header_words}
+use Rattle.hart_explain.specs.Message.{paragraph}
+use Rattle.hart_explain.specs.Miss.{miss_words}
+use Rattle.hart_explain.specs.Header.{header_words}
 use Rattle.hart_cli.proofs.lemmas.explain.Gaps.{missed_are, no_frame_in_gap, seen_is_miss, start_is_seen, told_has, told_in_order, told_is}
 use Rattle.hart_cli.proofs.lemmas.explain.Gaps.{unbroken-all, unbroken-decimal, unbroken-miss_words, whole_one}
 use Rattle.hart_cli.proofs.lemmas.explain.Header.{unbroken-header_words}
