@@ -7,7 +7,7 @@ use super::calls::{
 use super::fakes::{ALL, After};
 use hart_cli::INPUT_LIMIT;
 use hart_rows::hold_ok;
-use std::alloc::Global;
+use std::alloc::{AllocError, Global};
 use std::test::Fail;
 
 /// A master that sends a request again at most once, and 5 preamble bytes.
@@ -338,5 +338,49 @@ fn failed_writes_end_a_session(rt: HostRuntime) -> Result<(), Fail> {
             )?;
         }
     }
+    Ok(())
+}
+
+/// A request with the most data, its longest message, and a reply.
+const LONGEST: (&str, &str, &str) = (
+    "submit 37420A1B2C 200 ",
+    "ok\nsend FF FF FF FF FF FF FF FF FF FF FF FF FF FF FF FF FF FF FF FF 82 B7 42 0A 1B 2C C8 FF ",
+    "\nsend\nheard FF FF 86 B7 42 0A 1B 2C C8 02 00 00 84\n",
+);
+
+/// Appends a request with 255 bytes of data, each `AA`, and its answers.
+fn push_longest(input: &mut String, text: &mut String) -> Result<(), AllocError> {
+    let (words, sent, later) = LONGEST;
+    input.push_str(words)?;
+    text.push_str(sent)?;
+    for _ in 0..255 {
+        input.push_str("AA")?;
+        text.push_str("AA ")?;
+    }
+    input.push_str(later)?;
+    text.push_str("D7\nanswered 1 0000\n")
+}
+
+/// Reads many lines at once. The answers to them are longer than the text that is kept before a write.
+#[test]
+fn many_lines_of_a_master_are_read_at_once(rt: HostRuntime) -> Result<(), Fail> {
+    let mut input = String::new(rt.alloc());
+    let mut text = String::new(rt.alloc());
+    for _ in 0..100 {
+        push_longest(&mut input, &mut text)?;
+    }
+    let given = Given {
+        input: input.as_str(),
+        ..EMPTY
+    };
+    let wanted = Wanted {
+        fault: NONE,
+        text: text.as_str(),
+        reads: None,
+        writes: None,
+    };
+    does(&rt, rt.alloc(), Call::Master(USUAL), &given, &wanted)?
+        .then_some(())
+        .ok_or("other lines")?;
     Ok(())
 }

@@ -1,6 +1,6 @@
 //! Readers and writers that fail, and the order of reads and writes.
 
-use super::call::{Call, Words};
+use super::call::{Call, USUAL, Words};
 use super::calls::{EMPTY, Fault, Given, NONE, READ, WRITE, Wanted, does};
 use super::fakes::{ALL, After};
 use super::heard::{
@@ -343,6 +343,26 @@ const ORDERS: &[Order] = &[
         reads: 2,
         writes: 1,
         text: IDENTIFY_SAID,
+        ..BY_BYTES
+    },
+    Order {
+        call: Call::Serve(None),
+        input: "counter\n\nrestart\n",
+        fails_at: Some(1),
+        fault: WRITE,
+        reads: 9,
+        writes: 2,
+        text: "counter 0\n",
+        ..BY_BYTES
+    },
+    Order {
+        call: Call::Master(USUAL),
+        input: "submit @0 0\ntick 1\nsend\n",
+        fails_at: Some(1),
+        fault: WRITE,
+        reads: 19,
+        writes: 2,
+        text: "ok\n",
         ..BY_BYTES
     },
 ];
