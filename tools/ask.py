@@ -6,7 +6,7 @@ variable within 1.0 s when nothing is lost, write a tag, find a device by its ta
 retries. A refused write ends with status 3, wrong words end with status 2, and a dead device with status 1 in the time of the limits.
 A line that is never silent and a signal end hart-ask with status 1, and RTS is set only while it sends.
 
-On a busy machine each of these may take longer by what the machine is late, and is tried again if it fails.
+On a busy machine each of these may take longer by what the machine is late. What fails is tried again, five times at most.
 
 Usage: tools/ask.py PROGRAM
 """

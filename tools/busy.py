@@ -38,14 +38,15 @@ class Busy(threading.Thread):
 
 
 def patiently(script, check, *given):
-    """Makes a check, and ends the script if it fails. On a busy machine it is made a few times before, since there a program may stall, or
-    what it hears may have a silence in it."""
+    """Makes a check, and ends the script if it fails each time. On a busy machine a program may stall, and a pseudo-terminal may hand on
+    late what is written to it, even if no sleep is late. So what a program hears may have a silence in it. A fault of the program comes
+    again."""
     for number in range(1, TRIES + 1):
         try:
             with Busy() as busy:
                 return check(*given)
         except Failed as failed:
-            if not busy.late or number == TRIES:
+            if number == TRIES:
                 sys.exit(f"{script}: {failed}")
-            print(f"{script}: the machine is {busy.late:.2f} s late: {failed}", flush=True)
+            print(f"{script}: try {number}, on a machine that is {busy.late:.2f} s late: {failed}", flush=True)
     return None

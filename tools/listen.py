@@ -6,8 +6,8 @@ each cut message at most 0.2 s after the silence behind it, each with a time of 
 with `hart explain --json`.
 
 The items begin with a silence, also after a stall and when hart-listen starts again at the same port; that port may refuse parity. RTS is
-cleared, and --silence sets how long a silence is. On a busy machine each of these may take longer by what the machine is late, and is
-tried again if it fails.
+cleared, and --silence sets how long a silence is. On a busy machine each of these may take longer by what the machine is late. What fails
+is tried again, five times at most.
 
 Usage: tools/listen.py PROGRAM
 """
