@@ -1,5 +1,6 @@
 -- Lemmas, in the same modules as the code and the definitions.
 pub mod Called
+pub mod FirstBad
 pub mod Kept
 pub mod Writes
 pub mod dump

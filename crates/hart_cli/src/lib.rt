@@ -52,7 +52,7 @@ pub use calls::explain::laws::{
     json_objects_are_lines, json_tells_what_explain_tells,
 };
 pub use calls::explain::{explain, explain_json, explain_raw, explain_raw_json, one_explanation};
-pub use calls::master::{MasterSettings, MasterWords, master, master_by_words};
+pub use calls::master::{MasterSettings, MasterWords, master, master_by_words, one_session};
 pub use calls::program::laws::{one_call, words_are_calls};
 pub use calls::program::{DONE, FAULT, NO_CALL, program};
 pub use calls::request::fault::{BadField, FieldFault};

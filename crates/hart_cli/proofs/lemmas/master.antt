@@ -1,5 +1,6 @@
 -- `hart master`.
 pub mod Ask
 pub mod Line
+pub mod One
 pub mod Promise
 pub mod Words

@@ -4,7 +4,8 @@ ghost use Rattle.hart_cli.specs.master.Line.{LineMaster, ServesMasterLine};
 ghost use Rattle.hart_cli.specs.master.Master.{AreSettings, MasterCallOutcome, MasterOutcome, new_master, usual_limit};
 ghost use Rattle.hart_cli.specs.master.MasterWords.{AreInRange};
 ghost use Rattle.hart_cli.specs.master.Promise.{KeepsPromises};
-ghost use Rattle.hart_cli.specs.session.Session.{Serves};
+ghost use Rattle.hart_cli.specs.input.Input.{Ending};
+ghost use Rattle.hart_cli.specs.session.Session.{IsServed, Serves};
 
 use crate::calls::master::line::MasterLines;
 use crate::calls::sim::{PRIMARY_REPLY_LIMIT, SECONDARY_REPLY_LIMIT};
@@ -100,6 +101,12 @@ pub fn master<R: Source, W: Sink>(
     let lines = MasterLines::new(alloc, settings)?;
     serve_lines(alloc, lines, reader, writer)
 }
+
+/// The text of a master's answers to the lines of an input is unique. So the settings and the input determine what `master` writes.
+pub fn one_session()
+    ensures { (asker : LineMaster) (input : List ℕ) (ending : Ending) (xs ys : List ℕ)
+        → IsServed ServesMasterLine asker input ending xs → IsServed ServesMasterLine asker input ending ys → xs ≡ ys }
+{}
 
 /// Makes the call of [`master`] that the words of the command line ask for.
 ///

@@ -1,26 +1,8 @@
-use Rattle.std.proofs.Common.{arith, ◌≡◌, ◌⊎◌, ℕ, inl, inr, refl}
+use Rattle.std.proofs.Common.{arith, ◌≡◌}
 use Rattle.std.proofs.lemmas.Grind.{common_steps}
-use Rattle.hart_values.specs.declared.address.Address.{Address}
-use Rattle.hart_values.specs.declared.master_id.MasterId.{MasterId}
-use Rattle.hart_line.specs.script.Words.{HasNoValue, IsAddressWord, IsCommandWord, IsDataWord, IsWho}
-use Rattle.hart_cli.specs.encode.Encode.{IsFirstBad}
-use Rattle.hart_cli.specs.encode.MessageWords.{MessageWords}
+use Rattle.hart_cli.proofs.lemmas.FirstBad.{bad_parts}
 use Rattle.hart_cli.proofs.lemmas.text.MessageLine.{IsMessageLine-one}
 use Rattle.hart_cli.proofs.calls.encode.one_encoding.Goals as goal
-
--- if a word is the first bad word, the words before it have values
-bad_parts : (words : MessageWords) (number : ℕ) → IsFirstBad words number
-    → ((number ≡ 1) × HasNoValue (IsWho words.who))
-    ⊎ ((number ≡ 2) × ((master : MasterId) × IsWho words.who master) × HasNoValue (IsAddressWord words.address))
-    ⊎ ((number ≡ 3) × ((master : MasterId) × IsWho words.who master) × ((address : Address) × IsAddressWord words.address address)
-    × HasNoValue (IsCommandWord words.command))
-    ⊎ ((number ≡ 4) × ((master : MasterId) × IsWho words.who master) × ((address : Address) × IsAddressWord words.address address)
-    × ((command : ℕ) × IsCommandWord words.command command) × HasNoValue (IsDataWord words.payload))
-bad_parts words _ (IsFirstBad.bad_who none) = inl (refl, none)
-bad_parts words _ (IsFirstBad.bad_address master who none) = inr (inl (refl, (master, who), none))
-bad_parts words _ (IsFirstBad.bad_command master address who is none) = inr (inr (inl (refl, (master, who), (address, is), none)))
-bad_parts words _ (IsFirstBad.bad_data master address command who is asks none) =
-    inr (inr (inr (refl, (master, who), (address, is), (command, asks), none)))
 
 pub returns-clause-one_text : goal.returns-clause-one_text
 returns-clause-one_text c words xs ys p q =
