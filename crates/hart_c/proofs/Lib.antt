@@ -3,3 +3,4 @@ mod Checks
 mod Accepted
 mod Masters
 mod Said
+mod Shown

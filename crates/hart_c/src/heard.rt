@@ -21,16 +21,25 @@ pub(crate) fn hear_into(heard: &[HartChar], chars: &mut [Char]) -> Result<usize,
     ensures accepted { IfOk result (λ len. AllPass (heard_checks heard.now)) }
     ensures refused { IfErr result (IsFirstOf (heard_checks heard.now)) }
 {
+    check_heard(heard)?;
+    for (place, given) in heard.iter().enumerate() {
+        chars[place] = char_of(given);
+    }
+    Ok(heard.len())
+}
+
+/// Returns a fault if a character has a bit that is no fault bit, or if there are more than 1,024 characters.
+pub(crate) fn check_heard(heard: &[HartChar]) -> Result<(), Fault>
+    ensures accepted { IfOk result (λ done. AllPass (heard_checks heard.now)) }
+    ensures refused { IfErr result (IsFirstOf (heard_checks heard.now)) }
+{
     if !have_fault_bits(heard) {
         return Err(Fault::BadFaultBits);
     }
     if heard.len() > MOST_CHARACTERS {
         return Err(Fault::TooLong);
     }
-    for (place, given) in heard.iter().enumerate() {
-        chars[place] = char_of(given);
-    }
-    Ok(heard.len())
+    Ok(())
 }
 
 /// Returns true if the `faults` of each character are fault bits only.

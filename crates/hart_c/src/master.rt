@@ -1,23 +1,29 @@
 //! What a master accepts as a reply.
-ghost use Rattle.std.specs.Prelude.{◌≡◌, ◌<◌, ◌^◌, true, false, IfErr, IfOk, OnErr, option_and_then};
+ghost use Rattle.std.specs.Prelude.{◌≡◌, ◌<◌, ◌^◌, [], ◌∷◌, true, false, Err, IfErr, IfOk, Ok, OnErr, Result, map, option_and_then};
+ghost use Rattle.hart_values.specs.declared.{address.Address.Address, master_id.MasterId.MasterId};
+ghost use Rattle.hart_frame.specs.heard.Frames.{AreFrames};
 ghost use Rattle.hart_commands.specs.ReplyData.{reply_reading};
+ghost use Rattle.hart_commands.specs.declared.reply.Reply.{Reply};
 ghost use Rattle.hart_commands.specs.declared.request.Request.{Request};
 ghost use Rattle.hart_c.specs.Acceptance.{IsAsked, acceptance_of, asked_in, request_checks};
 ghost use Rattle.hart_c.specs.Faults.{AllPass, IsFirstOf};
-ghost use Rattle.hart_c.specs.Master.{AcceptOutcome, Accepts, accept_checks, given_of};
-ghost use Rattle.hart_c.specs.Numbers.{frame_in};
+ghost use Rattle.hart_c.specs.Find.{HaveFaultBits, char_of};
+ghost use Rattle.hart_c.specs.Master.{AcceptOutcome, Accepts, IsUnaccepted, accept_checks, given_of};
+ghost use Rattle.hart_c.specs.Messages.{IsFrame};
+ghost use Rattle.hart_c.specs.Numbers.{IsTidy, found_in, frame_in};
+ghost use Rattle.hart_c.specs.declared.reason.Unaccepted.{Unaccepted};
 ghost use Rattle.hart_master.specs.Pairing.{may_ask};
 ghost use Rattle.hart_master.specs.Unique.{unique_in};
 
 use crate::encode::frame_of;
 use crate::fault::{Fault, HART_OK};
-use crate::find::HartChar;
-use crate::frame::{HartFrame, show_frame};
-use crate::heard::{MOST_CHARACTERS, hear_into};
+use crate::find::{HartChar, hart_find};
+use crate::frame::{HartFrame, NO_FRAME};
+use crate::heard::check_heard;
 use crate::reason::{HART_NO_REASON, Unaccepted};
-use crate::reply::judge;
+use crate::reply::judged;
 use hart_commands::{Reply, Request};
-use hart_frame::{Char, Frame, LoneFrame, lone_frame};
+use hart_frame::Frame;
 use hart_master::{is_request, may_ask, unique_of};
 use hart_values::{Address, MasterId};
 
@@ -71,23 +77,33 @@ pub extern "C" fn hart_accept(
 ) -> HartAcceptance
     ensures { AcceptOutcome request.now heard.now reply.old reply.new result }
 {
-    acceptance_of(accept(request, heard, reply))
+    told_of(accept(request, heard, reply))
 }
 
-/// Returns what was accepted, or the reason or the fault, as numbers for C.
-pub(crate) fn acceptance_of(accepted: Result<Result<Reply, Unaccepted>, Fault>) -> HartAcceptance
-    ensures { result ≡ acceptance_of accepted }
+/// Returns what became of a request, or the fault, as numbers for C.
+pub(crate) fn told_of(told: Result<HartAcceptance, Fault>) -> HartAcceptance
+    ensures told { IfOk told (λ told. result ≡ told) }
+    ensures fault { IfErr told (λ fault. result ≡ acceptance_of (Err fault)) }
+{
+    match told {
+        Ok(told) => told,
+        Err(fault) => not_accepted(fault.number(), HART_NO_REASON),
+    }
+}
+
+/// Returns a reply that is accepted, or the reason why none is, as numbers for C.
+pub(crate) fn acceptance_of(accepted: Result<Reply, Unaccepted>) -> HartAcceptance
+    ensures { result ≡ acceptance_of (Ok accepted) }
 {
     match accepted {
-        Ok(Ok(said)) => HartAcceptance {
+        Ok(said) => HartAcceptance {
             is_accepted: true,
             code: said.code.value(),
             status: said.status.0,
             fault: HART_OK,
             reason: HART_NO_REASON,
         },
-        Ok(Err(reason)) => not_accepted(HART_OK, reason.number()),
-        Err(fault) => not_accepted(fault.number(), HART_NO_REASON),
+        Err(reason) => not_accepted(HART_OK, reason.number()),
     }
 }
 
@@ -104,33 +120,52 @@ fn not_accepted(fault: u8, reason: u8) -> HartAcceptance
     }
 }
 
-/// Returns the reply that a master with this request accepts, and shows the frame of this reply in `reply`. Returns the reason if the
-/// master accepts no reply.
+/// Returns what became of a request, and shows the frame of an accepted reply in `reply`.
 fn accept(
     request: &HartFrame,
     heard: &[HartChar],
     reply: &mut HartFrame,
-) -> Result<Result<Reply, Unaccepted>, Fault>
-    ensures accepted { IfOk result (Accepts request.now heard.now reply.old reply.new) }
+) -> Result<HartAcceptance, Fault>
+    ensures accepted { IfOk result (λ told. (said : Result Reply Unaccepted)
+        × Accepts request.now heard.now reply.old reply.new said × (told ≡ acceptance_of (Ok said))) }
     ensures refused { IfErr result (IsFirstOf (accept_checks request.now heard.now)) }
     ensures unchanged { OnErr result (reply.new ≡ reply.old) }
 {
     let request = asked_by(request)?;
-    let mut chars = [Char::new(0, 0).unwrap(); MOST_CHARACTERS];
-    let delivery = hear_into(heard, &mut chars)?;
-    let frames = lone_frame(&chars[..delivery]);
-    let found = match &frames {
-        LoneFrame::Alone(found) => found,
-        LoneFrame::NoFrame => return Ok(Err(Unaccepted::NoFrame)),
-        LoneFrame::Several => return Ok(Err(Unaccepted::SeveralFrames)),
-    };
-    match judge(request, &found.frame) {
-        Ok(said) => {
-            show_frame(&found.frame, found.start as u64, found.stop as u64, reply);
-            Ok(Ok(said))
-        }
-        Err(reason) => Ok(Err(reason)),
+    check_heard(heard)?;
+    let mut found = NO_FRAME;
+    if let Err(reason) = find_alone(heard, &mut found) {
+        return Ok(acceptance_of(Err(reason)));
     }
+    let frame = frame_of(&found)?;
+    let told = judged(request, &frame);
+    if !told.is_accepted {
+        return Ok(told);
+    }
+    *reply = found;
+    Ok(told)
+}
+
+/// Writes the only frame of a delivery to `frame`, or returns why there is no such frame.
+// In a call of its own the second frame takes no stack while the first one is judged.
+#[inline(never)]
+fn find_alone(heard: &[HartChar], frame: &mut HartFrame) -> Result<(), Unaccepted>
+    requires { HaveFaultBits heard.now }
+    ensures alone { IfOk result (λ done. AreFrames (map char_of heard.now) 0 (found_in frame.new ∷ [])) }
+    ensures tidy { IfOk result (λ done. IsTidy frame.new × IsFrame frame.new) }
+    ensures none { (id : MasterId) (address : Address) (request : Request)
+        → IfErr result (IsUnaccepted id address request (map char_of heard.now)) }
+{
+    let mut frames = [NO_FRAME; 2];
+    let count = hart_find(heard, true, &mut frames).count;
+    if count == 0 {
+        return Err(Unaccepted::NoFrame);
+    }
+    if count > 1 {
+        return Err(Unaccepted::SeveralFrames);
+    }
+    *frame = frames[0];
+    Ok(())
 }
 
 /// What a request asks for in a reply. It is small, so that it costs little stack.

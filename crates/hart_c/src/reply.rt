@@ -1,9 +1,11 @@
 //! Whether a frame that was found is the reply to a request.
-ghost use Rattle.std.specs.Prelude.{◌≡◌, ◌↔◌, IfErr, IfOk, IsTrue};
+ghost use Rattle.std.specs.Prelude.{◌≡◌, ◌↔◌, IfErr, IfOk, IsTrue, Ok, Result};
 ghost use Rattle.hart_commands.specs.RequestData.{command_of};
+ghost use Rattle.hart_commands.specs.declared.reply.Reply.{Reply};
 ghost use Rattle.hart_commands.specs.declared.request.Request.{Request};
-ghost use Rattle.hart_c.specs.Acceptance.{AcceptFrameOutcome, AcceptsFrame, IsJudged, MatchOutcome, accept_frame_checks, match_checks};
-ghost use Rattle.hart_c.specs.Acceptance.{match_of, request_frame_checks};
+ghost use Rattle.hart_c.specs.Acceptance.{AcceptFrameOutcome, AcceptsFrame, IsJudged, MatchOutcome, accept_frame_checks, acceptance_of};
+ghost use Rattle.hart_c.specs.Acceptance.{match_checks, match_of, request_frame_checks};
+ghost use Rattle.hart_c.specs.declared.reason.Unaccepted.{Unaccepted};
 ghost use Rattle.hart_c.specs.Faults.{AllPass, IsFirstOf};
 ghost use Rattle.hart_c.specs.Numbers.{frame_in};
 ghost use Rattle.hart_master.specs.Acceptance.{MatchesFrame};
@@ -11,7 +13,7 @@ ghost use Rattle.hart_master.specs.Acceptance.{MatchesFrame};
 use crate::encode::frame_of;
 use crate::fault::{Fault, HART_OK};
 use crate::frame::HartFrame;
-use crate::master::{Asked, HartAcceptance, acceptance_of, asked_by};
+use crate::master::{Asked, HartAcceptance, acceptance_of, asked_by, told_of};
 use crate::reason::Unaccepted;
 use hart_commands::Reply;
 use hart_frame::Frame;
@@ -50,7 +52,7 @@ pub extern "C" fn hart_matches(request: &HartFrame, frame: &HartFrame) -> HartMa
 pub extern "C" fn hart_accept_frame(request: &HartFrame, frame: &HartFrame) -> HartAcceptance
     ensures { AcceptFrameOutcome request.now frame.now result }
 {
-    acceptance_of(accept_frame(request, frame))
+    told_of(accept_frame(request, frame))
 }
 
 /// Returns true if a frame answers a request.
@@ -93,20 +95,29 @@ fn match_of(is_reply: Result<bool, Fault>) -> HartMatch
     }
 }
 
-/// Returns the reply that a frame brings a master with this request, or why it brings none.
-fn accept_frame(request: &HartFrame, frame: &HartFrame) -> Result<Result<Reply, Unaccepted>, Fault>
-    ensures accepted { IfOk result (AcceptsFrame request.now frame.now) }
+/// Returns what a frame brings a master with this request.
+fn accept_frame(request: &HartFrame, frame: &HartFrame) -> Result<HartAcceptance, Fault>
+    ensures accepted { IfOk result (λ told. (said : Result Reply Unaccepted) × AcceptsFrame request.now frame.now said
+        × (told ≡ acceptance_of (Ok said))) }
     ensures refused { IfErr result (IsFirstOf (accept_frame_checks request.now frame.now)) }
 {
     let request = asked_by(request)?;
     let frame = frame_of(frame)?;
-    Ok(judge(request, &frame))
+    Ok(judged(request, &frame))
+}
+
+/// Returns what a frame brings a master with this request, as numbers for C.
+// In a call of its own the parts of the reply take no stack while a delivery is searched.
+#[inline(never)]
+pub(crate) fn judged(asked: Asked, frame: &Frame) -> HartAcceptance
+    ensures { (request : Request) → command_of request ≡ asked.command → (said : Result Reply Unaccepted)
+        × IsJudged asked.master asked.address request frame.now said × (result ≡ acceptance_of (Ok said)) }
+{
+    acceptance_of(judge(asked, frame))
 }
 
 /// Returns the reply that a frame brings a master with this request, or why it brings none.
-// In a call of its own the parts of the reply take no stack while a delivery is searched.
-#[inline(never)]
-pub(crate) fn judge(asked: Asked, frame: &Frame) -> Result<Reply, Unaccepted>
+fn judge(asked: Asked, frame: &Frame) -> Result<Reply, Unaccepted>
     ensures { (request : Request) → command_of request ≡ asked.command
         → IsJudged asked.master asked.address request frame.now result }
 {

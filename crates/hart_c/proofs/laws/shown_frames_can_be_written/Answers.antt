@@ -1,45 +1,23 @@
 use Rattle.std.proofs.Common.{◌≡◌, Bool, true, false, inl, inr, ℕ, List, Result, Ok, Err, [], ◌∷◌, ◌++◌, All, arith, map, refl}
 use Rattle.std.proofs.Common.{subst, sym, take}
 use Rattle.std.proofs.lemmas.Grind.{common_steps}
-use Rattle.std.proofs.lemmas.List.Elements.{All-cons, All-head, All-nil}
-use Rattle.hart_values.specs.address.AddressBytes.{IsAddressBytes}
-use Rattle.hart_values.specs.declared.master_id.MasterId.{MasterId}
+use Rattle.std.proofs.lemmas.List.Elements.{All-head}
 use Rattle.hart_frame.specs.declared.heard.found.Found.{Found}
 use Rattle.hart_frame.specs.heard.Character.{Character}
-use Rattle.hart_frame.specs.heard.Frames.{AreFrames, first}
 use Rattle.hart_frame.specs.wire.Body.{IsBody}
 use Rattle.hart_frame.specs.declared.wire.fault.FrameFault.{FrameFault}
 use Rattle.hart_commands.specs.declared.reply.Reply.{Reply}
 use Rattle.hart_frame.proofs.lemmas.Laws.{every_list_has_frames}
-use Rattle.hart_c.specs.Messages.{IsFrame, IsInRange}
+use Rattle.hart_c.specs.Messages.{IsFrame}
 use Rattle.hart_frame.specs.wire.FaultNumbers.{frame_fault_number}
 use Rattle.hart_c.specs.Acceptance.{acceptance_of}
 use Rattle.hart_c.specs.Master.{Accepts}
 use Rattle.hart_c.specs.declared.reason.Unaccepted.{Unaccepted}
 use Rattle.hart_c.specs.declared.find.HartChar.{HartChar}
-use Rattle.hart_c.specs.Numbers.{IsTidy, address_of, found_in, frame_in}
+use Rattle.hart_c.specs.Numbers.{found_in}
 use Rattle.hart_c.specs.declared.frame.HartFrame.{HartFrame}
+use Rattle.hart_c.proofs.Shown.{HasBody, all_have, shown}
 use Rattle.hart_c.proofs.laws.shown_frames_can_be_written.Goals as goal
-
--- if a body has the address that some numbers describe, these numbers are in range
-in_range : (is_unique : Bool) (frame : HartFrame) (master : MasterId) (burst : Bool) (bytes : List ℕ)
-    → IsAddressBytes master burst (address_of is_unique frame) bytes → IsInRange is_unique frame
-in_range true frame master burst bytes is = grind arith
-in_range false frame master burst bytes is = is.0
-
--- if numbers show the frame of a body, these numbers are a frame that can be written
-shown : (frame : HartFrame) (body : List ℕ) → IsBody (frame_in frame) body → IsTidy frame → IsFrame frame
-shown frame body is tidy =
-    (in_range frame.is_unique frame _ _ _ is.checked_part.address_bytes, (tidy.expansion, (is.checked_part.payload_fits, tt)))
-
--- a frame that is found has a body
-abbrev HasBody : Found → Type 0
-HasBody found = (body : List ℕ) × IsBody found.frame body
-
-all_have : (chars : List Character) (from : ℕ) (frames : List Found) → AreFrames chars from frames → All HasBody frames
-all_have chars from [] are = All-nil HasBody
-all_have chars from (found ∷ later) (first start head others is rest) =
-    All-cons HasBody found later (is.stands.body, is.stands.is_body) (all_have chars found.stop later rest)
 
 -- a frame that is shown has a body
 has : (frames : List HartFrame) (others : List Found) → All HasBody (map found_in frames ++ others)
