@@ -3,4 +3,5 @@ mod Checks
 mod Accepted
 mod Masters
 mod Said
+mod Marked
 mod Shown

@@ -25,10 +25,12 @@ IsCut (mark ∷ []) = mark ≡ 0xFF
 IsCut (mark ∷ second ∷ []) = (mark ≡ 0xFF) × (second ≡ 0)
 IsCut _ = ⊥
 
--- The bytes that are used up are those of the characters that are shown. If there is room for more characters, only a cut mark is left.
+-- The bytes that are used up are those of the characters that are shown, and no other character changes. If there is room for more
+-- characters, only a cut mark is left.
 pub record Unmarks (bytes : List ℕ) (before after : List HartChar) (told : HartUnmarked) : Type 0 where
   pub used : told.used ≤ length bytes
   pub shown : told.len ≤ length after
   pub marked : AreMarked (take told.used bytes) (take told.len after)
+  pub room : length after ≡ length before
   pub untouched : drop told.len after ≡ drop told.len before
   pub left : told.len < length after → IsCut (drop told.used bytes)

@@ -1,6 +1,6 @@
 //! A master that the caller keeps as the frame in hand and five numbers.
-ghost use Rattle.std.specs.Prelude.{◌≡◌, ◌≤◌, ◌<◌, ◌↔◌, IfErr, IfOk, IfSome, IsSome, IsTrue, OnErr, length};
-ghost use Rattle.hart_master.specs.FrameMaster.{FrameMasterState, event_again, event_ticked, hand_again, hand_received, hand_sent};
+ghost use Rattle.std.specs.Prelude.{◌≡◌, IfErr, IfOk, IfSome, IsSome, OnErr, length};
+ghost use Rattle.hart_master.specs.FrameMaster.{FrameMasterState, event_again, event_ticked, hand_again, hand_received};
 ghost use Rattle.hart_master.specs.FrameMaster.{IsReceived, hand_submitted, hand_ticked, sendings_of};
 ghost use Rattle.hart_master.specs.declared.frame_hand.FrameHand.{FrameHand};
 ghost use Rattle.hart_master.specs.declared.frame_hand.FrameTransaction.{FrameTransaction};

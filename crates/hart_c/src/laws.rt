@@ -34,9 +34,14 @@ ghost use Rattle.hart_c.specs.Acceptance.{AcceptFrameOutcome, MatchOutcome};
 ghost use Rattle.hart_c.specs.Master.{AcceptOutcome};
 ghost use Rattle.hart_c.specs.FrameMaster.{AgainOutcome, IsMaster, NewMasterOutcome, ReceiveOutcome, SendOutcome, SubmitOutcome};
 ghost use Rattle.hart_c.specs.FrameMaster.{TickOutcome};
+ghost use Rattle.hart_c.specs.Marks.{Unmarks};
+ghost use Rattle.hart_c.specs.Own.{AnswerOutcome, HearOwnOutcome};
+ghost use Rattle.hart_c.specs.Texts.{PackOutcome, UnpackOutcome};
 ghost use Rattle.hart_master.specs.FrameMaster.{FrameMasterState};
 ghost use Rattle.hart_c.specs.declared.frame_master.HartEvent.{HartEvent};
 ghost use Rattle.hart_c.specs.declared.frame_master.HartMaster.{HartMaster};
+ghost use Rattle.hart_c.specs.declared.mark.HartUnmarked.{HartUnmarked};
+ghost use Rattle.hart_c.specs.declared.own.HartHearing.{HartHearing};
 ghost use Rattle.hart_c.specs.declared.reply.HartMatch.{HartMatch};
 
 use hart_commands::laws::{read_data_begin_as_written, written_payloads_are_read_again};
@@ -214,3 +219,31 @@ pub fn masters_have_one_outcome()
     // This call does nothing: only its contract is needed.
     masters_are_kept();
 }
+
+/// The same as [`calls_have_one_outcome`] for a device with commands of its maker's own.
+pub fn own_commands_have_one_outcome()
+    ensures hear { (identity : HartIdentity) (process : HartProcess) (own : List ℕ) (heard : List HartChar)
+        (before after other : HartDevice) (shown asked again : HartFrame) (old new newer : List ℕ) (told another : HartHearing)
+        → HearOwnOutcome identity process own heard before after shown asked old new told
+        → HearOwnOutcome identity process own heard before other shown again old newer another
+        → (told ≡ another) × (after ≡ other) × (found_in asked ≡ found_in again) × (new ≡ newer) }
+    ensures answer { (identity : HartIdentity) (process : HartProcess) (asked : HartFrame) (code : ℕ) (is_write : Bool) (bytes : List ℕ)
+        (before after other : HartDevice) (old new newer : List ℕ) (outcome another : HartOutcome)
+        → AnswerOutcome identity process asked code is_write bytes before after old new outcome
+        → AnswerOutcome identity process asked code is_write bytes before other old newer another
+        → (outcome ≡ another) × (after ≡ other) × (new ≡ newer) }
+{
+    // These calls do nothing: only their contracts are needed.
+    calls_have_one_outcome();
+    bytes_have_one_image_fault();
+}
+
+/// The same as [`calls_have_one_outcome`] for packed texts and for the marks of a port.
+pub fn texts_have_one_outcome()
+    ensures pack { (text before after other : List ℕ) (outcome another : HartOutcome)
+        → PackOutcome text before after outcome → PackOutcome text before other another → (outcome ≡ another) × (after ≡ other) }
+    ensures unpack { (packed before after other : List ℕ) (outcome another : HartOutcome)
+        → UnpackOutcome packed before after outcome → UnpackOutcome packed before other another → (outcome ≡ another) × (after ≡ other) }
+    ensures unmark { (bytes : List ℕ) (before after other : List HartChar) (told another : HartUnmarked)
+        → Unmarks bytes before after told → Unmarks bytes before other another → (told ≡ another) × (after ≡ other) }
+{}

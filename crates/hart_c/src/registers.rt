@@ -1,7 +1,6 @@
 //! The initial values of the registers of a device, as numbers for C.
 ghost use Rattle.std.specs.Prelude.{◌≡◌, ◌<◌, ◌↔◌, IsSome, IfSome};
 ghost use Rattle.hart_commands.specs.Registers.{AreValid};
-ghost use Rattle.hart_commands.specs.RequestData.{mode_byte};
 ghost use Rattle.hart_device.specs.Bench.{bench_values};
 ghost use Rattle.hart_device.specs.registers.Values.{values_of};
 ghost use Rattle.hart_c.specs.Numbers.{contents_of};

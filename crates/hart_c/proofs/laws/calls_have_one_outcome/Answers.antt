@@ -5,14 +5,12 @@ use Rattle.hart_frame.specs.wire.Message.{IsMessage, IsPreambleCount}
 use Rattle.hart_frame.proofs.lemmas.Laws.{bodies_are_unambiguous-one_prefix}
 use Rattle.hart_frame.proofs.lemmas.Laws.{frames_are_unambiguous-one_list}
 use Rattle.hart_commands.specs.declared.{reply.Reply.Reply, request.Request.Request}
-use Rattle.hart_device.specs.Identity.{AreIdentityParts, IsIdentityFault}
 use Rattle.hart_device.specs.answer.Delivery.{answer_to}
-use Rattle.hart_device.specs.image.Image.{IsImageFault}
 use Rattle.hart_device.specs.declared.identity_parts.IdentityParts.{IdentityParts}
-use Rattle.hart_device.proofs.lemmas.Laws.{deliveries_bring_one-one, images_have_no_fault}
+use Rattle.hart_device.proofs.lemmas.Laws.{deliveries_bring_one-one}
 use Rattle.hart_master.proofs.lemmas.Laws.{replies_are_decided-one_reply}
-use Rattle.hart_c.specs.Faults.{AllPass, needs_or, outcome_of}
-use Rattle.hart_c.specs.Device.{Hears, IsHearing, IsKept, IsSaid, hear_checks, image_in}
+use Rattle.hart_c.specs.Faults.{AllPass, outcome_of}
+use Rattle.hart_c.specs.Device.{Hears, IsHearing, IsSaid, hear_checks}
 use Rattle.hart_c.specs.Messages.{HasNoRoom, IsFrame, IsWritten, encode_checks}
 use Rattle.hart_c.specs.Find.{char_of}
 use Rattle.hart_c.specs.Numbers.{found_in, frame_in, parts_of}
@@ -20,16 +18,14 @@ use Rattle.hart_c.specs.Acceptance.{AcceptsFrame, IsAsked, IsJudged, accept_fram
 use Rattle.hart_c.specs.Master.{Accepts, IsUnaccepted, accept_checks}
 use Rattle.hart_c.specs.declared.device.HartDevice.{HartDevice}
 use Rattle.hart_c.specs.declared.fault.Fault.{Fault}
-use Rattle.hart_c.specs.declared.fault.Fault.TheVariants.{Device}
-use Rattle.hart_device.specs.Device.{DeviceState}
 use Rattle.hart_c.specs.declared.find.HartChar.{HartChar}
 use Rattle.hart_c.specs.declared.frame.HartFrame.{HartFrame}
 use Rattle.hart_c.specs.declared.identity.HartIdentity.{HartIdentity}
 use Rattle.hart_c.specs.declared.process.HartProcess.{HartProcess}
-use Rattle.hart_c.proofs.Checks.{AreSound, IsSound, first_none, first_one, needs-sound, refused_if-sound}
+use Rattle.hart_c.proofs.Checks.{AreSound, first_none, first_one, needs-sound, refused_if-sound}
 use Rattle.hart_c.specs.declared.reason.Unaccepted.{Unaccepted}
 use Rattle.hart_c.proofs.Accepted.{not_accepted, not_judged, one_judged, one_reason}
-use Rattle.hart_c.proofs.Kept.{devices_are_kept-one_state}
+use Rattle.hart_c.proofs.Kept.{devices_are_kept-one_state, state_sound}
 use Rattle.hart_c.proofs.Said.{one_message, one_outcome, one_said, said_fits}
 use Rattle.hart_c.proofs.laws.calls_have_one_outcome.Goals.{After-bytes_have_one_image_fault}
 use Rattle.hart_c.proofs.laws.calls_have_one_outcome.Goals as goal
@@ -76,15 +72,8 @@ module _ (identity : HartIdentity) (process : HartProcess) (heard : List HartCha
   -- the checks of what a device hears are sound
   hear_sound : (c : After-bytes_have_one_image_fault) (room : ℕ) → AreSound (hear_checks identity process heard device room)
   hear_sound c room =
-      let who : IsSound
-      (needs_or (AreIdentityParts (parts_of identity)) (IsIdentityFault (parts_of identity)) Device) =
-      record { one = λ fault other why because. grind arith; not_both = λ fault is why. grind arith } in
-      let kept : IsSound
-      (needs_or ((state : DeviceState) × IsKept (parts_of identity) device state) (IsImageFault (image_in device)) Device) = record {
-        one = λ fault other why because. grind (arith, c.bytes_have_one_image_fault.ensures);
-        not_both = λ fault is why. grind (arith, images_have_no_fault is.0 (image_in device));
-      } in
-      (who, (needs-sound _ _, (kept, (needs-sound _ _, (needs-sound _ _, (needs-sound _ _, (refused_if-sound _ _, tt)))))))
+      let (who, (fits, (kept, end))) = state_sound c.bytes_have_one_image_fault.ensures identity device in
+      (who, (fits, (kept, (needs-sound _ _, (needs-sound _ _, (needs-sound _ _, (refused_if-sound _ _, tt)))))))
 
   heard_passes : (after : HartDevice) (old new : List ℕ) (len : ℕ)
       → Hears identity process heard device after old new len → AllPass (hear_checks identity process heard device (length old))

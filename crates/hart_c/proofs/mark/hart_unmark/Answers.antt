@@ -15,12 +15,13 @@ marked_next bytes heard used len count char within is are =
     (next (take used bytes) (take count (drop used bytes)) (take len heard) char are is)
 
 pub loop-len-init : goal.loop-len-init
-loop-len-init c = record { used = grind arith; shown = grind arith; untouched = refl; marked = none }
+loop-len-init c = record { used = grind arith; shown = grind arith; room = refl; untouched = refl; marked = none }
 
 pub loop-len-preserved : goal.loop-len-preserved
 loop-len-preserved c = record {
   used = grind (arith, common_steps, c.in-Some.ensures.within);
   shown = grind (arith, common_steps, length-set);
+  room = grind (arith, common_steps, length-set);
   untouched = grind (arith, common_steps, drop-set-lt, drop-drop, c.loop-len.invariant.untouched);
   marked = marked_next c.args.bytes.now c.loop-len.heard c.loop-len.used c.loop-len.len c.in-Some.next.len c.in-Some.next.char
       c.loop-len-test.true (rw (take_rest c.args.bytes.now c.loop-len.used) at c.in-Some.ensures.marked) c.loop-len.invariant.marked;

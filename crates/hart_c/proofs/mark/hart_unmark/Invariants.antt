@@ -6,6 +6,7 @@ abbrev pub invariant-loop-len : goal.invariant-loop-len
 invariant-loop-len l = record {
   used : l.used ≤ length l.bytes;
   shown : l.len ≤ length l.heard;
+  room : length l.heard ≡ length l.initial.heard;
   untouched : drop l.len l.heard ≡ drop l.len l.initial.heard;
   marked : AreMarked (take l.used l.bytes) (take l.len l.heard);
 }
