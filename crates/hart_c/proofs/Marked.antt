@@ -1,5 +1,6 @@
 -- The bytes of a port are read as marks in one way.
-use Rattle.std.proofs.Common.{◌≡◌, ◌≤◌, ◌<◌, ◌-◌, ◌++◌, ◌∙◌, append_assoc, append-nil, arith, refl, sym, ℕ, List, [], ◌∷◌, drop, length, take}
+use Rattle.std.proofs.Common.{◌≡◌, ◌≤◌, ◌<◌, ◌-◌, ◌++◌, ◌∙◌, append_assoc, append-nil, arith, refl, sym, ℕ, List, [], ◌∷◌, drop, length}
+use Rattle.std.proofs.Common.{take}
 use Rattle.std.proofs.lemmas.Grind.{common_steps}
 use Rattle.std.proofs.lemmas.List.{length-take-le, take-append-drop}
 use Rattle.hart_c.specs.Marks.{AreMarked, IsCut, IsMarked, Unmarks, next, none}
@@ -61,9 +62,11 @@ one_reading room bytes others rest later chars heard end (first mark more char t
     absurd (not_cut mark (more ++ later) char is (rw (same, append_assoc mark more later) at cut (grind (arith, common_steps))))
 one_reading room bytes others rest later chars heard (first mark more char tail is are) end same few some cut again_cut =
     absurd (not_cut mark (more ++ rest) char is (rw (← same, append_assoc mark more rest) at again_cut (grind (arith, common_steps))))
-one_reading room bytes others rest later chars heard (first mark more char tail is are) (first front back head behind begins go) same few some
+one_reading room bytes others rest later chars heard (first mark more char tail is are)
+    (first front back head behind begins go) same few some
     cut again_cut =
-    let whole : mark ++ (more ++ rest) ≡ front ++ (back ++ later) = rw (append_assoc mark more rest, append_assoc front back later) at same in
+    let whole : mark ++ (more ++ rest) ≡ front ++ (back ++ later) =
+    rw (append_assoc mark more rest, append_assoc front back later) at same in
     let one = one_mark mark front (more ++ rest) (back ++ later) char head is begins whole in
     let others_one = one_reading (room - 1) more back rest later tail behind are go one.2 (grind (arith, common_steps))
     (grind (arith, common_steps)) (λ less. cut (grind (arith, common_steps))) (λ less. again_cut (grind (arith, common_steps))) in
@@ -85,5 +88,6 @@ one_unmarked bytes before after other told another is again =
     let same_len : told.len ≡ another.len = grind (arith, len, size, one.1) in
     let same_used : told.used ≡ another.used = grind (arith, used, gone, one.0) in
     let same : after ≡ other =
-    sym (take-append-drop told.len after) ∙ grind (arith, one.1, is.untouched, again.untouched, same_len, take-append-drop another.len other) in
+    sym (take-append-drop told.len after)
+    ∙ grind (arith, one.1, is.untouched, again.untouched, same_len, take-append-drop another.len other) in
     (grind (arith, same_len, same_used), same)

@@ -1,5 +1,6 @@
 -- Frames that are found can be written, and how many of them a delivery has.
-use Rattle.std.proofs.Common.{◌≡◌, ◌≤◌, ◌<◌, ◌++◌, Bool, true, false, ℕ, List, [], ◌∷◌, All, arith, drop, length, map, refl, rules, slice_index_or, take}
+use Rattle.std.proofs.Common.{◌≡◌, ◌≤◌, ◌<◌, ◌++◌, Bool, true, false, ℕ, List, [], ◌∷◌, All, arith, drop, length, map, refl, rules}
+use Rattle.std.proofs.Common.{slice_index_or, take}
 use Rattle.std.proofs.Common.{inl, inr, length-drop}
 use Rattle.std.proofs.lemmas.Grind.{common_steps}
 use Rattle.std.proofs.lemmas.List.{append-nil, length-take-le}

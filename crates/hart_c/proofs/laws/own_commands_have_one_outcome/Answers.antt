@@ -59,7 +59,8 @@ module _ (identity : HartIdentity) (process : HartProcess) (asked : HartFrame) (
       (IsSaid (Some (own_reply (after_own is_write other.state) other.measured (frame_in asked) code bytes)) identity.response_preambles)
       (length old)) → ⊥ =
       λ none.
-      let (state, measured) = one_answer none.0 answer in said_fits (Some (own_reply (after_own is_write answer.state) answer.measured (frame_in asked) code bytes)) identity.response_preambles
+      let (state, measured) = one_answer none.0 answer in
+      said_fits (Some (own_reply (after_own is_write answer.state) answer.measured (frame_in asked) code bytes)) identity.response_preambles
       old new len is.reply (rw (state, measured) at none.1) in
       let own : AllPass (own_checks identity process asked code is_write bytes device (length old)) =
       (answer, (is.code_is, (is.few, (room, tt)))) in (
@@ -78,8 +79,10 @@ returns-clause-answer c identity process asked code is_write bytes before after 
     let said = one_said reply identity.response_preambles old new newer is.0 again.0 (rw (state, measured) at is.1.reply) again.1.reply in
     let same : after ≡ other = is.1.state ∙ rw state (sym again.1.state) in
     (is.2 ∙ ap (λ (n : ℕ). outcome_of (Ok n)) said.0 ∙ sym again.2, same, said.1))
-    (λ is why. first_none checks sound (answer_passes identity process asked code is_write bytes before after old new is.0 is.1) why.0 why.1)
-    (λ why is. first_none checks sound (answer_passes identity process asked code is_write bytes before other old newer is.0 is.1) why.0 why.1)
+    (λ is why. first_none checks sound
+    (answer_passes identity process asked code is_write bytes before after old new is.0 is.1) why.0 why.1)
+    (λ why is. first_none checks sound
+    (answer_passes identity process asked code is_write bytes before other old newer is.0 is.1) why.0 why.1)
     (λ why again.
     let same = first_one checks sound why.0 again.0 why.1 again.1 in
     (why.2 ∙ ap (λ (fault : Fault). outcome_of (Err fault)) same ∙ sym again.2, why.3.0 ∙ sym again.3.0, why.3.1 ∙ sym again.3.1))

@@ -19,7 +19,8 @@ use Rattle.hart_c.proofs.Checks.{first_none, needs-sound}
 use Rattle.hart_c.proofs.master.accept.Goals as goal
 
 -- the only frame of a delivery is shown if it is accepted
-accepts : (numbers : HartFrame) (heard : List HartChar) (before found after : HartFrame) (said : Result Reply Unaccepted) (request : Request)
+accepts : (numbers : HartFrame) (heard : List HartChar) (before found after : HartFrame) (said : Result Reply Unaccepted)
+    (request : Request)
     → AllPass (accept_checks numbers heard) → IsAsked (frame_in numbers) request
     → AreFrames (map char_of heard) 0 (found_in found ∷ []) → IsTidy found
     → IsJudged (frame_in numbers).master (frame_in numbers).address request (frame_in found) said
@@ -69,7 +70,8 @@ returns-in-Err-clause-accepted c =
 
 pub returns-in_err-frame-clause-refused : goal.returns-in_err-frame-clause-refused
 returns-in_err-frame-clause-refused c =
-    absurd (first_none (frame_checks c.find_alone.new.frame) (search (rules, needs-sound)) c.in_default.ensures.tidy.1 c.in_err-frame.field-0.0
+    absurd
+    (first_none (frame_checks c.find_alone.new.frame) (search (rules, needs-sound)) c.in_default.ensures.tidy.1 c.in_err-frame.field-0.0
     c.in_err-frame.ensures.refused)
 
 pub returns-then-not-told-clause-accepted : goal.returns-then-not-told-clause-accepted

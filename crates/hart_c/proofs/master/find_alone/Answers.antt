@@ -7,7 +7,8 @@ use Rattle.hart_c.proofs.master.find_alone.Goals as goal
 pub returns-then-count-eq0-clause-none : goal.returns-then-count-eq0-clause-none
 returns-then-count-eq0-clause-none c id address request =
     let finds = finds_of _ _ c.hart_find-count.new.frames c.hart_find-count.result c.requires c.hart_find-count.ensures in
-    (NoFrame, found_none _ _ c.hart_find-count.new.frames c.hart_find-count.result refl finds (grind (arith, common_steps, c.if-count-eq0.true)), refl)
+    let none : c.hart_find-count.result.count ≡ 0 = grind (arith, common_steps, c.if-count-eq0.true) in
+    (NoFrame, found_none _ _ c.hart_find-count.new.frames c.hart_find-count.result refl finds none, refl)
 
 pub returns-then-count-gt1-clause-none : goal.returns-then-count-gt1-clause-none
 returns-then-count-gt1-clause-none c id address request =

@@ -9,7 +9,8 @@ use Rattle.hart_cli.specs.explain.Gaps.{seen_place}
 use Rattle.hart_cli.proofs.calls.explain.teller.Teller.push.Goals as goal
 
 -- a text that has room keeps the whole text of a sighting
-kept-whole : (old new text : List ℕ) → new ≡ extended old text → length text ≤ 16384 → length old + 16384 ≤ 32768 → new ≡ old ++ (text ++ [])
+kept-whole : (old new text : List ℕ) → new ≡ extended old text → length text ≤ 16384 → length old + 16384 ≤ 32768
+    → new ≡ old ++ (text ++ [])
 kept-whole old new text is few room = rw append-nil (is ∙ texts_keep_what_fits old text (omega (arith, few, room)))
 
 -- the place of a sighting, counted from where the held characters begin
