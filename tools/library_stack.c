@@ -104,7 +104,7 @@ static struct measure {
 } measures[] = {
     {"hart_find_in_bytes", find_in_bytes, 4096, 0}, {"hart_find", find, 4096, 0},
     {"hart_decode", decode, 4096, 0},               {"hart_encode", encode, 4096, 0},
-    {"hart_hear", hear, 9216, 0},                   {"hart_accept", accept, 6144, 0},
+    {"hart_hear", hear, 9728, 0},                   {"hart_accept", accept, 4096, 0},
     {"hart_new_device", new_device, 4096, 0},       {"hart_read_reply", read_reply, 4096, 0},
     {"hart_read_request", read_request, 4096, 0},   {"hart_field_name", field_name, 4096, 0},
     {"a master", exchange, 6144, 0},                {"hart_hear_own, hart_answer", hear_own, 10240, 0},
