@@ -244,6 +244,8 @@ def main():
     parser = argparse.ArgumentParser()
     parser.add_argument("program")
     program = parser.parse_args().program
+    # A script that runs beside others ignores Control-C, and what it starts would, too.
+    signal.signal(signal.SIGINT, signal.default_int_handler)
     for check in (try_readings, try_rts, try_starts, try_stall, try_silence, try_words):
         patiently("listen", check)
     for words, lines in CALLS:
