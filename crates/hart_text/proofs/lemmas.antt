@@ -1,2 +1,11 @@
 -- Lemmas.
+pub mod Lines
+pub mod Item
+pub mod Reads
+pub mod Items
 pub mod Marks
+pub mod LeadingMark
+pub mod Heard
+pub mod NoMark
+pub mod Lanes
+pub mod ItemRun

@@ -1,1 +1,8 @@
 pub mod Lines
+pub mod Item
+pub mod Digits
+pub mod Items
+pub mod Heard
+pub mod Marks
+pub mod Reading
+pub mod DigitLanes

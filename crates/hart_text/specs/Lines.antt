@@ -5,8 +5,8 @@ use Rattle.std.specs.Int.{bit_at}
 use Rattle.std.specs.List.{position_or_len, slice_split}
 use Rattle.std.specs.Str.Lines.{strip_carriage_return}
 
--- The lines of a text are its parts between line feeds. If a part ends with a carriage return, this byte is left out. What follows
--- the last line feed is a line too, perhaps an empty one.
+-- The lines of a text are its parts between line feeds. If the last byte of a part is a carriage return, the line lacks this byte. The text
+-- after the last line feed is a line too, even if it is empty.
 abbrev pub lines_of : List ℕ → List (List ℕ)
 lines_of text = map strip_carriage_return (slice_split (λ byte. byte == 10) text)
 
@@ -31,10 +31,11 @@ words_of line = filter has_bytes (slice_split is_blank line)
 abbrev pub lines_in_words : List ℕ → List (List (List ℕ))
 lines_in_words text = map words_of (lines_of text)
 
--- Only private calls use the definitions from here on. A mask has a bit for each byte of a list, which is set if the byte passes a test.
+-- Only private calls use the definitions from here on. A mask has a bit for each byte of a list. The bit is set exactly if the byte passes
+-- the test `passes`.
 abbrev pub AreMarks : (ℕ → Bool) → ℕ → List ℕ → Type 0
 AreMarks passes mask bytes = (k : ℕ) → k < length bytes → bit_at mask k ≡ if passes (get_or bytes k 0) then 1 else 0
 
--- A part of a line has fewer than 64 bytes, and a mask says which of them are blanks.
+-- A mask says which bytes of a part of a line are blanks. The part has fewer than 64 bytes.
 abbrev pub HasBlanks : ℕ → List ℕ → Type 0
 HasBlanks mask bytes = (length bytes < 64) × AreMarks is_blank mask bytes

@@ -9,16 +9,16 @@ use memchr::{memchr, memchr2};
 use std::marker::Model;
 use std::simd::prelude::*;
 
-/// The number of bytes whose blanks are marked at once. Most lines have fewer bytes, and `memchr` alone is slower for short words.
+/// The number of bytes whose blanks are marked at once. Most lines have fewer bytes, and for short words `memchr` alone is slower.
 const MARKED: usize = 64;
 
-/// The words that are left of a line.
+/// The remaining words of a line.
 #[derive(Drop)]
 pub struct Words<'a> {
-    /// What is left of the line.
+    /// The remaining bytes of the line.
     bytes: &'a [u8],
     /// The marks of the blanks. If `is_marked` is true, the bit of each byte of `bytes` is set exactly if the byte is a blank. Bit 0
-    /// belongs to the first byte. The bits after that of the last byte mean nothing.
+    /// belongs to the first byte. The bits beyond the last byte have no meaning.
     blanks: u64,
     /// True if `blanks` has the marks. False if the line was long or began near the end of its text.
     is_marked: bool,
@@ -79,7 +79,7 @@ fn marked_line(text: &[u8]) -> Option<(Words<'_>, &[u8])>
     Some((words, &text[len + 1..]))
 }
 
-/// Marks the bytes that are line feeds.
+/// Returns a mask with a bit for each byte. The bit is set exactly if the byte is a line feed.
 #[inline(always)]
 fn line_feeds(bytes: u8x64) -> u64
     ensures { AreMarks (λ byte. byte == 10) result bytes }
@@ -87,7 +87,7 @@ fn line_feeds(bytes: u8x64) -> u64
     bytes.simd_eq(u8x64::splat(b'\n')).to_bitmask()
 }
 
-/// Marks the bytes that are blanks.
+/// Returns a mask with a bit for each byte. The bit is set exactly if the byte is a blank.
 #[inline(always)]
 fn blanks(bytes: u8x64) -> u64
     ensures { AreMarks is_blank result bytes }
@@ -96,7 +96,7 @@ fn blanks(bytes: u8x64) -> u64
     are_blanks.to_bitmask()
 }
 
-/// Returns the words of a line. The blanks of this line are not marked.
+/// Returns the words of a line, without marks for its blanks.
 fn unmarked(bytes: &[u8]) -> Words<'_>
     ensures { result ≡ words_of bytes.now }
 {
@@ -107,7 +107,7 @@ fn unmarked(bytes: &[u8]) -> Words<'_>
     }
 }
 
-/// Returns the part without its last byte if this byte is a carriage return, and otherwise the whole part.
+/// Returns `part` without its last byte if this byte is a carriage return, and otherwise all of `part`.
 fn without_return(part: &[u8]) -> &[u8]
     ensures { result.now ≡ strip_carriage_return part.now }
 {
@@ -115,7 +115,7 @@ fn without_return(part: &[u8]) -> &[u8]
 }
 
 impl<'a> Words<'a> {
-    /// Returns the first word and the rest after it, or `None` if there is no word.
+    /// Returns the first word and the words after it, or `None` if there is no word.
     #[inline(always)]
     pub fn next(self) -> Option<(&'a [u8], Words<'a>)>
         ensures { MatchOption result (self.entry ≡ []) (λ taken. self.entry ≡ (taken.0).now ∷ taken.1) }
@@ -143,7 +143,7 @@ impl<'a> Words<'a> {
     }
 }
 
-/// Returns the first word of a line whose blanks are marked and the words after it, or `None` if the line has no word.
+/// Returns the first word of a line and the words after it, or `None` if the line has no word. `blanks` marks the blanks of the line.
 #[inline(always)]
 fn next_marked(line: &[u8], blanks: u64) -> Option<(&[u8], Words<'_>)>
     requires { HasBlanks blanks line.now }
@@ -170,6 +170,7 @@ fn next_marked(line: &[u8], blanks: u64) -> Option<(&[u8], Words<'_>)>
 }
 
 /// Returns the first word of a line and the words after it, or `None` if the line has no word.
+#[tactic(auto, using(crate::proofs::lemmas::Lines::word_first))]
 #[inline(never)]
 fn next_unmarked(line: &[u8]) -> Option<(&[u8], Words<'_>)>
     ensures { MatchOption result (words_of line.now ≡ []) (λ taken. words_of line.now ≡ (taken.0).now ∷ taken.1) }
@@ -186,6 +187,7 @@ fn next_unmarked(line: &[u8]) -> Option<(&[u8], Words<'_>)>
 }
 
 /// Returns the number of bytes before the first blank, or the length of the line if it has no blank.
+#[tactic(auto, using(crate::proofs::lemmas::Lines::place_found))]
 fn len_before_blank(line: &[u8]) -> usize
     ensures place { result ≡ position_or_len is_blank line.now }
     ensures within { result ≤ length line.now }

@@ -1,7 +1,7 @@
 use Rattle.hart_text.specs.Lines.{is_blank}
 use Rattle.std.proofs.Common.{refl}
 use Rattle.std.proofs.lemmas.Simd.{zip2_of_maps, zip2_splat}
-use Rattle.hart_text.proofs.lemmas.Marks.{lanes_mark}
+use Rattle.hart_text.proofs.lemmas.Lines.{lanes_mark}
 use Rattle.hart_text.proofs.lines.blanks.Goals as goal
 
 pub returns : goal.returns

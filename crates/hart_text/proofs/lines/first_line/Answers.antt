@@ -5,7 +5,7 @@ use Rattle.std.proofs.lemmas.Grind.{common_steps}
 use Rattle.std.proofs.lemmas.List.{take_rest}
 use Rattle.std.specs.List.{onto_first, slice_split}
 use Rattle.std.specs.Str.Lines.{strip_carriage_return}
-use Rattle.hart_text.proofs.lemmas.Marks.{cut_at, found_is}
+use Rattle.hart_text.proofs.lemmas.Lines.{cut_at, found_is}
 use Rattle.hart_text.proofs.lines.first_line.Goals as goal
 
 -- if no place passes, there is one part

@@ -1,6 +1,6 @@
 use Rattle.std.proofs.Common.{refl, ◌==◌}
 use Rattle.std.proofs.lemmas.Simd.{zip2_splat}
-use Rattle.hart_text.proofs.lemmas.Marks.{lanes_mark}
+use Rattle.hart_text.proofs.lemmas.Lines.{lanes_mark}
 use Rattle.hart_text.proofs.lines.line_feeds.Goals as goal
 
 pub returns : goal.returns

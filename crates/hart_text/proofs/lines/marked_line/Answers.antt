@@ -1,7 +1,7 @@
 use Rattle.hart_text.specs.Lines.{words_of}
 use Rattle.std.proofs.Common.{ap, arith, drop, map, sym, ℕ, ◌+◌}
 use Rattle.std.proofs.lemmas.List.{take_rest}
-use Rattle.hart_text.proofs.lemmas.Marks.{blanks_of_line, cut_at, first_feed}
+use Rattle.hart_text.proofs.lemmas.Lines.{blanks_of_line, cut_at, first_feed}
 use Rattle.hart_text.proofs.lines.marked_line.Goals as goal
 
 pub invariant_of-words : goal.invariant_of-words

@@ -1,6 +1,6 @@
 use Rattle.std.proofs.Common.{arith}
 use Rattle.std.proofs.lemmas.List.{take_rest}
-use Rattle.hart_text.proofs.lemmas.Marks.{marked_word, no_word}
+use Rattle.hart_text.proofs.lemmas.Lines.{marked_word, no_word}
 use Rattle.hart_text.proofs.lines.next_marked.Goals as goal
 
 pub returns-then-start-line : goal.returns-then-start-line
