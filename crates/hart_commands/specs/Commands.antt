@@ -1,4 +1,4 @@
--- The table of the commands, and what the table says about each command (HCF_SPEC-099, HCF_SPEC-127).
+-- The table of the commands, and what it says of each command (HCF_SPEC-099, HCF_SPEC-127).
 use Prim.Native.String.{String}
 use Rattle.std.specs.Prelude.{ℕ, ◌==◌, ◌||◌, Bool, List, [], ◌∷◌, find, map, Ok, Option, is_some}
 use Rattle.std.specs.Option.{option_map, option_map_or}
@@ -20,32 +20,33 @@ use Rattle.hart_commands.specs.RequestReading.{Reading, needing, polling_reading
 use Rattle.hart_commands.specs.SensorBytes.{sensor_of}
 use Rattle.hart_commands.specs.Values.{unit_value_of}
 
--- How the data of a request are read. There are three cases: the request is always the same; the bytes that the command needs determine it;
--- or the command has a function that reads the data.
+-- How the data of a request are read. `Always`: the request is always the same. `Needing`: the bytes that the command needs determine the
+-- request. `AskedBy`: the command has a function that reads the data.
 pub data Asked : Type 0 where
   Always : Request → Asked
   Needing : (List ℕ → Request) → Asked
   AskedBy : (List ℕ → Reading) → Asked
 
--- The request that `bytes` ask for, or the code that refuses these bytes. The command needs `needed` bytes.
+-- The request in `bytes`, or the code that refuses these bytes. The command needs `needed` bytes.
 abbrev pub asked : ℕ → Asked → List ℕ → Reading
 asked needed (Always request) bytes = Ok request
 asked needed (Needing request) bytes = needing needed request bytes
 asked needed (AskedBy reading) bytes = reading bytes
 
--- How the data of a reply are read. Either the bytes of the reply's fields determine the content, or the command has a function that reads
--- the data.
+-- How the data of a reply are read. `Saying`: the bytes of the reply's fields determine the content. `SaidBy`: the command has a function
+-- that reads the data.
 pub data Replied : Type 0 where
   Saying : (List ℕ → ReplyContent) → Replied
   SaidBy : (List ℕ → Option ReplyContent) → Replied
 
--- The content of a reply's data, if the data hold a content. `fields` are the fields of the data.
+-- The content of a reply's data, or `None` if the data have no content. `fields` are the fields of the data.
 unfoldable pub replied : List Row → Replied → List ℕ → Option ReplyContent
 replied fields (Saying content) bytes = saying (total fields) content bytes
 replied fields (SaidBy reading) bytes = reading bytes
 
--- A command has a number, a name, the fields of its request data, the number of request data bytes that it needs, the fields of its reply
--- data with code 0, and the registers that it writes. A write sets each of them to one field of its request data, in the same order.
+-- A command: its number, its name, and the fields of its request data. `needed` is the number of request data bytes that it needs, `reply`
+-- the fields of its reply data with code 0, and `writes` the registers that it writes. A write sets the first of these registers to the
+-- first field of its request data, the second register to the second field, and so on.
 pub record Command : Type 0 where
   pub number : ℕ
   pub name : List ℕ
@@ -54,13 +55,13 @@ pub record Command : Type 0 where
   pub reply : List Row
   pub writes : List Register
 
--- A row holds a command, how its request data are read, and how its reply data with code 0 are read.
+-- A row of the table: a command, how its request data are read, and how its reply data with code 0 are read.
 pub record CommandRow : Type 0 where
   pub command : Command
   pub asked : Asked
   pub replied : Replied
 
--- A short form for the row of a command that writes no register.
+-- The row of a command that writes no register.
 abbrev pub asks : ℕ → String → List Row → ℕ → Asked → List Row → Replied → CommandRow
 asks number name request needed asked reply replied = record {
   command = record { number = number; name = text name; request = request; needed = needed; reply = reply; writes = [] };
@@ -68,11 +69,11 @@ asks number name request needed asked reply replied = record {
   replied = replied;
 }
 
--- A short form for the row of a command without request data: the request is always the same.
+-- The row of a command without request data. Its request is always the same.
 abbrev pub reads : ℕ → String → Request → List Row → Replied → CommandRow
 reads number name request reply replied = asks number name [] 0 (Always request) reply replied
 
--- A short form for the row of a command whose data are written to registers and returned in the reply.
+-- The row of a command whose data are written to registers and returned in the reply.
 abbrev pub writes : ℕ → String → List Row → ℕ → Asked → Replied → List Register → CommandRow
 writes number name fields needed asked replied registers = record {
   command = record { number = number; name = text name; request = fields; needed = needed; reply = fields; writes = registers };
@@ -80,8 +81,8 @@ writes number name fields needed asked replied registers = record {
   replied = replied;
 }
 
--- The known commands, one row each. Command 6 needs only the first of its two bytes. A list of fields that is used more than once, or has
--- more than one field, is defined by a name in `Fields`.
+-- The known commands, one row each. Command 6 needs only the first of its two bytes. A list of fields has a name in `Fields` if several
+-- rows use it or if it has more than one field.
 abbrev pub commands : List CommandRow
 commands =
     reads 0 "read unique identifier" requests.Identify fields.identity (SaidBy identity_reading)
@@ -124,7 +125,7 @@ command_row number = find (λ row. row.command.number == number) commands
 abbrev pub is_known : ℕ → Bool
 is_known number = is_some (command_row number)
 
--- Own profile: only Commands 11 and 21 may be broadcast, because they find a device by its tag or its long tag.
+-- Implementation choice: only Commands 11 and 21 may be broadcast, because they find a device by its tag or its long tag.
 abbrev pub may_be_broadcast : ℕ → Bool
 may_be_broadcast number = (number == 11) || (number == 21)
 
@@ -136,19 +137,19 @@ known number = option_map (λ row. row.command) (command_row number)
 abbrev pub command_name : ℕ → Option (List ℕ)
 command_name number = option_map (λ command. command.name) (known number)
 
--- The fields of a command's request data, or none if the command has no row.
+-- The fields of a command's request data, or no fields if the command has no row.
 abbrev pub request_rows : ℕ → List Row
 request_rows number = option_map_or (λ command. command.request) (known number) []
 
--- The fields of a command's reply data with code 0, or none if the command has no row.
+-- The fields of a command's reply data with code 0, or no fields if the command has no row.
 abbrev pub reply_rows : ℕ → List Row
 reply_rows number = option_map_or (λ command. command.reply) (known number) []
 
--- The registers that a command writes, or none if the command has no row.
+-- The registers that a command writes, or no registers if the command has no row.
 unfoldable pub written_by : ℕ → List Register
 written_by number = option_map_or (λ row. row.command.writes) (command_row number) []
 
--- Turns a row of the code's table into a `Command` of the definitions.
+-- A row of the table in Rust, as a `Command` of the definitions.
 abbrev pub seen_command : CommandInCode → Command
 seen_command command = record {
   number = command.number;

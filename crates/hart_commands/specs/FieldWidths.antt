@@ -17,6 +17,6 @@ IsWidthOf Date width = width ≡ 3
 IsWidthOf Float width = width ≡ 4
 IsWidthOf Variables width = (count : ℕ) × (0 < count) × (count ≤ 8) × (width ≡ 8 * count)
 
--- Whether the kind of a field allows the field's number of bytes.
+-- Whether a field has a number of bytes that its kind allows.
 abbrev pub HasWidthOfKind : Field → Type 0
 HasWidthOfKind field = IsWidthOf field.kind (length field.bytes)

@@ -1,4 +1,4 @@
--- A field of data, the fields of each command, and how data are split into fields (HCF_SPEC-127).
+-- The fields of each command's data, and how data are split into fields (HCF_SPEC-127).
 use Prim.Native.String.{String}
 use Rattle.std.specs.Prelude.{ℕ, ◌+◌, ◌-◌, nat_lt, if◌then◌else◌, List, [], ◌∷◌, codes, length, map, take, drop, Option, None, Some}
 use Rattle.std.specs.List.{flat_map}
@@ -10,17 +10,17 @@ use Rattle.hart_commands.specs.declared.fields.FieldRow.{FieldRow}
 use Rattle.hart_commands.specs.declared.fields.FieldSize.{FieldSize}
 use Rattle.hart_commands.specs.declared.fields.FieldSize.TheVariants.{Exactly, AllBut}
 
--- A name, as its bytes.
+-- The bytes of a name.
 unfoldable pub text : String → List ℕ
 text name = codes name
 
--- A row holds the name, the size and the kind of a field.
+-- A row of a table of fields: the name, the size and the kind of a field.
 pub record Row : Type 0 where
   pub name : List ℕ
   pub size : FieldSize
   pub kind : FieldKind
 
--- A short form for a row.
+-- The row of a field.
 abbrev pub field : String → FieldSize → FieldKind → Row
 field name size kind = record { name = text name; size = size; kind = kind }
 
@@ -34,7 +34,7 @@ abbrev pub total : List Row → ℕ
 total [] = 0
 total (row ∷ others) = least row.size + total others
 
--- The fields of an identity, which begins with 254 (Commands 0, 11 and 21).
+-- The fields of an identity, of which the first byte is 254 (Commands 0, 11 and 21).
 abbrev pub identity : List Row
 identity =
     field "first byte" (Exactly 1) Number
@@ -155,13 +155,13 @@ long_tag = field "long tag" (Exactly 32) LatinText ∷ []
 abbrev pub counter : List Row
 counter = field "configuration change counter" (Exactly 2) Number ∷ []
 
--- How many of the `left` bytes a field takes. `Exactly size` takes `size` bytes, and `AllBut after` takes all bytes except the
--- last `after` bytes. The result is `None` if fewer than `size` bytes, or not more than `after` bytes, are left.
+-- How many of the `left` bytes a field takes. `Exactly size` takes `size` bytes. `AllBut after` takes all bytes except the last `after`
+-- bytes, and needs at least one byte before these. If there are too few bytes, the result is `None`.
 abbrev pub size_in : FieldSize → ℕ → Option ℕ
 size_in (Exactly size) left = if nat_lt left size then None else Some size
 size_in (AllBut after) left = if nat_lt after left then Some (left - after) else None
 
--- The bytes of a field of this size, which come first, and the bytes after the field. There is no result if there are too few bytes.
+-- The bytes of a field of this size at the front of some bytes, and the bytes after the field, or `None` if there are too few bytes.
 abbrev pub split : FieldSize → List ℕ → Option (List ℕ × List ℕ)
 split size bytes = option_map (λ n. (take n bytes, drop n bytes)) (size_in size (length bytes))
 
@@ -171,8 +171,8 @@ pub record Field : Type 0 where
   pub kind : FieldKind
   pub bytes : List ℕ
 
--- The field of the first row is at the start of the bytes, and the fields of the other rows follow it. If there are not enough bytes
--- for a row, this row and all rows after it have no field.
+-- The fields of these rows in some bytes, one after another from the first byte on. If there are too few bytes for a row, this row and all
+-- rows after it have no field.
 abbrev pub fields_of : List Row → List ℕ → List Field
 fields_of [] bytes = []
 fields_of (row ∷ others) bytes =
@@ -187,6 +187,6 @@ field_bytes fields = map (λ field. field.bytes) fields
 abbrev pub bytes_of : List Field → List ℕ
 bytes_of fields = flat_map (λ field. field.bytes) fields
 
--- Turns a row of a field in the code into a `Row` of the definitions.
+-- The row of a field in Rust, as a `Row` of the definitions.
 abbrev pub seen : FieldRow → Row
 seen row = record { name = row.name.now; size = row.size; kind = row.kind }

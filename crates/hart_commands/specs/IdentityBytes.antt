@@ -3,7 +3,7 @@ use Rattle.std.specs.Prelude.{ℕ, List, [], ◌∷◌, slice_index, slice_range
 use Rattle.hart_commands.specs.declared.identity.IdentityContent.{IdentityContent}
 use Rattle.hart_commands.specs.Values.{joined, one}
 
--- After the first byte, each field of an identity has a fixed place.
+-- The identity in 22 bytes: after the first byte, each of its fields has a fixed place.
 abbrev pub identity_of : List ℕ → IdentityContent
 identity_of bytes = record {
   expanded_device_type = slice_range bytes 1 3;
@@ -23,7 +23,7 @@ identity_of bytes = record {
   device_profile = slice_index bytes 21;
 }
 
--- The parts of an identity: 254 and its fields.
+-- The parts of an identity: the byte 254, and its fields.
 abbrev pub identity_parts : IdentityContent → List (List ℕ)
 identity_parts i =
     one 254 ∷ i.expanded_device_type
@@ -33,6 +33,6 @@ identity_parts i =
     ∷ one i.extended_device_status ∷ i.manufacturer ∷ i.private_label_distributor ∷ one i.device_profile
     ∷ []
 
--- An identity is written as its parts.
+-- The bytes of an identity are its parts, one after another.
 abbrev pub identity_bytes : IdentityContent → List ℕ
 identity_bytes identity = joined (identity_parts identity)

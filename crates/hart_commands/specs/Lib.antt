@@ -15,4 +15,6 @@ pub mod ReplyData
 pub mod Fields
 pub mod FieldWidths
 pub mod Units
+pub mod Codes
+pub mod StatusBits
 pub mod Parts

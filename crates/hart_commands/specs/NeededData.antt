@@ -1,4 +1,4 @@
--- How many data bytes a command needs, and when there are too few of them (HCF_SPEC-127).
+-- How many data bytes a command needs, and which data are too few (HCF_SPEC-127).
 use Rattle.std.specs.Prelude.{ℕ, ◌≡◌, ◌<◌, List, length}
 use Rattle.std.specs.Option.{option_map_or}
 use Rattle.hart_commands.specs.Commands.{command_row}
@@ -7,7 +7,7 @@ use Rattle.hart_commands.specs.Commands.{command_row}
 abbrev pub needed_data : ℕ → ℕ
 needed_data number = option_map_or (λ row. row.command.needed) (command_row number) 0
 
--- Data are too few if they have fewer bytes than their command needs. As an exception, Command 38 may have no data, and then it
--- names no counter.
+-- Data are too few if they have fewer bytes than their command needs. There is one exception: the data of Command 38 may be empty, and then
+-- name no counter.
 abbrev pub AreTooFew : ℕ → List ℕ → Type 0
 AreTooFew command bytes = (length bytes < needed_data command) × (command ≡ 38 → 0 < length bytes)

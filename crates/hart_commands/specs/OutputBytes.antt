@@ -3,8 +3,8 @@ use Rattle.std.specs.Prelude.{ℕ, List, [], ◌∷◌, slice_index}
 use Rattle.hart_commands.specs.declared.output.OutputContent.{OutputContent}
 use Rattle.hart_commands.specs.Values.{float_at, joined, one}
 
--- Eighteen bytes hold an alarm code, a transfer function, a unit, the upper and the lower range value, the damping, a write protect
--- code, a byte that the standard reserves, and channel flags, each in its place.
+-- The loop current output in 18 bytes: an alarm code, a transfer function, a unit, the upper and the lower range value, and the damping.
+-- Then come a write protect code, a byte that the standard reserves, and channel flags.
 abbrev pub output_of : List ℕ → OutputContent
 output_of bytes = record {
   alarm_code = slice_index bytes 0;
@@ -26,6 +26,6 @@ output_parts o =
     ∷ one o.write_protect_code ∷ one o.reserved ∷ one o.channel_flags
     ∷ []
 
--- A loop current output is written as its parts.
+-- The bytes of a loop current output are its parts, one after another.
 abbrev pub output_bytes : OutputContent → List ℕ
 output_bytes output = joined (output_parts output)

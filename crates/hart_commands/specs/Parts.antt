@@ -1,6 +1,6 @@
--- The data of requests and replies as parts, one for each field, and how the parts are joined (HCF_SPEC-127). Own profile: Command 6 is
--- always written with two bytes. If parts were swapped here or had a wrong length, the laws `written_data_are_read_again` and
--- `fields_are_the_parts` would be false.
+-- The data of requests and replies as parts, one for each field (HCF_SPEC-127). Implementation choice: Command 6 is always written with two
+-- bytes. If parts were swapped here or had a wrong length, the laws `written_data_are_read_again` and `fields_are_the_parts` would be
+-- false.
 use Rattle.std.specs.Prelude.{ℕ, ◌/◌, ◌%◌, List, [], ◌∷◌, map, None, Some}
 use Rattle.std.specs.List.{flat_map}
 pub use Rattle.hart_values.specs.LoopMode.{mode_byte}
@@ -37,7 +37,7 @@ content_parts contents.Refused = []
 abbrev pub content_bytes : ReplyContent → List ℕ
 content_bytes content = joined (content_parts content)
 
--- The parts of the data of a request, or none if the request has no data.
+-- The parts of the data of a request, or no parts if the request has no data.
 abbrev pub request_parts : Request → List (List ℕ)
 request_parts (requests.SetPolling address mode) = one address ∷ one (mode_byte mode) ∷ []
 request_parts (requests.ReadVariables codes) = codes ∷ []

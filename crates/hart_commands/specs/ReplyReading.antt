@@ -9,19 +9,20 @@ use Rattle.hart_commands.specs.TagBytes.{tag_in, descriptor_in, date_in}
 use Rattle.hart_commands.specs.Values.{float_at, unit_value_of, variable_of}
 use Rattle.hart_commands.specs.IdentityBytes.{identity_of}
 
--- The first `size` bytes determine the content; fewer bytes are no reply.
+-- The content that the first `size` bytes determine. With fewer bytes there is no content.
 abbrev pub saying : ℕ → (List ℕ → ReplyContent) → List ℕ → Option ReplyContent
 saying size content = having size None (λ xs. Some (content xs))
 
--- An identity has 22 bytes, and the first byte is 254.
+-- The identity in a reply. It has 22 bytes, and its first byte is 254.
 abbrev pub identity_reading : List ℕ → Option ReplyContent
 identity_reading = having 22 None (λ xs. if slice_index xs 0 == 254 then Some (Identity (identity_of xs)) else None)
 
--- Eight bytes hold a loop current and a percent of range.
+-- The loop current and the percent of range in 8 bytes.
 abbrev pub current_of : List ℕ → ReplyContent
 current_of bytes = Current (float_at bytes 0) (float_at bytes 4)
 
--- The data hold a loop current, and then at least one whole group of five bytes. Only the first four groups are read.
+-- The loop current and the dynamic variables in a reply. After the loop current comes at least one whole group of five bytes. Only the
+-- first four groups are read.
 abbrev pub dynamic_reading : List ℕ → Option ReplyContent
 dynamic_reading bytes =
     if nat_lt (length bytes) 9 then None
@@ -29,11 +30,12 @@ dynamic_reading bytes =
     let groups = min (length (drop 4 bytes) / 5) 4 in
     Some (Dynamic (float_at bytes 0) (map unit_value_of (first_chunks 5 groups (drop 4 bytes))))
 
--- Two bytes hold a polling address and a loop current mode, both unchecked.
+-- The polling address and the loop current mode in two bytes, both unchecked.
 abbrev pub polling_of : List ℕ → ReplyContent
 polling_of bytes = Polling (slice_index bytes 0) (slice_index bytes 1)
 
--- The data hold an extended device status, one to eight groups of eight bytes, and then a time stamp of four bytes. No byte may follow.
+-- The device variables in a reply: an extended device status, one to eight groups of eight bytes, and then a time stamp of four bytes. No
+-- byte may follow.
 abbrev pub variables_reading : List ℕ → Option ReplyContent
 variables_reading bytes =
     let groups = (length bytes - 5) / 8 in
@@ -41,11 +43,11 @@ variables_reading bytes =
     then Some (Variables (slice_index bytes 0) (map variable_of (first_chunks 8 groups (drop 1 bytes))) (drop (1 + 8 * groups) bytes))
     else None
 
--- Twenty-one bytes hold a tag, a descriptor and an unchecked date.
+-- The tag, the descriptor and an unchecked date in 21 bytes.
 abbrev pub tag_of : List ℕ → ReplyContent
 tag_of bytes = Tag (tag_in bytes) (descriptor_in bytes) (date_in bytes)
 
--- The data hold additional status bytes. At least one byte is needed, and only the first 25 bytes are read.
+-- The additional status bytes in a reply. At least one byte is needed, and only the first 25 bytes are read.
 abbrev pub more_reading : List ℕ → Option ReplyContent
 more_reading [] = None
 more_reading (byte ∷ bytes) = Some (More (take 25 (byte ∷ bytes)))

@@ -6,28 +6,29 @@ use Rattle.hart_commands.specs.declared.request.Request.TheVariants.{ResetChange
 use Rattle.hart_commands.specs.Commands.{written_by}
 use Rattle.hart_commands.specs.RequestData.{Reading}
 
--- Whether the list has at least one register.
+-- Whether a list has at least one register.
 abbrev pub are_some : List Register → Bool
 are_some [] = false
 are_some (register ∷ registers) = true
 
--- A configuration write is a command that writes a register.
+-- Whether a command is a configuration write: it writes a register.
 abbrev pub is_write : ℕ → Bool
 is_write command = are_some (written_by command)
 
--- Command 38 is refused with code 9 if it names a counter that is not the device's counter. Any other request with good data has code 0.
+-- The code of a request with good data. It is 9 for Command 38 with a counter that is not the device's counter, and 0 for any other
+-- request.
 abbrev pub counter_code : Request → ℕ → ℕ
 counter_code (ResetChanged (Some given)) counter = if given == counter then 0 else 9
 counter_code _ counter = 0
 
--- The code of the data. Bad data have the code that refuses them. If the data are a request, their code depends on the counter that
--- the request names.
+-- The response code for the data of a request: for bad data the code that refuses them, and for good data the code of their request, which
+-- depends on the device's counter.
 abbrev pub data_code : Reading → ℕ → ℕ
 data_code (Err code) counter = code
 data_code (Ok request) counter = counter_code request counter
 
--- The first reason that applies refuses the request: an unknown command, too few data bytes, a write to a protected device, other bad data,
--- a wrong counter. Without a reason the code is 0.
+-- The response code of a request. The first reason that applies refuses the request: an unknown command, too few data bytes, a write to a
+-- protected device, other bad data, a wrong counter. If no reason applies, the code is 0.
 abbrev pub request_code : ℕ → Reading → Bool → ℕ → ℕ
 request_code command reading protected counter =
     let code = data_code reading counter in

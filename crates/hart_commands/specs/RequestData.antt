@@ -9,12 +9,12 @@ pub use Rattle.hart_commands.specs.Commands.{is_known, command_of}
 pub use Rattle.hart_commands.specs.Parts.{mode_byte, request_data}
 pub use Rattle.hart_commands.specs.RequestReading.{Reading}
 
--- Data are read as the row says. Without a row, the data are refused with code 64.
+-- The request in some data, read as this row of the table says. Without a row, the data are refused with code 64.
 abbrev pub read_by : Option CommandRow → List ℕ → Reading
 read_by None bytes = Err 64
 read_by (Some row) bytes = asked row.command.needed row.asked bytes
 
--- Data are read by the row of their command.
+-- The request in some data, read as the row of the command says.
 abbrev pub request_reading : ℕ → List ℕ → Reading
 request_reading command = read_by (command_row command)
 
@@ -30,8 +30,8 @@ IsRequest (IdentifyByLongTag long_tag) = length long_tag ≡ 32
 IsRequest (WriteLongTag long_tag) = length long_tag ≡ 32
 IsRequest _ = Unit {0}
 
--- Any bytes may follow the data of a request, with two exceptions. No byte may follow fewer than eight codes of Command 9, because
--- this byte would be read as another code. No byte may follow Command 38 without a counter.
+-- Bytes that may follow the data of a request and are then ignored. Any bytes may follow, with two exceptions. If Command 9 has fewer than
+-- eight codes, no byte may follow, because that byte would be read as another code. If Command 38 has no counter, no byte may follow.
 abbrev pub MayFollow : Request → List ℕ → Type 0
 MayFollow (ReadVariables codes) rest = (length codes ≡ 8) ⊎ (rest ≡ [])
 MayFollow (ResetChanged None) rest = rest ≡ []

@@ -3,7 +3,7 @@ use Rattle.std.specs.Prelude.{ℕ, List, [], ◌∷◌, slice_index, slice_range
 use Rattle.hart_commands.specs.declared.sensor.SensorContent.{SensorContent}
 use Rattle.hart_commands.specs.Values.{float_at, joined, one}
 
--- Sixteen bytes hold a serial number, a unit, the upper and the lower limit and the minimum span, each in its place.
+-- The sensor in 16 bytes: a serial number, a unit, the upper and the lower limit, and the minimum span.
 abbrev pub sensor_of : List ℕ → SensorContent
 sensor_of bytes = record {
   serial_number = slice_range bytes 0 3;
@@ -17,6 +17,6 @@ sensor_of bytes = record {
 abbrev pub sensor_parts : SensorContent → List (List ℕ)
 sensor_parts s = s.serial_number ∷ one s.unit ∷ s.upper_limit.0 ∷ s.lower_limit.0 ∷ s.minimum_span.0 ∷ []
 
--- A sensor is written as its parts.
+-- The bytes of a sensor are its parts, one after another.
 abbrev pub sensor_bytes : SensorContent → List ℕ
 sensor_bytes sensor = joined (sensor_parts sensor)

@@ -1,4 +1,4 @@
--- A tag, a descriptor and a date stand one after another in 21 bytes (HCF_SPEC-127).
+-- A tag, a descriptor and a date, one after another in 21 bytes (HCF_SPEC-127).
 use Rattle.std.specs.Prelude.{ℕ, List, take, drop}
 
 -- The tag is the first 6 bytes.

@@ -10,12 +10,12 @@ pub record UnitRow : Type 0 where
   pub code : ℕ
   pub name : List ℕ
 
--- A short form for the row of a unit.
+-- The row of a unit.
 abbrev pub unit : ℕ → String → UnitRow
 unit code name = record { code = code; name = text name }
 
--- The unit codes that mean the same unit in every class of device variables. Codes without a row have no name. Some of the codes
--- without a row mean a different unit in each class.
+-- The unit codes that mean the same unit in every class of device variables. Other codes have no name: they mean nothing, or a different
+-- unit in each class.
 abbrev pub units : List UnitRow
 units =
     unit 1 "inches of water at 68 degrees Fahrenheit"
@@ -202,6 +202,6 @@ unit_row code = find (λ row. row.code == code) units
 abbrev pub unit_name : ℕ → Option (List ℕ)
 unit_name code = option_map (λ row. row.name) (unit_row code)
 
--- Turns a row of a unit in the code into a `UnitRow` of the definitions.
+-- The row of a unit in Rust, as a `UnitRow` of the definitions.
 abbrev pub seen_unit : UnitRowInCode → UnitRow
 seen_unit row = record { code = row.code; name = row.name.now }

@@ -1,5 +1,5 @@
-//! The table of commands (HCF_SPEC-099, HCF_SPEC-127). Proofs see its rows only where they say `unfolding`. Otherwise each proof about a
-//! command would split into a case for each row.
+//! The table of commands (HCF_SPEC-099, HCF_SPEC-127). A proof uses the rows of the table only if its tactic says `unfolding`. Otherwise
+//! every proof about a command would have a case for each row.
 ghost use Rattle.std.specs.Prelude.{◌≡◌, ◌==◌, find, map, option_map};
 ghost use Rattle.hart_commands.specs.Commands.{command_name, is_known, known, may_be_broadcast, reply_rows, request_rows, seen_command};
 ghost use Rattle.hart_commands.specs.Fields.{seen};
@@ -88,8 +88,8 @@ fn row_for(command: u8) -> Option<&'static Command>
     find_row(TABLE, command)
 }
 
-/// Returns the first row with this command number, or `None` if no row has it. The rows are an argument so that the
-/// proof has a name for them.
+/// Returns the first row with this command number, or `None` if no row has this number. The rows are a parameter so that the proof can
+/// name them.
 fn find_row(rows: &'static [Command], command: u8) -> Option<&'static Command>
     ensures { option_map (λ row. seen_command row.now) result ≡ find (λ row. row.number == command) (map seen_command rows.now) }
 {

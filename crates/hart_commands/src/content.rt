@@ -70,7 +70,7 @@ pub enum ReplyContent {
 }
 
 impl ReplyContent {
-    /// Reads the content from the data of a reply with code 0, as the command's row of the table says.
+    /// Reads the content from the data of a reply with code 0, as the table of commands says for this command.
     #[tactic(auto, unfolding(crate::specs::Commands::replied))]
     pub(crate) fn read(command: u8, bytes: &[u8]) -> Option<Self>
         ensures { result ≡ content_reading command bytes.now }

@@ -15,7 +15,7 @@ pub struct IdentityContent {
     pub expanded_device_type: [u8; 2],
     /// The least number of preamble bytes that a request to the device needs.
     pub request_preambles: u8,
-    /// The major revision of the protocol, 7 in this profile.
+    /// The major revision of the protocol. The device of this repository has 7.
     pub protocol_revision: u8,
     /// The revision of the device.
     pub device_revision: u8,

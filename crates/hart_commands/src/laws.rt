@@ -69,7 +69,7 @@ pub fn read_data_begin_as_written()
 {}
 
 /// Data are refused with code 5 exactly if they are too few for their command. So data of at least the needed length are never refused with
-/// code 5. If bytes are added to data refused with code 5, the longer data are refused with code 5 until they have the needed length.
+/// code 5. If bytes are added to data refused with code 5, the longer data are refused with code 5 too, until they have the needed length.
 pub fn too_few_data_are_fewer_than_needed()
     ensures exactly { (command : ℕ) (bytes : List ℕ) → (request_reading command bytes ≡ Err 5) ↔ AreTooFew command bytes }
     ensures enough { (command : ℕ) (bytes : List ℕ) → needed_data command ≤ length bytes → request_reading command bytes ≢ Err 5 }
@@ -103,9 +103,15 @@ pub fn writes_have_overwrites()
         → IsTrue (is_write (command_of request)) }
 {}
 
-/// Each configuration write sets these registers to these bytes, and no other register: Command 6 the polling address and the loop current
-/// mode, Command 17 the message, Command 18 the tag, the descriptor and the date, Command 19 the final assembly number, and Command 22 the
-/// long tag. No other command sets a register.
+/// Each configuration write sets these registers to the bytes in its data, and sets no other register:
+///
+/// - Command 6 the polling address and the loop current mode,
+/// - Command 17 the message,
+/// - Command 18 the tag, the descriptor and the date,
+/// - Command 19 the final assembly number,
+/// - Command 22 the long tag.
+///
+/// No other command sets a register.
 #[tactic(auto, unfolding(crate::specs::Commands::written_by))]
 pub fn writes_set_these_registers()
     ensures polling { (address : ℕ) (mode : LoopMode) (register : Register) → named_in (SetPolling address mode) register
@@ -135,9 +141,9 @@ pub fn overwrites_are_valid()
     ensures { (write : Request) (old : Contents) → IsRequest write → AreValid old → AreValid (overwritten write old) }
 {}
 
-/// The written payload of a well-made reply is read back as that reply. Every reply that is read from a payload is well made. If such a
-/// reply is written again, the result is a prefix of that payload. Such a reply has a known command and a response code below 128. If the
-/// code is not 0, the content is `Refused`.
+/// The written payload of a well-made reply is read back as that reply. Every reply that is read from a payload is well made, and has a
+/// known command and a response code below 128. If the code is not 0, the content is `Refused`. Writing a reply that was read gives a
+/// prefix of the payload from which it was read.
 pub fn written_payloads_are_read_again()
     ensures again { (reply : Reply) → IsReply reply → reply_reading reply.command (reply_payload reply) ≡ Some reply }
     ensures well_made { (command : ℕ) (payload : List ℕ) (reply : Reply)
@@ -157,7 +163,7 @@ pub fn known_commands_have_names()
         → command ≡ other }
 {}
 
-/// The fields of a well-made request's data are the parts of the request: the same number, in the same order, with the same bytes.
+/// The fields of a well-made request's data are the parts of the request: as many fields as parts, in the same order, with the same bytes.
 /// In the same way, the fields of a well-made reply's data are the parts of its content.
 #[tactic(auto, using(crate::proofs::lemmas::RequestFields::parts_of_request, crate::proofs::lemmas::Reply::parts_of_reply))]
 pub fn fields_are_the_parts()
@@ -167,8 +173,8 @@ pub fn fields_are_the_parts()
         → field_bytes (fields_of (reply_rows reply.command) (content_bytes reply.content)) ≡ content_parts reply.content }
 {}
 
-/// The fields leave out no data: the bytes of a well-made request's fields, one after another, are all of its data. The fields of a
-/// well-made reply leave out no data either.
+/// The fields cover all data: the bytes of a well-made request's fields, one after another, are all of the request's data. The same is true
+/// of the fields of a well-made reply.
 pub fn fields_are_all_of_the_data()
     ensures request { (request : Request) → IsRequest request
         → bytes_of (fields_of (request_rows (command_of request)) (request_data request)) ≡ request_data request }
@@ -176,8 +182,8 @@ pub fn fields_are_all_of_the_data()
         → bytes_of (fields_of (reply_rows reply.command) (content_bytes reply.content)) ≡ content_bytes reply.content }
 {}
 
-/// The kind of a field limits its number of bytes: 4 for a float, 3 for a date, 1 or 2 for a number, 6, 12 or 24 for a packed text,
-/// and 8 for each device variable. These numbers hold for the fields of any request data and of any payload that is read as a reply.
+/// The kind of a field limits its number of bytes: 4 for a float, 3 for a date, 1 or 2 for a number, 6, 12 or 24 for a packed text, and 8
+/// for each device variable. These limits hold for the fields of any request data and of any payload that is read as a reply.
 pub fn fields_have_the_width_of_their_kind()
     ensures request { (command : ℕ) (bytes : List ℕ) → All HasWidthOfKind (fields_of (request_rows command) bytes) }
     ensures reply { (command : ℕ) (payload : List ℕ) (reply : Reply) → reply_reading command payload ≡ Some reply

@@ -7,8 +7,8 @@ use std::marker::Model;
 
 /// The registers that a write sets, each with its new bytes (HCF_SPEC-127).
 ///
-/// In contracts, an overwrite is the write request. This request determines which registers are set, and their new bytes. It is borrowed,
-/// so that nothing is copied.
+/// In contracts, an overwrite is the write request. The request determines which registers are set, and their new bytes. The request is
+/// borrowed, so that nothing is copied.
 #[derive(Debug, Drop)]
 pub struct Overwrite<'a> {
     write: &'a Request,
@@ -23,7 +23,7 @@ impl<'a> Model for Overwrite<'a> {
 }
 
 impl<'a> Overwrite<'a> {
-    /// Returns the new bytes of a register, or `None` if the write does not set it.
+    /// Returns the new bytes of a register, or `None` if the write does not set the register.
     #[tactic(auto, unfolding(crate::specs::Commands::written_by))]
     pub fn get(&self, register: Register) -> Option<&'a [u8]>
         ensures named { option_map (λ bytes. bytes.now) result ≡ named_in self.now register }

@@ -15,7 +15,7 @@ pub enum Register {
     Date,
     /// The final assembly number, 3 bytes (Command 19).
     Assembly,
-    /// The long tag, 32 bytes (Command 22). Any bytes are valid, because a device need not know their characters.
+    /// The long tag, 32 bytes (Command 22). Any bytes are valid, because a device need not read them as characters.
     LongTag,
 }
 

@@ -19,8 +19,12 @@ pub struct Reply {
 }
 
 impl Reply {
-    /// Reads the reply to a command from a payload. Returns `None` if the payload has fewer than two bytes, if bit 7 of the first byte is
-    /// set, if the command is not known, or if the code is 0 and the data hold no content of the command.
+    /// Reads the reply to a command from a payload. Returns `None` in each of these cases:
+    ///
+    /// - The payload has fewer than two bytes.
+    /// - Bit 7 of the first byte is set.
+    /// - The command is not known.
+    /// - The code is 0 and the data hold no content of the command.
     ///
     /// Data after the content are ignored, except that the data of Command 9 must end with the time stamp. With any code other than
     /// 0, all data are ignored.
@@ -38,8 +42,8 @@ impl Reply {
 
     /// Replaces `payload` by the two status bytes and the data of the content.
     ///
-    /// If a reply from [`Reply::read`] is written, the payload is read back as the same reply. A reply with the content of another command
-    /// can be written too, although no device sends such a reply.
+    /// If a reply was read with [`Reply::read`], the payload that is written is read back as the same reply. A reply whose content does not
+    /// belong to its command can be written too, although no device sends such a reply.
     pub fn write(&self, payload: &mut Payload)
         ensures { payload.new ≡ reply_payload self.now }
     {

@@ -58,8 +58,8 @@ pub enum Request {
     IdentifyByLongTag([u8; 32]),
     /// Command 22, a write: the long tag.
     WriteLongTag([u8; 32]),
-    /// Command 38: this master has seen the configuration changes. If the request has a configuration change counter, the master has seen
-    /// the changes up to this counter.
+    /// Command 38: this master has seen the configuration changes. If the request has a value of the configuration change counter, the
+    /// master has seen the changes up to this value.
     ResetChanged(Option<u16>),
     /// Command 48: the additional status bytes.
     ReadMore,
@@ -75,8 +75,13 @@ impl Request {
     ///
     /// # Errors
     ///
-    /// The first of these response codes that applies: code 64 if the command is not known; code 5 if there are too few bytes; for
-    /// Command 6, code 2 for an address above 63, then code 12 for a mode above 1; for Command 18, code 9 for a bad date.
+    /// The first of these response codes that applies:
+    ///
+    /// - code 64 if the command is not known;
+    /// - code 5 if there are too few bytes;
+    /// - for Command 6, code 2 for an address above 63;
+    /// - for Command 6, code 12 for a mode above 1;
+    /// - for Command 18, code 9 for a bad date.
     pub fn read(command: u8, bytes: &[u8]) -> Result<Self, ResponseCode>
         ensures read { result ≡ request_reading command bytes.now }
         ensures well_made { IfOk result IsRequest }
@@ -141,8 +146,8 @@ impl Request {
         }
     }
 
-    /// Returns a copy of the request. A derived `Clone` could run out of memory. The contract also says that the request is well made, so
-    /// callers need not require this.
+    /// Returns a copy of the request. `Clone` is not derived, because it could run out of memory. The contract also says that the request
+    /// is well made, so that callers need not require this.
     pub fn copy(&self) -> Self
         ensures same { result ≡ self.now }
         ensures well_made { IsRequest self.now }
@@ -186,7 +191,7 @@ impl Request {
         }
     }
 
-    /// Replaces `data` by the data bytes of the request. Command 6 is always written with both of its bytes.
+    /// Replaces `data` by the data bytes of the request. Command 6 is always written with two bytes: the address and the mode.
     pub fn write(&self, data: &mut Payload)
         ensures written { «data».new ≡ request_data self.now }
         ensures well_made { IsRequest self.now }
@@ -195,7 +200,7 @@ impl Request {
         let parts = self.parts(&mut counter);
         data.clear();
         data.extend_from_slice(parts.first);
-        // A request without a second part has no third one.
+        // A request without a second part has no third part.
         if !parts.second.is_empty() {
             data.extend_from_slice(parts.second);
             data.extend_from_slice(parts.third);
@@ -259,7 +264,7 @@ struct Parts<'a> {
 }
 
 impl<'a> Parts<'a> {
-    /// Makes `Parts` of a single part, which may be empty.
+    /// Returns `Parts` with this one part, which may be empty.
     fn one(part: &'a [u8]) -> Self
         ensures parts { (result.first.now ≡ part.now) × (result.second.now ≡ []) × (result.third.now ≡ []) }
     {
@@ -271,7 +276,7 @@ impl<'a> Parts<'a> {
     }
 }
 
-/// Returns the byte of a loop current mode: 0 disabled, 1 enabled.
+/// Returns the byte of a loop current mode, as a slice: 0 disabled, 1 enabled.
 pub fn mode_bytes(mode: LoopMode) -> &'static [u8]
     ensures { result.now ≡ mode_byte mode ∷ [] }
 {

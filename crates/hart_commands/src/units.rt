@@ -9,7 +9,7 @@ pub struct UnitRow {
     pub name: &'static str,
 }
 
-/// A list of units, one per line.
+/// Makes a list of units from one line for each unit.
 macro_rules! units {
     ($($code:literal, $name:literal;)*) => {
         &[$(UnitRow { code: $code, name: $name }),*]
@@ -194,8 +194,8 @@ const UNITS: &[UnitRow] = units! {
     253, "special";
 };
 
-/// Returns the name of a unit code, such as `degrees Celsius` for 32, or `None` if the code does not name the same unit in every class of
-/// device variables (HCF_SPEC-183).
+/// Returns the name of a unit code, such as `degrees Celsius` for 32 (HCF_SPEC-183). Returns `None` if the code does not name the same unit
+/// in every class of device variables.
 pub fn unit_name(code: u8) -> Option<&'static str>
     ensures { option_map (λ name. name.now) result ≡ unit_name code }
 {
@@ -209,7 +209,7 @@ fn row_of(code: u8) -> Option<&'static UnitRow>
     find_unit(UNITS, code)
 }
 
-/// Returns the first row with this code, or `None` if no row has it. The rows are an argument so that the proof has a name for them.
+/// Returns the first row with this code, or `None` if no row has this code. The rows are a parameter so that the proof can name them.
 fn find_unit(rows: &'static [UnitRow], code: u8) -> Option<&'static UnitRow>
     ensures { option_map (λ row. seen_unit row.now) result ≡ find (λ row. row.code == code) (map seen_unit rows.now) }
 {

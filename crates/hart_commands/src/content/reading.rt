@@ -1,4 +1,4 @@
-//! Helpers of `ReplyContent::read`: they read the contents for which one line of code is not enough.
+//! Helper functions of `ReplyContent::read`, for contents that take more than one line of code to read.
 ghost use Rattle.std.specs.Prelude.{◌≡◌, ◌<◌, ◌≤◌, length, map};
 ghost use Rattle.hart_commands.specs.ReplyReading.{saying, current_of, polling_of, tag_of, identity_reading, dynamic_reading};
 ghost use Rattle.hart_commands.specs.ReplyReading.{variables_reading, more_reading};
@@ -47,7 +47,7 @@ pub fn read_dynamic(bytes: &[u8]) -> Option<ReplyContent>
     })
 }
 
-/// Reads one value from each group of five bytes, at most four.
+/// Reads one value from each group of five bytes. There are at most four groups.
 fn values_in(groups: &[[u8; 5]]) -> ShortList<UnitValue, 4>
     requires { length groups.now ≤ 4 }
     ensures { result ≡ map unit_value_of groups.now }
@@ -83,7 +83,7 @@ pub fn read_variables(bytes: &[u8]) -> Option<ReplyContent>
     })
 }
 
-/// Reads one variable from each group of eight bytes, at most eight.
+/// Reads one variable from each group of eight bytes. There are at most eight groups.
 fn variables_in(groups: &[[u8; 8]]) -> ShortList<VariableReading, 8>
     requires { length groups.now ≤ 8 }
     ensures { result ≡ map variable_of groups.now }

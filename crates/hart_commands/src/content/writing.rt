@@ -1,4 +1,4 @@
-//! Helpers of `ReplyContent::push_to`: they write the contents for which one line of code is not enough.
+//! Helper functions of `ReplyContent::push_to`, for contents that take more than one line of code to write.
 ghost use Rattle.std.specs.Prelude.{◌≡◌, ◌+◌, ◌*◌, ◌≤◌, ◌∷◌, ◌++◌, length};
 ghost use Rattle.std.specs.List.{flat_map};
 ghost use Rattle.hart_commands.specs.Values.{joined, unit_value_bytes, unit_value_parts, variable_bytes};

@@ -6,9 +6,15 @@ use crate::{Request, is_write};
 use hart_values::ResponseCode;
 
 /// Returns the response code of a request of this command. `reading` is the result of [`Request::read`]; `protected` and `counter` are the
-/// device's write protection and configuration change counter. The result is the first of these codes that applies: code 64 or 5 of
-/// `reading`; code 7 for a write to a protected device; any other code of `reading`; code 9 for a wrong counter; code 0. A protected device
-/// answers Command 38, which writes nothing.
+/// device's write protection and configuration change counter. The result is the first of these codes that applies:
+///
+/// - code 64 or 5 of `reading`;
+/// - code 7 for a write to a protected device;
+/// - any other code of `reading`;
+/// - code 9 for a wrong counter;
+/// - code 0.
+///
+/// A protected device does not refuse Command 38, because this command sets no register.
 pub fn request_code(
     command: u8,
     reading: &Result<Request, ResponseCode>,
@@ -30,7 +36,7 @@ pub fn request_code(
     }
 }
 
-/// Returns the code with which the data are refused. If the data are good, returns code 9 for a wrong counter, and otherwise code 0.
+/// Returns the code that refuses bad data. For good data, returns code 9 if the counter is wrong, and otherwise code 0.
 fn data_code(reading: &Result<Request, ResponseCode>, counter: u16) -> ResponseCode
     ensures { result ≡ data_code reading.now counter }
 {

@@ -1,4 +1,4 @@
-//! Helpers of `Request::read`: they read the data for which one line of code is not enough.
+//! Helper functions of `Request::read`, for data that take more than one line of code to read.
 ghost use Rattle.std.specs.Prelude.{◌≡◌, ◌≤◌, ◌↔◌, if◌then◌else◌, length, take, IsOk, IfOk, IfErr, Ok, Err};
 ghost use Rattle.hart_values.specs.hart_date.Calendar.{is_date};
 ghost use Rattle.hart_commands.specs.RequestReading.{polling_reading, codes_reading, tag_reading, reset_reading};
@@ -7,7 +7,7 @@ use crate::tag_bytes::tag_parts;
 use crate::{CodeList, Request};
 use hart_values::{HartDate, LoopMode, PackedText, PollingAddress, ResponseCode};
 
-/// Returns the first `N` bytes, or code 5 if there are fewer.
+/// Returns the first `N` bytes, or code 5 if there are fewer bytes.
 pub fn needed<const N: usize>(all: &[u8]) -> Result<[u8; N], ResponseCode>
     ensures accepted { IsOk result ↔ (N ≤ length all.now) }
     ensures first { IfOk result (λ bytes. bytes ≡ take N all.now) }
